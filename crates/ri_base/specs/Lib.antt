@@ -1,0 +1,4 @@
+pub mod Ascii
+pub mod Documents
+pub mod Pair
+pub mod Text

@@ -1,0 +1,22 @@
+//! The values that every layer of the search engine speaks of: words, names, extents and documents.
+#![tactic(auto)]
+
+mod arg_list;
+pub mod ascii;
+mod bytes;
+mod doc;
+mod extent;
+mod field_span;
+mod terms;
+mod text;
+
+pub use arg_list::ArgList;
+pub use bytes::Bytes;
+pub use doc::Doc;
+pub use extent::{Extent, Extents};
+pub use field_span::{FieldSpan, Spans};
+pub use terms::Terms;
+pub use text::{Docno, Name, Term};
+
+/// Want of memory, where it is the only refusal.
+pub type NoMemory = std::alloc::AllocError;

@@ -16,7 +16,7 @@ pub use doc::Doc;
 pub use extent::{Extent, Extents};
 pub use field_span::{FieldSpan, Spans};
 pub use terms::Terms;
-pub use text::{Docno, Name, Term};
+pub use text::{DOCNO_BYTES, Docno, NAME_BYTES, Name, TERM_BYTES, Term, is_docno_byte};
 
 /// Want of memory, where it is the only refusal.
 pub type NoMemory = std::alloc::AllocError;

@@ -37,7 +37,8 @@ impl Model for Docno {
     ghost inverse = { λ bytes. record { bytes = bytes } };
 }
 
-fn is_docno_byte(byte: u8) -> bool
+/// A visible byte of ASCII other than `<`.
+pub fn is_docno_byte(byte: u8) -> bool
     ensures { result ≡ is_docno_byte byte }
 {
     33 <= byte && byte <= 126 && byte != b'<'

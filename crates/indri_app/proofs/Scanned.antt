@@ -1,0 +1,146 @@
+-- What a scan has written, and what is left of its text.
+use Rattle.std.proofs.Common.{ℕ, ◌≡◌, ◌≤◌, ◌<◌, ◌+◌, ◌-◌, List, [], ◌++◌, length, take, drop, Option, None, Some, Ok, Err, refl, ap, sym, ◌∙◌, subst, append_assoc, append-nil, arith, take-append-drop, zero-add}
+use Rattle.std.proofs.Math.Seq.{take-append_seam, drop-append_seam, take-length}
+use Rattle.std.specs.Option.{option_map, IfSome, IsSome}
+use Rattle.std.specs.Io.KnownBytes.{append_known}
+use Rattle.trec_reader.specs.Read.{read, entry_then, with_document}
+use Rattle.trec_reader.specs.Thin.{RawText, entry}
+use Rattle.trec_reader.proofs.Shorter.{read_is}
+use Rattle.ri_ends.specs.Causes.{Rose}
+use Rattle.indri_app.specs.Outcome.{Writes, WritesFault, WritesFront, WritesLine, fault_line}
+use Rattle.indri_app.specs.Scan.{document_lines, found_text, refusal_line, scan_text}
+
+append_twice : (taken : Option (List ℕ)) (a b : List ℕ) → append_known taken (a ++ b) ≡ append_known (append_known taken a) b
+append_twice None a b = refl
+append_twice (Some xs) a b = ap Some (sym (append_assoc xs a b))
+
+append_none : (taken : Option (List ℕ)) → append_known taken [] ≡ taken
+append_none None = refl
+append_none (Some xs) = ap Some (append-nil xs)
+
+-- what a sink will have once all bytes are scanned, and where they stop; so many bytes were read before them
+abbrev pub outcome : List ℕ → Option (List ℕ) → ℕ → List ℕ → Option (List ℕ) × Option (List ℕ)
+outcome term taken offset bytes = (append_known taken (found_text term (offset + length bytes) (read bytes)), (read bytes).1)
+
+-- a document is read, and its lines are written
+pub document_scanned : (term : List ℕ) (taken : Option (List ℕ)) (d : RawText) (o p : ℕ) (old new : Option (List ℕ)) → option_map entry old ≡ option_map (λ rest. Ok (Some d, rest)) new → option_map (λ xs. p + length xs) new ≡ option_map (λ xs. o + length xs) old →
+    option_map (outcome term taken o) old ≡ option_map (outcome term (append_known taken (document_lines term d)) p) new
+document_scanned term taken d o p None None e same = refl
+document_scanned term taken d o p None (Some ys) e same = cc
+document_scanned term taken d o p (Some xs) None e same = cc
+document_scanned term taken d o p (Some xs) (Some ys) e same =
+    let is : entry xs ≡ Ok (Some d, ys) = cc in
+    let total : p + length ys ≡ o + length xs = cc in
+    let found : read xs ≡ with_document d (read ys) = read_is xs ∙ ap (λ r. entry_then r read) is in
+    let text : found_text term (o + length xs) (read xs) ≡ document_lines term d ++ found_text term (p + length ys) (read ys) = rw (found, total) (append_assoc (document_lines term d) _ _) in
+    ap Some (ap (λ t. (append_known taken t, (read xs).1)) text ∙ ap (λ t. (t, (read xs).1)) (append_twice taken (document_lines term d) (found_text term (p + length ys) (read ys))) ∙ ap (λ f. (append_known (append_known taken (document_lines term d)) (found_text term (p + length ys) (read ys)), f.1)) found)
+
+-- the input ends
+pub end_scanned : (term : List ℕ) (taken : Option (List ℕ)) (o : ℕ) (old new : Option (List ℕ)) → option_map entry old ≡ option_map (λ rest. Ok (None, rest)) new →
+    option_map (outcome term taken o) old ≡ option_map (λ _. (taken, None)) new
+end_scanned term taken o None None e = refl
+end_scanned term taken o None (Some ys) e = cc
+end_scanned term taken o (Some xs) None e = cc
+end_scanned term taken o (Some xs) (Some ys) e =
+    let is : entry xs ≡ Ok (None, ys) = cc in
+    let found : read xs ≡ ([], None) = read_is xs ∙ ap (λ r. entry_then r read) is in
+    ap Some (ap (λ f. (append_known taken (found_text term (o + length xs) f), f.1)) found ∙ ap (λ t. (t, None)) (append_none taken))
+
+-- the input is refused
+pub stop_scanned : (term : List ℕ) (taken : Option (List ℕ)) (o p : ℕ) (old new : Option (List ℕ)) → option_map entry old ≡ option_map (λ rest. Err rest) new → option_map (λ xs. p + length xs) new ≡ option_map (λ xs. o + length xs) old →
+    option_map (outcome term taken o) old ≡ option_map (λ rest. (append_known taken (refusal_line p), Some rest)) new
+stop_scanned term taken o p None None e same = refl
+stop_scanned term taken o p None (Some ys) e same = cc
+stop_scanned term taken o p (Some xs) None e same = cc
+stop_scanned term taken o p (Some xs) (Some ys) e same =
+    let is : entry xs ≡ Err ys = cc in
+    let total : p + length ys ≡ o + length xs = cc in
+    let here : (o + length xs) - length ys ≡ p = omega arith in
+    let found : read xs ≡ ([], Some ys) = read_is xs ∙ ap (λ r. entry_then r read) is in
+    ap Some (ap (λ f. (append_known taken (found_text term (o + length xs) f), f.1)) found ∙ ap (λ n. (append_known taken (refusal_line n), Some ys)) here)
+
+whole_text : (term bytes : List ℕ) → found_text term (0 + length bytes) (read bytes) ≡ scan_text term bytes
+unfolding scan_text
+whole_text term bytes = ap (λ n. found_text term n (read bytes)) (zero-add (length bytes))
+
+pub done_is : (term : List ℕ) (before now : Option (List ℕ)) (old new : Option (List ℕ)) → option_map (outcome term before 0) old ≡ option_map (λ _. (now, None)) new →
+    IfSome old (λ bytes. ((read bytes).1 ≡ None) × Writes before now (scan_text term bytes))
+done_is term before now None new e = tt
+done_is term before now (Some xs) None e = cc
+done_is term before now (Some xs) (Some ys) e =
+    let same : outcome term before 0 xs ≡ (now, None) = cc in
+    (ap (λ x. x.1) same, sym (ap (λ x. x.0) same) ∙ ap (append_known before) (whole_text term xs))
+
+pub refused_is : (term : List ℕ) (before now : Option (List ℕ)) (at p : ℕ) (old new : Option (List ℕ)) → at ≡ p → option_map (outcome term before 0) old ≡ option_map (λ rest. (append_known now (refusal_line p), Some rest)) new →
+    IfSome old (λ bytes. IsSome (read bytes).1 × (append_known now (refusal_line at) ≡ append_known before (scan_text term bytes)))
+refused_is term before now at p None new here e = tt
+refused_is term before now at p (Some xs) None here e = cc
+refused_is term before now at p (Some xs) (Some ys) here e =
+    let same : outcome term before 0 xs ≡ (append_known now (refusal_line p), Some ys) = cc in
+    let stops : (read xs).1 ≡ Some ys = ap (λ x. x.1) same in
+    (rw stops refl, ap (λ n. append_known now (refusal_line n)) here ∙ sym (ap (λ x. x.0) same) ∙ ap (append_known before) (whole_text term xs))
+
+cancel : (t a b : List ℕ) → t ++ a ≡ t ++ b → a ≡ b
+cancel t a b e = sym (drop-append_seam t a) ∙ ap (drop (length t)) e ∙ drop-append_seam t b
+
+-- the text begins with what was written and a front of the piece behind it
+front_at : (t w piece rest all : List ℕ) (n : ℕ) → ((t ++ w) ++ piece) ++ rest ≡ t ++ all → (t ++ w) ++ take n piece ≡ t ++ take (length (w ++ take n piece)) all
+front_at t w piece rest all n e =
+    let parts : all ≡ (w ++ take n piece) ++ (drop n piece ++ rest) = cancel t all _ (sym e ∙ ap (λ ls. ((t ++ w) ++ ls) ++ rest) (sym (take-append-drop n piece)) ∙ simp append_assoc) in
+    rw (parts, take-append_seam) (simp append_assoc)
+
+-- what was written, then a front of a piece of which the whole would be followed by the rest of the text
+pub front_more : (before mid now : Option (List ℕ)) (w piece rest text : List ℕ) (n : ℕ) → mid ≡ append_known before w → now ≡ append_known mid (take n piece) → append_known (append_known mid piece) rest ≡ append_known before text → WritesFront before now text
+front_more None mid now w piece rest text n a b e = (0, b ∙ ap (λ t. append_known t (take n piece)) a)
+front_more (Some t) mid now w piece rest text n a b e =
+    let all : append_known (append_known (Some (t ++ w)) piece) rest ≡ Some (t ++ text) = rw a at e in
+    let inner : ((t ++ w) ++ piece) ++ rest ≡ t ++ text = cc in
+    (length (w ++ take n piece), b ∙ ap (λ q. append_known q (take n piece)) a ∙ ap Some (front_at t w piece rest text n inner))
+
+-- a front of a document's lines was written
+pub front_of : (term : List ℕ) (before mid now : Option (List ℕ)) (w lines : List ℕ) (n p : ℕ) (old cur : Option (List ℕ)) → mid ≡ append_known before w → now ≡ append_known mid (take n lines) →
+    option_map (outcome term (append_known mid lines) p) cur ≡ option_map (outcome term before 0) old →
+    IfSome old (λ bytes. WritesFront before now (scan_text term bytes))
+front_of term before mid now w lines n p None cur a b e = tt
+front_of term before mid now w lines n p (Some xs) None a b e = cc
+front_of term before mid now w lines n p (Some xs) (Some ys) a b e =
+    let same : outcome term (append_known mid lines) p ys ≡ outcome term before 0 xs = cc in
+    front_more before mid now w lines (found_text term (p + length ys) (read ys)) (scan_text term xs) n a b (ap (λ x. x.0) same ∙ ap (append_known before) (whole_text term xs))
+
+-- nothing more was written
+pub front_now : (term : List ℕ) (before now : Option (List ℕ)) (w : List ℕ) (p : ℕ) (old cur : Option (List ℕ)) → now ≡ append_known before w →
+    option_map (outcome term now p) cur ≡ option_map (outcome term before 0) old →
+    IfSome old (λ bytes. WritesFront before now (scan_text term bytes))
+front_now term before now w p old cur a e = front_of term before now now w [] 0 p old cur a (sym (append_none now)) (ap (λ t. option_map (outcome term t p) cur) (append_none now) ∙ e)
+
+pub grown : (before mid now : Option (List ℕ)) (w lines : List ℕ) → mid ≡ append_known before w → now ≡ append_known mid lines → now ≡ append_known before (w ++ lines)
+grown before mid now w lines a b = b ∙ ap (λ t. append_known t lines) a ∙ sym (append_twice before w lines)
+
+-- the whole of a text is a front of it
+pub front_whole : (before now : Option (List ℕ)) (text : List ℕ) → Writes before now text → WritesFront before now text
+front_whole before now text e = (length text, e ∙ ap (append_known before) (sym (take-length text)))
+
+-- the whole of a line
+pub line_whole : (before now : Option (List ℕ)) (line : List ℕ) (count_before count_now : ℕ) → Writes before now line → WritesLine before now line count_before count_now
+line_whole before now line count_before count_now e = record { of_line = length line; written = e ∙ ap (append_known before) (sym (take-length line)); whole = λ h. absurd (omega (arith, h)) }
+
+-- a front of the line of a refusal is written behind the lines before it
+pub refused_front : (left before mid now : Option (List ℕ)) (term : List ℕ) (at : ℕ) → IfSome left (λ bytes. WritesFront before mid (scan_text term bytes)) → IfSome left (λ bytes. IsSome (read bytes).1 × (append_known mid (refusal_line at) ≡ append_known before (scan_text term bytes))) → WritesFront mid now (refusal_line at) → IfSome left (λ bytes. WritesFront before now (scan_text term bytes))
+refused_front None before mid now term at a b c = tt
+refused_front (Some bytes) before mid now term at a b c = front_more before mid now (take a.0 (scan_text term bytes)) (refusal_line at) [] (scan_text term bytes) c.0 a.1 c.1 (append_none (append_known mid (refusal_line at)) ∙ b.1)
+
+rose_before : (before mid now : ℕ) → before ≤ mid → Rose mid now → Rose before now
+rose_before before mid now h r = omega (arith, h, r)
+
+fault_behind : (before mid now : Option (List ℕ)) (text : List ℕ) (count_before count_mid count_now : ℕ) → count_before ≤ count_mid → WritesFront before mid text → WritesLine mid now fault_line count_mid count_now → WritesFault before now text count_before count_now
+fault_behind before mid now text count_before count_mid count_now h (n, a) l = record {
+  of_text = n;
+  of_line = l.of_line;
+  written = l.written ∙ ap (λ t. append_known t (take l.of_line fault_line)) a ∙ sym (append_twice before (take n text) (take l.of_line fault_line));
+  whole = λ short. rose_before count_before count_mid count_now h (l.whole short);
+}
+
+-- the last line is written behind a front of the text
+pub fault_front : (left before mid now : Option (List ℕ)) (term : List ℕ) (count_before count_mid count_now : ℕ) → count_before ≤ count_mid → IfSome left (λ bytes. WritesFront before mid (scan_text term bytes)) → WritesLine mid now fault_line count_mid count_now → IfSome left (λ bytes. WritesFault before now (scan_text term bytes) count_before count_now)
+fault_front None before mid now term count_before count_mid count_now h a l = tt
+fault_front (Some bytes) before mid now term count_before count_mid count_now h a l = fault_behind before mid now (scan_text term bytes) count_before count_mid count_now h a l

@@ -1,0 +1,5 @@
+pub mod Command
+pub mod Outcome
+pub mod Scan
+pub mod Status
+pub mod Stopped

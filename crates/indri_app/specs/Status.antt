@@ -1,0 +1,39 @@
+-- The exit statuses of the program.
+use Rattle.std.specs.Prelude.{ℕ}
+use Rattle.indri_app.specs.declared.status.Status.{Status}
+use Rattle.indri_app.specs.declared.status.Status.TheVariants.{Done, Usage, SomeRefused, ReadFault, WriteFault, Memory}
+
+abbrev pub code_of : Status → ℕ
+code_of Done = 0
+code_of Usage = 1
+code_of SomeRefused = 3
+code_of ReadFault = 4
+code_of WriteFault = 5
+code_of Memory = 9
+
+-- how a run ends whose words are no command
+abbrev pub IsUsageOutcome : Status → Type 0
+IsUsageOutcome Done = ⊥
+IsUsageOutcome Usage = Unit {0}
+IsUsageOutcome SomeRefused = ⊥
+IsUsageOutcome ReadFault = ⊥
+IsUsageOutcome WriteFault = Unit {0}
+IsUsageOutcome Memory = Unit {0}
+
+-- how a run ends whose input is refused, once the lines before the refusal are written
+abbrev pub IsRefusalOutcome : Status → Type 0
+IsRefusalOutcome Done = ⊥
+IsRefusalOutcome Usage = ⊥
+IsRefusalOutcome SomeRefused = Unit {0}
+IsRefusalOutcome ReadFault = ⊥
+IsRefusalOutcome WriteFault = Unit {0}
+IsRefusalOutcome Memory = Unit {0}
+
+-- how a run ends whose source failed
+abbrev pub IsReadFaultOutcome : Status → Type 0
+IsReadFaultOutcome Done = ⊥
+IsReadFaultOutcome Usage = ⊥
+IsReadFaultOutcome SomeRefused = ⊥
+IsReadFaultOutcome ReadFault = Unit {0}
+IsReadFaultOutcome WriteFault = ⊥
+IsReadFaultOutcome Memory = Unit {0}

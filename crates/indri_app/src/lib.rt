@@ -1,0 +1,12 @@
+//! The commands of the program, over any source and any sink.
+#![tactic(auto)]
+
+mod command;
+mod lines;
+mod program;
+mod scan;
+mod status;
+mod tokens;
+
+pub use program::run;
+pub use status::Status;

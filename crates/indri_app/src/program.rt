@@ -1,0 +1,136 @@
+// The program's one public call.
+ghost use Rattle.std.specs.Prelude.{◌≡◌, ◌≢◌, ◌≤◌, ◌<◌, ◌++◌, ℕ, List, IfSome, IsSomeAnd, IsSome, None, Some, take, length, codes};
+ghost use Rattle.ri_ends.specs.Causes.{Rose};
+ghost use Rattle.trec_reader.specs.Read.{read};
+ghost use Rattle.indri_app.specs.Command.{scan_term, usage_line};
+ghost use Rattle.indri_app.specs.Outcome.{Writes, WritesFault, WritesFront, WritesLine, fault_line};
+ghost use Rattle.indri_app.specs.Status.{IsReadFaultOutcome, IsRefusalOutcome, IsUsageOutcome};
+ghost use Rattle.indri_app.specs.Scan.{refusal_line, scan_text};
+
+use crate::Status;
+use crate::command::scan_term;
+use crate::lines::refusal_line;
+use crate::scan::{Stop, scan_documents};
+use ri_base::ArgList;
+use ri_ends::{OutFault, Sink, Source};
+use std::alloc::Global;
+
+/// Writes the line that says which words are commands.
+#[tactic(auto, using(crate::proofs::Scanned::front_whole), unfolding(crate::specs::Command::usage_line))]
+fn write_usage<K: Sink>(sink: &mut K) -> Status
+    ensures usage { result ≡ Status.Usage → Writes (K.taken sink.old) (K.taken sink.new) usage_line }
+    ensures front { WritesFront (K.taken sink.old) (K.taken sink.new) usage_line }
+    ensures only { IsUsageOutcome result }
+    ensures later { K.faults sink.old ≤ K.faults sink.new }
+    ensures write { result ≡ Status.WriteFault → Rose (K.faults sink.old) (K.faults sink.new) }
+{
+    let line = b"usage: indri DIR scan|create|add|delete|merge|prior|query|explain|session|gen\n";
+    match sink.write_all(line) {
+        Ok(()) => Status::Usage,
+        Err(OutFault::Failed) => Status::WriteFault,
+        Err(OutFault::Memory) => Status::Memory,
+    }
+}
+
+/// Writes the line of a refusal behind the lines of the documents before it.
+#[tactic(auto, using(crate::proofs::Scanned::front_whole))]
+fn write_refusal<K: Sink>(alloc: Global, at: u64, sink: &mut K) -> Status
+    ensures refused { result ≡ Status.SomeRefused → Writes (K.taken sink.old) (K.taken sink.new) (refusal_line at) }
+    ensures front { WritesFront (K.taken sink.old) (K.taken sink.new) (refusal_line at) }
+    ensures only { IsRefusalOutcome result }
+    ensures later { K.faults sink.old ≤ K.faults sink.new }
+    ensures write { result ≡ Status.WriteFault → Rose (K.faults sink.old) (K.faults sink.new) }
+{
+    let Ok(line) = refusal_line(alloc, at) else {
+        return Status::Memory;
+    };
+    match sink.write_all(&line) {
+        Ok(()) => Status::SomeRefused,
+        Err(OutFault::Failed) => Status::WriteFault,
+        Err(OutFault::Memory) => Status::Memory,
+    }
+}
+
+/// Writes the last line of a run whose source failed. The status says so even where the sink fails at it.
+#[tactic(auto, using(crate::proofs::Scanned::line_whole), unfolding(crate::specs::Outcome::fault_line))]
+fn write_read_fault<K: Sink>(sink: &mut K) -> Status
+    ensures fault { result ≡ Status.ReadFault → WritesLine (K.taken sink.old) (K.taken sink.new) fault_line (K.faults sink.old) (K.faults sink.new) }
+    ensures none { result ≡ Status.Memory → K.taken sink.new ≡ K.taken sink.old }
+    ensures only { IsReadFaultOutcome result }
+    ensures later { K.faults sink.old ≤ K.faults sink.new }
+{
+    match sink.write_all(b"fault read\n") {
+        Ok(()) | Err(OutFault::Failed) => Status::ReadFault,
+        Err(OutFault::Memory) => Status::Memory,
+    }
+}
+
+/// Writes what a scan for the term writes.
+#[tactic(auto, using(crate::proofs::Scanned::refused_front, crate::proofs::Scanned::fault_front))]
+fn scan<S: Source, K: Sink>(alloc: Global, term: &[u8], source: &mut S, sink: &mut K) -> Status
+    ensures done { result ≡ Status.Done → IfSome (S.left source.old) (λ bytes.
+        ((read bytes).1 ≡ None) × Writes (K.taken sink.old) (K.taken sink.new) (scan_text term.now bytes)) }
+    ensures refused { result ≡ Status.SomeRefused → IfSome (S.left source.old) (λ bytes.
+        IsSome (read bytes).1 × Writes (K.taken sink.old) (K.taken sink.new) (scan_text term.now bytes)) }
+    ensures front { result ≢ Status.ReadFault → IfSome (S.left source.old) (λ bytes.
+        WritesFront (K.taken sink.old) (K.taken sink.new) (scan_text term.now bytes)) }
+    ensures fault_line { result ≡ Status.ReadFault → IfSome (S.left source.old) (λ bytes.
+        WritesFault (K.taken sink.old) (K.taken sink.new) (scan_text term.now bytes) (K.faults sink.old) (K.faults sink.new)) }
+
+    ensures command { result ≢ Status.Usage }
+    ensures read { result ≡ Status.ReadFault → Rose (S.faults source.old) (S.faults source.new) }
+    ensures write { result ≡ Status.WriteFault → Rose (K.faults sink.old) (K.faults sink.new) }
+    ensures read_later { S.faults source.old ≤ S.faults source.new }
+    ensures write_later { K.faults sink.old ≤ K.faults sink.new }
+    ensures layers { S.layers source.new ≡ S.layers source.old }
+    ensures held { S.held source.new ≡ S.held source.old }
+{
+    match scan_documents(alloc, term, source, sink) {
+        Stop::End => Status::Done,
+        Stop::Refused { at } => write_refusal(alloc, at, sink),
+        Stop::ReadFault => write_read_fault(sink),
+        Stop::WriteFault => Status::WriteFault,
+        Stop::Memory => Status::Memory,
+    }
+}
+
+/// Runs the command of the words, which are those behind the program's name. It reads its input from the source and
+/// writes its text to the sink.
+pub fn run<S: Source, K: Sink>(
+    alloc: Global,
+    words: &ArgList,
+    source: &mut S,
+    sink: &mut K,
+) -> Status
+    // Done: the words are a scan, nothing of the input is refused, and the text of the scan is written.
+    ensures done { result ≡ Status.Done → IsSomeAnd (scan_term words.now) (λ term. IfSome (S.left source.old) (λ bytes.
+        ((read bytes).1 ≡ None) × Writes (K.taken sink.old) (K.taken sink.new) (scan_text term bytes))) }
+
+    // SomeRefused: the words are a scan, the input is refused, and the text with that line at its end is written.
+    ensures refused { result ≡ Status.SomeRefused → IsSomeAnd (scan_term words.now) (λ term. IfSome (S.left source.old) (λ bytes.
+        IsSome (read bytes).1 × Writes (K.taken sink.old) (K.taken sink.new) (scan_text term bytes))) }
+
+    // Usage: exactly where the words are no command, unless the sink fails or memory is missing. The source stays.
+    ensures usage { result ≡ Status.Usage → (scan_term words.now ≡ None) × Writes (K.taken sink.old) (K.taken sink.new) usage_line }
+    ensures no_command { scan_term words.now ≡ None → IsUsageOutcome result × (source.new ≡ source.old) × WritesFront (K.taken sink.old) (K.taken sink.new) usage_line }
+
+    // A fault has its cause in this call, and no count falls.
+    ensures read { result ≡ Status.ReadFault → Rose (S.faults source.old) (S.faults source.new) }
+    ensures write { result ≡ Status.WriteFault → Rose (K.faults sink.old) (K.faults sink.new) }
+    ensures read_later { S.faults source.old ≤ S.faults source.new }
+    ensures write_later { K.faults sink.old ≤ K.faults sink.new }
+
+    // However a scan ends, a front of its text is written, and behind it the last line where the source failed.
+    ensures front { result ≢ Status.ReadFault → IfSome (scan_term words.now) (λ term. IfSome (S.left source.old) (λ bytes.
+        WritesFront (K.taken sink.old) (K.taken sink.new) (scan_text term bytes))) }
+    ensures fault_line { result ≡ Status.ReadFault → IfSome (scan_term words.now) (λ term. IfSome (S.left source.old) (λ bytes.
+        WritesFault (K.taken sink.old) (K.taken sink.new) (scan_text term bytes) (K.faults sink.old) (K.faults sink.new))) }
+
+    ensures layers { S.layers source.new ≡ S.layers source.old }
+    ensures held { S.held source.new ≡ S.held source.old }
+{
+    match scan_term(words) {
+        Some(term) => scan(alloc, term, source, sink),
+        None => write_usage(sink),
+    }
+}

@@ -1,0 +1,79 @@
+// A scan of all documents of a source for a term.
+ghost use Rattle.std.specs.Prelude.{◌≡◌, ◌≢◌, ◌≤◌, ℕ, IfSome, OnOk, None, IsErrOf, IsSome, IsErr, take};
+ghost use Rattle.std.specs.Io.KnownBytes.{append_known};
+ghost use Rattle.ri_ends.specs.Causes.{Rose};
+ghost use Rattle.trec_reader.specs.Refusal.{raw_text};
+ghost use Rattle.trec_reader.specs.Read.{read};
+ghost use Rattle.indri_app.specs.Outcome.{Writes, WritesFront, WritesFault, fault_line};
+ghost use Rattle.indri_app.specs.Scan.{document_lines, refusal_line, scan_text};
+ghost use Rattle.indri_app.specs.Stopped.{DoneAt, RefusedAt};
+
+use crate::Status;
+use crate::lines::{document_lines, refusal_line};
+use ri_ends::{OutFault, Sink, Source};
+use std::alloc::Global;
+use trec_reader::{DocReader, RawDoc, TrecRefusal};
+
+/// Why the lines of documents come to an end.
+#[derive(Clone, Copy, Debug, PartialEq, Eq)]
+pub enum Stop {
+    End,
+    Refused { at: u64 },
+    ReadFault,
+    WriteFault,
+    Memory,
+}
+
+fn write_document<K: Sink>(
+    alloc: Global,
+    term: &[u8],
+    document: &RawDoc,
+    sink: &mut K,
+) -> Result<(), OutFault>
+    ensures whole { OnOk result (Writes (K.taken sink.old) (K.taken sink.new) (document_lines term.now (raw_text document.now))) }
+    ensures front { IsErr result → WritesFront (K.taken sink.old) (K.taken sink.new) (document_lines term.now (raw_text document.now)) }
+    ensures later { K.faults sink.old ≤ K.faults sink.new }
+    ensures cause { IsErrOf result OutFault.Failed → Rose (K.faults sink.old) (K.faults sink.new) }
+{
+    let lines = document_lines(alloc, term, document)?;
+    sink.write_all(&lines)
+}
+
+/// Writes the lines of all documents.
+pub fn scan_documents<S: Source, K: Sink>(
+    alloc: Global,
+    term: &[u8],
+    source: &mut S,
+    sink: &mut K,
+) -> Stop
+    // At the end all of the text is written, and at a refusal all of it but the line of the refusal.
+    ensures done { DoneAt result (S.left source.old) (K.taken sink.old) (K.taken sink.new) term.now }
+    ensures refused { RefusedAt result (S.left source.old) (K.taken sink.old) (K.taken sink.new) term.now }
+    ensures front { IfSome (S.left source.old) (λ bytes. WritesFront (K.taken sink.old) (K.taken sink.new) (scan_text term.now bytes)) }
+
+    ensures read { result ≡ Stop.ReadFault → Rose (S.faults source.old) (S.faults source.new) }
+    ensures write { result ≡ Stop.WriteFault → Rose (K.faults sink.old) (K.faults sink.new) }
+    ensures read_later { S.faults source.old ≤ S.faults source.new }
+    ensures write_later { K.faults sink.old ≤ K.faults sink.new }
+    ensures layers { S.layers source.new ≡ S.layers source.old }
+    ensures held { S.held source.new ≡ S.held source.old }
+{
+    let Ok(mut reader) = DocReader::new(alloc) else {
+        return Stop::Memory;
+    };
+    'documents: loop {
+        let document = match reader.next_doc(source) {
+            Ok(Some(document)) => document,
+            Ok(None) => return Stop::End,
+            Err(TrecRefusal::NotBuilt { at }) => return Stop::Refused { at },
+            Err(TrecRefusal::Read) => return Stop::ReadFault,
+            Err(TrecRefusal::Memory) => return Stop::Memory,
+            Err(TrecRefusal::Ended) => unreachable!(),
+        };
+        match write_document(alloc, term, &document, sink) {
+            Ok(()) => {}
+            Err(OutFault::Failed) => return Stop::WriteFault,
+            Err(OutFault::Memory) => return Stop::Memory,
+        }
+    }
+}

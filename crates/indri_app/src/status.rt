@@ -1,0 +1,34 @@
+// How a run of the program ends.
+ghost use Rattle.std.specs.Prelude.{◌≡◌};
+ghost use Rattle.indri_app.specs.Status.{code_of};
+
+/// How a run ends. The program's exit status is the number in brackets.
+#[derive(Clone, Copy, Debug, PartialEq, Eq)]
+pub enum Status {
+    /// All of the input was read, and nothing was refused (0).
+    Done,
+    /// The words are no command (1).
+    Usage,
+    /// Something in the input was refused, and its line was written (3).
+    SomeRefused,
+    /// The source failed (4).
+    ReadFault,
+    /// The sink failed (5).
+    WriteFault,
+    /// There was no memory (9).
+    Memory,
+}
+
+impl Status {
+    /// The exit status of the program.
+    pub fn code(self) -> u8 {
+        match self {
+            Status::Done => 0,
+            Status::Usage => 1,
+            Status::SomeRefused => 3,
+            Status::ReadFault => 4,
+            Status::WriteFault => 5,
+            Status::Memory => 9,
+        }
+    }
+}

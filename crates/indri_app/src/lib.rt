@@ -10,3 +10,6 @@ mod tokens;
 
 pub use program::run;
 pub use status::Status;
+
+#[cfg(test)]
+mod tests;

@@ -1,7 +1,7 @@
 // The parts of which documents are read.
-ghost use Rattle.std.specs.Prelude.{◌≡◌, ◌+◌, ◌^◌, ◌<◌, ◌≤◌, ℕ, [], length, drop, IfOk, OnOk, OnErr, Ok};
+ghost use Rattle.std.specs.Prelude.{◌≡◌, ◌+◌, ◌^◌, ◌<◌, ◌≤◌, ℕ, [], length, drop, IfOk, OnOk, OnErr, Ok, MatchOption, slice_get, Some};
 ghost use Rattle.std.specs.Option.{option_map};
-ghost use Rattle.std.specs.Io.KnownBytes.{prepend_known};
+ghost use Rattle.std.specs.Io.KnownBytes.{prepend_known, IsAtEnd};
 ghost use Rattle.ri_ends.specs.Causes.{Rose, HasCause};
 ghost use Rattle.trec_reader.specs.Ahead.{most_of, Steps};
 ghost use Rattle.trec_reader.specs.Class.{is_in};
@@ -14,20 +14,26 @@ use ri_base::ascii::lower;
 use ri_ends::{Failed, Source};
 use std::alloc::Global;
 
-/// Reads the bytes of the class that stand next.
-pub fn skip<S: Source>(ahead: &mut ReadAhead, source: &mut S, class: Class) -> Result<(), Failed>
+/// Reads the bytes of the class that stand next. The answer is the byte behind them, which stays unread, or none at the
+/// end of the input.
+pub fn skip<S: Source>(
+    ahead: &mut ReadAhead,
+    source: &mut S,
+    class: Class,
+) -> Result<Option<u8>, Failed>
     requires { most_of ahead.old (S.can_give source.old) < 2 ^ 64 }
+    ensures next { IfOk result (λ next. MatchOption next (IsAtEnd (prepend_known ahead.new.bytes (S.left source.new))) (λ byte. slice_get ahead.new.bytes 0 ≡ Some byte)) }
     ensures rest { OnOk result (prepend_known ahead.new.bytes (S.left source.new) ≡ option_map (skip (is_in class)) (prepend_known ahead.old.bytes (S.left source.old))) }
     ensures steps { Steps S.left S.layers S.held S.faults S.can_give ahead.old ahead.new source.old source.new }
     ensures failed { OnErr result (Rose (S.faults source.old) (S.faults source.new)) }
 {
     while let Some(byte) = ahead.peek(source)? {
         if !class.has(byte) {
-            return Ok(());
+            return Ok(Some(byte));
         }
         ahead.advance();
     }
-    Ok(())
+    Ok(None)
 }
 
 /// Reads a word that is given in lower case, whatever its case is there.

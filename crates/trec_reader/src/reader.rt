@@ -29,8 +29,7 @@ fn read_entry<S: Source>(
     ensures failed { ReadRose result (S.faults source.old) (S.faults source.new) }
     ensures moves { IfOk result (λ found. OnSome found (ahead.old.offset < ahead.new.offset)) }
 {
-    skip(ahead, source, Class::Space)?;
-    if ahead.peek(source)?.is_none() {
+    if skip(ahead, source, Class::Space)?.is_none() {
         return Ok(None);
     }
     let document = read_document(alloc, ahead, source)?;

@@ -1,0 +1,142 @@
+use super::*;
+use ri_base::ArgList;
+use ri_ends::{MemSink, MemSource, SinkFail, Source};
+use std::alloc::Global;
+use std::test::Fail;
+
+const TWO: &[u8] = b"<DOC><DOCNO>d1</DOCNO>a b</DOC><DOC><DOCNO>d2</DOCNO>a</DOC>";
+
+const USAGE: &[u8] =
+    b"usage: indri DIR scan|create|add|delete|merge|prior|query|explain|session|gen\n";
+
+fn words_of(alloc: Global, texts: &[&str]) -> Result<ArgList, Fail> {
+    let mut words = ArgList::new(alloc);
+    for text in texts {
+        words.push(text)?;
+    }
+    Ok(words)
+}
+
+/// What a scan for `a` answers and writes, where the input comes in pieces and these calls fail.
+fn scanned(
+    alloc: Global,
+    input: &[u8],
+    piece: usize,
+    read_fails: &[u64],
+    write_fails: &[SinkFail],
+) -> Result<(Status, Vec<u8>), Fail> {
+    let words = words_of(alloc, &[".", "scan", "a"])?;
+    let mut source = MemSource::new(input.to_vec(alloc)?, piece.max(1), read_fails.to_vec(alloc)?);
+    let mut sink = MemSink::new(alloc, write_fails.to_vec(alloc)?);
+    let status = run(alloc, &words, &mut source, &mut sink);
+    let text = sink.bytes().to_vec(alloc)?;
+    Ok((status, text))
+}
+
+#[test]
+fn scans(rt: HostRuntime) -> Result<(), Fail> {
+    let alloc = rt.alloc();
+    let rows: [(&[u8], Status, &[u8]); 6] = [
+        (TWO, Status::Done, b"d1 0 1\nd2 0 1\n"),
+        (b"", Status::Done, b""),
+        (b"x", Status::SomeRefused, b"refused NotBuilt 0\n"),
+        (
+            b"<DOC><DOCNO>d1</DOCNO>a b</DOC>\n<DOC><DOCNO>d2</DOCNO>a",
+            Status::SomeRefused,
+            b"d1 0 1\nrefused NotBuilt 55\n",
+        ),
+        (
+            b"<DOC><DOCNO>d1</DOCNO>a-b</DOC>",
+            Status::SomeRefused,
+            b"refused NotBuilt 23\n",
+        ),
+        (
+            b" <doc>\n<DocNo> x<docno>",
+            Status::SomeRefused,
+            b"refused NotBuilt 17\n",
+        ),
+    ];
+    for (input, status, text) in rows {
+        for piece in [1, 2, 3, 7, 100] {
+            let (answer, written) = scanned(alloc, input, piece, &[], &[])?;
+            assert_eq!(rt; answer, status);
+            assert_eq!(rt; written.as_slice(), text);
+        }
+    }
+    Ok(())
+}
+
+#[test]
+fn words_that_are_no_command(rt: HostRuntime) -> Result<(), Fail> {
+    let alloc = rt.alloc();
+    let long = "a".repeat(alloc, 129)?;
+    let rows: [&[&str]; 8] = [
+        &[],
+        &["."],
+        &[".", "scan"],
+        &[".", "scan", "A"],
+        &[".", "scan", ""],
+        &[".", "scan", long.as_str()],
+        &[".", "sing", "a"],
+        &[".", "scan", "a", "b"],
+    ];
+    for texts in rows {
+        let words = words_of(alloc, texts)?;
+        let mut source = MemSource::new(TWO.to_vec(alloc)?, 100, Vec::new(alloc));
+        let mut sink = MemSink::new(alloc, Vec::new(alloc));
+        assert_eq!(rt; run(alloc, &words, &mut source, &mut sink), Status::Usage);
+        assert_eq!(rt; sink.bytes(), USAGE);
+        let mut rest = [0; 100];
+        assert_eq!(rt; source.read(&mut rest), Ok(TWO.len()), "no byte was read");
+    }
+    Ok(())
+}
+
+#[test]
+fn reads_that_fail(rt: HostRuntime) -> Result<(), Fail> {
+    let alloc = rt.alloc();
+    for call in 1..12 {
+        let (status, text) = scanned(alloc, TWO, 7, &[call], &[])?;
+        let read = 7 * (call - 1);
+        let (want, line): (Status, &[u8]) = if call > 10 {
+            (Status::Done, b"d1 0 1\nd2 0 1\n")
+        } else if read >= 60 {
+            (Status::ReadFault, b"d1 0 1\nd2 0 1\nfault read\n")
+        } else if read >= 31 {
+            (Status::ReadFault, b"d1 0 1\nfault read\n")
+        } else {
+            (Status::ReadFault, b"fault read\n")
+        };
+        assert_eq!(rt; status, want, "at read {call}");
+        assert_eq!(rt; text.as_slice(), line, "at read {call}");
+    }
+    // The sink fails at the last line too.
+    let fail = SinkFail { call: 2, taken: 3 };
+    let (status, text) = scanned(alloc, TWO, 40, &[2], &[fail])?;
+    assert_eq!(rt; status, Status::ReadFault);
+    assert_eq!(rt; text.as_slice(), b"d1 0 1\nfau".as_slice());
+    Ok(())
+}
+
+#[test]
+fn writes_that_fail(rt: HostRuntime) -> Result<(), Fail> {
+    let alloc = rt.alloc();
+    let broken = b"<DOC><DOCNO>d1</DOCNO>a b</DOC>x";
+    for taken in [0, 1, 99] {
+        let first = SinkFail { call: 1, taken };
+        let (status, text) = scanned(alloc, TWO, 9, &[], &[first])?;
+        assert_eq!(rt; status, Status::WriteFault);
+        assert_eq!(rt; text.as_slice(), &b"d1 0 1\n"[..taken.min(7)]);
+        let second = SinkFail { call: 2, taken };
+        let (status, text) = scanned(alloc, TWO, 9, &[], &[second])?;
+        assert_eq!(rt; status, Status::WriteFault);
+        assert_eq!(rt; text.as_slice(), &b"d1 0 1\nd2 0 1\n"[..7 + taken.min(7)]);
+        let (status, text) = scanned(alloc, broken, 9, &[], &[second])?;
+        assert_eq!(rt; status, Status::WriteFault);
+        assert_eq!(rt; text.as_slice(), &b"d1 0 1\nrefused NotBuilt 31\n"[..7 + taken.min(20)]);
+    }
+    let third = SinkFail { call: 3, taken: 0 };
+    let (status, _) = scanned(alloc, TWO, 9, &[], &[third])?;
+    assert_eq!(rt; status, Status::Done);
+    Ok(())
+}

@@ -1,8 +1,3 @@
-pub mod Ahead
-pub mod Class
-pub mod Exact
-pub mod Read
-pub mod Reading
-pub mod Refusal
-pub mod State
-pub mod Thin
+pub mod Documents
+pub mod Marks
+pub mod Pieces

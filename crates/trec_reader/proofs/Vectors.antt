@@ -1,12 +1,11 @@
 -- Worked texts, read by computing.
-use Rattle.std.proofs.Common.{ℕ, ◌≡◌, List, [], ◌∷◌, Ok, Err, Some, None, refl}
-use Rattle.std.specs.Prelude.{codes, ◌++◌}
+use Rattle.std.proofs.Common.{◌≡◌, [], ◌∷◌, Ok, Err, refl}
+use Rattle.std.specs.Prelude.{codes}
 use Rattle.trec_reader.specs.Documents.{doc_tag, docno, docno_tag, document, header, opening, text}
 use Rattle.trec_reader.specs.Marks.{comment, declaration, end_tag, entity, tag}
 use Rattle.trec_reader.specs.Pieces.{mark, pieces}
-use Rattle.trec_reader.specs.declared.piece.Piece.{Piece}
 use Rattle.trec_reader.specs.declared.piece.Piece.TheVariants.{Text, Open, Close, Break}
-use Rattle.trec_reader.specs.declared.stop.Kind.TheVariants.{NoDocno, DocnoEmpty, DocnoBad, DocnoLong, NotADoc}
+use Rattle.trec_reader.specs.declared.stop.Kind.TheVariants.{NoDocno, DocnoEmpty, DocnoBad, NotADoc}
 use Rattle.trec_reader.specs.declared.stop.Stop.TheVariants.{Refused, OpenTag, OpenDoc}
 
 plain : document (codes "<DOC><DOCNO>d1</DOCNO>a b</DOC>x") ≡ Ok ((codes "d1", Text (codes "a b") ∷ []), 31)

@@ -1,5 +1,5 @@
 -- Documents of TREC text, read from the front of some bytes.
-use Rattle.std.specs.Prelude.{ℕ, suc, ◌+◌, Bool, true, not, ◌&&◌, ◌==◌, nat_lt, if◌then◌else◌, List, [], ◌∷◌, length, take, drop, codes, Option, None, Some, option_map, Result, Ok, Err}
+use Rattle.std.specs.Prelude.{ℕ, suc, ◌+◌, not, ◌&&◌, ◌==◌, nat_lt, if◌then◌else◌, List, [], ◌∷◌, length, take, drop, codes, Option, None, Some, option_map, Result, Ok, Err}
 use Rattle.std.specs.List.{prefix_len}
 use Rattle.ri_base.specs.Ascii.{is_space}
 use Rattle.ri_base.specs.Text.{is_docno_byte}

@@ -2,8 +2,8 @@
 use Rattle.std.proofs.Common.{ℕ, zero, suc, ◌≡◌, ◌<◌, ◌≤◌, Bool, true, false, List, [], ◌∷◌, length, refl, sym, arith}
 use Rattle.std.specs.Prelude.{slice_index}
 use Rattle.std.specs.List.{position_or_len}
-use Rattle.memchr.specs.Find.{IsFirstByte, is_byte2}
-use Rattle.trec_reader.specs.Marks.{is_angle, to_angle}
+use Rattle.memchr.specs.Find.{IsFirstByte, is_byte, is_byte2}
+use Rattle.trec_reader.specs.Marks.{is_angle, is_less, to_angle}
 use Rattle.std.specs.Prelude.{Some, None}
 
 -- no byte passes before this place, and it is the end or its byte passes
@@ -28,3 +28,9 @@ first_angle bytes n (first, here) = (sym (counted is_angle bytes n (omega (arith
 
 pub no_angle : (bytes : List ℕ) → IsFirstByte (is_byte2 60 62) bytes None → length bytes ≡ to_angle bytes
 no_angle bytes none = sym (counted is_angle bytes (length bytes) (omega arith) (λ k h. fails is_angle (slice_index bytes k) (none k (omega arith) h)) (λ h. absurd (omega arith)))
+
+pub first_less : (bytes : List ℕ) (n : ℕ) → IsFirstByte (is_byte 60) bytes (Some n) → (n ≡ position_or_len is_less bytes) × (n ≤ length bytes)
+first_less bytes n (first, here) = (sym (counted is_less bytes n (omega (arith, first.high)) (λ k h. fails is_less (slice_index bytes k) (first.before k (omega arith) h)) (λ _. here)), omega (arith, first.high))
+
+pub no_less : (bytes : List ℕ) → IsFirstByte (is_byte 60) bytes None → length bytes ≡ position_or_len is_less bytes
+no_less bytes none = sym (counted is_less bytes (length bytes) (omega arith) (λ k h. fails is_less (slice_index bytes k) (none k (omega arith) h)) (λ h. absurd (omega arith)))

@@ -1,5 +1,5 @@
 -- Documents of TREC text, read from the front of some bytes.
-use Rattle.std.specs.Prelude.{ℕ, suc, ◌+◌, not, ◌&&◌, ◌==◌, nat_lt, if◌then◌else◌, List, [], ◌∷◌, length, take, drop, codes, Option, None, Some, option_map, Result, Ok, Err}
+use Rattle.std.specs.Prelude.{◌≡◌, ◌≤◌, ℕ, suc, ◌+◌, not, ◌&&◌, ◌==◌, nat_lt, if◌then◌else◌, List, [], ◌∷◌, length, take, drop, codes, Option, None, Some, option_map, Result, Ok, Err}
 use Rattle.std.specs.List.{prefix_len}
 use Rattle.ri_base.specs.Ascii.{is_space}
 use Rattle.ri_base.specs.Text.{is_docno_byte}
@@ -38,10 +38,6 @@ continued (Err stop) bytes next = Err stop
 infixl 10 ◌>>=◌
 abbrev pub ◌>>=◌ : {A B : Type 0} → (List ℕ → Reading A) → (A → List ℕ → Reading B) → List ℕ → Reading B
 (r >>= next) bytes = continued (r bytes) bytes next
-
--- no more is read
-abbrev pub done : {A : Type 0} → A → List ℕ → Reading A
-done x bytes = Ok (x, 0)
 
 -- the white space at the front
 abbrev pub space : List ℕ → Reading (Unit {0})
@@ -87,10 +83,19 @@ docno_of bytes n = let at = n + prefix_len is_space (drop n bytes) in docno_behi
 unfoldable pub docno : List ℕ → Reading (List ℕ)
 docno bytes = docno_of bytes (prefix_len is_docno_byte bytes)
 
--- what stands from a `doc` tag on up to its docno
-unfoldable pub opening : List ℕ → Reading (Unit {0})
-opening = doc_tag >>= λ _. space >>= λ _. docno_tag >>= λ _. space
+-- a `docno` tag and the white space behind it
+unfoldable pub docno_opening : List ℕ → Reading (Unit {0})
+docno_opening = docno_tag >>= λ _. space
 
+-- white space, and what stands from the `docno` tag on up to the docno
+unfoldable pub spaced_opening : List ℕ → Reading (Unit {0})
+spaced_opening = space >>= λ _. docno_opening
+
+-- a `doc` tag, and all that stands before its docno
+unfoldable pub opening : List ℕ → Reading (Unit {0})
+opening = doc_tag >>= λ _. spaced_opening
+
+-- what stands before the text of a document; it tells the docno
 unfoldable pub header : List ℕ → Reading (List ℕ)
 header = opening >>= λ _. docno
 
@@ -116,6 +121,28 @@ text bytes = text_of bytes (to_end bytes)
 
 -- DOCUMENTS
 
--- a docno, and the pieces of the text behind it
+abbrev pub named : List ℕ → Reading (List Piece) → Reading (List ℕ × List Piece)
+named name (Ok (found, n)) = Ok ((name, found), n)
+named name (Err stop) = Err stop
+
+-- a header, and the text behind it
 unfoldable pub document : List ℕ → Reading (List ℕ × List Piece)
-document = header >>= λ name. text >>= λ found. done (name, found)
+document = header >>= λ name rest. named name (text rest)
+
+-- ANSWERS
+
+-- A call answers what the reading says, unless it finds no memory.
+abbrev pub Answers : {A : Type 0} → Reading A → Reading A → Type 0
+Answers (Ok x) r = r ≡ Ok x
+Answers (Err (Refused kind at)) r = r ≡ Err (Refused kind at)
+Answers (Err OpenTag) r = r ≡ Err OpenTag
+Answers (Err OpenDoc) r = r ≡ Err OpenDoc
+Answers (Err Memory) r = Unit {0}
+
+-- What is read, or the place of a stop, lies within so many bytes.
+abbrev pub StaysWithin : {A : Type 0} → Reading A → ℕ → Type 0
+StaysWithin (Ok (x, n)) all = n ≤ all
+StaysWithin (Err (Refused kind at)) all = at ≤ all
+StaysWithin (Err OpenTag) all = Unit {0}
+StaysWithin (Err OpenDoc) all = Unit {0}
+StaysWithin (Err Memory) all = Unit {0}

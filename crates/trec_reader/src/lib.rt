@@ -1,6 +1,8 @@
 //! Reads the documents of TREC text from a source, one after the other, in whatever pieces the source gives.
 #![tactic(auto)]
 
+mod frame;
+mod header;
 mod mark;
 mod piece;
 mod refusal;

@@ -1,3 +1,7 @@
+pub mod Ahead
 pub mod Documents
 pub mod Marks
 pub mod Pieces
+pub mod Read
+pub mod Refusal
+pub mod State

@@ -1,6 +1,8 @@
 //! Reads the documents of TREC text from a source, one after the other, in whatever pieces the source gives.
 #![tactic(auto)]
 
+mod ahead;
+mod document;
 mod frame;
 mod header;
 mod mark;
@@ -8,5 +10,6 @@ mod piece;
 mod refusal;
 mod stop;
 
+pub use document::RawDoc;
 pub use piece::{Piece, Pieces};
 pub use refusal::TrecRefusal;

@@ -2,9 +2,11 @@
 #![tactic(auto)]
 
 mod frame;
+mod gap;
 mod header;
 mod mark;
 mod piece;
+mod pieces;
 mod refusal;
 mod stop;
 

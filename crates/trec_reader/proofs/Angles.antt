@@ -16,7 +16,7 @@ counted p (b ∷ bytes) (suc n) le none here =
     let further : position_or_len p bytes ≡ n = counted p bytes n (omega arith) (λ k h. none (suc k) (omega arith)) (λ h. here (omega arith)) in
     rw (e, further) (omega arith)
 
-fails : (p : ℕ → Bool) (b : ℕ) → (p b ≡ true → ⊥) → p b ≡ false
+pub fails : (p : ℕ → Bool) (b : ℕ) → (p b ≡ true → ⊥) → p b ≡ false
 fails p b never = by (p b) refl
   where
     by : (v : Bool) → p b ≡ v → p b ≡ false

@@ -1,4 +1,5 @@
 pub mod Ahead
+pub mod Cuts
 pub mod Documents
 pub mod Marks
 pub mod Pieces

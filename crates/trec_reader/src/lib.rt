@@ -4,9 +4,11 @@
 mod ahead;
 mod document;
 mod frame;
+mod gap;
 mod header;
 mod mark;
 mod piece;
+mod pieces;
 mod refusal;
 mod stop;
 

@@ -139,6 +139,7 @@ impl ReadAhead {
         ensures offset { self.new.offset ≡ self.old.offset }
         ensures steps { Steps S.left S.layers S.held S.faults S.can_give self.old self.new source.old source.new }
         ensures ended { IfOk result (λ ended. OnTrue ended (IsAtEnd (S.left source.new) × (self.new.bytes ≡ self.old.bytes))) }
+        ensures some { length self.old.bytes ≤ length self.new.bytes }
         ensures grows { IfOk result (λ ended. OnFalse ended (length self.old.bytes < length self.new.bytes)) }
         ensures gives { S.can_give source.new + length self.new.bytes ≡ S.can_give source.old + length self.old.bytes }
         ensures failed { IsFillRefusal result (S.faults source.old) (S.faults source.new) }
@@ -178,6 +179,7 @@ impl ReadAhead {
         ensures steps { Steps S.left S.layers S.held S.faults S.can_give self.old self.new source.old source.new }
         ensures ended { IfOk result (λ ended. OnTrue ended (IsAtEnd (S.left source.new))) }
         ensures grows { IfOk result (λ ended. OnFalse ended (most ≤ length self.new.bytes)) }
+        ensures some { length self.old.bytes ≤ length self.new.bytes }
         ensures gives { S.can_give source.new + length self.new.bytes ≡ S.can_give source.old + length self.old.bytes }
         ensures failed { IsFillRefusal result (S.faults source.old) (S.faults source.new) }
     {

@@ -9,6 +9,7 @@ mod header;
 mod mark;
 mod piece;
 mod pieces;
+mod reader;
 mod refusal;
 mod stop;
 

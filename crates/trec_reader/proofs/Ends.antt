@@ -1,11 +1,11 @@
 -- Where the text of a document ends, seen from a place before that.
-use Rattle.std.proofs.Common.{ℕ, zero, suc, ◌≡◌, ◌≢◌, ◌<◌, ◌≤◌, ◌+◌, ◌-◌, take, Bool, true, false, List, [], ◌∷◌, length, drop, Option, Some, None, refl, sym, ap, ◌∙◌, arith, add-zero, zero-add, length-drop}
+use Rattle.std.proofs.Common.{ℕ, suc, ◌≡◌, ◌<◌, ◌≤◌, ◌+◌, ◌-◌, take, Bool, true, false, List, [], ◌∷◌, length, drop, Option, Some, None, refl, sym, ap, ◌∙◌, arith, add-zero, zero-add, length-drop}
 use Rattle.std.proofs.lemmas.List.{drop-drop, take_all}
 use Rattle.std.specs.Prelude.{if◌then◌else◌, codes, not}
 use Rattle.std.specs.Option.{option_map}
-use Rattle.std.specs.List.{position_or_len, prefix_len}
+use Rattle.std.specs.List.{position_or_len}
 use Rattle.trec_reader.specs.Documents.{to_end, to_end_at}
-use Rattle.trec_reader.specs.Marks.{end_tag, is_less, only_end_named, tag, tag_slashed}
+use Rattle.trec_reader.specs.Marks.{end_tag, is_less, tag}
 use Rattle.trec_reader.specs.declared.mark.Mark.TheVariants.{Is, Not, Open}
 use Rattle.trec_reader.specs.declared.mark.Tag.{Tag}
 

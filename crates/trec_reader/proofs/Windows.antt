@@ -1,13 +1,13 @@
 -- The window of bytes in which a document is looked for, and the whole input.
-use Rattle.std.proofs.Common.{ℕ, ◌≡◌, ◌<◌, ◌≤◌, ◌+◌, ◌-◌, min, Bool, true, false, List, [], ◌∷◌, ◌++◌, length, take, drop, Option, Some, None, Ok, Err, refl, sym, ap, ◌∙◌, subst, arith, length-append, length-take, append-nil, inl, inr}
-use Rattle.std.specs.Prelude.{if◌then◌else◌, nat_le, ◌⊎◌}
+use Rattle.std.proofs.Common.{ℕ, ◌≡◌, ◌<◌, ◌≤◌, ◌+◌, ◌-◌, min, Bool, true, false, List, [], ◌∷◌, ◌++◌, length, take, drop, Option, Some, None, Ok, Err, refl, sym, ap, ◌∙◌, subst, arith, length-append, append-nil}
+use Rattle.std.specs.Prelude.{if◌then◌else◌, nat_le}
 use Rattle.std.specs.Bool.{OnFalse}
 use Rattle.std.specs.Option.{option_map}
 use Rattle.std.specs.Io.KnownBytes.{IsAtEnd, prepend_known}
 use Rattle.std.proofs.lemmas.List.{drop-append-le, take-append-le, take_all, take_min}
 use Rattle.std.proofs.Math.Seq.{take-append-add}
 use Rattle.trec_reader.specs.Documents.{Answers, Reading, document, is_open}
-use Rattle.trec_reader.specs.Read.{Entry, bounded_document, document_at, document_bytes, document_read, refusal_at, refusal_of}
+use Rattle.trec_reader.specs.Read.{bounded_document, document_at, document_bytes, document_read, refusal_at, refusal_of}
 use Rattle.trec_reader.specs.Refusal.{GivesBy, IsRefused}
 use Rattle.trec_reader.specs.declared.document.RawDoc.{RawDoc}
 use Rattle.trec_reader.specs.declared.piece.Piece.{Piece}

@@ -75,11 +75,7 @@ fn make_room(buffer: &mut Vec<u8>, at: usize, end: usize) -> Result<usize, NoMem
 }
 
 /// Reads the source into the part of a buffer from `end` on.
-fn read_behind<S: Source>(
-    buffer: &mut [u8],
-    end: usize,
-    source: &mut S,
-) -> Result<usize, Failed>
+fn read_behind<S: Source>(buffer: &mut [u8], end: usize, source: &mut S) -> Result<usize, Failed>
     requires { end < length buffer.old }
     ensures kept { take end buffer.new ≡ take end buffer.old }
     ensures within { IfOk result (λ n. end + n ≤ length buffer.new) }

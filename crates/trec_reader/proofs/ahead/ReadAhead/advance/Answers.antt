@@ -1,4 +1,4 @@
-use Rattle.std.proofs.Common.{◌∙◌, ◌≤◌, length, drop, ap, subst, sym}
+use Rattle.std.proofs.Common.{◌∙◌, ◌≤◌, length, drop, ap}
 use Rattle.std.specs.List.{slice_range}
 use Rattle.trec_reader.proofs.Parts.{behind_front}
 use Rattle.trec_reader.proofs.ahead.ReadAhead.advance.Goals as goal

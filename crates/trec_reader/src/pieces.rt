@@ -129,3 +129,6 @@ pub fn pieces(alloc: Global, bytes: &[u8]) -> Result<Pieces, NoMemory>
     push_text(alloc, &mut found, rest)?;
     Ok(Pieces::of(found))
 }
+
+#[cfg(test)]
+mod tests;

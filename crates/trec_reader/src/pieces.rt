@@ -123,6 +123,7 @@ pub fn pieces(alloc: Global, bytes: &[u8]) -> Result<Pieces, NoMemory>
 {
     let mut found = Vec::new(alloc);
     let mut comments = true;
+    // what isn't in pieces yet, and how many bytes of text it begins with, as far as is known
     let mut rest = bytes;
     let mut text = 0;
     while let Some(n) = to_sign(&rest[text..]) {

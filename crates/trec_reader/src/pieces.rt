@@ -1,6 +1,7 @@
 // The pieces of the text of a document.
 ghost use Rattle.std.specs.Prelude.{◌≡◌, ◌<◌, ◌≤◌, ◌++◌, false, length, IfOk, IfSome, OnOk};
 ghost use Rattle.std.specs.Option.{option_or};
+ghost use Rattle.memchr.specs.Find.{IsFirstByte, is_byte2};
 ghost use Rattle.trec_reader.specs.Cuts.{NoComment, text_piece};
 ghost use Rattle.trec_reader.specs.Marks.{IsWithin, comment, declaration, ends_in_slash, entity};
 ghost use Rattle.trec_reader.specs.Pieces.{mark, pieces, tag_piece};
@@ -106,15 +107,26 @@ fn push_text(alloc: Global, found: &mut Vec<Piece>, text: &[u8]) -> Result<(), N
     Ok(())
 }
 
+/// How many bytes stand before the first `<` or `&`. Signs that stand side by side need no search.
+fn to_sign(bytes: &[u8]) -> Option<usize>
+    ensures { IsFirstByte (is_byte2 60 38) bytes.now result }
+{
+    match bytes {
+        [b'<' | b'&', ..] => Some(0),
+        _ => memchr2(b'<', b'&', bytes),
+    }
+}
+
 /// The pieces of the text of a document, from left to right.
 pub fn pieces(alloc: Global, bytes: &[u8]) -> Result<Pieces, NoMemory>
     ensures { IfOk result (λ found. found ≡ pieces bytes.now) }
 {
     let mut found = Vec::new(alloc);
     let mut comments = true;
+    // what isn't in pieces yet, and how many bytes of text it begins with, as far as is known
     let mut rest = bytes;
     let mut text = 0;
-    while let Some(n) = memchr2(b'<', b'&', &rest[text..]) {
+    while let Some(n) = to_sign(&rest[text..]) {
         text += n;
         match leading_mark(alloc, &rest[text..], &mut comments)? {
             None => text += 1,
@@ -129,3 +141,6 @@ pub fn pieces(alloc: Global, bytes: &[u8]) -> Result<Pieces, NoMemory>
     push_text(alloc, &mut found, rest)?;
     Ok(Pieces::of(found))
 }
+
+#[cfg(test)]
+mod tests;

@@ -3,8 +3,11 @@ use Rattle.std.proofs.Common.{ℕ, ◌≡◌, ◌≤◌, ◌<◌, ◌+◌, ◌-�
 use Rattle.std.proofs.Math.Seq.{take-append_seam, drop-append_seam, take-length}
 use Rattle.std.specs.Option.{option_map, IfSome, IsSome}
 use Rattle.std.specs.Io.KnownBytes.{append_known}
-use Rattle.trec_reader.specs.Read.{read, entry_then, with_document}
-use Rattle.trec_reader.specs.Thin.{RawText, entry}
+use Rattle.trec_reader.specs.Read.{entry, entry_then, offset_of, read, read_rest, with_document}
+use Rattle.trec_reader.specs.Refusal.{Gives, IsRefused}
+use Rattle.trec_reader.specs.declared.document.RawDoc.{RawDoc}
+use Rattle.trec_reader.specs.declared.refusal.TrecRefusal.{TrecRefusal}
+use Rattle.trec_reader.specs.declared.refusal.TrecRefusal.TheVariants as refusal
 use Rattle.trec_reader.proofs.Shorter.{read_is}
 use Rattle.ri_ends.specs.Causes.{Rose}
 use Rattle.indri_app.specs.Outcome.{Writes, WritesFault, WritesFront, WritesLine, fault_line}
@@ -18,50 +21,64 @@ append_none : (taken : Option (List ℕ)) → append_known taken [] ≡ taken
 append_none None = refl
 append_none (Some xs) = ap Some (append-nil xs)
 
--- what a sink will have once all bytes are scanned, and where they stop; so many bytes were read before them
-abbrev pub outcome : List ℕ → Option (List ℕ) → ℕ → List ℕ → Option (List ℕ) × Option (List ℕ)
-outcome term taken offset bytes = (append_known taken (found_text term (offset + length bytes) (read bytes)), (read bytes).1)
+-- what a sink will have once all bytes are scanned, and their refusal; so many bytes were read before them
+abbrev pub outcome : List ℕ → Option (List ℕ) → ℕ → List ℕ → Option (List ℕ) × Option TrecRefusal
+outcome term taken offset bytes = (append_known taken (found_text term (read_rest (offset + length bytes) bytes)), (read_rest (offset + length bytes) bytes).1)
+
+rest_is : (o : ℕ) (bytes : List ℕ) → read_rest (o + length bytes) bytes ≡ entry_then (entry o bytes) (read_rest (o + length bytes))
+rest_is o bytes = let here : offset_of (o + length bytes) bytes ≡ o = omega arith in read_is (o + length bytes) bytes ∙ ap (λ k. entry_then (entry k bytes) (read_rest (o + length bytes))) here
 
 -- a document is read, and its lines are written
-pub document_scanned : (term : List ℕ) (taken : Option (List ℕ)) (d : RawText) (o p : ℕ) (old new : Option (List ℕ)) → option_map entry old ≡ option_map (λ rest. Ok (Some d, rest)) new → option_map (λ xs. p + length xs) new ≡ option_map (λ xs. o + length xs) old →
+pub document_scanned : (term : List ℕ) (taken : Option (List ℕ)) (d : RawDoc) (o p : ℕ) (old new : Option (List ℕ)) → option_map (entry o) old ≡ option_map (λ rest. Ok (Some d, rest)) new → option_map (λ xs. p + length xs) new ≡ option_map (λ xs. o + length xs) old →
     option_map (outcome term taken o) old ≡ option_map (outcome term (append_known taken (document_lines term d)) p) new
 document_scanned term taken d o p None None e same = refl
 document_scanned term taken d o p None (Some ys) e same = cc
 document_scanned term taken d o p (Some xs) None e same = cc
 document_scanned term taken d o p (Some xs) (Some ys) e same =
-    let is : entry xs ≡ Ok (Some d, ys) = cc in
-    let total : p + length ys ≡ o + length xs = cc in
-    let found : read xs ≡ with_document d (read ys) = read_is xs ∙ ap (λ r. entry_then r read) is in
-    let text : found_text term (o + length xs) (read xs) ≡ document_lines term d ++ found_text term (p + length ys) (read ys) = rw (found, total) (append_assoc (document_lines term d) _ _) in
-    ap Some (ap (λ t. (append_known taken t, (read xs).1)) text ∙ ap (λ t. (t, (read xs).1)) (append_twice taken (document_lines term d) (found_text term (p + length ys) (read ys))) ∙ ap (λ f. (append_known (append_known taken (document_lines term d)) (found_text term (p + length ys) (read ys)), f.1)) found)
+    let is : entry o xs ≡ Ok (Some d, ys) = cc in
+    let total : o + length xs ≡ p + length ys = cc in
+    let found : read_rest (o + length xs) xs ≡ with_document d (read_rest (p + length ys) ys) = rest_is o xs ∙ ap (λ r. entry_then r (read_rest (o + length xs))) is ∙ ap (λ n. with_document d (read_rest n ys)) total in
+    ap Some (ap (λ f. (append_known taken (found_text term f), f.1)) found ∙ ap (λ t. (append_known taken t, (read_rest (p + length ys) ys).1)) (append_assoc (document_lines term d) _ _) ∙ ap (λ t. (t, (read_rest (p + length ys) ys).1)) (append_twice taken (document_lines term d) (found_text term (read_rest (p + length ys) ys))))
 
 -- the input ends
-pub end_scanned : (term : List ℕ) (taken : Option (List ℕ)) (o : ℕ) (old new : Option (List ℕ)) → option_map entry old ≡ option_map (λ rest. Ok (None, rest)) new →
+pub end_scanned : (term : List ℕ) (taken : Option (List ℕ)) (o : ℕ) (old new : Option (List ℕ)) → option_map (entry o) old ≡ option_map (λ rest. Ok (None, rest)) new →
     option_map (outcome term taken o) old ≡ option_map (λ _. (taken, None)) new
 end_scanned term taken o None None e = refl
 end_scanned term taken o None (Some ys) e = cc
 end_scanned term taken o (Some xs) None e = cc
 end_scanned term taken o (Some xs) (Some ys) e =
-    let is : entry xs ≡ Ok (None, ys) = cc in
-    let found : read xs ≡ ([], None) = read_is xs ∙ ap (λ r. entry_then r read) is in
-    ap Some (ap (λ f. (append_known taken (found_text term (o + length xs) f), f.1)) found ∙ ap (λ t. (t, None)) (append_none taken))
+    let is : entry o xs ≡ Ok (None, ys) = cc in
+    let found : read_rest (o + length xs) xs ≡ ([], None) = rest_is o xs ∙ ap (λ r. entry_then r (read_rest (o + length xs))) is in
+    ap Some (ap (λ f. (append_known taken (found_text term f), f.1)) found ∙ ap (λ t. (t, None)) (append_none taken))
 
 -- the input is refused
-pub stop_scanned : (term : List ℕ) (taken : Option (List ℕ)) (o p : ℕ) (old new : Option (List ℕ)) → option_map entry old ≡ option_map (λ rest. Err rest) new → option_map (λ xs. p + length xs) new ≡ option_map (λ xs. o + length xs) old →
-    option_map (outcome term taken o) old ≡ option_map (λ rest. (append_known taken (refusal_line p), Some rest)) new
-stop_scanned term taken o p None None e same = refl
-stop_scanned term taken o p None (Some ys) e same = cc
-stop_scanned term taken o p (Some xs) None e same = cc
-stop_scanned term taken o p (Some xs) (Some ys) e same =
-    let is : entry xs ≡ Err ys = cc in
-    let total : p + length ys ≡ o + length xs = cc in
-    let here : (o + length xs) - length ys ≡ p = omega arith in
-    let found : read xs ≡ ([], Some ys) = read_is xs ∙ ap (λ r. entry_then r read) is in
-    ap Some (ap (λ f. (append_known taken (found_text term (o + length xs) f), f.1)) found ∙ ap (λ n. (append_known taken (refusal_line n), Some ys)) here)
+pub stop_scanned : (term : List ℕ) (taken : Option (List ℕ)) (o : ℕ) (r : TrecRefusal) (old : Option (List ℕ)) → IsRefused entry r o old →
+    option_map (outcome term taken o) old ≡ option_map (λ _. (append_known taken (refusal_line r), Some r)) old
+stop_scanned term taken o r None e = refl
+stop_scanned term taken o r (Some xs) e =
+    let is : entry o xs ≡ Err r = cc in
+    let found : read_rest (o + length xs) xs ≡ ([], Some r) = rest_is o xs ∙ ap (λ k. entry_then k (read_rest (o + length xs))) is in
+    ap Some (ap (λ f. (append_known taken (found_text term f), f.1)) found)
 
-whole_text : (term bytes : List ℕ) → found_text term (0 + length bytes) (read bytes) ≡ scan_text term bytes
+-- an answer that is neither a fault nor want of memory is a refusal of the text
+pub is_refused : (r : TrecRefusal) (o : ℕ) (old new : Option (List ℕ)) → Gives (Err r) o old new → (r ≡ refusal.Read → ⊥) → (r ≡ refusal.Memory → ⊥) → IsRefused entry r o old
+is_refused (refusal.NoDocno at) o old new h a b = h
+is_refused (refusal.DocnoEmpty at) o old new h a b = h
+is_refused (refusal.DocnoBad at) o old new h a b = h
+is_refused (refusal.DocnoLong at) o old new h a b = h
+is_refused (refusal.DocOpen at) o old new h a b = h
+is_refused (refusal.NotADoc at) o old new h a b = h
+is_refused (refusal.DocTooLarge at) o old new h a b = h
+is_refused refusal.Read o old new h a b = absurd (a refl)
+is_refused refusal.Ended o old new h a b = absurd h
+is_refused refusal.Memory o old new h a b = absurd (b refl)
+
+whole : (bytes : List ℕ) → read_rest (0 + length bytes) bytes ≡ read bytes
+whole bytes = ap (λ n. read_rest n bytes) (zero-add (length bytes))
+
+whole_text : (term bytes : List ℕ) → found_text term (read_rest (0 + length bytes) bytes) ≡ scan_text term bytes
 unfolding scan_text
-whole_text term bytes = ap (λ n. found_text term n (read bytes)) (zero-add (length bytes))
+whole_text term bytes = ap (found_text term) (whole bytes)
 
 pub done_is : (term : List ℕ) (before now : Option (List ℕ)) (old new : Option (List ℕ)) → option_map (outcome term before 0) old ≡ option_map (λ _. (now, None)) new →
     IfSome old (λ bytes. ((read bytes).1 ≡ None) × Writes before now (scan_text term bytes))
@@ -69,16 +86,16 @@ done_is term before now None new e = tt
 done_is term before now (Some xs) None e = cc
 done_is term before now (Some xs) (Some ys) e =
     let same : outcome term before 0 xs ≡ (now, None) = cc in
-    (ap (λ x. x.1) same, sym (ap (λ x. x.0) same) ∙ ap (append_known before) (whole_text term xs))
+    (ap (λ f. f.1) (sym (whole xs)) ∙ ap (λ x. x.1) same, sym (ap (λ x. x.0) same) ∙ ap (append_known before) (whole_text term xs))
 
-pub refused_is : (term : List ℕ) (before now : Option (List ℕ)) (at p : ℕ) (old new : Option (List ℕ)) → at ≡ p → option_map (outcome term before 0) old ≡ option_map (λ rest. (append_known now (refusal_line p), Some rest)) new →
-    IfSome old (λ bytes. IsSome (read bytes).1 × (append_known now (refusal_line at) ≡ append_known before (scan_text term bytes)))
-refused_is term before now at p None new here e = tt
-refused_is term before now at p (Some xs) None here e = cc
-refused_is term before now at p (Some xs) (Some ys) here e =
-    let same : outcome term before 0 xs ≡ (append_known now (refusal_line p), Some ys) = cc in
-    let stops : (read xs).1 ≡ Some ys = ap (λ x. x.1) same in
-    (rw stops refl, ap (λ n. append_known now (refusal_line n)) here ∙ sym (ap (λ x. x.0) same) ∙ ap (append_known before) (whole_text term xs))
+pub refused_is : (term : List ℕ) (before now : Option (List ℕ)) (r : TrecRefusal) (old new : Option (List ℕ)) → option_map (outcome term before 0) old ≡ option_map (λ _. (append_known now (refusal_line r), Some r)) new →
+    IfSome old (λ bytes. IsSome (read bytes).1 × (append_known now (refusal_line r) ≡ append_known before (scan_text term bytes)))
+refused_is term before now r None new e = tt
+refused_is term before now r (Some xs) None e = cc
+refused_is term before now r (Some xs) (Some ys) e =
+    let same : outcome term before 0 xs ≡ (append_known now (refusal_line r), Some r) = cc in
+    let stops : (read xs).1 ≡ Some r = ap (λ f. f.1) (sym (whole xs)) ∙ ap (λ x. x.1) same in
+    (rw stops refl, sym (ap (λ x. x.0) same) ∙ ap (append_known before) (whole_text term xs))
 
 cancel : (t a b : List ℕ) → t ++ a ≡ t ++ b → a ≡ b
 cancel t a b e = sym (drop-append_seam t a) ∙ ap (drop (length t)) e ∙ drop-append_seam t b
@@ -105,7 +122,7 @@ front_of term before mid now w lines n p None cur a b e = tt
 front_of term before mid now w lines n p (Some xs) None a b e = cc
 front_of term before mid now w lines n p (Some xs) (Some ys) a b e =
     let same : outcome term (append_known mid lines) p ys ≡ outcome term before 0 xs = cc in
-    front_more before mid now w lines (found_text term (p + length ys) (read ys)) (scan_text term xs) n a b (ap (λ x. x.0) same ∙ ap (append_known before) (whole_text term xs))
+    front_more before mid now w lines (found_text term (read_rest (p + length ys) ys)) (scan_text term xs) n a b (ap (λ x. x.0) same ∙ ap (append_known before) (whole_text term xs))
 
 -- nothing more was written
 pub front_now : (term : List ℕ) (before now : Option (List ℕ)) (w : List ℕ) (p : ℕ) (old cur : Option (List ℕ)) → now ≡ append_known before w →
@@ -125,9 +142,9 @@ pub line_whole : (before now : Option (List ℕ)) (line : List ℕ) (count_befor
 line_whole before now line count_before count_now e = record { of_line = length line; written = e ∙ ap (append_known before) (sym (take-length line)); whole = λ h. absurd (omega (arith, h)) }
 
 -- a front of the line of a refusal is written behind the lines before it
-pub refused_front : (left before mid now : Option (List ℕ)) (term : List ℕ) (at : ℕ) → IfSome left (λ bytes. WritesFront before mid (scan_text term bytes)) → IfSome left (λ bytes. IsSome (read bytes).1 × (append_known mid (refusal_line at) ≡ append_known before (scan_text term bytes))) → WritesFront mid now (refusal_line at) → IfSome left (λ bytes. WritesFront before now (scan_text term bytes))
-refused_front None before mid now term at a b c = tt
-refused_front (Some bytes) before mid now term at a b c = front_more before mid now (take a.0 (scan_text term bytes)) (refusal_line at) [] (scan_text term bytes) c.0 a.1 c.1 (append_none (append_known mid (refusal_line at)) ∙ b.1)
+pub refused_front : (left before mid now : Option (List ℕ)) (term : List ℕ) (r : TrecRefusal) → IfSome left (λ bytes. WritesFront before mid (scan_text term bytes)) → IfSome left (λ bytes. IsSome (read bytes).1 × (append_known mid (refusal_line r) ≡ append_known before (scan_text term bytes))) → WritesFront mid now (refusal_line r) → IfSome left (λ bytes. WritesFront before now (scan_text term bytes))
+refused_front None before mid now term r a b c = tt
+refused_front (Some bytes) before mid now term r a b c = front_more before mid now (take a.0 (scan_text term bytes)) (refusal_line r) [] (scan_text term bytes) c.0 a.1 c.1 (append_none (append_known mid (refusal_line r)) ∙ b.1)
 
 rose_before : (before mid now : ℕ) → before ≤ mid → Rose mid now → Rose before now
 rose_before before mid now h r = omega (arith, h, r)

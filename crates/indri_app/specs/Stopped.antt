@@ -10,7 +10,7 @@ use Rattle.indri_app.specs.declared.scan.Stop.TheVariants.{End, Refused, ReadFau
 -- At the end nothing of the input was refused, and the text is written.
 abbrev pub DoneAt : Stop → Option (List ℕ) → Option (List ℕ) → Option (List ℕ) → List ℕ → Type 0
 DoneAt End left before now term = IfSome left (λ bytes. ((read bytes).1 ≡ None) × Writes before now (scan_text term bytes))
-DoneAt (Refused at) left before now term = Unit {0}
+DoneAt (Refused refusal) left before now term = Unit {0}
 DoneAt ReadFault left before now term = Unit {0}
 DoneAt WriteFault left before now term = Unit {0}
 DoneAt Memory left before now term = Unit {0}
@@ -18,7 +18,7 @@ DoneAt Memory left before now term = Unit {0}
 -- At a refusal only its line is left of the text.
 abbrev pub RefusedAt : Stop → Option (List ℕ) → Option (List ℕ) → Option (List ℕ) → List ℕ → Type 0
 RefusedAt End left before now term = Unit {0}
-RefusedAt (Refused at) left before now term = IfSome left (λ bytes. IsSome (read bytes).1 × (append_known now (refusal_line at) ≡ append_known before (scan_text term bytes)))
+RefusedAt (Refused refusal) left before now term = IfSome left (λ bytes. IsSome (read bytes).1 × (append_known now (refusal_line refusal) ≡ append_known before (scan_text term bytes)))
 RefusedAt ReadFault left before now term = Unit {0}
 RefusedAt WriteFault left before now term = Unit {0}
 RefusedAt Memory left before now term = Unit {0}

@@ -14,6 +14,7 @@ use crate::scan::{Stop, scan_documents};
 use ri_base::ArgList;
 use ri_ends::{OutFault, Sink, Source};
 use std::alloc::Global;
+use trec_reader::TrecRefusal;
 
 /// Writes the line that says which words are commands.
 #[tactic(auto, using(crate::proofs::Scanned::front_whole), unfolding(crate::specs::Command::usage_line))]
@@ -34,14 +35,14 @@ fn write_usage<K: Sink>(sink: &mut K) -> Status
 
 /// Writes the line of a refusal behind the lines of the documents before it.
 #[tactic(auto, using(crate::proofs::Scanned::front_whole))]
-fn write_refusal<K: Sink>(alloc: Global, at: u64, sink: &mut K) -> Status
-    ensures refused { result ≡ Status.SomeRefused → Writes (K.taken sink.old) (K.taken sink.new) (refusal_line at) }
-    ensures front { WritesFront (K.taken sink.old) (K.taken sink.new) (refusal_line at) }
+fn write_refusal<K: Sink>(alloc: Global, refusal: TrecRefusal, sink: &mut K) -> Status
+    ensures refused { result ≡ Status.SomeRefused → Writes (K.taken sink.old) (K.taken sink.new) (refusal_line refusal) }
+    ensures front { WritesFront (K.taken sink.old) (K.taken sink.new) (refusal_line refusal) }
     ensures only { IsRefusalOutcome result }
     ensures later { K.faults sink.old ≤ K.faults sink.new }
     ensures write { result ≡ Status.WriteFault → Rose (K.faults sink.old) (K.faults sink.new) }
 {
-    let Ok(line) = refusal_line(alloc, at) else {
+    let Ok(line) = refusal_line(alloc, refusal) else {
         return Status::Memory;
     };
     match sink.write_all(&line) {
@@ -87,7 +88,7 @@ fn scan<S: Source, K: Sink>(alloc: Global, term: &[u8], source: &mut S, sink: &m
 {
     match scan_documents(alloc, term, source, sink) {
         Stop::End => Status::Done,
-        Stop::Refused { at } => write_refusal(alloc, at, sink),
+        Stop::Refused(refusal) => write_refusal(alloc, refusal, sink),
         Stop::ReadFault => write_read_fault(sink),
         Stop::WriteFault => Status::WriteFault,
         Stop::Memory => Status::Memory,

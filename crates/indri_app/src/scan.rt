@@ -2,14 +2,13 @@
 ghost use Rattle.std.specs.Prelude.{◌≡◌, ◌≢◌, ◌≤◌, ℕ, IfSome, OnOk, None, IsErrOf, IsSome, IsErr, take};
 ghost use Rattle.std.specs.Io.KnownBytes.{append_known};
 ghost use Rattle.ri_ends.specs.Causes.{Rose};
-ghost use Rattle.trec_reader.specs.Refusal.{raw_text};
 ghost use Rattle.trec_reader.specs.Read.{read};
 ghost use Rattle.indri_app.specs.Outcome.{Writes, WritesFront, WritesFault, fault_line};
 ghost use Rattle.indri_app.specs.Scan.{document_lines, refusal_line, scan_text};
 ghost use Rattle.indri_app.specs.Stopped.{DoneAt, RefusedAt};
 
 use crate::Status;
-use crate::lines::{document_lines, refusal_line};
+use crate::tokens::document_lines;
 use ri_ends::{OutFault, Sink, Source};
 use std::alloc::Global;
 use trec_reader::{DocReader, RawDoc, TrecRefusal};
@@ -18,7 +17,7 @@ use trec_reader::{DocReader, RawDoc, TrecRefusal};
 #[derive(Clone, Copy, Debug, PartialEq, Eq)]
 pub enum Stop {
     End,
-    Refused { at: u64 },
+    Refused(TrecRefusal),
     ReadFault,
     WriteFault,
     Memory,
@@ -30,8 +29,8 @@ fn write_document<K: Sink>(
     document: &RawDoc,
     sink: &mut K,
 ) -> Result<(), OutFault>
-    ensures whole { OnOk result (Writes (K.taken sink.old) (K.taken sink.new) (document_lines term.now (raw_text document.now))) }
-    ensures front { IsErr result → WritesFront (K.taken sink.old) (K.taken sink.new) (document_lines term.now (raw_text document.now)) }
+    ensures whole { OnOk result (Writes (K.taken sink.old) (K.taken sink.new) (document_lines term.now document.now)) }
+    ensures front { IsErr result → WritesFront (K.taken sink.old) (K.taken sink.new) (document_lines term.now document.now) }
     ensures later { K.faults sink.old ≤ K.faults sink.new }
     ensures cause { IsErrOf result OutFault.Failed → Rose (K.faults sink.old) (K.faults sink.new) }
 {
@@ -65,10 +64,10 @@ pub fn scan_documents<S: Source, K: Sink>(
         let document = match reader.next_doc(source) {
             Ok(Some(document)) => document,
             Ok(None) => return Stop::End,
-            Err(TrecRefusal::NotBuilt { at }) => return Stop::Refused { at },
             Err(TrecRefusal::Read) => return Stop::ReadFault,
             Err(TrecRefusal::Memory) => return Stop::Memory,
             Err(TrecRefusal::Ended) => unreachable!(),
+            Err(refusal) => return Stop::Refused(refusal),
         };
         match write_document(alloc, term, &document, sink) {
             Ok(()) => {}

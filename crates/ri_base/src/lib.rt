@@ -7,6 +7,8 @@ mod bytes;
 mod doc;
 mod extent;
 mod field_span;
+mod fraction;
+mod steps;
 mod terms;
 mod text;
 
@@ -15,6 +17,8 @@ pub use bytes::Bytes;
 pub use doc::Doc;
 pub use extent::{Extent, Extents};
 pub use field_span::{FieldSpan, Spans};
+pub use fraction::{Fraction, NotABelief};
+pub use steps::Steps;
 pub use terms::Terms;
 pub use text::{DOCNO_BYTES, Docno, NAME_BYTES, Name, TERM_BYTES, Term, is_docno_byte};
 

@@ -1,0 +1,91 @@
+ghost use Rattle.std.specs.Prelude.{◌≡◌, ◌+◌, ◌*◌, ◌^◌, ◌<◌, ◌≤◌};
+ghost use Rattle.log_chain.specs.Progress.{digits_of};
+
+use ri_base::{Fraction, Steps};
+use std::marker::Model;
+use std::sync::ledger::Ledger;
+
+/// The level at which digits are first compared.
+pub const FIRST: u32 = 12;
+
+/// The level of the digits that decide.
+pub const LAST: u32 = 40;
+
+/// The most squarings of one number: up to here the digits enclose its logarithm.
+pub const MAX_LEVEL: u32 = 60;
+
+/// The binary places of a rest.
+const PLACES: u32 = 62;
+
+/// The digits of the logarithm to base 2 of `q / p`, for a fraction `p / q`. At level `k` they are the whole part of that
+/// logarithm times `2 ^ k`, or one less.
+#[derive(Debug, Drop)]
+pub struct LogChain {
+    fraction: Fraction,
+    level: u32,
+    digits: u128,
+    rest: u128,
+}
+
+impl Model for LogChain {
+    ghost use Rattle.log_chain.specs.Progress.{Progress, IsReached};
+
+    ghost Value = { Progress };
+
+    ghost view = { λ a. record { p = a.fraction.p; q = a.fraction.q; level = a.level } };
+
+    ghost invariant = { λ a. IsReached a.fraction.p a.fraction.q a.level a.digits a.rest };
+}
+
+impl LogChain {
+    /// The digits at level 0: the whole part of the logarithm.
+    pub fn start(f: Fraction) -> LogChain
+        ensures { result ≡ record { p = f.p; q = f.q; level = 0 } }
+    {
+        let whole = (f.q / f.p).ilog2();
+        LogChain {
+            fraction: f,
+            level: 0,
+            digits: u128::from(whole),
+            rest: (u128::from(f.q) << PLACES) / (u128::from(f.p) << whole),
+        }
+    }
+
+    /// One level more, by one squaring.
+    pub fn extend<L: Ledger>(&mut self, squares: &mut Steps<L>)
+        requires { self.old.level < MAX_LEVEL }
+        ensures level { self.new ≡ record self.old { level = self.old.level + 1 } }
+        ensures cost { squares.new ≡ squares.old + 1 }
+    {
+        squares.tick();
+        let square = self.rest * self.rest;
+        if square < 1 << (2 * PLACES + 1) {
+            self.digits = 2 * self.digits;
+            self.rest = square >> PLACES;
+        } else {
+            self.digits = 2 * self.digits + 1;
+            self.rest = square >> (PLACES + 1);
+        }
+        self.level += 1;
+    }
+
+    /// The digits at the chain's level. They enclose the logarithm, as `lower` and `upper` say in powers of whole
+    /// numbers.
+    pub fn digits(&self) -> u128
+        ensures value { result ≡ digits_of self.now }
+        ensures lower { let a = self.now in 2 ^ result * a.p ^ (2 ^ a.level) ≤ a.q ^ (2 ^ a.level) }
+        ensures upper { let a = self.now in a.q ^ (2 ^ a.level) < 2 ^ (result + 2) * a.p ^ (2 ^ a.level) }
+        ensures few { result < 2 ^ (self.now.level + 6) }
+        ensures small { result < 2 ^ 66 }
+    {
+        self.digits
+    }
+
+    /// How many squarings there were.
+    pub fn level(&self) -> u32
+        ensures value { result ≡ self.now.level }
+        ensures most { result ≤ MAX_LEVEL }
+    {
+        self.level
+    }
+}

@@ -1,0 +1,82 @@
+ghost use Rattle.std.specs.Prelude.{◌≡◌, ◌⊎◌, ◌*◌, ◌^◌, ◌<◌, ◌≤◌, ◌↔◌, IsTrue, IsErr, IfOk};
+
+use std::error::Error;
+use std::fmt;
+
+/// A belief as an exact fraction `p / q`, above 0 and at most 1. It isn't reduced: `==` compares the numbers as they
+/// stand, and [`Fraction::same`] the values.
+#[derive(Clone, Copy, Debug, PartialEq, Eq)]
+pub struct Fraction {
+    pub p: u64,
+    pub q: u64,
+    pub ghost positive: { 0 < p },
+    pub ghost at_most_one: { p ≤ q },
+    // a number of the program, which a law about a fraction isn't told by its type
+    pub ghost fits: { q < 2 ^ 64 },
+}
+
+/// Two numbers that make no fraction above 0 and at most 1.
+#[derive(Clone, Copy, Debug, PartialEq, Eq)]
+pub struct NotABelief;
+
+impl fmt::Display for NotABelief {
+    fn fmt<W: fmt::Write>(&self, f: &mut fmt::Formatter<W>) -> fmt::Result {
+        f.write_str("a belief is above 0 and at most 1")
+    }
+}
+
+impl Error for NotABelief {}
+
+impl Fraction {
+    /// The fraction `p / q`.
+    pub fn new(p: u64, q: u64) -> Result<Fraction, NotABelief>
+        ensures refused { IsErr result ↔ ((p ≡ 0) ⊎ (q ≡ 0) ⊎ (q < p)) }
+        ensures numbers { IfOk result (λ f. (f.p ≡ p) × (f.q ≡ q)) }
+    {
+        if p == 0 || p > q {
+            return Err(NotABelief);
+        }
+        Ok(Fraction { p, q })
+    }
+
+    /// Whether the two are the same number, however each is written.
+    pub fn same(self, other: Fraction) -> bool
+        ensures { IsTrue result ↔ (self.p * other.q ≡ other.p * self.q) }
+    {
+        product(self.p, other.q) == product(other.p, self.q)
+    }
+
+    /// Whether the number is at most the other.
+    pub fn at_most(self, other: Fraction) -> bool
+        ensures { IsTrue result ↔ (self.p * other.q ≤ other.p * self.q) }
+    {
+        product(self.p, other.q) <= product(other.p, self.q)
+    }
+}
+
+fn product(a: u64, b: u64) -> u128
+    ensures { result ≡ a * b }
+{
+    u128::from(a) * u128::from(b)
+}
+
+#[cfg(test)]
+mod tests {
+    use super::*;
+
+    #[test]
+    fn beliefs(rt: HostRuntime) -> Result<(), NotABelief> {
+        let written_twice = (Fraction::new(10, 12)?, Fraction::new(5, 6)?);
+        let half = Fraction::new(1, 2)?;
+        assert!(rt; written_twice.0.same(written_twice.1) && written_twice.0 != written_twice.1);
+        assert!(rt; half.at_most(written_twice.0) && !written_twice.0.at_most(half));
+        assert!(rt; half.at_most(half) && !half.same(written_twice.1));
+        assert_eq!(rt; Fraction::new(7, 7)?.q, 7);
+        assert!(rt;
+            Fraction::new(0, 3).is_err()
+                && Fraction::new(3, 0).is_err()
+                && Fraction::new(4, 3).is_err()
+        );
+        Ok(())
+    }
+}

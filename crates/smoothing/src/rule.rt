@@ -1,0 +1,44 @@
+ghost use Rattle.std.specs.Prelude.{◌≡◌};
+ghost use Rattle.ri_base.specs.Ratio.{ratio_of};
+ghost use Rattle.smoothing.specs.Counts.{AreCounts};
+ghost use Rattle.smoothing.specs.Fractions.{Computes, fraction_of};
+
+use ri_base::Fraction;
+
+/// The greatest `mu`.
+pub const MAX_MU: u32 = 1_000_000;
+
+/// Which smoothing rule, and its numbers.
+#[derive(Clone, Copy, Debug, PartialEq, Eq)]
+pub enum RuleKind {
+    /// `(tf + mu * cf / total) / (len + mu)`, with `mu` from 1 to [`MAX_MU`].
+    Dirichlet { mu: u32 },
+}
+
+/// A smoothing rule with the function that computes it, from `tf`, `len`, `cf` and `total`.
+#[derive(Drop)]
+pub struct Rule<F> {
+    pub kind: RuleKind,
+    pub f: F,
+}
+
+impl<F: Fn(u32, u32, u64, u64) -> Fraction> Rule<F> {
+    /// The rule of this kind, which `f` computes.
+    pub fn new(kind: RuleKind, f: F) -> Rule<F>
+        requires { Computes F.pre F.post kind f }
+        ensures { result ≡ record { kind = kind; f = f } }
+    {
+        Rule { kind, f }
+    }
+
+    /// The belief of a leaf that occurs `tf` times in the `len` words that are scored, and `cf` times in the `total`
+    /// words of the collection.
+    pub fn belief(&self, tf: u32, len: u32, cf: u64, total: u64) -> Fraction
+        requires rule { Computes F.pre F.post self.now.kind self.now.f }
+        requires counts { AreCounts tf len cf total }
+        ensures answer { F.post self.now.f tf len cf total result }
+        ensures exact { ratio_of result ≡ fraction_of self.now.kind tf len cf total }
+    {
+        (self.f)(tf, len, cf, total)
+    }
+}

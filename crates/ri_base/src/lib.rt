@@ -7,6 +7,11 @@ mod bytes;
 mod doc;
 mod extent;
 mod field_span;
+mod held;
+mod places;
+mod postings;
+mod sealed;
+mod seg_fault;
 mod terms;
 mod text;
 
@@ -15,6 +20,11 @@ pub use bytes::Bytes;
 pub use doc::Doc;
 pub use extent::{Extent, Extents};
 pub use field_span::{FieldSpan, Spans};
+pub use held::Held;
+pub use places::{Place, Places, Positions};
+pub use postings::Postings;
+pub use sealed::Sealed;
+pub use seg_fault::{FileName, PartName, SegFault};
 pub use terms::Terms;
 pub use text::{DOCNO_BYTES, Docno, NAME_BYTES, Name, TERM_BYTES, Term, is_docno_byte};
 

@@ -5,5 +5,7 @@ mod inversion;
 mod mem_index;
 mod numbered;
 mod numbering;
+#[cfg(test)]
+mod tests;
 
 pub use mem_index::{MemIndex, MemRefusal};

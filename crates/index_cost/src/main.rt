@@ -1,5 +1,5 @@
-// What the memory index costs: `index_cost DOCS TOKENS TERMS` makes so many documents of so many tokens each, of so
-// many distinct terms, indexes them and looks up a term of each. With a fourth word it says how long each step took.
+//! What the memory index costs: `index_cost DOCS TOKENS TERMS` makes so many documents of so many tokens each, of so
+//! many distinct terms, indexes them and looks up a term of each. With a fourth word it says how long each step took.
 #![tactic(auto)]
 
 mod collection;

@@ -1,5 +1,12 @@
 pub mod Ascii
+pub mod Collection
 pub mod Documents
+pub mod Faults
+pub mod Inversion
+pub mod Keeps
+pub mod Names
 pub mod Pair
+pub mod Places
 pub mod Ratio
 pub mod Text
+pub mod Vocabulary

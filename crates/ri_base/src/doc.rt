@@ -1,8 +1,10 @@
 // A document.
 ghost use Rattle.std.specs.Prelude.{◌≡◌, ◌≤◌, length, IfOk};
+ghost use Rattle.ri_base.specs.Collection.{names_of};
 ghost use Rattle.ri_base.specs.Documents.{IsDocument};
+ghost use Rattle.ri_base.specs.Names.{AreNames};
 
-use crate::{Docno, NoMemory, Spans, Terms};
+use crate::{Docno, FieldSpan, Name, NoMemory, Spans, Terms};
 use std::alloc::Global;
 use std::marker::Model;
 
@@ -13,28 +15,34 @@ pub struct Doc {
     docno: Docno,
     tokens: Terms,
     fields: Spans,
+    /// The distinct names of the fields.
+    names: Vec<Name>,
 }
 
 impl Model for Doc {
     ghost use Rattle.ri_base.specs.Documents.{Document, IsDocument};
+    ghost use Rattle.ri_base.specs.Names.{AreNames};
 
     ghost Value = { Document };
 
     ghost view = { λ d. record { docno = d.docno; tokens = d.tokens; fields = d.fields } };
 
-    ghost invariant = { λ d. IsDocument d.tokens d.fields };
+    ghost invariant = { λ d. IsDocument d.tokens d.fields × AreNames d.names.items d.fields };
 }
 
 impl Doc {
-    pub fn new(docno: Docno, tokens: Terms, fields: Spans) -> Doc
+    /// The document of these parts.
+    pub fn new(alloc: Global, docno: Docno, tokens: Terms, fields: Spans) -> Result<Doc, NoMemory>
         requires { IsDocument tokens fields }
-        ensures { result ≡ record { docno = docno; tokens = tokens; fields = fields } }
+        ensures { IfOk result (λ doc. doc ≡ record { docno = docno; tokens = tokens; fields = fields }) }
     {
-        Doc {
+        let names = distinct_names(alloc, fields.as_slice())?;
+        Ok(Doc {
             docno,
             tokens,
             fields,
-        }
+            names,
+        })
     }
 
     pub fn docno(&self) -> &Docno
@@ -57,6 +65,13 @@ impl Doc {
         &self.fields
     }
 
+    /// The distinct names of its fields.
+    pub fn names(&self) -> &[Name]
+        ensures { AreNames result.now self.now.fields }
+    {
+        self.names.as_slice()
+    }
+
     /// How many tokens it has.
     pub fn len(&self) -> u32
         ensures exact { result ≡ length self.now.tokens }
@@ -72,10 +87,27 @@ impl Doc {
         let docno = self.docno.clone_in(alloc)?;
         let tokens = self.tokens.clone_in(alloc)?;
         let fields = self.fields.clone_in(alloc)?;
-        Ok(Doc {
-            docno,
-            tokens,
-            fields,
-        })
+        Doc::new(alloc, docno, tokens, fields)
     }
+}
+
+/// Each name of a field, once, in order.
+fn distinct_names(alloc: Global, fields: &[FieldSpan]) -> Result<Vec<Name>, NoMemory>
+    ensures { IfOk result (λ names. AreNames names.items fields.now) }
+{
+    let mut names = all_names(alloc, fields)?;
+    names.sort_unstable();
+    names.dedup();
+    Ok(names)
+}
+
+/// The name of each field.
+fn all_names(alloc: Global, fields: &[FieldSpan]) -> Result<Vec<Name>, NoMemory>
+    ensures { IfOk result (λ names. names.items ≡ names_of fields.now) }
+{
+    let mut names = Vec::with_capacity(alloc, fields.len())?;
+    for field in fields {
+        names.push(field.name().clone_in(alloc)?)?;
+    }
+    Ok(names)
 }

@@ -9,6 +9,11 @@ mod extent;
 mod field_span;
 mod fraction;
 mod steps;
+mod held;
+mod places;
+mod postings;
+mod sealed;
+mod seg_fault;
 mod terms;
 mod text;
 
@@ -19,6 +24,11 @@ pub use extent::{Extent, Extents};
 pub use field_span::{FieldSpan, Spans};
 pub use fraction::{Fraction, NotABelief};
 pub use steps::Steps;
+pub use held::Held;
+pub use places::{Place, Places, Positions};
+pub use postings::Postings;
+pub use sealed::Sealed;
+pub use seg_fault::{FileName, PartName, SegFault};
 pub use terms::Terms;
 pub use text::{DOCNO_BYTES, Docno, NAME_BYTES, Name, TERM_BYTES, Term, is_docno_byte};
 

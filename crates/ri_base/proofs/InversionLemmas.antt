@@ -1,0 +1,30 @@
+-- what an inversion says of the documents that it stands for
+use Rattle.std.proofs.Common.{◌≡◌, ◌<◌, ℕ, List, [], length, map, get_or, ap, subst, ◌∙◌, arith}
+use Rattle.std.proofs.lemmas.List.{get_or-map, length-map}
+use Rattle.ri_base.specs.Documents.{Document}
+use Rattle.ri_base.specs.Inversion.{IsInversion, by_number, documents_of}
+use Rattle.ri_base.specs.Places.{postings_of}
+use Rattle.ri_base.specs.Vocabulary.{IsVocabulary, vocabulary_of}
+use Rattle.ri_base.specs.declared.held.Held.{Held}
+use Rattle.ri_base.specs.declared.places.Place.{Place}
+use Rattle.ri_base.proofs.VocabularyLemmas.{IsVocabulary-same}
+
+module _ (v : List (List ℕ)) (ranks : List ℕ) (held : List Held) (ps : List (List Place)) (docs : List Document) (inverts : IsInversion v ranks held ps)
+    (is : documents_of (by_number v ranks) held ≡ docs) where
+  pub vocabulary : IsVocabulary v docs
+  vocabulary = subst (λ (ds : List Document). IsVocabulary v ds) is inverts.terms
+
+  pub vocabulary-same : v ≡ vocabulary_of docs
+  vocabulary-same = IsVocabulary-same v docs vocabulary
+
+  each : ps ≡ map (λ t. postings_of t docs) v
+  each = inverts.each ∙ ap (λ (ds : List Document). map (λ t. postings_of t ds) v) is
+
+  pub ranks_within : (rank : ℕ) → rank < length v → rank < length ps
+  ranks_within rank inside =
+      let len : length ps ≡ length v = ap length each ∙ length-map v (λ t. postings_of t docs) in
+      omega (arith, inside, len)
+
+  -- the list at a rank is the postings of the term of that rank
+  pub postings_at : (rank : ℕ) (d : List Place) → rank < length v → get_or ps rank d ≡ postings_of (get_or v rank []) docs
+  postings_at rank d inside = ap (λ (l : List (List Place)). get_or l rank d) each ∙ get_or-map (λ t. postings_of t docs) v rank [] d inside

@@ -1,0 +1,67 @@
+// What a part of the collection tells of its documents.
+ghost use Rattle.std.specs.Prelude.{◌≡◌, ◌<◌, ◌≤◌, ℕ, List, length, All, IfOk, IfErr, Err};
+ghost use Rattle.std.specs.List.Sorted.{IsStrictlyIncreasing};
+ghost use Rattle.ri_base.specs.Collection.{document_at};
+ghost use Rattle.ri_base.specs.Documents.{Document, IsDocument};
+ghost use Rattle.ri_base.specs.Faults.{IsOutside};
+ghost use Rattle.ri_base.specs.Keeps.{Keeps, Rose};
+ghost use Rattle.ri_base.specs.Places.{places};
+
+use crate::{Docno, FieldSpan, Positions, SegFault, Term};
+use std::alloc::Global;
+
+/// One part of the collection, seen as the list of its documents; a document's id is its place in the list.
+///
+/// A part that reads files counts the faults of its store. It is `sound` where all that it keeps of its files, and
+/// the files, are those of one list of documents. `quiet` relates two of its states where the second differs from
+/// the first by no more than reading may change.
+pub trait Postings {
+    ghost documents: { Self → List Document };
+
+    ghost faults: { Self → ℕ };
+
+    ghost sound: { Self → Type 0 };
+
+    ghost quiet: { Self → Self → Type 0 };
+
+    /// How many documents there are.
+    fn docs(&self) -> u32
+        ensures { result ≡ length (documents self.now) };
+
+    fn docno(&self, id: u32) -> &Docno
+        requires { id < length (documents self.now) }
+        ensures { result.now ≡ (document_at (documents self.now) id).docno };
+
+    /// How many tokens the document has.
+    fn length(&self, id: u32) -> u32
+        requires { id < length (documents self.now) }
+        ensures exact { result ≡ length (document_at (documents self.now) id).tokens }
+        ensures most { result ≤ 1048576 };
+
+    /// The fields of the document, by begin, end and name.
+    fn spans(&self, id: u32) -> &[FieldSpan]
+        requires { id < length (documents self.now) }
+        ensures exact { result.now ≡ (document_at (documents self.now) id).fields }
+        ensures form { IsDocument (document_at (documents self.now) id).tokens result.now };
+
+    /// The places of the term in the document.
+    fn positions(&mut self, alloc: Global, term: &Term, id: u32) -> Result<Positions, SegFault>
+        requires { id < length (documents self.old) }
+
+        ensures keeps { Keeps documents faults sound quiet self.old self.new }
+
+        // Also of a part that isn't sound, what is told are places of that document.
+        ensures rising { IfOk result IsStrictlyIncreasing }
+        ensures below { IfOk result
+            (All (λ p. p < length (document_at (documents self.old) id).tokens)) }
+
+        ensures exact { sound self.old → IfOk result
+            (λ ps. ps ≡ places term.now (document_at (documents self.old) id)) }
+        ensures honest { sound self.old → IfErr result IsOutside }
+        ensures store { result ≡ Err SegFault.Store → Rose (faults self.old) (faults self.new) };
+
+    // laws
+    ghost quiet_same: { (s : Self) → quiet s s };
+
+    ghost quiet_then: { (r s t : Self) → quiet r s → quiet s t → quiet r t };
+}

@@ -3,18 +3,24 @@
 
 mod arg_list;
 pub mod ascii;
+mod belief;
 mod bytes;
 mod doc;
+mod expression;
 mod extent;
 mod field_span;
+mod query;
 mod terms;
 mod text;
 
 pub use arg_list::ArgList;
+pub use belief::Belief;
 pub use bytes::Bytes;
 pub use doc::Doc;
+pub use expression::ExtentExpr;
 pub use extent::{Extent, Extents};
 pub use field_span::{FieldSpan, Spans};
+pub use query::{Filter, Query, Range};
 pub use terms::Terms;
 pub use text::{DOCNO_BYTES, Docno, NAME_BYTES, Name, TERM_BYTES, Term, is_docno_byte};
 

@@ -1,0 +1,2 @@
+pub mod ExpressionLemmas
+pub mod QueryLemmas

@@ -1,12 +1,15 @@
 pub mod Ascii
 pub mod Collection
 pub mod Documents
+pub mod Expression
 pub mod Faults
 pub mod Inversion
 pub mod Keeps
 pub mod Names
 pub mod Pair
 pub mod Places
+pub mod Queries
+pub mod Query
 pub mod Ratio
 pub mod Text
 pub mod Vocabulary

@@ -3,8 +3,10 @@
 
 mod arg_list;
 pub mod ascii;
+mod belief;
 mod bytes;
 mod doc;
+mod expression;
 mod extent;
 mod field_span;
 mod fraction;
@@ -14,12 +16,15 @@ mod places;
 mod postings;
 mod sealed;
 mod seg_fault;
+mod query;
 mod terms;
 mod text;
 
 pub use arg_list::ArgList;
+pub use belief::Belief;
 pub use bytes::Bytes;
 pub use doc::Doc;
+pub use expression::ExtentExpr;
 pub use extent::{Extent, Extents};
 pub use field_span::{FieldSpan, Spans};
 pub use fraction::{Fraction, NotABelief};
@@ -29,6 +34,7 @@ pub use places::{Place, Places, Positions};
 pub use postings::Postings;
 pub use sealed::Sealed;
 pub use seg_fault::{FileName, PartName, SegFault};
+pub use query::{Filter, Query, Range};
 pub use terms::Terms;
 pub use text::{DOCNO_BYTES, Docno, NAME_BYTES, Name, TERM_BYTES, Term, is_docno_byte};
 

@@ -1,0 +1,11 @@
+pub mod Cursor
+pub mod Bytes
+pub mod Operators
+pub mod Parts
+pub mod Items
+pub mod Exprs
+pub mod Beliefs
+pub mod QueryText
+pub mod Class
+pub mod Answers
+pub mod Parsed

@@ -1,0 +1,17 @@
+-- The words that a text is searched by.
+use Rattle.std.specs.Prelude.{ℕ, List, map, filter, chars, encode_utf8_all}
+use Rattle.ri_base.specs.Text.{is_term}
+use Rattle.caseless.specs.Caseless.{default_case_fold}
+use Rattle.unicode_segmentation.specs.Word.{words}
+
+-- a word with full case folding, as the Unicode standard defines caseless matching
+abbrev pub folded : List ℕ → List ℕ
+folded word = encode_utf8_all (default_case_fold (chars word))
+
+-- the words folded, and of these the ones that may be terms, in order
+abbrev pub terms_among : List (List ℕ) → List (List ℕ)
+terms_among pieces = filter is_term (map folded pieces)
+
+-- the terms of a text: its words by the word boundaries of UAX #29, folded, where they have 1 to 128 bytes
+abbrev pub text_terms : List ℕ → List (List ℕ)
+text_terms text = terms_among (words text)

@@ -174,8 +174,11 @@ impl Name {
     pub fn new(alloc: Global, bytes: &[u8]) -> Result<Option<Name>, NoMemory>
         ensures { IfOk result (λ found. found ≡ (if is_name (map lower bytes.now) then Some (map lower bytes.now) else None)) }
     {
+        if bytes.len() > NAME_BYTES {
+            return Ok(None);
+        }
         let bytes = lowered(alloc, bytes)?;
-        if !starts_with_letter(&bytes) || bytes.len() > NAME_BYTES || !are_name_bytes(&bytes) {
+        if !starts_with_letter(&bytes) || !are_name_bytes(&bytes) {
             return Ok(None);
         }
         Ok(Some(Name {

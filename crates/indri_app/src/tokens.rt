@@ -1,7 +1,7 @@
 // The places of a term in a document's text, as lines.
 ghost use Rattle.std.specs.Prelude.{◌≡◌, ◌+◌, ◌^◌, ◌<◌, ◌++◌, [], length, OnOk, IfOk};
 ghost use Rattle.ri_base.specs.Documents.{places_from};
-ghost use Rattle.indri_app.specs.Scan.{document_lines, document_tokens, line, place_lines, text_tokens, token};
+ghost use Rattle.indri_app.specs.Scan.{document_lines, document_tokens, line, piece_tokens, place_lines, text_tokens, token};
 
 use ri_base::ascii::{is_letter_or_digit, lower};
 use ri_base::{NoMemory, TERM_BYTES};
@@ -72,6 +72,24 @@ fn push_lines(
     end_run(alloc, lines, docno, term, place, &mut run)
 }
 
+/// The lines of the tokens of a piece, the first of which takes this place.
+fn push_piece(
+    alloc: Global,
+    lines: &mut Vec<u8>,
+    docno: &[u8],
+    term: &[u8],
+    place: &mut u64,
+    piece: &Piece,
+) -> Result<(), NoMemory>
+    ensures lines { OnOk result (lines.new.items ≡ lines.old.items ++ place_lines docno.now (places_from place.old term.now (piece_tokens piece.now))) }
+    ensures place { OnOk result (place.new ≡ place.old + length (piece_tokens piece.now)) }
+{
+    match piece {
+        Piece::Text(text) => push_lines(alloc, lines, docno, term, place, text.as_slice()),
+        Piece::Open(_) | Piece::Close(_) | Piece::Break => Ok(()),
+    }
+}
+
 /// The lines of a document, one for each place of the term.
 #[tactic(auto, using(crate::proofs::LineLemmas::lines_behind))]
 pub fn document_lines(
@@ -85,12 +103,7 @@ pub fn document_lines(
     let mut place = 0;
     let docno = document.docno.as_bytes();
     for piece in document.pieces.as_slice() {
-        match piece {
-            Piece::Text(text) => {
-                push_lines(alloc, &mut lines, docno, term, &mut place, text.as_slice())?;
-            }
-            Piece::Open(_) | Piece::Close(_) | Piece::Break => {}
-        }
+        push_piece(alloc, &mut lines, docno, term, &mut place, piece)?;
     }
     Ok(lines)
 }

@@ -1,7 +1,7 @@
 use Rattle.std.proofs.Common.{rules, ◌++◌, sym, ◌∙◌, arith, refl}
 use Rattle.std.specs.Io.KnownBytes.{prepend_known}
 use Rattle.indri_app.specs.Scan.{document_lines}
-use Rattle.indri_app.proofs.Scanned.{document_scanned, end_scanned, stop_scanned, done_is, refused_is, front_of, front_now, grown}
+use Rattle.indri_app.proofs.Scanned.{document_scanned, end_scanned, stop_scanned, done_is, is_refused, refused_is, front_of, front_now, grown}
 use Rattle.indri_app.proofs.scan.scan_documents.Goals as goal
 
 pub returns-in-Ok-None-clause-done : goal.returns-in-Ok-None-clause-done
@@ -10,7 +10,10 @@ returns-in-Ok-None-clause-done g c =
     done_is c.args.term.now _ _ _ _ (sym c.documents.invariant.0 ∙ end_scanned c.args.term.now (g.K.Sink.taken c.documents.sink) c.documents.reader.ahead.offset _ _ gives)
 
 pub returns-in-Err-clause-refused : goal.returns-in-Err-clause-refused
-returns-in-Err-clause-refused g c = ?
+returns-in-Err-clause-refused g c =
+    let gives = rw c.documents.invariant.1 at c.in-Err.ensures.read in
+    let is = is_refused c.in-Err.refusal c.documents.reader.ahead.offset _ _ gives (search rules) (search rules) in
+    refused_is c.args.term.now _ _ c.in-Err.refusal _ _ (sym c.documents.invariant.0 ∙ stop_scanned c.args.term.now (g.K.Sink.taken c.documents.sink) c.documents.reader.ahead.offset c.in-Err.refusal _ is)
 
 pub returns-in-Ok-None-clause-front : goal.returns-in-Ok-None-clause-front
 returns-in-Ok-None-clause-front g c = front_now _ _ _ _ _ _ _ c.documents.invariant.5.1 c.documents.invariant.0

@@ -1,5 +1,5 @@
 -- What a scan has written, and what is left of its text.
-use Rattle.std.proofs.Common.{ℕ, ◌≡◌, ◌≤◌, ◌<◌, ◌+◌, ◌-◌, List, [], ◌++◌, length, take, drop, Option, None, Some, Ok, Err, refl, ap, sym, ◌∙◌, subst, append_assoc, append-nil, arith, take-append-drop, zero-add}
+use Rattle.std.proofs.Common.{ℕ, ◌≡◌, ◌≤◌, ◌+◌, List, [], ◌++◌, length, take, drop, Option, None, Some, Ok, Err, refl, ap, sym, ◌∙◌, append_assoc, append-nil, arith, take-append-drop, zero-add}
 use Rattle.std.proofs.Math.Seq.{take-append_seam, drop-append_seam, take-length}
 use Rattle.std.specs.Option.{option_map, IfSome, IsSome}
 use Rattle.std.specs.Io.KnownBytes.{append_known}

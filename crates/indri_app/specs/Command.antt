@@ -1,5 +1,5 @@
 -- The words of the command line that the program takes: FOLDER scan TERM.
-use Rattle.std.specs.Prelude.{ℕ, Bool, List, [], ◌∷◌, ◌++◌, length, nat_le, ◌&&◌, ◌||◌, codes, Option, None, Some, if◌then◌else◌}
+use Rattle.std.specs.Prelude.{ℕ, Bool, List, [], ◌∷◌, length, nat_le, ◌&&◌, ◌||◌, codes, Option, None, Some, if◌then◌else◌}
 use Rattle.std.specs.List.{list_all}
 use Rattle.std.specs.Str.{bytes_eq}
 use Rattle.ri_base.specs.Ascii.{is_lower, is_digit}

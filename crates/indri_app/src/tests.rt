@@ -26,7 +26,11 @@ fn scanned(
     write_fails: &[SinkFail],
 ) -> Result<(Status, Vec<u8>), Fail> {
     let words = words_of(alloc, &[".", "scan", "a"])?;
-    let mut source = MemSource::new(input.to_vec(alloc)?, piece.max(1), read_fails.to_vec(alloc)?);
+    let mut source = MemSource::new(
+        input.to_vec(alloc)?,
+        piece.max(1),
+        read_fails.to_vec(alloc)?,
+    );
     let mut sink = MemSink::new(alloc, write_fails.to_vec(alloc)?);
     let status = run(alloc, &words, &mut source, &mut sink);
     let text = sink.bytes().to_vec(alloc)?;
@@ -36,24 +40,35 @@ fn scanned(
 #[test]
 fn scans(rt: HostRuntime) -> Result<(), Fail> {
     let alloc = rt.alloc();
-    let rows: [(&[u8], Status, &[u8]); 6] = [
+    let rows: [(&[u8], Status, &[u8]); 9] = [
         (TWO, Status::Done, b"d1 0 1\nd2 0 1\n"),
         (b"", Status::Done, b""),
-        (b"x", Status::SomeRefused, b"refused NotBuilt 0\n"),
+        (b"x", Status::SomeRefused, b"refused NotADoc 0\n"),
         (
-            b"<DOC><DOCNO>d1</DOCNO>a b</DOC>\n<DOC><DOCNO>d2</DOCNO>a",
+            b"<DOC><DOCNO>d1</DOCNO>a b</DOC>\n<DOC><DOCNO>d2</DOCNO><TEXT>a",
             Status::SomeRefused,
-            b"d1 0 1\nrefused NotBuilt 55\n",
+            b"d1 0 1\nrefused DocOpen 32\n",
+        ),
+        (b"<DOC>a", Status::SomeRefused, b"refused NoDocno 5\n"),
+        (
+            b"<DOC><DOCNO></DOCNO>a</DOC>",
+            Status::SomeRefused,
+            b"refused DocnoEmpty 12\n",
         ),
         (
-            b"<DOC><DOCNO>d1</DOCNO>a-b</DOC>",
+            b"<DOC><DOCNO>d 1</DOCNO>a</DOC>",
             Status::SomeRefused,
-            b"refused NotBuilt 23\n",
+            b"refused DocnoBad 13\n",
         ),
         (
-            b" <doc>\n<DocNo> x<docno>",
-            Status::SomeRefused,
-            b"refused NotBuilt 17\n",
+            b"<DOC>\n<DOCNO> x-1 </DOCNO><B c=d>A&amp;a</b> b<!-- a -->a</doc >\n",
+            Status::Done,
+            b"x-1 0 1\nx-1 1 2\nx-1 3 4\n",
+        ),
+        (
+            b"<DOC><DOCNO>d1</DOCNO>b\xffa</DOC>",
+            Status::Done,
+            b"d1 1 2\n",
         ),
     ];
     for (input, status, text) in rows {
@@ -95,21 +110,16 @@ fn words_that_are_no_command(rt: HostRuntime) -> Result<(), Fail> {
 #[test]
 fn reads_that_fail(rt: HostRuntime) -> Result<(), Fail> {
     let alloc = rt.alloc();
+    let whole: &[u8] = b"d1 0 1\nd2 0 1\n";
     for call in 1..12 {
         let (status, text) = scanned(alloc, TWO, 7, &[call], &[])?;
-        let read = 7 * (call - 1);
-        let (want, line): (Status, &[u8]) = if call > 10 {
-            (Status::Done, b"d1 0 1\nd2 0 1\n")
-        } else if read >= 60 {
-            (Status::ReadFault, b"d1 0 1\nd2 0 1\nfault read\n")
-        } else if read >= 31 {
-            (Status::ReadFault, b"d1 0 1\nfault read\n")
-        } else {
-            (Status::ReadFault, b"fault read\n")
-        };
-        assert_eq!(rt; status, want, "at read {call}");
-        assert_eq!(rt; text.as_slice(), line, "at read {call}");
+        assert_eq!(rt; status, Status::ReadFault, "at read {call}");
+        let front = text.strip_suffix(b"fault read\n").ok_or("no last line")?;
+        assert!(rt; whole.starts_with(front), "at read {call}");
     }
+    let (status, text) = scanned(alloc, TWO, 7, &[12], &[])?;
+    assert_eq!(rt; status, Status::Done);
+    assert_eq!(rt; text.as_slice(), whole);
     // The sink fails at the last line too.
     let fail = SinkFail { call: 2, taken: 3 };
     let (status, text) = scanned(alloc, TWO, 40, &[2], &[fail])?;
@@ -133,7 +143,10 @@ fn writes_that_fail(rt: HostRuntime) -> Result<(), Fail> {
         assert_eq!(rt; text.as_slice(), &b"d1 0 1\nd2 0 1\n"[..7 + taken.min(7)]);
         let (status, text) = scanned(alloc, broken, 9, &[], &[second])?;
         assert_eq!(rt; status, Status::WriteFault);
-        assert_eq!(rt; text.as_slice(), &b"d1 0 1\nrefused NotBuilt 31\n"[..7 + taken.min(20)]);
+        assert_eq!(rt;
+            text.as_slice(),
+            &b"d1 0 1\nrefused NotADoc 31\n"[..7 + taken.min(19)]
+        );
     }
     let third = SinkFail { call: 3, taken: 0 };
     let (status, _) = scanned(alloc, TWO, 9, &[], &[third])?;

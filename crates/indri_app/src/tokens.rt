@@ -92,11 +92,7 @@ fn push_piece(
 
 /// The lines of a document, one for each place of the term.
 #[tactic(auto, using(crate::proofs::LineLemmas::lines_behind))]
-pub fn document_lines(
-    alloc: Global,
-    term: &[u8],
-    document: &RawDoc,
-) -> Result<Vec<u8>, NoMemory>
+pub fn document_lines(alloc: Global, term: &[u8], document: &RawDoc) -> Result<Vec<u8>, NoMemory>
     ensures { IfOk result (λ lines. lines.items ≡ document_lines term.now document.now) }
 {
     let mut lines = Vec::new(alloc);

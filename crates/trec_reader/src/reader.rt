@@ -134,7 +134,6 @@ fn read_whole<S: Source>(
 }
 
 /// Reads white space, and the document that stands next, or none at the end of the input.
-
 fn read_entry<S: Source>(
     alloc: Global,
     ahead: &mut ReadAhead,

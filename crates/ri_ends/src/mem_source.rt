@@ -23,7 +23,7 @@ pub struct MemSource {
 }
 
 impl MemSource {
-    ghost use Rattle.ri_ends.specs.Memory.{failing_reads, next_read};
+    ghost use Rattle.ri_ends.specs.Memory.{failing_reads, next_read, piece_of};
 
     pub fn new(bytes: Vec<u8>, piece: usize, fails: Vec<u64>) -> Self
         requires { 1 ≤ piece }
@@ -31,6 +31,7 @@ impl MemSource {
         ensures layers { ⟦<MemSource as Source>⟧.layers result ≡ Some [] }
         ensures faults { ⟦<MemSource as Source>⟧.faults result ≡ 0 }
         ensures can_give { ⟦<MemSource as Source>⟧.can_give result ≡ vec_len bytes }
+        ensures piece { piece_of result ≡ piece }
         ensures fails { failing_reads result ≡ fails.items }
         ensures first { next_read result ≡ 1 }
     {
@@ -61,7 +62,7 @@ impl Source for MemSource {
     ghost is_bounded = { λ s. Prim.omega (arith, s.small) };
 
     ghost use Rattle.ri_ends.specs.Failing.{call_behind};
-    ghost use Rattle.ri_ends.specs.Memory.{failing_reads, next_read};
+    ghost use Rattle.ri_ends.specs.Memory.{failing_reads, next_read, piece_of};
 
     fn read(&mut self, buf: &mut [u8]) -> Result<usize, Failed>
         ensures bound { ReadsAtMost result buf.new }
@@ -74,6 +75,9 @@ impl Source for MemSource {
         ensures lowers { MatchResult result
             (λ n. ⟦<MemSource as Source>⟧.can_give self.new + n ≡ ⟦<MemSource as Source>⟧.can_give self.old)
             (λ _. ⟦<MemSource as Source>⟧.can_give self.new ≡ ⟦<MemSource as Source>⟧.can_give self.old) }
+
+        ensures piece { IfOk result (λ n. n ≤ piece_of self.old) }
+        ensures same_piece { piece_of self.new ≡ piece_of self.old }
 
         // It fails exactly at the reads that are to fail, and counts each read.
         ensures exact { IsErr result ↔ Contains (failing_reads self.old) (next_read self.old) }

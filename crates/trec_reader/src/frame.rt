@@ -7,12 +7,15 @@ ghost use Rattle.trec_reader.specs.Marks.{is_less};
 use crate::mark::{Mark, leading_end_tag};
 use memchr::memchr;
 
-/// How many bytes stand before the first `<`.
+/// How many bytes stand before the first `<`. Where one stands first there is no search.
 #[tactic(auto, using(crate::proofs::Angles::first_less, crate::proofs::Angles::no_less))]
 fn to_less(bytes: &[u8]) -> usize
     ensures exact { result ≡ position_or_len is_less bytes.now }
     ensures within { result ≤ length bytes.now }
 {
+    if let [b'<', ..] = bytes {
+        return 0;
+    }
     match memchr(b'<', bytes) {
         Some(at) => at,
         None => bytes.len(),

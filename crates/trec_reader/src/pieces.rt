@@ -1,15 +1,16 @@
 // The pieces of the text of a document.
-ghost use Rattle.std.specs.Prelude.{◌≡◌, ◌<◌, ◌≤◌, ◌++◌, false, length, IfOk, IfSome, OnOk};
+ghost use Rattle.std.specs.Prelude.{◌≡◌, ◌<◌, ◌≤◌, ◌++◌, None, false, length, IfOk, IfSome, OnOk};
 ghost use Rattle.std.specs.Option.{option_or};
 ghost use Rattle.memchr.specs.Find.{IsFirstByte, is_byte2};
 ghost use Rattle.trec_reader.specs.Cuts.{NoComment, text_piece};
-ghost use Rattle.trec_reader.specs.Marks.{IsWithin, comment, declaration, ends_in_slash, entity};
-ghost use Rattle.trec_reader.specs.Pieces.{mark, pieces, tag_piece};
+ghost use Rattle.trec_reader.specs.Marks.{IsWithin, comment, declaration, ends_in_slash, entity, tag};
+ghost use Rattle.trec_reader.specs.Pieces.{mark, pieces, tag_marked, tag_piece};
 
 use crate::gap::{comment, declaration, entity};
 use crate::mark::{Mark, Tag, leading_tag, tag_text};
 use crate::{Piece, Pieces};
 use memchr::memchr2;
+use ri_base::ascii::is_letter;
 use ri_base::{Bytes, Name, NoMemory};
 use std::alloc::Global;
 
@@ -76,6 +77,17 @@ fn gap(bytes: &[u8], comments: &mut bool) -> Option<usize>
     }
 }
 
+/// Whether a tag may begin here, by two bytes: where they say no, none does.
+#[tactic(auto, unfolding(crate::specs::Marks::tag))]
+fn may_begin_tag(bytes: &[u8]) -> bool
+    ensures { result ≡ false → tag_marked bytes.now (tag bytes.now) ≡ None }
+{
+    match bytes {
+        [b'<', byte, ..] => *byte == b'/' || is_letter(*byte),
+        _ => false,
+    }
+}
+
 /// The piece that begins here and its number of bytes, unless the first byte is text.
 #[tactic(auto, using(crate::proofs::Cuts::is_gap, crate::proofs::Cuts::is_tag), unfolding(crate::specs::Pieces::mark))]
 fn leading_mark(
@@ -90,6 +102,9 @@ fn leading_mark(
 {
     if let Some(n) = gap(bytes, comments) {
         return Ok(Some((Piece::Break, n)));
+    }
+    if !may_begin_tag(bytes) {
+        return Ok(None);
     }
     match leading_tag(bytes) {
         Mark::Is(tag) => Ok(Some((tag_piece(alloc, bytes, tag)?, tag.close + 1))),

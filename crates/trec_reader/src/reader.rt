@@ -56,13 +56,13 @@ fn read_window(alloc: Global, bytes: &[u8]) -> Reading<(Docno, Pieces)>
     read_document(alloc, &bytes[..DOCUMENT_BYTES.min(bytes.len())])
 }
 
-/// How many bytes are to be ahead where these are too few: twice as many, but no more than tell a document that is too
-/// large.
+/// How many bytes are to be ahead where these are too few: four times as many, but no more than tell a document that is
+/// too large.
 fn next_size(count: usize) -> usize
     requires { count ≤ 16777216 }
     ensures { count < result }
 {
-    (count + count).max(count + 1).min(DOCUMENT_BYTES + 1)
+    (4 * count).max(count + 1).min(DOCUMENT_BYTES + 1)
 }
 
 /// Reads the bytes ahead of a document that stands at their front.

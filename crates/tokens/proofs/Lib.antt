@@ -1,3 +1,9 @@
+pub mod ClosingLemmas
 pub mod Computing
+pub mod ContentLemmas
 pub mod Examples
+pub mod KeyLemmas
+pub mod OpenLemmas
+pub mod PieceLemmas
+pub mod SetLemmas
 pub mod TermLemmas

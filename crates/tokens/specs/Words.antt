@@ -1,6 +1,7 @@
 -- The words that a text is searched by.
 use Rattle.std.specs.Prelude.{ℕ, List, map, filter, chars, encode_utf8_all}
 use Rattle.ri_base.specs.Text.{is_term}
+use Rattle.bstr.specs.Utf8.{lossy_chars}
 use Rattle.caseless.specs.Caseless.{default_case_fold}
 use Rattle.unicode_segmentation.specs.Word.{words}
 
@@ -15,3 +16,11 @@ terms_among pieces = filter is_term (map folded pieces)
 -- the terms of a text: its words by the word boundaries of UAX #29, folded, where they have 1 to 128 bytes
 abbrev pub text_terms : List ℕ → List (List ℕ)
 text_terms text = terms_among (words text)
+
+-- bytes as text: in place of what isn't UTF-8 stands U+FFFD, one for each maximal piece
+abbrev pub lossy_text : List ℕ → List ℕ
+lossy_text bytes = encode_utf8_all (lossy_chars bytes)
+
+-- the terms of bytes
+unfoldable pub byte_terms : List ℕ → List (List ℕ)
+byte_terms bytes = text_terms (lossy_text bytes)

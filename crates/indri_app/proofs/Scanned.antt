@@ -1,7 +1,10 @@
 -- What a scan has written, and what is left of its text.
-use Rattle.std.proofs.Common.{ℕ, ◌≡◌, ◌≤◌, ◌+◌, List, [], ◌++◌, length, take, drop, Option, None, Some, Ok, Err, refl, ap, sym, ◌∙◌, append_assoc, append-nil, arith, take-append-drop, zero-add}
+use Rattle.std.proofs.Common.{ℕ, ◌≡◌, ◌≤◌, ◌+◌, Bool, true, false, ◌||◌, List, [], ◌++◌, length, take, drop, Option, None, Some, Ok, Err, refl, ap, sym, ◌∙◌, append_assoc, append-nil, arith, take-append-drop, zero-add}
 use Rattle.std.proofs.Math.Seq.{take-append_seam, drop-append_seam, take-length}
-use Rattle.std.specs.Option.{option_map, IfSome, IsSome}
+use Rattle.std.specs.List.{list_any}
+use Rattle.std.specs.Option.{option_map, IfSome}
+use Rattle.std.specs.Prelude.{is_err, is_some}
+use Rattle.tokens.specs.Content.{content}
 use Rattle.std.specs.Io.KnownBytes.{append_known}
 use Rattle.trec_reader.specs.Read.{entry, entry_then, offset_of, read, read_rest, with_document}
 use Rattle.trec_reader.specs.Refusal.{Gives, IsRefused}
@@ -11,7 +14,7 @@ use Rattle.trec_reader.specs.declared.refusal.TrecRefusal.TheVariants as refusal
 use Rattle.trec_reader.proofs.Shorter.{read_is}
 use Rattle.ri_ends.specs.Causes.{Rose}
 use Rattle.indri_app.specs.Outcome.{Writes, WritesFault, WritesFront, WritesLine, fault_line}
-use Rattle.indri_app.specs.Scan.{document_lines, found_text, refusal_line, scan_text}
+use Rattle.indri_app.specs.Scan.{document_lines, found_text, has_refusal, refusal_line, scan_text}
 
 append_twice : (taken : Option (List ℕ)) (a b : List ℕ) → append_known taken (a ++ b) ≡ append_known (append_known taken a) b
 append_twice None a b = refl
@@ -21,44 +24,66 @@ append_none : (taken : Option (List ℕ)) → append_known taken [] ≡ taken
 append_none None = refl
 append_none (Some xs) = ap Some (append-nil xs)
 
--- what a sink will have once all bytes are scanned, and their refusal; so many bytes were read before them
-abbrev pub outcome : List ℕ → Option (List ℕ) → ℕ → List ℕ → Option (List ℕ) × Option TrecRefusal
-outcome term taken offset bytes = (append_known taken (found_text term (read_rest (offset + length bytes) bytes)), (read_rest (offset + length bytes) bytes).1)
+or_assoc : (a b c d : Bool) → (a || ((b || c) || d)) ≡ ((a || b) || (c || d))
+or_assoc true b c d = refl
+or_assoc false true c d = refl
+or_assoc false false c d = refl
+
+or-false : (a : Bool) → (a || false) ≡ a
+or-false true = refl
+or-false false = refl
+
+or-true : (a : Bool) → (a || true) ≡ true
+or-true true = refl
+or-true false = refl
+
+-- What a sink will have once all bytes are scanned, and whether anything will be refused then. So many bytes were read
+-- before them, and it was noted whether anything of those is refused.
+abbrev pub outcome : List ℕ → Option (List ℕ) → Bool → ℕ → List ℕ → Option (List ℕ) × Bool
+outcome term taken noted offset bytes = (append_known taken (found_text term (read_rest (offset + length bytes) bytes)), noted || has_refusal (read_rest (offset + length bytes) bytes))
 
 rest_is : (o : ℕ) (bytes : List ℕ) → read_rest (o + length bytes) bytes ≡ entry_then (entry o bytes) (read_rest (o + length bytes))
 rest_is o bytes = let here : offset_of (o + length bytes) bytes ≡ o = omega arith in read_is (o + length bytes) bytes ∙ ap (λ k. entry_then (entry k bytes) (read_rest (o + length bytes))) here
 
 -- a document is read, and its lines are written
-pub document_scanned : (term : List ℕ) (taken : Option (List ℕ)) (d : RawDoc) (o p : ℕ) (old new : Option (List ℕ)) → option_map (entry o) old ≡ option_map (λ rest. Ok (Some d, rest)) new → option_map (λ xs. p + length xs) new ≡ option_map (λ xs. o + length xs) old →
-    option_map (outcome term taken o) old ≡ option_map (outcome term (append_known taken (document_lines term d)) p) new
-document_scanned term taken d o p None None e same = refl
-document_scanned term taken d o p None (Some ys) e same = cc
-document_scanned term taken d o p (Some xs) None e same = cc
-document_scanned term taken d o p (Some xs) (Some ys) e same =
+pub document_scanned : (term : List ℕ) (taken : Option (List ℕ)) (noted : Bool) (d : RawDoc) (o p : ℕ) (old new : Option (List ℕ)) → option_map (entry o) old ≡ option_map (λ rest. Ok (Some d, rest)) new → option_map (λ xs. p + length xs) new ≡ option_map (λ xs. o + length xs) old →
+    option_map (outcome term taken noted o) old ≡ option_map (outcome term (append_known taken (document_lines term d)) (noted || is_err (content d)) p) new
+document_scanned term taken noted d o p None None e same = refl
+document_scanned term taken noted d o p None (Some ys) e same = cc
+document_scanned term taken noted d o p (Some xs) None e same = cc
+document_scanned term taken noted d o p (Some xs) (Some ys) e same =
     let is : entry o xs ≡ Ok (Some d, ys) = cc in
     let total : o + length xs ≡ p + length ys = cc in
     let found : read_rest (o + length xs) xs ≡ with_document d (read_rest (p + length ys) ys) = rest_is o xs ∙ ap (λ r. entry_then r (read_rest (o + length xs))) is ∙ ap (λ n. with_document d (read_rest n ys)) total in
-    ap Some (ap (λ f. (append_known taken (found_text term f), f.1)) found ∙ ap (λ t. (append_known taken t, (read_rest (p + length ys) ys).1)) (append_assoc (document_lines term d) _ _) ∙ ap (λ t. (t, (read_rest (p + length ys) ys).1)) (append_twice taken (document_lines term d) (found_text term (read_rest (p + length ys) ys))))
+    let text : append_known taken (found_text term (read_rest (o + length xs) xs)) ≡ append_known (append_known taken (document_lines term d)) (found_text term (read_rest (p + length ys) ys)) =
+        ap (λ f. append_known taken (found_text term f)) found ∙ ap (append_known taken) (append_assoc (document_lines term d) _ _) ∙ append_twice taken (document_lines term d) (found_text term (read_rest (p + length ys) ys)) in
+    let refused : (noted || has_refusal (read_rest (o + length xs) xs)) ≡ ((noted || is_err (content d)) || has_refusal (read_rest (p + length ys) ys)) =
+        ap (λ f. noted || has_refusal f) found ∙ or_assoc noted (is_err (content d)) (list_any (λ d. is_err (content d)) (read_rest (p + length ys) ys).0) (is_some (read_rest (p + length ys) ys).1) in
+    ap Some (λ i. (text i, refused i))
 
 -- the input ends
-pub end_scanned : (term : List ℕ) (taken : Option (List ℕ)) (o : ℕ) (old new : Option (List ℕ)) → option_map (entry o) old ≡ option_map (λ rest. Ok (None, rest)) new →
-    option_map (outcome term taken o) old ≡ option_map (λ _. (taken, None)) new
-end_scanned term taken o None None e = refl
-end_scanned term taken o None (Some ys) e = cc
-end_scanned term taken o (Some xs) None e = cc
-end_scanned term taken o (Some xs) (Some ys) e =
+pub end_scanned : (term : List ℕ) (taken : Option (List ℕ)) (noted : Bool) (o : ℕ) (old new : Option (List ℕ)) → option_map (entry o) old ≡ option_map (λ rest. Ok (None, rest)) new →
+    option_map (outcome term taken noted o) old ≡ option_map (λ _. (taken, noted)) new
+end_scanned term taken noted o None None e = refl
+end_scanned term taken noted o None (Some ys) e = cc
+end_scanned term taken noted o (Some xs) None e = cc
+end_scanned term taken noted o (Some xs) (Some ys) e =
     let is : entry o xs ≡ Ok (None, ys) = cc in
     let found : read_rest (o + length xs) xs ≡ ([], None) = rest_is o xs ∙ ap (λ r. entry_then r (read_rest (o + length xs))) is in
-    ap Some (ap (λ f. (append_known taken (found_text term f), f.1)) found ∙ ap (λ t. (t, None)) (append_none taken))
+    let text : append_known taken (found_text term (read_rest (o + length xs) xs)) ≡ taken = ap (λ f. append_known taken (found_text term f)) found ∙ append_none taken in
+    let refused : (noted || has_refusal (read_rest (o + length xs) xs)) ≡ noted = ap (λ f. noted || has_refusal f) found ∙ or-false noted in
+    ap Some (λ i. (text i, refused i))
 
 -- the input is refused
-pub stop_scanned : (term : List ℕ) (taken : Option (List ℕ)) (o : ℕ) (r : TrecRefusal) (old : Option (List ℕ)) → IsRefused entry r o old →
-    option_map (outcome term taken o) old ≡ option_map (λ _. (append_known taken (refusal_line r), Some r)) old
-stop_scanned term taken o r None e = refl
-stop_scanned term taken o r (Some xs) e =
+pub stop_scanned : (term : List ℕ) (taken : Option (List ℕ)) (noted : Bool) (o : ℕ) (r : TrecRefusal) (old : Option (List ℕ)) → IsRefused entry r o old →
+    option_map (outcome term taken noted o) old ≡ option_map (λ _. (append_known taken (refusal_line r), true)) old
+stop_scanned term taken noted o r None e = refl
+stop_scanned term taken noted o r (Some xs) e =
     let is : entry o xs ≡ Err r = cc in
     let found : read_rest (o + length xs) xs ≡ ([], Some r) = rest_is o xs ∙ ap (λ k. entry_then k (read_rest (o + length xs))) is in
-    ap Some (ap (λ f. (append_known taken (found_text term f), f.1)) found)
+    let text : append_known taken (found_text term (read_rest (o + length xs) xs)) ≡ append_known taken (refusal_line r) = ap (λ f. append_known taken (found_text term f)) found in
+    let refused : (noted || has_refusal (read_rest (o + length xs) xs)) ≡ true = ap (λ f. noted || has_refusal f) found ∙ or-true noted in
+    ap Some (λ i. (text i, refused i))
 
 -- an answer that is neither a fault nor want of memory is a refusal of the text
 pub is_refused : (r : TrecRefusal) (o : ℕ) (old new : Option (List ℕ)) → Gives (Err r) o old new → (r ≡ refusal.Read → ⊥) → (r ≡ refusal.Memory → ⊥) → IsRefused entry r o old
@@ -80,22 +105,21 @@ whole_text : (term bytes : List ℕ) → found_text term (read_rest (0 + length 
 unfolding scan_text
 whole_text term bytes = ap (found_text term) (whole bytes)
 
-pub done_is : (term : List ℕ) (before now : Option (List ℕ)) (old new : Option (List ℕ)) → option_map (outcome term before 0) old ≡ option_map (λ _. (now, None)) new →
-    IfSome old (λ bytes. ((read bytes).1 ≡ None) × Writes before now (scan_text term bytes))
-done_is term before now None new e = tt
-done_is term before now (Some xs) None e = cc
-done_is term before now (Some xs) (Some ys) e =
-    let same : outcome term before 0 xs ≡ (now, None) = cc in
-    (ap (λ f. f.1) (sym (whole xs)) ∙ ap (λ x. x.1) same, sym (ap (λ x. x.0) same) ∙ ap (append_known before) (whole_text term xs))
+pub done_is : (term : List ℕ) (before now : Option (List ℕ)) (noted : Bool) (old new : Option (List ℕ)) → option_map (outcome term before false 0) old ≡ option_map (λ _. (now, noted)) new →
+    IfSome old (λ bytes. (has_refusal (read bytes) ≡ noted) × Writes before now (scan_text term bytes))
+done_is term before now noted None new e = tt
+done_is term before now noted (Some xs) None e = cc
+done_is term before now noted (Some xs) (Some ys) e =
+    let same : outcome term before false 0 xs ≡ (now, noted) = cc in
+    (ap has_refusal (sym (whole xs)) ∙ ap (λ x. x.1) same, sym (ap (λ x. x.0) same) ∙ ap (append_known before) (whole_text term xs))
 
-pub refused_is : (term : List ℕ) (before now : Option (List ℕ)) (r : TrecRefusal) (old new : Option (List ℕ)) → option_map (outcome term before 0) old ≡ option_map (λ _. (append_known now (refusal_line r), Some r)) new →
-    IfSome old (λ bytes. IsSome (read bytes).1 × (append_known now (refusal_line r) ≡ append_known before (scan_text term bytes)))
+pub refused_is : (term : List ℕ) (before now : Option (List ℕ)) (r : TrecRefusal) (old new : Option (List ℕ)) → option_map (outcome term before false 0) old ≡ option_map (λ _. (append_known now (refusal_line r), true)) new →
+    IfSome old (λ bytes. (has_refusal (read bytes) ≡ true) × (append_known now (refusal_line r) ≡ append_known before (scan_text term bytes)))
 refused_is term before now r None new e = tt
 refused_is term before now r (Some xs) None e = cc
 refused_is term before now r (Some xs) (Some ys) e =
-    let same : outcome term before 0 xs ≡ (append_known now (refusal_line r), Some r) = cc in
-    let stops : (read xs).1 ≡ Some r = ap (λ f. f.1) (sym (whole xs)) ∙ ap (λ x. x.1) same in
-    (rw stops refl, sym (ap (λ x. x.0) same) ∙ ap (append_known before) (whole_text term xs))
+    let same : outcome term before false 0 xs ≡ (append_known now (refusal_line r), true) = cc in
+    (ap has_refusal (sym (whole xs)) ∙ ap (λ x. x.1) same, sym (ap (λ x. x.0) same) ∙ ap (append_known before) (whole_text term xs))
 
 cancel : (t a b : List ℕ) → t ++ a ≡ t ++ b → a ≡ b
 cancel t a b e = sym (drop-append_seam t a) ∙ ap (drop (length t)) e ∙ drop-append_seam t b
@@ -115,20 +139,20 @@ front_more (Some t) mid now w piece rest text n a b e =
     (length (w ++ take n piece), b ∙ ap (λ q. append_known q (take n piece)) a ∙ ap Some (front_at t w piece rest text n inner))
 
 -- a front of a document's lines was written
-pub front_of : (term : List ℕ) (before mid now : Option (List ℕ)) (w lines : List ℕ) (n p : ℕ) (old cur : Option (List ℕ)) → mid ≡ append_known before w → now ≡ append_known mid (take n lines) →
-    option_map (outcome term (append_known mid lines) p) cur ≡ option_map (outcome term before 0) old →
+pub front_of : (term : List ℕ) (noted : Bool) (before mid now : Option (List ℕ)) (w lines : List ℕ) (n p : ℕ) (old cur : Option (List ℕ)) → mid ≡ append_known before w → now ≡ append_known mid (take n lines) →
+    option_map (outcome term (append_known mid lines) noted p) cur ≡ option_map (outcome term before false 0) old →
     IfSome old (λ bytes. WritesFront before now (scan_text term bytes))
-front_of term before mid now w lines n p None cur a b e = tt
-front_of term before mid now w lines n p (Some xs) None a b e = cc
-front_of term before mid now w lines n p (Some xs) (Some ys) a b e =
-    let same : outcome term (append_known mid lines) p ys ≡ outcome term before 0 xs = cc in
+front_of term noted before mid now w lines n p None cur a b e = tt
+front_of term noted before mid now w lines n p (Some xs) None a b e = cc
+front_of term noted before mid now w lines n p (Some xs) (Some ys) a b e =
+    let same : outcome term (append_known mid lines) noted p ys ≡ outcome term before false 0 xs = cc in
     front_more before mid now w lines (found_text term (read_rest (p + length ys) ys)) (scan_text term xs) n a b (ap (λ x. x.0) same ∙ ap (append_known before) (whole_text term xs))
 
 -- nothing more was written
-pub front_now : (term : List ℕ) (before now : Option (List ℕ)) (w : List ℕ) (p : ℕ) (old cur : Option (List ℕ)) → now ≡ append_known before w →
-    option_map (outcome term now p) cur ≡ option_map (outcome term before 0) old →
+pub front_now : (term : List ℕ) (noted : Bool) (before now : Option (List ℕ)) (w : List ℕ) (p : ℕ) (old cur : Option (List ℕ)) → now ≡ append_known before w →
+    option_map (outcome term now noted p) cur ≡ option_map (outcome term before false 0) old →
     IfSome old (λ bytes. WritesFront before now (scan_text term bytes))
-front_now term before now w p old cur a e = front_of term before now now w [] 0 p old cur a (sym (append_none now)) (ap (λ t. option_map (outcome term t p) cur) (append_none now) ∙ e)
+front_now term noted before now w p old cur a e = front_of term noted before now now w [] 0 p old cur a (sym (append_none now)) (ap (λ t. option_map (outcome term t noted p) cur) (append_none now) ∙ e)
 
 pub grown : (before mid now : Option (List ℕ)) (w lines : List ℕ) → mid ≡ append_known before w → now ≡ append_known mid lines → now ≡ append_known before (w ++ lines)
 grown before mid now w lines a b = b ∙ ap (λ t. append_known t lines) a ∙ sym (append_twice before w lines)
@@ -142,7 +166,7 @@ pub line_whole : (before now : Option (List ℕ)) (line : List ℕ) (count_befor
 line_whole before now line count_before count_now e = record { of_line = length line; written = e ∙ ap (append_known before) (sym (take-length line)); whole = λ h. absurd (omega (arith, h)) }
 
 -- a front of the line of a refusal is written behind the lines before it
-pub refused_front : (left before mid now : Option (List ℕ)) (term : List ℕ) (r : TrecRefusal) → IfSome left (λ bytes. WritesFront before mid (scan_text term bytes)) → IfSome left (λ bytes. IsSome (read bytes).1 × (append_known mid (refusal_line r) ≡ append_known before (scan_text term bytes))) → WritesFront mid now (refusal_line r) → IfSome left (λ bytes. WritesFront before now (scan_text term bytes))
+pub refused_front : (left before mid now : Option (List ℕ)) (term : List ℕ) (r : TrecRefusal) → IfSome left (λ bytes. WritesFront before mid (scan_text term bytes)) → IfSome left (λ bytes. (has_refusal (read bytes) ≡ true) × (append_known mid (refusal_line r) ≡ append_known before (scan_text term bytes))) → WritesFront mid now (refusal_line r) → IfSome left (λ bytes. WritesFront before now (scan_text term bytes))
 refused_front None before mid now term r a b c = tt
 refused_front (Some bytes) before mid now term r a b c = front_more before mid now (take a.0 (scan_text term bytes)) (refusal_line r) [] (scan_text term bytes) c.0 a.1 c.1 (append_none (append_known mid (refusal_line r)) ∙ b.1)
 

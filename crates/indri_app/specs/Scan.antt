@@ -1,40 +1,16 @@
--- What a scan for a term writes: a line for each place of the term, document by document, and last the refusal of the
--- input, if it is refused.
-use Rattle.std.specs.Prelude.{ℕ, ◌+◌, List, [], ◌∷◌, ◌++◌, Option, None, Some, codes, if◌then◌else◌}
-use Rattle.std.specs.List.{flat_map}
+-- What a scan for a term writes: document by document a line for each place of the term, or the refusal of the document,
+-- and last the refusal of the input, if it is refused.
+use Rattle.std.specs.Prelude.{ℕ, ◌+◌, Bool, ◌||◌, List, [], ◌∷◌, ◌++◌, Option, None, Some, Result, Ok, Err, is_err, is_some, codes}
+use Rattle.std.specs.List.{flat_map, list_any}
 use Rattle.std.specs.Fmt.{decimal}
-use Rattle.ri_base.specs.Ascii.{is_letter_or_digit, lower}
-use Rattle.ri_base.specs.Documents.{places_among}
-use Rattle.ri_base.specs.Text.{is_term}
+use Rattle.ri_base.specs.Documents.{Document, places_among}
+use Rattle.tokens.specs.Content.{content}
+use Rattle.tokens.specs.declared.document.TokenRefusal.{TokenRefusal}
+use Rattle.tokens.specs.declared.document.TokenRefusal.TheVariants.{TooManyTokens, TooManyFields, Memory as NoMemory}
 use Rattle.trec_reader.specs.Read.{Found, read}
 use Rattle.trec_reader.specs.declared.document.RawDoc.{RawDoc}
-use Rattle.trec_reader.specs.declared.piece.Piece.{Piece}
-use Rattle.trec_reader.specs.declared.piece.Piece.TheVariants.{Text, Open, Close, Break}
 use Rattle.trec_reader.specs.declared.refusal.TrecRefusal.{TrecRefusal}
 use Rattle.trec_reader.specs.declared.refusal.TrecRefusal.TheVariants.{NoDocno, DocnoEmpty, DocnoBad, DocnoLong, DocOpen, NotADoc, DocTooLarge, Read, Ended, Memory}
-
--- a run of letters and digits that has come to its end: one token, unless it is empty or too long for a term
-abbrev pub token : List ℕ → List (List ℕ)
-token run = if is_term run then run ∷ [] else []
-
--- the tokens of a text, behind a run that hasn't come to its end
-abbrev pub tokens_from : List ℕ → List ℕ → List (List ℕ)
-tokens_from run [] = token run
-tokens_from run (b ∷ text) = if is_letter_or_digit b then tokens_from (run ++ lower b ∷ []) text else token run ++ tokens_from [] text
-
--- the tokens of a text: its runs of letters and digits, in lower case
-abbrev pub text_tokens : List ℕ → List (List ℕ)
-text_tokens text = tokens_from [] text
-
-abbrev pub piece_tokens : Piece → List (List ℕ)
-piece_tokens (Text text) = text_tokens text
-piece_tokens (Open name) = []
-piece_tokens (Close name) = []
-piece_tokens Break = []
-
--- the tokens of a document, in order
-abbrev pub document_tokens : List Piece → List (List ℕ)
-document_tokens pieces = flat_map piece_tokens pieces
 
 -- DOCNO BEGIN END, for the one token at a place
 abbrev pub line : List ℕ → ℕ → List ℕ
@@ -44,9 +20,19 @@ line docno place = docno ++ 32 ∷ decimal place ++ 32 ∷ decimal (place + 1) +
 abbrev pub place_lines : List ℕ → List ℕ → List ℕ
 place_lines docno places = flat_map (line docno) places
 
--- the lines of a document
-abbrev pub document_lines : List ℕ → RawDoc → List ℕ
-document_lines term d = place_lines d.docno (places_among term (document_tokens d.pieces))
+-- refused KIND DOCNO
+abbrev pub document_refused_line : List ℕ → List ℕ → List ℕ
+document_refused_line kind docno = codes "refused " ++ kind ++ 32 ∷ docno ++ 10 ∷ []
+
+-- the lines of a document that was read, or of its refusal
+abbrev pub content_lines : List ℕ → Result Document TokenRefusal → List ℕ
+content_lines term (Ok d) = place_lines d.docno (places_among term d.tokens)
+content_lines term (Err (TooManyTokens docno)) = document_refused_line (codes "TooManyTokens") docno
+content_lines term (Err (TooManyFields docno)) = document_refused_line (codes "TooManyFields") docno
+content_lines term (Err NoMemory) = []
+
+unfoldable pub document_lines : List ℕ → RawDoc → List ℕ
+document_lines term d = content_lines term (content d)
 
 abbrev pub refused_line : List ℕ → ℕ → List ℕ
 refused_line kind at = codes "refused " ++ kind ++ 32 ∷ decimal at ++ 10 ∷ []
@@ -71,6 +57,10 @@ refusal_text (Some refusal) = refusal_line refusal
 -- the text of what was found
 abbrev pub found_text : List ℕ → Found → List ℕ
 found_text term found = flat_map (document_lines term) found.0 ++ refusal_text found.1
+
+-- whether anything was refused: a document, or the input
+abbrev pub has_refusal : Found → Bool
+has_refusal found = list_any (λ d. is_err (content d)) found.0 || is_some found.1
 
 -- the whole text of a scan of these bytes
 unfoldable pub scan_text : List ℕ → List ℕ → List ℕ

@@ -1,15 +1,15 @@
 -- Where the lines of documents come to an end, and what is written by then.
-use Rattle.std.specs.Prelude.{ℕ, ◌≡◌, List, Option, None, IsSome, IfSome}
+use Rattle.std.specs.Prelude.{ℕ, ◌≡◌, true, List, Option, IfSome}
 use Rattle.std.specs.Io.KnownBytes.{append_known}
 use Rattle.trec_reader.specs.Read.{read}
 use Rattle.indri_app.specs.Outcome.{Writes}
-use Rattle.indri_app.specs.Scan.{refusal_line, scan_text}
+use Rattle.indri_app.specs.Scan.{has_refusal, refusal_line, scan_text}
 use Rattle.indri_app.specs.declared.scan.Stop.{Stop}
 use Rattle.indri_app.specs.declared.scan.Stop.TheVariants.{End, Refused, ReadFault, WriteFault, Memory}
 
--- At the end nothing of the input was refused, and the text is written.
+-- At the end the text is written, and it was noted whether anything was refused.
 abbrev pub DoneAt : Stop → Option (List ℕ) → Option (List ℕ) → Option (List ℕ) → List ℕ → Type 0
-DoneAt End left before now term = IfSome left (λ bytes. ((read bytes).1 ≡ None) × Writes before now (scan_text term bytes))
+DoneAt (End refused) left before now term = IfSome left (λ bytes. (has_refusal (read bytes) ≡ refused) × Writes before now (scan_text term bytes))
 DoneAt (Refused refusal) left before now term = Unit {0}
 DoneAt ReadFault left before now term = Unit {0}
 DoneAt WriteFault left before now term = Unit {0}
@@ -17,8 +17,8 @@ DoneAt Memory left before now term = Unit {0}
 
 -- At a refusal only its line is left of the text.
 abbrev pub RefusedAt : Stop → Option (List ℕ) → Option (List ℕ) → Option (List ℕ) → List ℕ → Type 0
-RefusedAt End left before now term = Unit {0}
-RefusedAt (Refused refusal) left before now term = IfSome left (λ bytes. IsSome (read bytes).1 × (append_known now (refusal_line refusal) ≡ append_known before (scan_text term bytes)))
+RefusedAt (End some) left before now term = Unit {0}
+RefusedAt (Refused refusal) left before now term = IfSome left (λ bytes. (has_refusal (read bytes) ≡ true) × (append_known now (refusal_line refusal) ≡ append_known before (scan_text term bytes)))
 RefusedAt ReadFault left before now term = Unit {0}
 RefusedAt WriteFault left before now term = Unit {0}
 RefusedAt Memory left before now term = Unit {0}

@@ -2,11 +2,11 @@
 #![tactic(auto)]
 
 mod command;
+mod documents;
 mod lines;
 mod program;
 mod scan;
 mod status;
-mod tokens;
 
 pub use program::run;
 pub use status::Status;

@@ -1,8 +1,8 @@
-// The line of a refusal.
+// The lines of refusals.
 ghost use Rattle.std.specs.Prelude.{◌≡◌, ◌++◌, IfOk};
-ghost use Rattle.indri_app.specs.Scan.{refusal_line, refused_line};
+ghost use Rattle.indri_app.specs.Scan.{document_refused_line, refusal_line, refused_line};
 
-use ri_base::NoMemory;
+use ri_base::{Docno, NoMemory};
 use std::alloc::Global;
 use trec_reader::TrecRefusal;
 
@@ -32,4 +32,20 @@ pub fn refusal_line(alloc: Global, refusal: TrecRefusal) -> Result<Vec<u8>, NoMe
         TrecRefusal::DocTooLarge { at } => refused_line(alloc, b"DocTooLarge", at),
         TrecRefusal::Read | TrecRefusal::Ended | TrecRefusal::Memory => Ok(Vec::new(alloc)),
     }
+}
+
+/// The line of a document that is refused.
+pub fn document_refused_line(
+    alloc: Global,
+    kind: &[u8],
+    docno: &Docno,
+) -> Result<Vec<u8>, NoMemory>
+    ensures { IfOk result (λ line. line.items ≡ document_refused_line kind.now docno.now) }
+{
+    let mut line = b"refused ".to_vec(alloc)?;
+    line.extend_from_slice(kind)?;
+    line.push(b' ')?;
+    line.extend_from_slice(docno.as_bytes())?;
+    line.push(b'\n')?;
+    Ok(line)
 }

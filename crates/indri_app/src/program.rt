@@ -1,11 +1,11 @@
 // The program's one public call.
-ghost use Rattle.std.specs.Prelude.{◌≡◌, ◌≢◌, ◌≤◌, ◌<◌, ◌++◌, ℕ, List, IfSome, IsSomeAnd, IsSome, None, Some, take, length, codes};
+ghost use Rattle.std.specs.Prelude.{◌≡◌, ◌≢◌, ◌≤◌, ◌<◌, ◌++◌, ℕ, List, IfSome, IsSomeAnd, None, true, false, take, length, codes};
 ghost use Rattle.ri_ends.specs.Causes.{Rose};
 ghost use Rattle.trec_reader.specs.Read.{read};
 ghost use Rattle.indri_app.specs.Command.{scan_term, usage_line};
 ghost use Rattle.indri_app.specs.Outcome.{Writes, WritesFault, WritesFront, WritesLine, fault_line};
 ghost use Rattle.indri_app.specs.Status.{IsReadFaultOutcome, IsRefusalOutcome, IsUsageOutcome};
-ghost use Rattle.indri_app.specs.Scan.{refusal_line, scan_text};
+ghost use Rattle.indri_app.specs.Scan.{has_refusal, refusal_line, scan_text};
 
 use crate::Status;
 use crate::command::scan_term;
@@ -70,9 +70,9 @@ fn write_read_fault<K: Sink>(sink: &mut K) -> Status
 #[tactic(auto, using(crate::proofs::Scanned::refused_front, crate::proofs::Scanned::fault_front))]
 fn scan<S: Source, K: Sink>(alloc: Global, term: &[u8], source: &mut S, sink: &mut K) -> Status
     ensures done { result ≡ Status.Done → IfSome (S.left source.old) (λ bytes.
-        ((read bytes).1 ≡ None) × Writes (K.taken sink.old) (K.taken sink.new) (scan_text term.now bytes)) }
+        (has_refusal (read bytes) ≡ false) × Writes (K.taken sink.old) (K.taken sink.new) (scan_text term.now bytes)) }
     ensures refused { result ≡ Status.SomeRefused → IfSome (S.left source.old) (λ bytes.
-        IsSome (read bytes).1 × Writes (K.taken sink.old) (K.taken sink.new) (scan_text term.now bytes)) }
+        (has_refusal (read bytes) ≡ true) × Writes (K.taken sink.old) (K.taken sink.new) (scan_text term.now bytes)) }
     ensures front { result ≢ Status.ReadFault → IfSome (S.left source.old) (λ bytes.
         WritesFront (K.taken sink.old) (K.taken sink.new) (scan_text term.now bytes)) }
     ensures fault_line { result ≡ Status.ReadFault → IfSome (S.left source.old) (λ bytes.
@@ -87,7 +87,8 @@ fn scan<S: Source, K: Sink>(alloc: Global, term: &[u8], source: &mut S, sink: &m
     ensures held { S.held source.new ≡ S.held source.old }
 {
     match scan_documents(alloc, term, source, sink) {
-        Stop::End => Status::Done,
+        Stop::End { some_refused: false } => Status::Done,
+        Stop::End { some_refused: true } => Status::SomeRefused,
         Stop::Refused(refusal) => write_refusal(alloc, refusal, sink),
         Stop::ReadFault => write_read_fault(sink),
         Stop::WriteFault => Status::WriteFault,
@@ -103,13 +104,13 @@ pub fn run<S: Source, K: Sink>(
     source: &mut S,
     sink: &mut K,
 ) -> Status
-    // Done: the words are a scan, nothing of the input is refused, and the text of the scan is written.
+    // Done: the words are a scan, nothing is refused, and the text of the scan is written.
     ensures done { result ≡ Status.Done → IsSomeAnd (scan_term words.now) (λ term. IfSome (S.left source.old) (λ bytes.
-        ((read bytes).1 ≡ None) × Writes (K.taken sink.old) (K.taken sink.new) (scan_text term bytes))) }
+        (has_refusal (read bytes) ≡ false) × Writes (K.taken sink.old) (K.taken sink.new) (scan_text term bytes))) }
 
-    // SomeRefused: the words are a scan, the input is refused, and the text with that line at its end is written.
+    // SomeRefused: the words are a scan, a document or the input is refused, and the text of the scan is written.
     ensures refused { result ≡ Status.SomeRefused → IsSomeAnd (scan_term words.now) (λ term. IfSome (S.left source.old) (λ bytes.
-        IsSome (read bytes).1 × Writes (K.taken sink.old) (K.taken sink.new) (scan_text term bytes))) }
+        (has_refusal (read bytes) ≡ true) × Writes (K.taken sink.old) (K.taken sink.new) (scan_text term bytes))) }
 
     // Usage: exactly where the words are no command, unless the sink fails or memory is missing. The source stays.
     ensures usage { result ≡ Status.Usage → (scan_term words.now ≡ None) × Writes (K.taken sink.old) (K.taken sink.new) usage_line }

@@ -1,14 +1,15 @@
 // A scan of all documents of a source for a term.
-ghost use Rattle.std.specs.Prelude.{◌≡◌, ◌≢◌, ◌≤◌, ℕ, IfSome, OnOk, None, IsErrOf, IsSome, IsErr, take};
+ghost use Rattle.std.specs.Prelude.{◌≡◌, ◌≤◌, ℕ, IfOk, IfSome, OnOk, IsErrOf, IsErr, is_err, take};
 ghost use Rattle.std.specs.Io.KnownBytes.{append_known};
 ghost use Rattle.ri_ends.specs.Causes.{Rose};
 ghost use Rattle.trec_reader.specs.Read.{read};
+ghost use Rattle.tokens.specs.Content.{content};
 ghost use Rattle.indri_app.specs.Outcome.{Writes, WritesFront, WritesFault, fault_line};
 ghost use Rattle.indri_app.specs.Scan.{document_lines, refusal_line, scan_text};
 ghost use Rattle.indri_app.specs.Stopped.{DoneAt, RefusedAt};
 
 use crate::Status;
-use crate::tokens::document_lines;
+use crate::documents::document_lines;
 use ri_ends::{OutFault, Sink, Source};
 use std::alloc::Global;
 use trec_reader::{DocReader, RawDoc, TrecRefusal};
@@ -16,26 +17,32 @@ use trec_reader::{DocReader, RawDoc, TrecRefusal};
 /// Why the lines of documents come to an end.
 #[derive(Clone, Copy, Debug, PartialEq, Eq)]
 pub enum Stop {
-    End,
+    /// The input ended between documents.
+    End {
+        some_refused: bool,
+    },
     Refused(TrecRefusal),
     ReadFault,
     WriteFault,
     Memory,
 }
 
+/// Writes the lines of a document, and answers whether it is refused.
 fn write_document<K: Sink>(
     alloc: Global,
     term: &[u8],
-    document: &RawDoc,
+    document: RawDoc,
     sink: &mut K,
-) -> Result<(), OutFault>
-    ensures whole { OnOk result (Writes (K.taken sink.old) (K.taken sink.new) (document_lines term.now document.now)) }
-    ensures front { IsErr result → WritesFront (K.taken sink.old) (K.taken sink.new) (document_lines term.now document.now) }
+) -> Result<bool, OutFault>
+    ensures whole { OnOk result (Writes (K.taken sink.old) (K.taken sink.new) (document_lines term.now document)) }
+    ensures refused { IfOk result (λ refused. refused ≡ is_err (content document)) }
+    ensures front { IsErr result → WritesFront (K.taken sink.old) (K.taken sink.new) (document_lines term.now document) }
     ensures later { K.faults sink.old ≤ K.faults sink.new }
     ensures cause { IsErrOf result OutFault.Failed → Rose (K.faults sink.old) (K.faults sink.new) }
 {
-    let lines = document_lines(alloc, term, document)?;
-    sink.write_all(&lines)
+    let (lines, refused) = document_lines(alloc, term, document)?;
+    sink.write_all(&lines)?;
+    Ok(refused)
 }
 
 /// Writes the lines of all documents.
@@ -60,17 +67,18 @@ pub fn scan_documents<S: Source, K: Sink>(
     let Ok(mut reader) = DocReader::new(alloc) else {
         return Stop::Memory;
     };
+    let mut some_refused = false;
     'documents: loop {
         let document = match reader.next_doc(source) {
             Ok(Some(document)) => document,
-            Ok(None) => return Stop::End,
+            Ok(None) => return Stop::End { some_refused },
             Err(TrecRefusal::Read) => return Stop::ReadFault,
             Err(TrecRefusal::Memory) => return Stop::Memory,
             Err(TrecRefusal::Ended) => unreachable!(),
             Err(refusal) => return Stop::Refused(refusal),
         };
-        match write_document(alloc, term, &document, sink) {
-            Ok(()) => {}
+        match write_document(alloc, term, document, sink) {
+            Ok(refused) => some_refused |= refused,
             Err(OutFault::Failed) => return Stop::WriteFault,
             Err(OutFault::Memory) => return Stop::Memory,
         }

@@ -29,6 +29,8 @@ impl<'a, S: Source> Source for Lent<'a, S> {
 
     ghost can_give = { λ s. S.can_give s.source.now };
 
+    ghost reader_left = { λ s. S.reader_left s.source.now };
+
     ghost is_bounded = { λ s. S.is_bounded s.source.now };
 
     fn read(&mut self, buf: &mut [u8]) -> Result<usize, Failed> {

@@ -1,5 +1,5 @@
 //! The outside of the program: where its bytes come from and where they go. There are ends in memory, which tell what
-//! they hold and fail where a test wants it, and thin ends over std's readers and writers, which tell nothing.
+//! they hold and fail where a test wants it, and thin ends over std's readers and writers, which tell what these tell.
 #![tactic(auto)]
 
 mod fault;

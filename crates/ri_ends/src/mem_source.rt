@@ -1,7 +1,7 @@
 // A source in memory.
 ghost use Rattle.std.specs.Prelude.{◌≡◌, ◌+◌, ◌-◌, ◌^◌, ◌≤◌, ◌<◌, ◌↔◌, None, Some, [], take, drop, length, vec_len, IfOk, OnErr, MatchResult, IsErr, Contains};
 ghost use Rattle.std.specs.Io.{ReadsAtMost};
-ghost use Rattle.std.specs.Io.KnownBytes.{prepend_known, IsAtEnd};
+ghost use Rattle.std.specs.Io.KnownBytes.{prepend_known, IsAtEnd, ReadConsumes};
 ghost use Rattle.ri_ends.specs.Causes.{HasCause};
 
 use crate::{Failed, Source};
@@ -31,6 +31,7 @@ impl MemSource {
         ensures layers { ⟦<MemSource as Source>⟧.layers result ≡ Some [] }
         ensures faults { ⟦<MemSource as Source>⟧.faults result ≡ 0 }
         ensures can_give { ⟦<MemSource as Source>⟧.can_give result ≡ vec_len bytes }
+        ensures reader { ⟦<MemSource as Source>⟧.reader_left result ≡ None }
         ensures piece { piece_of result ≡ piece }
         ensures fails { failing_reads result ≡ fails.items }
         ensures first { next_read result ≡ 1 }
@@ -57,6 +58,8 @@ impl Source for MemSource {
 
     ghost can_give = { λ s. vec_len s.bytes - s.at };
 
+    ghost reader_left = { λ _. None };
+
     ghost use Rattle.std.proofs.Common.{arith};
 
     ghost is_bounded = { λ s. Prim.omega (arith, s.small) };
@@ -69,6 +72,7 @@ impl Source for MemSource {
         ensures bytes { IfOk result (λ n. ⟦<MemSource as Source>⟧.left self.old ≡ prepend_known (take n buf.new) (⟦<MemSource as Source>⟧.left self.new)) }
         ensures end { IfOk result (λ n. n ≡ 0 → 0 < length buf.new → IsAtEnd (⟦<MemSource as Source>⟧.left self.new)) }
         ensures failed { OnErr result (⟦<MemSource as Source>⟧.left self.new ≡ ⟦<MemSource as Source>⟧.left self.old) }
+        ensures reader { ReadConsumes (⟦<MemSource as Source>⟧.reader_left self.old) (⟦<MemSource as Source>⟧.reader_left self.new) result buf.new }
         ensures layers { ⟦<MemSource as Source>⟧.layers self.new ≡ ⟦<MemSource as Source>⟧.layers self.old }
         ensures held { ⟦<MemSource as Source>⟧.held self.new ≡ ⟦<MemSource as Source>⟧.held self.old }
         ensures cause { HasCause (⟦<MemSource as Source>⟧.faults self.old) (⟦<MemSource as Source>⟧.faults self.new) result }

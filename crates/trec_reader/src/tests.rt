@@ -1,6 +1,7 @@
 use super::*;
 use ri_ends::{Lent, MemSource};
 use std::alloc::Global;
+use std::process::Abort;
 use std::test::Fail;
 
 const TWO: &[u8] = b"<DOC><DOCNO>d1</DOCNO>a b</DOC><DOC><DOCNO>d2</DOCNO>a</DOC>";
@@ -23,67 +24,78 @@ fn outcome(
     Err(Fail::from("too many documents"))
 }
 
+/// So many documents are read, and then comes this refusal or the end, whatever the pieces of the source.
+fn assert_reads(
+    rt: &impl Abort,
+    alloc: Global,
+    input: &[u8],
+    count: usize,
+    refusal: Option<TrecRefusal>,
+) -> Result<(), Fail> {
+    for piece in [1, 2, 3, 7, 100] {
+        let (read, ends) = outcome(alloc, input, piece)?;
+        assert_eq!(rt; read, count, "{input:?} in pieces of {piece}");
+        assert_eq!(rt; ends, refusal, "{input:?} in pieces of {piece}");
+    }
+    Ok(())
+}
+
 #[test]
-fn refusals(rt: HostRuntime) -> Result<(), Fail> {
+fn inputs_without_a_refusal(rt: HostRuntime) -> Result<(), Fail> {
     let alloc = rt.alloc();
-    let rows: [(&[u8], usize, Option<TrecRefusal>); 22] = [
-        (b"", 0, None),
-        (b" \n\t\x0c\r", 0, None),
-        (TWO, 2, None),
-        (b"x", 0, Some(TrecRefusal::NotADoc { at: 0 })),
-        (b" <do", 0, Some(TrecRefusal::NotADoc { at: 1 })),
-        (b"</doc>", 0, Some(TrecRefusal::NotADoc { at: 0 })),
-        (b"<doc <doc>", 0, Some(TrecRefusal::NotADoc { at: 0 })),
-        (b"<docs>", 0, Some(TrecRefusal::NotADoc { at: 0 })),
-        (b"<DOC>", 0, Some(TrecRefusal::DocOpen { at: 0 })),
-        (b"<DOC><x", 0, Some(TrecRefusal::DocOpen { at: 0 })),
-        (b"<doc/> <x>", 0, Some(TrecRefusal::NoDocno { at: 7 })),
-        (b"<DOC>a", 0, Some(TrecRefusal::NoDocno { at: 5 })),
-        (b"<DOC></DOCNO>", 0, Some(TrecRefusal::NoDocno { at: 5 })),
-        (
-            b"<DOC><DOCNO> <b>",
-            0,
-            Some(TrecRefusal::DocnoEmpty { at: 13 }),
-        ),
-        (
-            b"<DOC><DOCNO></docno>",
-            0,
-            Some(TrecRefusal::DocnoEmpty { at: 12 }),
-        ),
-        (b"<DOC><DOCNO><1", 0, Some(TrecRefusal::DocnoBad { at: 12 })),
-        (
-            b"<DOC><DOCNO>d 1",
-            0,
-            Some(TrecRefusal::DocnoBad { at: 13 }),
-        ),
-        (b"<DOC><DOCNO>d ", 0, Some(TrecRefusal::DocOpen { at: 0 })),
-        (
-            b"<DOC><DOCNO>d\x7f",
-            0,
-            Some(TrecRefusal::DocnoBad { at: 13 }),
-        ),
-        (
-            b"<DOC><DOCNO>d1 <b>",
-            0,
-            Some(TrecRefusal::DocnoBad { at: 15 }),
-        ),
-        (
-            b"<DOC><DOCNO>d1</DOCNO>a</DO",
-            0,
-            Some(TrecRefusal::DocOpen { at: 0 }),
-        ),
-        (
-            b" <doc>\n<docno>x</docno/>a</Doc x=/ ><DOC",
-            1,
-            Some(TrecRefusal::NotADoc { at: 36 }),
-        ),
+    assert_reads(&rt, alloc, b"", 0, None)?;
+    assert_reads(&rt, alloc, b" \n\t\x0c\r", 0, None)?;
+    assert_reads(&rt, alloc, TWO, 2, None)
+}
+
+#[test]
+fn refusals_of_a_doc_tag(rt: HostRuntime) -> Result<(), Fail> {
+    let alloc = rt.alloc();
+    let rows: [(&[u8], usize, u64); 6] = [
+        (b"x", 0, 0),
+        (b" <do", 0, 1),
+        (b"</doc>", 0, 0),
+        (b"<doc <doc>", 0, 0),
+        (b"<docs>", 0, 0),
+        (b" <doc>\n<docno>x</docno/>a</Doc x=/ ><DOC", 1, 36),
     ];
-    for (input, count, refusal) in rows {
-        for piece in [1, 2, 3, 7, 100] {
-            let (read, ends) = outcome(alloc, input, piece)?;
-            assert_eq!(rt; read, count);
-            assert_eq!(rt; ends, refusal);
-        }
+    for (input, count, at) in rows {
+        assert_reads(&rt, alloc, input, count, Some(TrecRefusal::NotADoc { at }))?;
+    }
+    Ok(())
+}
+
+#[test]
+fn refusals_of_a_docno(rt: HostRuntime) -> Result<(), Fail> {
+    let alloc = rt.alloc();
+    let rows: [(&[u8], TrecRefusal); 9] = [
+        (b"<doc/> <x>", TrecRefusal::NoDocno { at: 7 }),
+        (b"<DOC>a", TrecRefusal::NoDocno { at: 5 }),
+        (b"<DOC></DOCNO>", TrecRefusal::NoDocno { at: 5 }),
+        (b"<DOC><DOCNO> <b>", TrecRefusal::DocnoEmpty { at: 13 }),
+        (b"<DOC><DOCNO></docno>", TrecRefusal::DocnoEmpty { at: 12 }),
+        (b"<DOC><DOCNO><1", TrecRefusal::DocnoBad { at: 12 }),
+        (b"<DOC><DOCNO>d 1", TrecRefusal::DocnoBad { at: 13 }),
+        (b"<DOC><DOCNO>d\x7f", TrecRefusal::DocnoBad { at: 13 }),
+        (b"<DOC><DOCNO>d1 <b>", TrecRefusal::DocnoBad { at: 15 }),
+    ];
+    for (input, refusal) in rows {
+        assert_reads(&rt, alloc, input, 0, Some(refusal))?;
+    }
+    Ok(())
+}
+
+#[test]
+fn open_documents(rt: HostRuntime) -> Result<(), Fail> {
+    let alloc = rt.alloc();
+    let rows: [&[u8]; 4] = [
+        b"<DOC>",
+        b"<DOC><x",
+        b"<DOC><DOCNO>d ",
+        b"<DOC><DOCNO>d1</DOCNO>a</DO",
+    ];
+    for input in rows {
+        assert_reads(&rt, alloc, input, 0, Some(TrecRefusal::DocOpen { at: 0 }))?;
     }
     Ok(())
 }

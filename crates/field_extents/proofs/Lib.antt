@@ -1,0 +1,3 @@
+pub mod Counts
+pub mod CoverLemmas
+pub mod Sweep

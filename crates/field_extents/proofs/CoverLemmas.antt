@@ -1,10 +1,7 @@
 -- The walk over the fields of a document that counts the positions which those of a name cover.
 use Rattle.std.proofs.Common.{◌≡◌, ℕ, ◌+◌, ◌-◌, ◌<◌, ◌≤◌, ◌⊎◌, ⊎_elim, Bool, true, false, ◌||◌, ◌&&◌, nat_le, nat_lt, min, max, List, [], length, take, get_or, refl, sym, ap, ◌∙◌, arith}
 use Rattle.std.specs.List.{AllPairs, AllWithin, count_by, list_any}
-use Rattle.std.specs.Cmp.Lexicographic.{slice_cmp}
-use Rattle.std.specs.Ordering.{nat_cmp}
 use Rattle.std.specs.Str.{bytes_eq}
-use Rattle.std.specs.declared.cmp.Ordering.TheVariants.{Less}
 use Rattle.std.proofs.Math.Bool.{or-false}
 use Rattle.std.proofs.lemmas.Bool.{cases_Bool, or_right}
 use Rattle.std.proofs.lemmas.Bool.Decides.{nat_tests}
@@ -14,6 +11,7 @@ use Rattle.ri_base.specs.Documents.{Field, IsBefore}
 use Rattle.ri_base.specs.Pair.{Pair}
 use Rattle.field_extents.specs.Positions.{positions, covers, is_covered}
 use Rattle.field_extents.proofs.Counts.{count_by-none}
+use Rattle.field_extents.proofs.Orders.{begin-IsBefore}
 use Rattle.field_extents.proofs.Sweep.{IsSwept, IsFilled, Adds, IsSwept-agree, IsFilled-agree, IsSwept-taken, IsFilled-taken, IsSwept-passed, IsFilled-passed}
 
 -- the first k fields have been counted
@@ -49,9 +47,6 @@ CoversFront-none spans name window some = record {
 pub count_from_front : (spans : List Field) (name : List ℕ) (window : Pair) (k count next : ℕ) → length spans ≤ k → CoversFront spans name window k count next → count ≡ count_by (is_covered spans name) (positions window)
 count_from_front spans name window k count next all f = rw (← take_all k spans all) f.swept.counted
 
-no_earlier : (x y : Field) → IsBefore x y → x.begin ≤ y.begin
-no_earlier x y h = ⊎_elim (λ (l : x.begin < y.begin). omega arith) (λ (w : (x.begin ≡ y.begin) × ((x.end < y.end) ⊎ (x.end ≡ y.end) × (slice_cmp nat_cmp x.name y.name ≡ Less))). omega (arith, w.0)) h
-
 module _ (spans : List Field) (name : List ℕ) (window : Pair) (k count next : ℕ) (s : Field) (within : k < length spans) (read : s ≡ get_or spans k s) (in_order : AllPairs IsBefore spans) (f : CoversFront spans name window k count next) where
   with_next : (i : ℕ) → is_covered (take (k + 1) spans) name i ≡ (is_covered (take k spans) name i || covers name i s)
   with_next i = rw read (list_any_more (covers name i) spans k s within)
@@ -73,7 +68,7 @@ module _ (spans : List Field) (name : List ℕ) (window : Pair) (k count next : 
   begins_later j d l u =
       let order : IsBefore (get_or spans k d) (get_or spans j d) = in_order k j d (omega arith) u in
       let is : s ≡ get_or spans k d = get_or_read spans k s within read d in
-      no_earlier s (get_or spans j d) (rw is order)
+      begin-IsBefore s (get_or spans j d) (rw is order)
 
   filled_here : IsFilled window (is_covered (take k spans) name) next s.begin
   filled_here = rw read (f.filled k s (omega arith) within)

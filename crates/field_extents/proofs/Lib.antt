@@ -1,3 +1,7 @@
+pub mod BeginsLemmas
 pub mod Counts
 pub mod CoverLemmas
+pub mod Distinct
+pub mod Orders
+pub mod ReachLemmas
 pub mod Sweep

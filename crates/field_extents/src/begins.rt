@@ -14,9 +14,10 @@ pub fn distinct_begins(xs: &Extents, window: Extent) -> u32
     // The position behind the last begin that was counted, or the window's begin.
     let mut next = window.begin();
     for extent in xs.as_slice() {
-        if next <= extent.begin() && extent.end() <= window.end() {
+        let begin = extent.begin();
+        if next <= begin && extent.end() <= window.end() {
             count += 1;
-            next = extent.begin() + 1;
+            next = begin + 1;
         }
     }
     count

@@ -1,7 +1,7 @@
 -- The walk over extents in order that counts the places at which those inside a window begin.
-use Rattle.std.proofs.Common.{◌≡◌, ℕ, ◌+◌, ◌-◌, ◌<◌, ◌≤◌, ◌⊎◌, ⊎_elim, Bool, true, false, ◌||◌, ◌&&◌, nat_le, nat_eq, min, max, List, [], ◌∷◌, length, take, get_or, filter, cond, refl, sym, ap, ◌∙◌, subst, arith}
+use Rattle.std.proofs.Common.{◌≡◌, ℕ, ◌+◌, ◌-◌, ◌<◌, ◌≤◌, ⊎_elim, Bool, true, false, ◌||◌, ◌&&◌, nat_le, nat_eq, min, max, List, [], ◌∷◌, length, take, get_or, filter, refl, sym, ◌∙◌, arith}
 use Rattle.std.specs.List.{All, AllWithin, count_by, list_any}
-use Rattle.std.specs.Set.{distinct_count, is_member}
+use Rattle.std.specs.Set.{is_member}
 use Rattle.std.proofs.Math.Bool.{or-false}
 use Rattle.std.proofs.lemmas.Bool.{and_parts, cases_Bool, cases_lt, or_right, eq-eqb, leb-true}
 use Rattle.std.proofs.lemmas.Bool.Decides.{nat_tests}
@@ -9,8 +9,8 @@ use Rattle.std.proofs.lemmas.List.{get_or_read, take_all}
 use Rattle.std.proofs.lemmas.List.Elements.{All-filter, All-map, All-more, filter_passes}
 use Rattle.std.proofs.lemmas.List.Folds.{list_any_more}
 use Rattle.ri_base.specs.Pair.{Pair}
-use Rattle.field_extents.specs.Inside.{IsNoLater, AreInOrder, is_inside, begins}
-use Rattle.field_extents.specs.Positions.{positions}
+use Rattle.field_extents.specs.Extents.{IsNoLater, AreInOrder, is_inside, begins, begin_count}
+use Rattle.field_extents.specs.Extents.{positions}
 use Rattle.field_extents.proofs.Counts.{count_by-none, count_by-agree}
 use Rattle.field_extents.proofs.Distinct.{distinct_count-by_positions}
 use Rattle.field_extents.proofs.Orders.{begin-IsNoLater}
@@ -45,12 +45,12 @@ begins_inside : (xs : List Pair) (window : Pair) → All (λ x. x.begin < x.end)
 begins_inside xs window some =
     let within = filter (is_inside window) xs in
     All-map (λ b. (window.begin ≤ b) × (b < window.begin + (window.end - window.begin))) (λ x. x.begin) within (λ k d l.
-        let bounds = begin_inside (get_or within k d) window (filter_passes (is_inside window) xs k d l) (All-filter (is_inside window) (λ x. x.begin < x.end) xs some k d l) in
-        (bounds.0, omega (arith, bounds.0, bounds.1)))
+    let bounds = begin_inside (get_or within k d) window (filter_passes (is_inside window) xs k d l) (All-filter (is_inside window) (λ x. x.begin < x.end) xs some k d l) in
+    (bounds.0, omega (arith, bounds.0, bounds.1)))
 
 -- the distinct begins of the extents inside a window are the positions at which one begins
-pub distinct_begins-by_positions : (xs : List Pair) (window : Pair) → All (λ x. x.begin < x.end) xs → distinct_count nat_eq (begins (filter (is_inside window) xs)) ≡ count_by (some_begins_at xs window) (positions window)
-distinct_begins-by_positions xs window some =
+pub begin_count-by_positions : (xs : List Pair) (window : Pair) → All (λ x. x.begin < x.end) xs → begin_count xs window ≡ count_by (some_begins_at xs window) (positions window)
+begin_count-by_positions xs window some =
     let bs = begins (filter (is_inside window) xs) in
     distinct_count-by_positions bs window.begin (window.end - window.begin) (begins_inside xs window some)
     ∙ count_by-agree (some_begins_at xs window) (is_member nat_eq bs) window.begin (window.end - window.begin) (λ i l u. sym (some_begins_at-is xs window i))
@@ -74,9 +74,12 @@ CountsFront-none xs window some = record {
   filled = λ k d l u. record { passes = λ i m n o. absurd (omega arith) };
 }
 
-pub CountsFront-all : (xs : List Pair) (window : Pair) (k count next : ℕ) → length xs ≤ k → CountsFront xs window k count next → count ≡ distinct_count nat_eq (begins (filter (is_inside window) xs))
-CountsFront-all xs window k count next all f =
-    rw (← take_all k xs all) (f.swept.counted ∙ sym (distinct_begins-by_positions (take k xs) window f.some))
+pub begin_count-CountsFront : (xs : List Pair) (window : Pair) (k count next : ℕ) → length xs ≤ k → CountsFront xs window k count next → count ≡ begin_count xs window
+begin_count-CountsFront xs window k count next all f =
+    rw (← take_all k xs all) (f.swept.counted ∙ sym (begin_count-by_positions (take k xs) window f.some))
+
+pub All-CountsFront : (xs : List Pair) (window : Pair) (k count next : ℕ) → length xs ≤ k → CountsFront xs window k count next → All (λ x. x.begin < x.end) xs
+All-CountsFront xs window k count next all f = rw (← take_all k xs all) f.some
 
 module _ (xs : List Pair) (window : Pair) (k count next : ℕ) (x : Pair) (within : k < length xs) (read : x ≡ get_or xs k x) (in_order : AreInOrder xs) (has_some : x.begin < x.end) (f : CountsFront xs window k count next) where
   with_next : (i : ℕ) → some_begins_at (take (k + 1) xs) window i ≡ (some_begins_at (take k xs) window i || begins_at window i x)
@@ -129,13 +132,13 @@ module _ (xs : List Pair) (window : Pair) (k count next : ℕ) (x : Pair) (withi
   pub CountsFront-passed : (next ≤ x.begin → x.end ≤ window.end → ⊥) → CountsFront xs window (k + 1) count next
   CountsFront-passed other = ⊎_elim
       (λ (inside : is_inside window x ≡ true).
-          let before : x.begin < next = counted_before other inside in
-          let order : min (x.begin + 1) window.end ≤ max x.begin next = omega arith in
-          record {
-            some = some_more;
-            swept = IsSwept-passed window _ _ count next x.begin (x.begin + 1) f.swept filled_here (adds inside) order;
-            filled = λ j d l u. IsFilled-passed window _ _ count next x.begin (x.begin + 1) f.swept filled_here (adds inside) order (get_or xs j d).begin (f.filled j d (omega arith) u);
-          })
+      let before : x.begin < next = counted_before other inside in
+      let order : min (x.begin + 1) window.end ≤ max x.begin next = omega arith in
+      record {
+        some = some_more;
+        swept = IsSwept-passed window _ _ count next x.begin (x.begin + 1) f.swept filled_here (adds inside) order;
+        filled = λ j d l u. IsFilled-passed window _ _ count next x.begin (x.begin + 1) f.swept filled_here (adds inside) order (get_or xs j d).begin (f.filled j d (omega arith) u);
+      })
       (λ (outside : is_inside window x ≡ false). record {
         some = some_more;
         swept = IsSwept-agree window _ _ count next (λ i l u. same_outside outside i) f.swept;

@@ -1,5 +1,5 @@
 -- How many positions pass a test.
-use Rattle.std.proofs.Common.{◌≡◌, ℕ, suc, zero, ◌+◌, ◌-◌, ◌<◌, ◌≤◌, ◌⊎◌, ⊎_elim, Bool, true, false, cond, List, [], ◌∷◌, refl, ap, arith}
+use Rattle.std.proofs.Common.{◌≡◌, ℕ, suc, zero, ◌+◌, ◌-◌, ◌<◌, ◌≤◌, ⊎_elim, Bool, true, false, cond, refl, arith}
 use Rattle.std.specs.List.{count_by, range_with_len}
 use Rattle.std.proofs.lemmas.Bool.{cases_lt}
 use Rattle.std.proofs.lemmas.List.Sums.{sum_by-cons}
@@ -32,26 +32,26 @@ count_by-filled p q a (suc n) b e ab be en f =
     let of_q : (v : Bool) → q a ≡ v → count_by q (range_with_len a (suc n)) ≡ cond v 1 0 + count_by q (range_with_len (a + 1) n) = first_counts q a n in
     let of_p : (v : Bool) → p a ≡ v → count_by p (range_with_len a (suc n)) ≡ cond v 1 0 + count_by p (range_with_len (a + 1) n) = first_counts p a n in
     let later : (c : ℕ) → a + 1 ≤ c → c ≤ e → b ≤ c → ((i : ℕ) → a + 1 ≤ i → i < c → q i ≡ p i) → count_by q (range_with_len (a + 1) n) ≡ count_by p (range_with_len (a + 1) n) + (e - c) = λ c ac ce bc same.
-        count_by-filled p q (a + 1) n c e ac ce (omega arith) (record {
-          before = same;
-          new = λ i l u. f.new i (omega arith) u;
-          filled = λ i l u. f.filled i (omega arith) u;
-          behind = λ i l u. f.behind i l (omega arith);
-        }) in
+    count_by-filled p q (a + 1) n c e ac ce (omega arith) (record {
+      before = same;
+      new = λ i l u. f.new i (omega arith) u;
+      filled = λ i l u. f.filled i (omega arith) u;
+      behind = λ i l u. f.behind i l (omega arith);
+    }) in
     ⊎_elim
     (λ (front : a < b).
-        let head : q a ≡ p a = f.before a (omega arith) front in
-        let rest = later b (omega arith) be (omega arith) (λ i l u. f.before i (omega arith) u) in
-        omega (arith, of_q (p a) head, of_p (p a) refl))
+    let head : q a ≡ p a = f.before a (omega arith) front in
+    let rest = later b (omega arith) be (omega arith) (λ i l u. f.before i (omega arith) u) in
+    omega (arith, of_q (p a) head, of_p (p a) refl))
     (λ (at : b ≤ a). ⊎_elim
-        (λ (in_gap : a < e).
-            let rest = later (a + 1) (omega arith) (omega arith) (omega arith) (λ i l u. absurd (omega arith)) in
-            omega (arith, of_q true (f.filled a at in_gap), of_p false (f.new a at in_gap)))
-        (λ (past : e ≤ a).
-            let head : q a ≡ p a = f.behind a past (omega arith) in
-            let rest : count_by q (range_with_len (a + 1) n) ≡ count_by p (range_with_len (a + 1) n) = count_by-agree p q (a + 1) n (λ i l u. f.behind i (omega arith) (omega arith)) in
-            omega (arith, of_q (p a) head, of_p (p a) refl))
-        (cases_lt a e))
+    (λ (in_gap : a < e).
+    let rest = later (a + 1) (omega arith) (omega arith) (omega arith) (λ i l u. absurd (omega arith)) in
+    omega (arith, of_q true (f.filled a at in_gap), of_p false (f.new a at in_gap)))
+    (λ (past : e ≤ a).
+    let head : q a ≡ p a = f.behind a past (omega arith) in
+    let rest : count_by q (range_with_len (a + 1) n) ≡ count_by p (range_with_len (a + 1) n) = count_by-agree p q (a + 1) n (λ i l u. f.behind i (omega arith) (omega arith)) in
+    omega (arith, of_q (p a) head, of_p (p a) refl))
+    (cases_lt a e))
     (cases_lt a b)
 
 -- a test that fails everywhere

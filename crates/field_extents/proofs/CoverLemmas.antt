@@ -1,6 +1,6 @@
 -- The walk over the fields of a document that counts the positions which those of a name cover.
-use Rattle.std.proofs.Common.{◌≡◌, ℕ, ◌+◌, ◌-◌, ◌<◌, ◌≤◌, ◌⊎◌, ⊎_elim, Bool, true, false, ◌||◌, ◌&&◌, nat_le, nat_lt, min, max, List, [], length, take, get_or, refl, sym, ap, ◌∙◌, arith}
-use Rattle.std.specs.List.{AllPairs, AllWithin, count_by, list_any}
+use Rattle.std.proofs.Common.{◌≡◌, ℕ, ◌+◌, ◌-◌, ◌<◌, ◌≤◌, ⊎_elim, true, false, ◌||◌, min, max, List, [], length, take, get_or, refl, sym, ◌∙◌, arith}
+use Rattle.std.specs.List.{AllPairs, AllWithin, count_by}
 use Rattle.std.specs.Str.{bytes_eq}
 use Rattle.std.proofs.Math.Bool.{or-false}
 use Rattle.std.proofs.lemmas.Bool.{cases_Bool, or_right}
@@ -9,7 +9,8 @@ use Rattle.std.proofs.lemmas.List.{get_or_read, take_all}
 use Rattle.std.proofs.lemmas.List.Folds.{list_any_more}
 use Rattle.ri_base.specs.Documents.{Field, IsBefore}
 use Rattle.ri_base.specs.Pair.{Pair}
-use Rattle.field_extents.specs.Positions.{positions, covers, is_covered}
+use Rattle.field_extents.specs.Extents.{positions}
+use Rattle.field_extents.specs.Fields.{covers, is_covered}
 use Rattle.field_extents.proofs.Counts.{count_by-none}
 use Rattle.field_extents.proofs.Orders.{begin-IsBefore}
 use Rattle.field_extents.proofs.Sweep.{IsSwept, IsFilled, Adds, IsSwept-agree, IsFilled-agree, IsSwept-taken, IsFilled-taken, IsSwept-passed, IsFilled-passed}

@@ -1,7 +1,7 @@
 -- Distinct numbers, counted as the positions among which they are.
-use Rattle.std.proofs.Common.{◌≡◌, ◌≢◌, ℕ, ◌+◌, ◌-◌, ◌<◌, ◌≤◌, ◌⊎◌, ⊎_elim, Bool, true, false, ◌&&◌, nat_eq, List, filter, length, refl, sym, ap, ◌∙◌, get_or, arith}
+use Rattle.std.proofs.Common.{◌≡◌, ◌≢◌, ℕ, ◌+◌, ◌-◌, ◌<◌, ◌≤◌, ⊎_elim, true, false, nat_eq, List, filter, refl, sym, ap, ◌∙◌, get_or, arith}
 use Rattle.std.specs.Cmp.{IsEquivalence}
-use Rattle.std.specs.List.{All, AllPairs, Contains, IsDistinct, count_by, range_with_len}
+use Rattle.std.specs.List.{All, AllPairs, IsDistinct, count_by, range_with_len}
 use Rattle.std.specs.Set.{distinct_count, is_member}
 use Rattle.std.proofs.Math.Bool.{and-false}
 use Rattle.std.proofs.lemmas.Bool.{cases_Bool, eq-eqb, eqb-true}
@@ -39,11 +39,11 @@ distinct_count-by_positions xs a n within =
     let among = filter (is_member nat_eq xs) all in
     let apart : IsDistinct nat_eq among = IsDistinct-from_AllPairs Decides-eqb among (AllPairs-filter (λ x y. x ≢ y) (is_member nat_eq xs) all (range_distinct a n)) in
     let same : (q : ℕ) → is_member nat_eq among q ≡ is_member nat_eq xs q = λ q.
-        is_member-filter numbers (is_member nat_eq xs) q (λ x h. ap (is_member nat_eq xs) (eqb-true q x h)) all
-        ∙ ⊎_elim
-          (λ (found : is_member nat_eq xs q ≡ true).
-              let bounds = All-contains (λ x. (a ≤ x) × (x < a + n)) xs q within ((is_member-Decides Decides-eqb xs q).0 found) in
-              rw (in_range a n q bounds.0 bounds.1) refl)
-          (λ (absent : is_member nat_eq xs q ≡ false). rw absent (and-false (is_member nat_eq all q)))
-          (cases_Bool (is_member nat_eq xs q)) in
+    is_member-filter numbers (is_member nat_eq xs) q (λ x h. ap (is_member nat_eq xs) (eqb-true q x h)) all
+    ∙ ⊎_elim
+    (λ (found : is_member nat_eq xs q ≡ true).
+    let bounds = All-contains (λ x. (a ≤ x) × (x < a + n)) xs q within ((is_member-Decides Decides-eqb xs q).0 found) in
+    rw (in_range a n q bounds.0 bounds.1) refl)
+    (λ (absent : is_member nat_eq xs q ≡ false). rw absent (and-false (is_member nat_eq all q)))
+    (cases_Bool (is_member nat_eq xs q)) in
     sym (length-from_keys numbers among xs apart same) ∙ length-filter (is_member nat_eq xs) all

@@ -5,7 +5,7 @@ use Rattle.std.specs.Ordering.{nat_cmp}
 use Rattle.std.specs.declared.cmp.Ordering.TheVariants.{Less}
 use Rattle.ri_base.specs.Documents.{Field, IsBefore}
 use Rattle.ri_base.specs.Pair.{Pair}
-use Rattle.field_extents.specs.Inside.{IsNoLater}
+use Rattle.field_extents.specs.Extents.{IsNoLater}
 
 pub begin-IsBefore : (x y : Field) → IsBefore x y → x.begin ≤ y.begin
 begin-IsBefore x y h = ⊎_elim

@@ -1,6 +1,6 @@
 -- An extent lies in a field of a name exactly where the fields of that name that have begun reach its end.
-use Rattle.std.proofs.Common.{◌≡◌, ℕ, zero, ◌+◌, ◌<◌, ◌≤◌, ◌⊎◌, ⊎_elim, Bool, true, false, ◌||◌, ◌&&◌, nat_le, max, List, [], ◌∷◌, ◌++◌, length, take, drop, get_or, filter, cond, refl, sym, ap, ◌∙◌, add-zero, append-nil, length-drop, length-take, arith}
-use Rattle.std.specs.List.{All, AllPairs, AllWithin, list_any, prefix_len}
+use Rattle.std.proofs.Common.{◌≡◌, ℕ, ◌+◌, ◌<◌, ◌≤◌, ⊎_elim, Bool, true, false, ◌||◌, ◌&&◌, nat_le, max, List, [], ◌∷◌, ◌++◌, length, take, drop, get_or, filter, cond, refl, sym, ap, ◌∙◌, add-zero, append-nil, length-drop, length-take, arith}
+use Rattle.std.specs.List.{All, AllPairs, AllWithin, prefix_len}
 use Rattle.std.specs.Str.{bytes_eq}
 use Rattle.std.proofs.Math.Seq.{take-add}
 use Rattle.std.proofs.Math.Bool.{or-false, or_assoc}
@@ -12,8 +12,8 @@ use Rattle.std.proofs.lemmas.List.Folds.{list_any_none, list_any-append}
 use Rattle.std.proofs.lemmas.List.Sums.{fold-append, prefix_len-le-length, prefix_len_passes, prefix_len_stops}
 use Rattle.ri_base.specs.Documents.{Field, IsBefore}
 use Rattle.ri_base.specs.Pair.{Pair}
-use Rattle.field_extents.specs.Inside.{AreInOrder, IsNoLater, lies_in, lies_in_some}
-use Rattle.field_extents.specs.Reach.{greatest_end}
+use Rattle.field_extents.specs.Extents.{AreInOrder}
+use Rattle.field_extents.specs.Fields.{lies_in, lies_in_some, greatest_end}
 use Rattle.field_extents.proofs.Orders.{begin-IsBefore, begin-IsNoLater}
 
 -- among fields that begin at or before x, x lies in one of the name exactly where their greatest end is no less than its own
@@ -24,15 +24,15 @@ begun name x least (f ∷ fields) h =
     let later = All-tail (λ f. f.begin ≤ x.begin) f fields h in
     ⊎_elim
     (λ (same : bytes_eq f.name name ≡ true).
-        let here : nat_le x.end (max least f.end) ≡ (nat_le x.end least || (nat_le f.begin x.begin && nat_le x.end f.end)) = grind (arith, nat_tests) in
-        rw same (begun name x (max least f.end) fields later ∙ rw here (or_assoc (nat_le x.end least) _ _)))
+    let here : nat_le x.end (max least f.end) ≡ (nat_le x.end least || (nat_le f.begin x.begin && nat_le x.end f.end)) = grind (arith, nat_tests) in
+    rw same (begun name x (max least f.end) fields later ∙ rw here (or_assoc (nat_le x.end least) _ _)))
     (λ (other : bytes_eq f.name name ≡ false). rw other (begun name x least fields later))
     (cases_Bool (bytes_eq f.name name))
 
 -- no field that begins behind x holds it
 not_begun : (name : List ℕ) (x : Pair) (fields : List Field) → All (λ f. x.begin < f.begin) fields → lies_in_some fields name x ≡ false
 not_begun name x fields h =
-    list_any_none (lies_in name x) fields (λ k d l. and_right _ _ (and_left _ _ (lt-leb _ _ (h k d l))))
+    list_any_none (lies_in name x) fields (λ k d l. and_left _ _ (and_right _ _ (lt-leb _ _ (h k d l))))
 
 -- where n fields have begun
 lies_in_some-by_reach : (name : List ℕ) (x : Pair) (fields : List Field) (n : ℕ) → 0 < x.end → All (λ f. f.begin ≤ x.begin) (take n fields) → All (λ f. x.begin < f.begin) (drop n fields) → lies_in_some fields name x ≡ nat_le x.end (greatest_end name 0 (take n fields))
@@ -55,9 +55,9 @@ all_behind fields n position in_order k d l =
     let there : get_or (drop n fields) more d ≡ get_or fields (n + more) d = get_or-drop n fields more d in
     let first : position < (get_or fields (n + more) d).begin = omega (arith, leb-false _ _ stops, ap (λ (f : Field). f.begin) there) in
     let later : (get_or fields (n + more) d).begin ≤ (get_or fields ((n + more) + k) d).begin = ⊎_elim
-        (λ (same : k ≡ 0). rw (same, add-zero) (omega arith))
-        (λ (other : k ≡ 0 → ⊥). begin-IsBefore (get_or fields (n + more) d) (get_or fields ((n + more) + k) d) (in_order (n + more) ((n + more) + k) d (omega arith) bound))
-        (cases_eq k 0) in
+    (λ (same : k ≡ 0). rw (same, add-zero) (omega arith))
+    (λ (other : k ≡ 0 → ⊥). begin-IsBefore (get_or fields (n + more) d) (get_or fields ((n + more) + k) d) (in_order (n + more) ((n + more) + k) d (omega arith) bound))
+    (cases_eq k 0) in
     let here : get_or (drop (n + more) fields) k d ≡ get_or fields ((n + more) + k) d = get_or-drop (n + more) fields k d in
     omega (arith, ap (λ (f : Field). f.begin) here)
 
@@ -86,17 +86,17 @@ module _ (xs : List Pair) (fields : List Field) (name : List ℕ) (k n reach : �
   greatest_more : to ≡ greatest_end name 0 (take (n + more) fields)
   greatest_more =
       let front_and_more : greatest_end name 0 (take (n + more) fields) ≡ greatest_end name (greatest_end name 0 (take n fields)) (take more (drop n fields)) =
-            ap (λ fs. greatest_end name 0 fs) (take-add n more fields) ∙ fold-append _ 0 (take n fields) (take more (drop n fields)) in
+      ap (λ fs. greatest_end name 0 fs) (take-add n more fields) ∙ fold-append _ 0 (take n fields) (take more (drop n fields)) in
       reached ∙ ap (λ least. greatest_end name least (take more (drop n fields))) h.greatest ∙ sym front_and_more
 
   front : All (λ f. f.begin ≤ x.begin) (take (n + more) fields)
   front = rw (take-add n more fields) (All-append (λ f. f.begin ≤ x.begin) (take n fields) (take more (drop n fields))
       (rw read (h.begun k x (omega arith) inside))
       (λ i e m.
-          let bound : i < more = omega (arith, length-take more (drop n fields)) in
-          let there : get_or (take more (drop n fields)) i e ≡ get_or (drop n fields) i e = get_or-take more (drop n fields) i e bound in
-          let passes : nat_le (get_or (drop n fields) i e).begin x.begin ≡ true = prefix_len_passes (λ f. nat_le f.begin x.begin) (drop n fields) i e (omega (arith, begun_more)) in
-          omega (arith, leb-true _ _ passes, ap (λ (f : Field). f.begin) there)))
+      let bound : i < more = omega (arith, length-take more (drop n fields)) in
+      let there : get_or (take more (drop n fields)) i e ≡ get_or (drop n fields) i e = get_or-take more (drop n fields) i e bound in
+      let passes : nat_le (get_or (drop n fields) i e).begin x.begin ≡ true = prefix_len_passes (λ f. nat_le f.begin x.begin) (drop n fields) i e (omega (arith, begun_more)) in
+      omega (arith, leb-true _ _ passes, ap (λ (f : Field). f.begin) there)))
 
   begun_later : AllWithin (λ y. All (λ f. f.begin ≤ y.begin) (take (n + more) fields)) xs (k + 1) (length xs)
   begun_later j d l u i e m =

@@ -1,9 +1,9 @@
 -- A walk over runs of positions whose begins don't fall, which counts the positions of a window that lie in some run.
-use Rattle.std.proofs.Common.{◌≡◌, ℕ, ◌+◌, ◌-◌, ◌<◌, ◌≤◌, ◌⊎◌, ⊎_elim, Bool, true, false, min, max, sym, ◌∙◌, arith}
-use Rattle.std.specs.List.{count_by, range_with_len}
+use Rattle.std.proofs.Common.{◌≡◌, ℕ, ◌+◌, ◌-◌, ◌<◌, ◌≤◌, ⊎_elim, Bool, true, false, min, max, sym, ◌∙◌, arith}
+use Rattle.std.specs.List.{count_by}
 use Rattle.std.proofs.lemmas.Bool.{cases_lt}
 use Rattle.ri_base.specs.Pair.{Pair}
-use Rattle.field_extents.specs.Positions.{positions}
+use Rattle.field_extents.specs.Extents.{positions}
 use Rattle.field_extents.proofs.Counts.{count_by-agree, count_by-filled, Fills}
 
 -- the test passes at `count` positions of the window, all of them before `next`
@@ -43,21 +43,21 @@ module _ (window : Pair) (p q : ℕ → Bool) (count next b e : ℕ) (s : IsSwep
   -- up to `next` the run adds nothing
   same_before : (i : ℕ) → window.begin ≤ i → i < next → q i ≡ p i
   same_before i l u = ⊎_elim
-    (λ (front : i < b). a.before i front)
-    (λ (at : b ≤ i). ⊎_elim (λ (within : i < e). a.run i at within ∙ sym (f.passes i l at u)) (λ (past : e ≤ i). a.behind i past) (cases_lt i e))
-    (cases_lt i b)
+      (λ (front : i < b). a.before i front)
+      (λ (at : b ≤ i). ⊎_elim (λ (within : i < e). a.run i at within ∙ sym (f.passes i l at u)) (λ (past : e ≤ i). a.behind i past) (cases_lt i e))
+      (cases_lt i b)
 
   -- a run that has something to add
   pub IsSwept-taken : max b next < min e window.end → IsSwept window q (count + (min e window.end - max b next)) (min e window.end)
   IsSwept-taken some =
       let fills : Fills p q window.begin (window.end - window.begin) (max b next) (min e window.end) = record {
-            before = λ i l u. ⊎_elim (λ (front : i < next). same_before i l front) (λ (at : next ≤ i). a.before i (omega arith)) (cases_lt i next);
-            new = λ i l u. s.ahead i (omega arith) (omega arith);
-            filled = λ i l u. a.run i (omega arith) (omega arith);
-            behind = λ i l u. a.behind i (omega (arith, s.low, s.high));
-          } in
+        before = λ i l u. ⊎_elim (λ (front : i < next). same_before i l front) (λ (at : next ≤ i). a.before i (omega arith)) (cases_lt i next);
+        new = λ i l u. s.ahead i (omega arith) (omega arith);
+        filled = λ i l u. a.run i (omega arith) (omega arith);
+        behind = λ i l u. a.behind i (omega (arith, s.low, s.high));
+      } in
       let more : count_by q (positions window) ≡ count_by p (positions window) + (min e window.end - max b next) =
-            count_by-filled p q window.begin (window.end - window.begin) (max b next) (min e window.end) (omega (arith, s.low)) (omega arith) (omega (arith, s.low, s.high)) fills in
+      count_by-filled p q window.begin (window.end - window.begin) (max b next) (min e window.end) (omega (arith, s.low)) (omega arith) (omega (arith, s.low, s.high)) fills in
       record {
         counted = omega (arith, s.counted, more);
         low = omega (arith, s.low);
@@ -71,9 +71,9 @@ module _ (window : Pair) (p q : ℕ → Bool) (count next b e : ℕ) (s : IsSwep
 
   same_passed : min e window.end ≤ max b next → (i : ℕ) → window.begin ≤ i → i < window.end → q i ≡ p i
   same_passed none i l u = ⊎_elim
-    (λ (front : i < next). same_before i l front)
-    (λ (at : next ≤ i). ⊎_elim (λ (early : i < b). a.before i early) (λ (reached : b ≤ i). a.behind i (omega arith)) (cases_lt i b))
-    (cases_lt i next)
+      (λ (front : i < next). same_before i l front)
+      (λ (at : next ≤ i). ⊎_elim (λ (early : i < b). a.before i early) (λ (reached : b ≤ i). a.behind i (omega arith)) (cases_lt i b))
+      (cases_lt i next)
 
   -- a run that has nothing to add
   pub IsSwept-passed : min e window.end ≤ max b next → IsSwept window q count next

@@ -1,3 +1,2 @@
-pub mod Inside
-pub mod Positions
-pub mod Reach
+pub mod Extents
+pub mod Fields

@@ -2,8 +2,8 @@
 ghost use Rattle.std.specs.Prelude.{◌≡◌, IfOk, AllPairs, filter, nat_le};
 ghost use Rattle.std.specs.List.{prefix_len};
 ghost use Rattle.ri_base.specs.Documents.{IsBefore};
-ghost use Rattle.field_extents.specs.Inside.{AreInOrder, lies_in_some};
-ghost use Rattle.field_extents.specs.Reach.{greatest_end};
+ghost use Rattle.field_extents.specs.Extents.{AreInOrder};
+ghost use Rattle.field_extents.specs.Fields.{greatest_end, lies_in_some};
 
 use ri_base::{Extents, FieldSpan, Name, NoMemory};
 use std::alloc::Global;

@@ -1,5 +1,5 @@
 use Rattle.std.proofs.Common.{◌≡◌, take}
-use Rattle.field_extents.specs.Reach.{greatest_end}
+use Rattle.field_extents.specs.Fields.{greatest_end}
 use Rattle.field_extents.proofs.restriction.reach_of.Given as goal
 
 abbrev pub invariant-loop-span : goal.invariant-loop-span

@@ -5,6 +5,8 @@
 mod begins;
 mod cover;
 mod restriction;
+#[cfg(test)]
+mod tests;
 
 pub use begins::distinct_begins;
 pub use cover::covered;

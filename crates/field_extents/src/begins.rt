@@ -16,7 +16,8 @@ pub fn distinct_begins(xs: &Extents, window: Extent) -> u32
     let mut next = window.begin();
     for extent in xs.as_slice() {
         let begin = extent.begin();
-        if next <= begin && extent.end() <= window.end() {
+        let end = extent.end();
+        if next <= begin && end <= window.end() {
             count += 1;
             next = begin + 1;
         }

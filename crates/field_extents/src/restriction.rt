@@ -23,11 +23,13 @@ pub fn inside(
     let mut begun = 0;
     let mut reach = 0;
     for extent in xs.as_slice() {
+        let begin = extent.begin();
+        let end = extent.end();
         let ahead = &spans[begun..];
-        let more = begun_by(ahead, extent.begin());
+        let more = begun_by(ahead, begin);
         reach = reach_of(reach, &ahead[..more], name);
         begun += more;
-        if extent.end() <= reach {
+        if end <= reach {
             kept.push(*extent)?;
         }
     }

@@ -36,7 +36,7 @@ pub fn inside(
     Ok(kept)
 }
 
-/// How many fields begin at or before this position. The fields are those up to the first that begins behind it.
+/// How many fields stand before the first that begins behind this position.
 fn begun_by(spans: &[FieldSpan], position: u32) -> usize
     ensures { result ≡ prefix_len (λ f. nat_le f.begin position) spans.now }
 {

@@ -40,7 +40,7 @@ fn scanned(
 #[test]
 fn scans(rt: HostRuntime) -> Result<(), Fail> {
     let alloc = rt.alloc();
-    let rows: [(&[u8], Status, &[u8]); 9] = [
+    let rows: [(&[u8], Status, &[u8]); 10] = [
         (TWO, Status::Done, b"d1 0 1\nd2 0 1\n"),
         (b"", Status::Done, b""),
         (b"x", Status::SomeRefused, b"refused NotADoc 0\n"),
@@ -64,6 +64,11 @@ fn scans(rt: HostRuntime) -> Result<(), Fail> {
             b"<DOC>\n<DOCNO> x-1 </DOCNO><B c=d>A&amp;a</b> b<!-- a -->a</doc >\n",
             Status::Done,
             b"x-1 0 1\nx-1 1 2\nx-1 3 4\n",
+        ),
+        (
+            b"<doc id=7><DocNo> X-1 </DocNo><Title lang=\"en\">A&eacute; au</Title></b><Text>A &amp; a</DOC>",
+            Status::Done,
+            b"X-1 0 1\nX-1 2 3\nX-1 3 4\n",
         ),
         (
             b"<DOC><DOCNO>d1</DOCNO>b\xffa</DOC>",
@@ -164,5 +169,64 @@ fn writes_that_fail(rt: HostRuntime) -> Result<(), Fail> {
     let third = SinkFail { call: 3, taken: 0 };
     let (status, _) = scanned(alloc, TWO, 9, &[], &[third])?;
     assert_eq!(rt; status, Status::Done);
+    Ok(())
+}
+
+const NEWSWIRE: &[u8] = b"<DOC>
+<DOCNO> AP880212-0001 </DOCNO>
+<FILEID>AP-NR-02-12-88 2344EST</FILEID>
+<HEAD>Rain Delays Launch</HEAD>
+<TEXT>
+   Rain delayed the launch. The launch is now set for Monday.
+</TEXT>
+</DOC>
+";
+
+#[test]
+fn scans_newswire(rt: HostRuntime) -> Result<(), Fail> {
+    let alloc = rt.alloc();
+    let words = words_of(alloc, &[".", "scan", "launch"])?;
+    let mut source = MemSource::new(NEWSWIRE.to_vec(alloc)?, 64, Vec::new(alloc));
+    let mut sink = MemSink::new(alloc, Vec::new(alloc));
+    let status = run(alloc, &words, &mut source, &mut sink);
+    assert_eq!(rt; status, Status::Done);
+    let want = b"AP880212-0001 8 9\nAP880212-0001 12 13\nAP880212-0001 14 15\n".as_slice();
+    assert_eq!(rt; sink.bytes(), want);
+    Ok(())
+}
+
+/// A document with this text so many times, and behind it one of the word `a`.
+fn repeated(alloc: Global, text: &str, count: usize) -> Result<Vec<u8>, Fail> {
+    let mut input = b"<DOC><DOCNO>d1</DOCNO>".to_vec(alloc)?;
+    input.extend_from_slice(text.repeat(alloc, count)?.as_bytes())?;
+    input.extend_from_slice(b"</DOC><DOC><DOCNO>d2</DOCNO>a</DOC>")?;
+    Ok(input)
+}
+
+#[test]
+fn documents_with_too_much(rt: HostRuntime) -> Result<(), Fail> {
+    let alloc = rt.alloc();
+    let rows: [(&str, usize, Status, &[u8]); 4] = [
+        ("b ", 1_048_576, Status::Done, b"d2 0 1\n"),
+        (
+            "b ",
+            1_048_577,
+            Status::SomeRefused,
+            b"refused TooManyTokens d1\nd2 0 1\n",
+        ),
+        ("<f>x</f>", 65_535, Status::Done, b"d2 0 1\n"),
+        (
+            "<f>x</f>",
+            65_536,
+            Status::SomeRefused,
+            b"refused TooManyFields d1\nd2 0 1\n",
+        ),
+    ];
+    for (text, count, status, lines) in rows {
+        let input = repeated(alloc, text, count)?;
+        let (answer, written) = scanned(alloc, &input, 65_536, &[], &[])?;
+        assert_eq!(rt; answer, status);
+        assert_eq!(rt; written.as_slice(), lines);
+    }
     Ok(())
 }

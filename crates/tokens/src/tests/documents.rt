@@ -29,6 +29,14 @@ fn raw_of(alloc: Global, pieces: Vec<Piece>) -> Result<RawDoc, Fail> {
     })
 }
 
+/// The document of these pieces.
+fn read(alloc: Global, pieces: Vec<Piece>) -> Result<Doc, Fail> {
+    match doc_of(alloc, raw_of(alloc, pieces)?) {
+        Ok(doc) => Ok(doc),
+        Err(_) => Err("refused".into()),
+    }
+}
+
 /// The tokens of a document and then its fields.
 fn shown(alloc: Global, doc: &Doc) -> Result<Vec<u8>, Fail> {
     let mut out = Vec::new(alloc);
@@ -73,9 +81,7 @@ fn tokens_and_fields(rt: HostRuntime) -> Result<(), Fail> {
         for one in short {
             pieces.push(piece_of(alloc, one)?)?;
         }
-        let Ok(doc) = doc_of(alloc, raw_of(alloc, pieces)?) else {
-            return Err("refused".into());
-        };
+        let doc = read(alloc, pieces)?;
         assert_eq!(rt; shown(alloc, &doc)?.as_slice(), want);
     }
     Ok(())
@@ -89,9 +95,7 @@ fn long_words_take_no_place(rt: HostRuntime) -> Result<(), Fail> {
     pieces.push(text(alloc, "a".repeat(alloc, 129)?.as_bytes())?)?;
     pieces.push(piece_of(alloc, b">a")?)?;
     pieces.push(text(alloc, b"b")?)?;
-    let Ok(doc) = doc_of(alloc, raw_of(alloc, pieces)?) else {
-        return Err("refused".into());
-    };
+    let doc = read(alloc, pieces)?;
     assert_eq!(rt; shown(alloc, &doc)?.as_slice(), b"b ".as_slice());
     Ok(())
 }

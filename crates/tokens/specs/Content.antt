@@ -33,8 +33,8 @@ unfoldable pub content : RawDoc → Result Document TokenRefusal
 content d =
     if nat_le (length (document_terms d.pieces)) most_tokens
     then (if nat_le (length (document_fields d.pieces)) most_fields
-        then Ok (record { docno = d.docno; tokens = document_terms d.pieces; fields = document_fields d.pieces })
-        else Err (TooManyFields d.docno))
+    then Ok (record { docno = d.docno; tokens = document_terms d.pieces; fields = document_fields d.pieces })
+    else Err (TooManyFields d.docno))
     else Err (TooManyTokens d.docno)
 
 -- an answer is that of the definition, unless memory was wanting

@@ -56,15 +56,30 @@ fn shown(alloc: Global, doc: &Doc) -> Result<Vec<u8>, Fail> {
 const ROWS: [(&[&[u8]], &[u8]); 12] = [
     (
         &[
-            b"<title", b"Caf", b"|", b" au Lait", b">title", b">b", b"<text", b"one ", b"|", b" two",
+            b"<title",
+            b"Caf",
+            b"|",
+            b" au Lait",
+            b">title",
+            b">b",
+            b"<text",
+            b"one ",
+            b"|",
+            b" two",
         ],
         b"caf au lait one two /title 0 3 /text 3 5 ",
     ),
     (&[], b""),
-    (&[b"<a", b"x", b"<a", b"y", b">a", b"z", b">a"], b"x y z /a 0 3 /a 1 2 "),
+    (
+        &[b"<a", b"x", b"<a", b"y", b">a", b"z", b">a"],
+        b"x y z /a 0 3 /a 1 2 ",
+    ),
     (&[b"<a", b"<a", b"x", b">a", b">a"], b"x /a 0 1 "),
     (&[b"<a", b">a", b"x"], b"x "),
-    (&[b"<a", b"x", b"<b", b"y", b">a", b"z", b">b"], b"x y z /a 0 2 /b 1 3 "),
+    (
+        &[b"<a", b"x", b"<b", b"y", b">a", b"z", b">b"],
+        b"x y z /a 0 2 /b 1 3 ",
+    ),
     (&[b"x", b"<a", b"y"], b"x y /a 1 2 "),
     (&[b"<b", b"<a", b"x", b">a", b"y"], b"x y /a 0 1 /b 0 2 "),
     (&[b"<b", b"<a", b"x"], b"x /a 0 1 /b 0 1 "),

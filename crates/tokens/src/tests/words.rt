@@ -1,5 +1,6 @@
 // Words worked out by the rules of UAX #29 and by Unicode's full case folding.
 use crate::terms_of;
+use std::alloc::Global;
 use std::test::Fail;
 
 const APOSTROPHES_AND_NUMBERS: [(&str, &[&str]); 24] = [
@@ -50,10 +51,7 @@ const MARKS_AND_BREAKS: [(&str, &[&str]); 11] = [
 
 const SCRIPTS: [(&str, &[&str]); 14] = [
     // Hebrew: a double quote between two letters, a single quote behind one
-    (
-        "\u{5e6}\u{5d4}\"\u{5dc}",
-        &["\u{5e6}\u{5d4}\"\u{5dc}"],
-    ),
+    ("\u{5e6}\u{5d4}\"\u{5dc}", &["\u{5e6}\u{5d4}\"\u{5dc}"]),
     ("\u{5d2}' a\"b", &["\u{5d2}'", "a", "b"]),
     // Katakana stands together, Hiragana and Han don't
     (
@@ -80,19 +78,20 @@ const SCRIPTS: [(&str, &[&str]); 14] = [
     ("\u{fb01}n", &["fin"]),
 ];
 
-fn assert_terms(rt: &HostRuntime, text: &str, want: &[&str]) -> Result<(), Fail> {
-    let terms = terms_of(rt.alloc(), text)?.into_vec();
-    assert_eq!(rt; terms.len(), want.len(), "in {text}");
+/// Whether these are the terms of a text.
+fn are_terms(alloc: Global, text: &str, want: &[&str]) -> Result<bool, Fail> {
+    let terms = terms_of(alloc, text)?.into_vec();
+    let mut same = terms.len() == want.len();
     for (term, word) in terms.iter().zip(want) {
-        assert_eq!(rt; term.as_bytes(), word.as_bytes(), "in {text}");
+        same &= term.as_bytes() == word.as_bytes();
     }
-    Ok(())
+    Ok(same)
 }
 
 #[test]
 fn apostrophes_and_numbers(rt: HostRuntime) -> Result<(), Fail> {
     for (text, want) in APOSTROPHES_AND_NUMBERS {
-        assert_terms(&rt, text, want)?;
+        assert!(rt; are_terms(rt.alloc(), text, want)?, "in {text}");
     }
     Ok(())
 }
@@ -100,7 +99,7 @@ fn apostrophes_and_numbers(rt: HostRuntime) -> Result<(), Fail> {
 #[test]
 fn marks_and_breaks(rt: HostRuntime) -> Result<(), Fail> {
     for (text, want) in MARKS_AND_BREAKS {
-        assert_terms(&rt, text, want)?;
+        assert!(rt; are_terms(rt.alloc(), text, want)?, "in {text}");
     }
     Ok(())
 }
@@ -108,7 +107,7 @@ fn marks_and_breaks(rt: HostRuntime) -> Result<(), Fail> {
 #[test]
 fn scripts(rt: HostRuntime) -> Result<(), Fail> {
     for (text, want) in SCRIPTS {
-        assert_terms(&rt, text, want)?;
+        assert!(rt; are_terms(rt.alloc(), text, want)?, "in {text}");
     }
     Ok(())
 }

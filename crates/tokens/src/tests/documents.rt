@@ -123,7 +123,11 @@ fn refused(alloc: Global, tokens: usize, fields: usize) -> Result<(bool, bool), 
             pieces.push(piece_of(alloc, one)?)?;
         }
     }
-    pieces.push(text(alloc, "a ".repeat(alloc, tokens - fields)?.as_bytes())?)?;
+    pieces.push(text(
+        alloc,
+        "a ".repeat(alloc, tokens.saturating_sub(fields))?
+            .as_bytes(),
+    )?)?;
     match doc_of(alloc, raw_of(alloc, pieces)?) {
         Ok(_) => Ok((false, false)),
         Err(TokenRefusal::TooManyTokens { .. }) => Ok((true, false)),

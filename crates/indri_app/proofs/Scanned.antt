@@ -56,9 +56,9 @@ document_scanned term taken noted d o p (Some xs) (Some ys) e same =
     let total : o + length xs ≡ p + length ys = cc in
     let found : read_rest (o + length xs) xs ≡ with_document d (read_rest (p + length ys) ys) = rest_is o xs ∙ ap (λ r. entry_then r (read_rest (o + length xs))) is ∙ ap (λ n. with_document d (read_rest n ys)) total in
     let text : append_known taken (found_text term (read_rest (o + length xs) xs)) ≡ append_known (append_known taken (document_lines term d)) (found_text term (read_rest (p + length ys) ys)) =
-        ap (λ f. append_known taken (found_text term f)) found ∙ ap (append_known taken) (append_assoc (document_lines term d) _ _) ∙ append_twice taken (document_lines term d) (found_text term (read_rest (p + length ys) ys)) in
+    ap (λ f. append_known taken (found_text term f)) found ∙ ap (append_known taken) (append_assoc (document_lines term d) _ _) ∙ append_twice taken (document_lines term d) (found_text term (read_rest (p + length ys) ys)) in
     let refused : (noted || has_refusal (read_rest (o + length xs) xs)) ≡ ((noted || is_err (content d)) || has_refusal (read_rest (p + length ys) ys)) =
-        ap (λ f. noted || has_refusal f) found ∙ or_assoc noted (is_err (content d)) (list_any (λ d. is_err (content d)) (read_rest (p + length ys) ys).0) (is_some (read_rest (p + length ys) ys).1) in
+    ap (λ f. noted || has_refusal f) found ∙ or_assoc noted (is_err (content d)) (list_any (λ d. is_err (content d)) (read_rest (p + length ys) ys).0) (is_some (read_rest (p + length ys) ys).1) in
     ap Some (λ i. (text i, refused i))
 
 -- the input ends

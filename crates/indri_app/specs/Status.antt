@@ -1,11 +1,12 @@
 -- The exit statuses of the program.
 use Rattle.std.specs.Prelude.{ℕ}
 use Rattle.indri_app.specs.declared.status.Status.{Status}
-use Rattle.indri_app.specs.declared.status.Status.TheVariants.{Done, Usage, SomeRefused, ReadFault, WriteFault, Memory}
+use Rattle.indri_app.specs.declared.status.Status.TheVariants.{Done, Usage, QueryRefused, SomeRefused, ReadFault, WriteFault, Memory}
 
 abbrev pub code_of : Status → ℕ
 code_of Done = 0
 code_of Usage = 1
+code_of QueryRefused = 2
 code_of SomeRefused = 3
 code_of ReadFault = 4
 code_of WriteFault = 5
@@ -15,6 +16,7 @@ code_of Memory = 9
 abbrev pub IsUsageOutcome : Status → Type 0
 IsUsageOutcome Done = ⊥
 IsUsageOutcome Usage = Unit {0}
+IsUsageOutcome QueryRefused = ⊥
 IsUsageOutcome SomeRefused = ⊥
 IsUsageOutcome ReadFault = ⊥
 IsUsageOutcome WriteFault = Unit {0}
@@ -24,6 +26,7 @@ IsUsageOutcome Memory = Unit {0}
 abbrev pub IsRefusalOutcome : Status → Type 0
 IsRefusalOutcome Done = ⊥
 IsRefusalOutcome Usage = ⊥
+IsRefusalOutcome QueryRefused = ⊥
 IsRefusalOutcome SomeRefused = Unit {0}
 IsRefusalOutcome ReadFault = ⊥
 IsRefusalOutcome WriteFault = Unit {0}
@@ -33,7 +36,18 @@ IsRefusalOutcome Memory = Unit {0}
 abbrev pub IsReadFaultOutcome : Status → Type 0
 IsReadFaultOutcome Done = ⊥
 IsReadFaultOutcome Usage = ⊥
+IsReadFaultOutcome QueryRefused = ⊥
 IsReadFaultOutcome SomeRefused = ⊥
 IsReadFaultOutcome ReadFault = Unit {0}
 IsReadFaultOutcome WriteFault = ⊥
 IsReadFaultOutcome Memory = Unit {0}
+
+-- how a run ends whose text has a fault
+abbrev pub IsQueryOutcome : Status → Type 0
+IsQueryOutcome Done = ⊥
+IsQueryOutcome Usage = ⊥
+IsQueryOutcome QueryRefused = Unit {0}
+IsQueryOutcome SomeRefused = ⊥
+IsQueryOutcome ReadFault = ⊥
+IsQueryOutcome WriteFault = Unit {0}
+IsQueryOutcome Memory = Unit {0}

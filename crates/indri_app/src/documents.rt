@@ -10,12 +10,7 @@ use std::alloc::{AllocError, Global};
 use tokens::{TokenRefusal, doc_of};
 use trec_reader::RawDoc;
 
-fn push_line(
-    alloc: Global,
-    lines: &mut Vec<u8>,
-    docno: &[u8],
-    place: usize,
-) -> Result<(), NoMemory>
+fn push_line(alloc: Global, lines: &mut Vec<u8>, docno: &[u8], place: usize) -> Result<(), NoMemory>
     requires { place + 1 < 2 ^ 64 }
     ensures { OnOk result (lines.new.items ≡ lines.old.items ++ line docno.now place) }
 {

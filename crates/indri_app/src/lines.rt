@@ -1,7 +1,9 @@
 // The lines of refusals.
 ghost use Rattle.std.specs.Prelude.{◌≡◌, ◌++◌, IfOk};
+ghost use Rattle.indri_app.specs.QueryLine.{kind_name, query_line};
 ghost use Rattle.indri_app.specs.Scan.{document_refused_line, refusal_line, refused_line};
 
+use query_reader::QueryKind;
 use ri_base::{Docno, NoMemory};
 use std::alloc::Global;
 use trec_reader::TrecRefusal;
@@ -35,17 +37,46 @@ pub fn refusal_line(alloc: Global, refusal: TrecRefusal) -> Result<Vec<u8>, NoMe
 }
 
 /// The line of a document that is refused.
-pub fn document_refused_line(
-    alloc: Global,
-    kind: &[u8],
-    docno: &Docno,
-) -> Result<Vec<u8>, NoMemory>
+pub fn document_refused_line(alloc: Global, kind: &[u8], docno: &Docno) -> Result<Vec<u8>, NoMemory>
     ensures { IfOk result (λ line. line.items ≡ document_refused_line kind.now docno.now) }
 {
     let mut line = b"refused ".to_vec(alloc)?;
     line.extend_from_slice(kind)?;
     line.push(b' ')?;
     line.extend_from_slice(docno.as_bytes())?;
+    line.push(b'\n')?;
+    Ok(line)
+}
+
+fn kind_name(kind: QueryKind) -> &'static [u8]
+    ensures { result.now ≡ kind_name kind }
+{
+    match kind {
+        QueryKind::Expected => b"Expected",
+        QueryKind::UnknownOperator => b"UnknownOperator",
+        QueryKind::BadNumber => b"BadNumber",
+        QueryKind::EmptyTerm => b"EmptyTerm",
+        QueryKind::EmptyOperator => b"EmptyOperator",
+        QueryKind::TooDeep => b"TooDeep",
+        QueryKind::TooManyNodes => b"TooManyNodes",
+        QueryKind::FilterInside => b"FilterInside",
+        QueryKind::WindowInside => b"WindowInside",
+        QueryKind::ContextInside => b"ContextInside",
+        QueryKind::BadField => b"BadField",
+        QueryKind::WeightTooLong => b"WeightTooLong",
+        QueryKind::NotYetBuilt => b"NotYetBuilt",
+    }
+}
+
+/// The line of a text that is refused.
+#[tactic(auto, unfolding(crate::specs::QueryLine::query_line))]
+pub fn query_line(alloc: Global, kind: QueryKind, place: usize) -> Result<Vec<u8>, NoMemory>
+    ensures { IfOk result (λ line. line.items ≡ query_line (kind, place)) }
+{
+    let mut line = b"refused Query ".to_vec(alloc)?;
+    line.extend_from_slice(kind_name(kind))?;
+    line.push(b' ')?;
+    line.extend_from_slice(place.to_string(alloc)?.as_bytes())?;
     line.push(b'\n')?;
     Ok(line)
 }

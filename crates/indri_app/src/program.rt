@@ -1,16 +1,18 @@
 // The program's one public call.
-ghost use Rattle.std.specs.Prelude.{◌≡◌, ◌≢◌, ◌≤◌, ◌<◌, ◌++◌, ℕ, List, IfSome, IsSomeAnd, None, true, false, take, length, codes};
+ghost use Rattle.std.specs.Prelude.{◌≡◌, ◌≢◌, ◌≤◌, ◌<◌, ◌++◌, ℕ, List, IfSome, None, true, false, take, length, codes};
 ghost use Rattle.ri_ends.specs.Causes.{Rose};
 ghost use Rattle.trec_reader.specs.Read.{read};
-ghost use Rattle.indri_app.specs.Command.{scan_term, usage_line};
+ghost use Rattle.indri_app.specs.Command.{AsksFor, HasFault, IfAsksFor, IfFault, asked, usage_line};
+ghost use Rattle.indri_app.specs.QueryLine.{query_line};
 ghost use Rattle.indri_app.specs.Outcome.{Writes, WritesFault, WritesFront, WritesLine, fault_line};
-ghost use Rattle.indri_app.specs.Status.{IsReadFaultOutcome, IsRefusalOutcome, IsUsageOutcome};
+ghost use Rattle.indri_app.specs.Status.{IsQueryOutcome, IsReadFaultOutcome, IsRefusalOutcome, IsUsageOutcome};
 ghost use Rattle.indri_app.specs.Scan.{has_refusal, refusal_line, scan_text};
 
 use crate::Status;
-use crate::command::scan_term;
-use crate::lines::refusal_line;
+use crate::command::{scan_text_of, text_term};
+use crate::lines::{query_line, refusal_line};
 use crate::scan::{Stop, scan_documents};
+use query_reader::{QueryFault, QueryKind};
 use ri_base::ArgList;
 use ri_ends::{OutFault, Sink, Source};
 use std::alloc::Global;
@@ -52,6 +54,30 @@ fn write_refusal<K: Sink>(alloc: Global, refusal: TrecRefusal, sink: &mut K) -> 
     }
 }
 
+/// Writes the line of a text that is refused.
+#[tactic(auto, using(crate::proofs::Scanned::front_whole))]
+fn write_query_refusal<K: Sink>(
+    alloc: Global,
+    kind: QueryKind,
+    place: usize,
+    sink: &mut K,
+) -> Status
+    ensures refused { result ≡ Status.QueryRefused → Writes (K.taken sink.old) (K.taken sink.new) (query_line (kind, place)) }
+    ensures front { WritesFront (K.taken sink.old) (K.taken sink.new) (query_line (kind, place)) }
+    ensures only { IsQueryOutcome result }
+    ensures later { K.faults sink.old ≤ K.faults sink.new }
+    ensures write { result ≡ Status.WriteFault → Rose (K.faults sink.old) (K.faults sink.new) }
+{
+    let Ok(line) = query_line(alloc, kind, place) else {
+        return Status::Memory;
+    };
+    match sink.write_all(&line) {
+        Ok(()) => Status::QueryRefused,
+        Err(OutFault::Failed) => Status::WriteFault,
+        Err(OutFault::Memory) => Status::Memory,
+    }
+}
+
 /// Writes the last line of a run whose source failed. The status says so even where the sink fails at it.
 #[tactic(auto, using(crate::proofs::Scanned::line_whole), unfolding(crate::specs::Outcome::fault_line))]
 fn write_read_fault<K: Sink>(sink: &mut K) -> Status
@@ -78,7 +104,7 @@ fn scan<S: Source, K: Sink>(alloc: Global, term: &[u8], source: &mut S, sink: &m
     ensures fault_line { result ≡ Status.ReadFault → IfSome (S.left source.old) (λ bytes.
         WritesFault (K.taken sink.old) (K.taken sink.new) (scan_text term.now bytes) (K.faults sink.old) (K.faults sink.new)) }
 
-    ensures command { result ≢ Status.Usage }
+    ensures command { (result ≢ Status.Usage) × (result ≢ Status.QueryRefused) }
     ensures read { result ≡ Status.ReadFault → Rose (S.faults source.old) (S.faults source.new) }
     ensures write { result ≡ Status.WriteFault → Rose (K.faults sink.old) (K.faults sink.new) }
     ensures read_later { S.faults source.old ≤ S.faults source.new }
@@ -87,7 +113,9 @@ fn scan<S: Source, K: Sink>(alloc: Global, term: &[u8], source: &mut S, sink: &m
     ensures held { S.held source.new ≡ S.held source.old }
 {
     match scan_documents(alloc, term, source, sink) {
-        Stop::End { some_refused: false } => Status::Done,
+        Stop::End {
+            some_refused: false,
+        } => Status::Done,
         Stop::End { some_refused: true } => Status::SomeRefused,
         Stop::Refused(refusal) => write_refusal(alloc, refusal, sink),
         Stop::ReadFault => write_read_fault(sink),
@@ -105,16 +133,20 @@ pub fn run<S: Source, K: Sink>(
     sink: &mut K,
 ) -> Status
     // Done: the words are a scan, nothing is refused, and the text of the scan is written.
-    ensures done { result ≡ Status.Done → IsSomeAnd (scan_term words.now) (λ term. IfSome (S.left source.old) (λ bytes.
+    ensures done { result ≡ Status.Done → AsksFor (asked words.now) (λ term. IfSome (S.left source.old) (λ bytes.
         (has_refusal (read bytes) ≡ false) × Writes (K.taken sink.old) (K.taken sink.new) (scan_text term bytes))) }
 
     // SomeRefused: the words are a scan, a document or the input is refused, and the text of the scan is written.
-    ensures refused { result ≡ Status.SomeRefused → IsSomeAnd (scan_term words.now) (λ term. IfSome (S.left source.old) (λ bytes.
+    ensures refused { result ≡ Status.SomeRefused → AsksFor (asked words.now) (λ term. IfSome (S.left source.old) (λ bytes.
         (has_refusal (read bytes) ≡ true) × Writes (K.taken sink.old) (K.taken sink.new) (scan_text term bytes))) }
 
     // Usage: exactly where the words are no command, unless the sink fails or memory is missing. The source stays.
-    ensures usage { result ≡ Status.Usage → (scan_term words.now ≡ None) × Writes (K.taken sink.old) (K.taken sink.new) usage_line }
-    ensures no_command { scan_term words.now ≡ None → IsUsageOutcome result × (source.new ≡ source.old) × WritesFront (K.taken sink.old) (K.taken sink.new) usage_line }
+    ensures usage { result ≡ Status.Usage → (asked words.now ≡ None) × Writes (K.taken sink.old) (K.taken sink.new) usage_line }
+    ensures no_command { asked words.now ≡ None → IsUsageOutcome result × (source.new ≡ source.old) × WritesFront (K.taken sink.old) (K.taken sink.new) usage_line }
+
+    // QueryRefused: exactly where the text has a fault, unless the sink fails or memory is missing. The source stays.
+    ensures query { result ≡ Status.QueryRefused → HasFault (asked words.now) (λ fault. Writes (K.taken sink.old) (K.taken sink.new) (query_line fault)) }
+    ensures bad_query { IfFault (asked words.now) (λ fault. IsQueryOutcome result × (source.new ≡ source.old) × WritesFront (K.taken sink.old) (K.taken sink.new) (query_line fault)) }
 
     // A fault has its cause in this call, and no count falls.
     ensures read { result ≡ Status.ReadFault → Rose (S.faults source.old) (S.faults source.new) }
@@ -123,16 +155,20 @@ pub fn run<S: Source, K: Sink>(
     ensures write_later { K.faults sink.old ≤ K.faults sink.new }
 
     // However a scan ends, a front of its text is written, and behind it the last line where the source failed.
-    ensures front { result ≢ Status.ReadFault → IfSome (scan_term words.now) (λ term. IfSome (S.left source.old) (λ bytes.
+    ensures front { result ≢ Status.ReadFault → IfAsksFor (asked words.now) (λ term. IfSome (S.left source.old) (λ bytes.
         WritesFront (K.taken sink.old) (K.taken sink.new) (scan_text term bytes))) }
-    ensures fault_line { result ≡ Status.ReadFault → IfSome (scan_term words.now) (λ term. IfSome (S.left source.old) (λ bytes.
+    ensures fault_line { result ≡ Status.ReadFault → IfAsksFor (asked words.now) (λ term. IfSome (S.left source.old) (λ bytes.
         WritesFault (K.taken sink.old) (K.taken sink.new) (scan_text term bytes) (K.faults sink.old) (K.faults sink.new))) }
 
     ensures layers { S.layers source.new ≡ S.layers source.old }
     ensures held { S.held source.new ≡ S.held source.old }
 {
-    match scan_term(words) {
-        Some(term) => scan(alloc, term, source, sink),
-        None => write_usage(sink),
+    let Some(text) = scan_text_of(words) else {
+        return write_usage(sink);
+    };
+    match text_term(alloc, text) {
+        Ok(term) => scan(alloc, term.as_bytes(), source, sink),
+        Err(QueryFault::Refused { kind, place }) => write_query_refusal(alloc, kind, place, sink),
+        Err(QueryFault::Memory) => Status::Memory,
     }
 }

@@ -18,9 +18,7 @@ use trec_reader::{DocReader, RawDoc, TrecRefusal};
 #[derive(Clone, Copy, Debug, PartialEq, Eq)]
 pub enum Stop {
     /// The input ended between documents.
-    End {
-        some_refused: bool,
-    },
+    End { some_refused: bool },
     Refused(TrecRefusal),
     ReadFault,
     WriteFault,

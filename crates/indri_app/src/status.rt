@@ -9,6 +9,8 @@ pub enum Status {
     Done,
     /// The words are no command (1).
     Usage,
+    /// The text of the command is refused, and its fault was written (2).
+    QueryRefused,
     /// Something in the input was refused, and its line was written (3).
     SomeRefused,
     /// The source failed (4).
@@ -27,6 +29,7 @@ impl Status {
         match self {
             Status::Done => 0,
             Status::Usage => 1,
+            Status::QueryRefused => 2,
             Status::SomeRefused => 3,
             Status::ReadFault => 4,
             Status::WriteFault => 5,

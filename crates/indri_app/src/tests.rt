@@ -100,12 +100,10 @@ fn ran(alloc: Global, words: &ArgList) -> Result<(Status, Vec<u8>, usize), Fail>
 #[test]
 fn words_that_are_no_command(rt: HostRuntime) -> Result<(), Fail> {
     let alloc = rt.alloc();
-    let rows: [&[&str]; 7] = [
+    let rows: [&[&str]; 5] = [
         &[],
         &["."],
         &[".", "scan"],
-        &[".", "scan", "A"],
-        &[".", "scan", ""],
         &[".", "sing", "a"],
         &[".", "scan", "a", "b"],
     ];
@@ -116,11 +114,44 @@ fn words_that_are_no_command(rt: HostRuntime) -> Result<(), Fail> {
         assert_eq!(rt; text.as_slice(), USAGE);
         assert_eq!(rt; left, TWO.len(), "no byte was read");
     }
-    for (length, want) in [(128, Status::Done), (129, Status::Usage)] {
-        let mut words = words_of(alloc, &[".", "scan"])?;
-        words.push(&"a".repeat(alloc, length)?)?;
-        let (status, _, _) = ran(alloc, &words)?;
-        assert_eq!(rt; status, want);
+    Ok(())
+}
+
+#[test]
+fn texts_that_are_refused(rt: HostRuntime) -> Result<(), Fail> {
+    let alloc = rt.alloc();
+    let rows = [
+        ("", "refused Query Expected 0\n"),
+        ("#1(a", "refused Query Expected 4\n"),
+        ("a b", "refused Query Expected 2\n"),
+        ("#comb(a)", "refused Query UnknownOperator 0\n"),
+        ("#or(a b)", "refused Query UnknownOperator 0\n"),
+        ("#1()", "refused Query EmptyOperator 0\n"),
+        ("#0(a b)", "refused Query BadNumber 1\n"),
+        ("!", "refused Query EmptyTerm 0\n"),
+        ("#1(a.(t) b)", "refused Query ContextInside 4\n"),
+        ("a.9", "refused Query BadField 2\n"),
+        ("#1(a b)", "refused Query NotYetBuilt 0\n"),
+        ("state-of", "refused Query NotYetBuilt 0\n"),
+    ];
+    for (text, line) in rows {
+        let words = words_of(alloc, &[".", "scan", text])?;
+        let (status, written, left) = ran(alloc, &words)?;
+        assert_eq!(rt; status, Status::QueryRefused, "at {text}");
+        assert_eq!(rt; written.as_slice(), line.as_bytes(), "at {text}");
+        assert_eq!(rt; left, TWO.len(), "no byte was read");
+    }
+    Ok(())
+}
+
+#[test]
+fn texts_of_one_word(rt: HostRuntime) -> Result<(), Fail> {
+    let alloc = rt.alloc();
+    for text in ["a", "A", " a ", "\"A\"", "a..."] {
+        let words = words_of(alloc, &[".", "scan", text])?;
+        let (status, written, _) = ran(alloc, &words)?;
+        assert_eq!(rt; status, Status::Done, "at {text}");
+        assert_eq!(rt; written.as_slice(), b"d1 0 1\nd2 0 1\n".as_slice());
     }
     Ok(())
 }

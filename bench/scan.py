@@ -4,8 +4,9 @@
 usage: bench/scan.py [ROUNDS]        at the top of the repository, with the program built (./indri builds it)
 
 It makes its inputs in a folder of its own and prints a row an input: the best of so many rounds in seconds, and that as
-a ratio. Ratios are to `LC_ALL=C wc -w` on the same file, or, for the hostile inputs, to 8 MiB of plain text. The last
-row is the peak memory of a document of 16 MiB.
+a ratio. Ratios are to `LC_ALL=C wc -w` on the same file, or, for the hostile inputs, to 8 MiB of plain text. Then come
+documents of 65,535 fields, one inside the other, and last the peak memory of documents of 16 MiB: one with as many
+words as it holds, one with as many as a document may have, and one without a word.
 """
 import os
 import random
@@ -63,6 +64,23 @@ def one_document(path, piece, size):
         out.write("</DOC>\n")
 
 
+def nested_fields(path, count, in_order):
+    """Fields of distinct names, each opened inside the one before, with a word in each; and as many end tags."""
+    names = [f"f{i}" for i in range(count)]
+    with open(path, "w") as out:
+        out.write("<DOC><DOCNO>d1</DOCNO>")
+        out.write("".join(f"<{name}>x " for name in names))
+        out.write("".join(f"</{name}>" for name in (names if in_order else reversed(names))))
+        out.write("</DOC>\n")
+
+
+def peak_memory(path):
+    with open(path, "rb") as source:
+        child = subprocess.Popen([PROGRAM, ".", "scan", "rain"], stdin=source, stdout=subprocess.DEVNULL)
+        _, _, usage = os.wait4(child.pid, 0)
+    return usage.ru_maxrss / 1024
+
+
 def best(command, path, env=None):
     times = []
     for _ in range(ROUNDS):
@@ -101,12 +119,13 @@ def main():
             one_document(folder / "hostile", piece, 8 * MIB)
             taken = scan(folder / "hostile")
             print(f"{piece:<12} {taken:7.3f} s   {taken / plain:5.2f} times text")
-        one_document(folder / "large", "some plain text of a document ", 16 * MIB - 40)
-        scan(folder / "large")
-        with open(folder / "large", "rb") as source:
-            child = subprocess.Popen([PROGRAM, ".", "scan", "rain"], stdin=source, stdout=subprocess.DEVNULL)
-            _, _, usage = os.wait4(child.pid, 0)
-        print(f"peak memory of a document of 16 MiB: {usage.ru_maxrss / 1024:.0f} MiB")
+        for in_order in (False, True):
+            nested_fields(folder / "fields", 65_535, in_order)
+            order = "in the order of opening" if in_order else "the last one first"
+            print(f"65,535 nested fields, closed {order} {scan(folder / 'fields'):7.3f} s")
+        for piece, name in ((". ", "without a word"), ("a" * 15 + " ", "with 1,048,574 words"), ("a ", "with too many words")):
+            one_document(folder / "large", piece, 16 * MIB - 40)
+            print(f"peak memory of a document of 16 MiB {name}: {peak_memory(folder / 'large'):.0f} MiB")
 
 
 if __name__ == "__main__":

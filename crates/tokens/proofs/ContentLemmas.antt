@@ -1,5 +1,5 @@
 -- The fields of a document are those that a document may have.
-use Rattle.std.proofs.Common.{ℕ, ◌≡◌, ◌<◌, ◌≤◌, ◌+◌, Bool, true, false, List, [], ◌∷◌, ◌++◌, Option, None, Some, map, length, length-append, if◌then◌else◌, get_or, arith, refl, ap, sym, subst, ◌∙◌, ◌⊎◌, inl, inr}
+use Rattle.std.proofs.Common.{ℕ, ◌≡◌, ◌<◌, ◌≤◌, ◌+◌, Bool, true, false, List, [], ◌∷◌, ◌++◌, Option, None, Some, map, length, length-append, if◌then◌else◌, get_or, arith, refl, ap, sym, subst, ◌∙◌, inl, inr}
 use Rattle.std.specs.BTreeSet.{insert_key}
 use Rattle.std.specs.Cmp.Lexicographic.{slice_cmp}
 use Rattle.std.specs.List.{All, AllByRecursion, AllPairs}
@@ -9,13 +9,13 @@ use Rattle.std.specs.declared.cmp.Ordering.{Ordering}
 use Rattle.std.specs.declared.cmp.Ordering.TheVariants.{Less, Equal, Greater}
 use Rattle.std.proofs.lemmas.Bool.{ltb-true}
 use Rattle.std.proofs.lemmas.Cmp.{ranked}
-use Rattle.std.proofs.lemmas.List.Elements.{All-from_recursion, All-nil, recursion_from_All}
+use Rattle.std.proofs.lemmas.List.Elements.{All-nil}
 use Rattle.std.proofs.lemmas.Map.Keys.{Less-from_sorted}
 use Rattle.std.proofs.lemmas.Map.Views.{All-insert_key}
-use Rattle.ri_base.specs.Documents.{AreFields, Field, IsBefore, IsDocument}
+use Rattle.ri_base.specs.Documents.{Field, IsBefore, IsDocument}
 use Rattle.trec_reader.specs.declared.piece.Piece.{Piece}
 use Rattle.trec_reader.specs.declared.piece.Piece.TheVariants.{Text, Open, Close, Break}
-use Rattle.tokens.specs.Content.{document_terms, piece_terms}
+use Rattle.tokens.specs.Content.{document_terms}
 use Rattle.tokens.specs.Fields.{Opened, closed, closed_at, document_fields, field_cmp, field_from, fields_from, has_token, last_begin, with_field, with_fields, without_last}
 use Rattle.tokens.specs.Words.{byte_terms}
 use Rattle.std.specs.Map.{keys_of}

@@ -1,15 +1,13 @@
 -- Sets of fields, kept by their keys.
-use Rattle.std.proofs.Common.{ℕ, ◌≡◌, ◌<◌, List, [], ◌∷◌, Result, Ok, Err, true, map, refl, ap, arith, subst, sym}
+use Rattle.std.proofs.Common.{◌≡◌, List, [], ◌∷◌, Result, Ok, Err, true, map, refl, ap, arith, subst, sym}
 use Rattle.std.specs.BTreeSet.{insert_key}
-use Rattle.std.specs.Cmp.Lexicographic.{slice_cmp}
 use Rattle.std.specs.List.{All, AllByRecursion}
 use Rattle.std.specs.List.Sorted.{IsStrictlySortedBy}
-use Rattle.std.specs.Ordering.{match_ordering, nat_cmp, ordering_then}
+use Rattle.std.specs.Ordering.{match_ordering}
 use Rattle.std.specs.declared.cmp.Ordering.{Ordering}
 use Rattle.std.specs.declared.cmp.Ordering.TheVariants.{Less, Equal, Greater}
 use Rattle.std.proofs.lemmas.Map.Views.{All-insert_key}
 use Rattle.std.specs.Prelude.{OnOk, OnErr}
-use Rattle.ri_base.specs.Documents.{Field}
 use Rattle.tokens.specs.Fields.{field_cmp, has_token, with_field}
 use Rattle.tokens.specs.Keys.{HasToken, Key, field_of, key_cmp}
 

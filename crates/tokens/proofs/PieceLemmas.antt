@@ -1,5 +1,5 @@
 -- What a piece does to the fields of its document.
-use Rattle.std.proofs.Common.{ℕ, ◌≡◌, ◌+◌, List, ◌∷◌, ◌++◌, Result, Ok, Err, length, length-append, refl, ap, sym, ◌∙◌}
+use Rattle.std.proofs.Common.{ℕ, ◌≡◌, List, ◌∷◌, ◌++◌, Result, Ok, Err, length, length-append, ap, sym, ◌∙◌}
 use Rattle.std.specs.Prelude.{OnOk}
 use Rattle.std.proofs.lemmas.List.Sums.{fold-append}
 use Rattle.ri_base.specs.Documents.{Field}

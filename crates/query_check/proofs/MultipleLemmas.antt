@@ -1,7 +1,7 @@
 -- Common divisors and common multiples by divisibility.
-use Rattle.std.proofs.Common.{◌≡◌, ℕ, zero, suc, ◌+◌, ◌*◌, ◌/◌, ◌%◌, ◌<◌, ◌≤◌, List, [], ◌∷◌, arith, refl, sym, mul-pos, mul_comm, mul-lt-mul_of_pos_right}
+use Rattle.std.proofs.Common.{◌≡◌, ℕ, zero, suc, ◌+◌, ◌*◌, ◌/◌, ◌%◌, ◌<◌, ◌≤◌, List, [], ◌∷◌, arith, refl, sym, ◌∙◌, mul-pos, mul_comm, mul-lt-mul_of_pos_right}
 use Rattle.std.specs.Int.{IsGcd, ◌∣◌}
-use Rattle.std.proofs.Math.Nat.{dvd-mul_right, mul-dvd-mul_left, dvd-mul_left_of_dvd, div-mul_cancel, one-dvd, dvd_of_mul-dvd-mul_left}
+use Rattle.std.proofs.Math.Nat.{dvd-mul_right, mul-dvd-mul_left, dvd-mul_left_of_dvd, div-mul_cancel, one-dvd, zero-div, dvd_of_mul-dvd-mul_left}
 use Rattle.std.proofs.lemmas.Nat.{mod-mul-add, div-add-mod'}
 use Rattle.std.proofs.lemmas.Nat.Gcd.{IsGcd-from_zero, IsGcd-from_mod, same_from_IsGcd, dvd_refl, dvd-zero, dvd_trans, dvd_antisymm, le_of_dvd}
 use Rattle.query_check.specs.Multiples.{gcd_within, gcd, lcm, common_divisor}
@@ -23,6 +23,18 @@ gcd_zero a b h = same_from_IsGcd a b (gcd a b) a (gcd_is a b) (IsGcd-from_zero a
 
 pub gcd_step : (a b : ℕ) → gcd b (a % b) ≡ gcd a b
 gcd_step a b = same_from_IsGcd a b (gcd b (a % b)) (gcd a b) (IsGcd-from_mod a b _ (gcd_is b (a % b))) (gcd_is a b)
+
+pub gcd_zero_left : (b : ℕ) → gcd 0 b ≡ b
+gcd_zero_left b = same_from_IsGcd 0 b (gcd 0 b) b (gcd_is 0 b) (dvd-zero b, dvd_refl b, λ d p q. q)
+
+pub gcd_assoc : (a b c : ℕ) → gcd (gcd a b) c ≡ gcd a (gcd b c)
+gcd_assoc a b c =
+    let ab = gcd_is a b in
+    let bc = gcd_is b c in
+    let a_bc = gcd_is a (gcd b c) in
+    same_from_IsGcd (gcd a b) c _ _ (gcd_is (gcd a b) c)
+        (ab.2 _ a_bc.0 (dvd_trans _ a_bc.1 bc.0), dvd_trans _ a_bc.1 bc.1,
+         λ d p q. a_bc.2 d (dvd_trans d p ab.0) (bc.2 d (dvd_trans d p ab.1) q))
 
 factor_positive : (x g b : ℕ) → x * g ≡ b → 0 < b → (0 < x) × (0 < g)
 factor_positive zero g b e h = absurd (omega (arith, e, h))
@@ -53,6 +65,16 @@ lcm_right a b =
 pub lcm_positive : (a b : ℕ) → 0 < a → 0 < b → 0 < lcm a b
 unfolding lcm
 lcm_positive a b pa pb = mul-pos pa (factor_positive (b / gcd a b) (gcd a b) b (div-mul_cancel (gcd a b) (gcd_is a b).1) pb).0
+
+-- a common multiple above 0 is one of numbers above 0
+pub lcm_parts : (a b : ℕ) → 0 < lcm a b → (0 < a) × (0 < b)
+unfolding lcm
+lcm_parts zero b h = absurd (omega (arith, h))
+lcm_parts (suc a) zero h =
+    let e : zero / gcd (suc a) zero ≡ zero = zero-div (gcd (suc a) zero) in
+    let h' : 0 < suc a * zero = rw e at h in
+    absurd (omega (arith, h'))
+lcm_parts (suc a) (suc b) h = (omega arith, omega arith)
 
 mod_scaled : (a b c : ℕ) → 0 < c → a % b < b → a * c % (b * c) ≡ a % b * c
 mod_scaled a b c pos l =
@@ -125,3 +147,12 @@ le_lcm_right a b pa pb = le_of_dvd (lcm_positive a b pa pb) (lcm_right a b)
 -- the quotient by a divisor of a number above 0 is above 0
 pub quotient_positive : (d w : ℕ) → d ∣ w → 0 < w → 0 < w / d
 quotient_positive d w h pw = (factor_positive (w / d) d w (div-mul_cancel d h) pw).0
+
+-- one number more in a common multiple
+pub lcm_step : (m s c whole : ℕ) → 0 < whole → lcm m (lcm s c) ≡ whole → (lcm (lcm m s) c ≡ whole) × (0 < m) × (0 < s) × (0 < c) × (lcm m s ≤ whole)
+lcm_step m s c whole pos e =
+    let all : 0 < lcm m (lcm s c) = rw e pos in
+    let outer = lcm_parts m (lcm s c) all in
+    let inner = lcm_parts s c outer.1 in
+    let moved : lcm (lcm m s) c ≡ whole = lcm_assoc m s c outer.0 inner.0 inner.1 ∙ e in
+    (moved, outer.0, inner.0, inner.1, rw (← moved) (le_lcm_left (lcm m s) c (lcm_positive m s outer.0 inner.0) inner.1))

@@ -5,4 +5,5 @@ pub mod Leaves
 pub mod Limit
 pub mod Multiples
 pub mod Scale
+pub mod Scaling
 pub mod Trees

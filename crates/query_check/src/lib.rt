@@ -4,8 +4,11 @@
 mod checked;
 mod fault;
 mod leaf_kind;
+mod leaves;
 mod multiples;
+mod priors;
 mod tree;
+mod weights;
 
 pub use checked::Checked;
 pub use fault::CheckFault;

@@ -42,6 +42,9 @@ module _ (xs : ScaledTrees) where
   unfolding greatest_of
   greatest_is = refl
 
+  pub greatest_le : common xs ≤ scale (greatest_of xs)
+  greatest_le = rw greatest_scale (omega arith)
+
   pub combined_parts : 0 < scale (combined xs) → (0 < count xs) × (0 < common xs)
   combined_parts h = parts_positive (count xs) (common xs) (rw combined_scale at h)
 

@@ -32,9 +32,11 @@ gcd_assoc a b c =
     let ab = gcd_is a b in
     let bc = gcd_is b c in
     let a_bc = gcd_is a (gcd b c) in
-    same_from_IsGcd (gcd a b) c _ _ (gcd_is (gcd a b) c)
-        (ab.2 _ a_bc.0 (dvd_trans _ a_bc.1 bc.0), dvd_trans _ a_bc.1 bc.1,
-         λ d p q. a_bc.2 d (dvd_trans d p ab.0) (bc.2 d (dvd_trans d p ab.1) q))
+    same_from_IsGcd (gcd a b) c _ _ (gcd_is (gcd a b) c) (
+      ab.2 _ a_bc.0 (dvd_trans _ a_bc.1 bc.0),
+      dvd_trans _ a_bc.1 bc.1,
+      λ d p q. a_bc.2 d (dvd_trans d p ab.0) (bc.2 d (dvd_trans d p ab.1) q),
+    )
 
 factor_positive : (x g b : ℕ) → x * g ≡ b → 0 < b → (0 < x) × (0 < g)
 factor_positive zero g b e h = absurd (omega (arith, e, h))
@@ -125,11 +127,11 @@ lcm_assoc a b c pa pb pc =
     let bc_in = lcm_right a (lcm b c) in
     let ab_in = lcm_left (lcm a b) c in
     let left : lcm (lcm a b) c ∣ lcm a (lcm b c) = lcm_divides (lcm a b) c _ pc
-        (lcm_divides a b _ pb (lcm_left a (lcm b c)) (dvd_trans _ (lcm_left b c) bc_in))
-        (dvd_trans _ (lcm_right b c) bc_in) in
+    (lcm_divides a b _ pb (lcm_left a (lcm b c)) (dvd_trans _ (lcm_left b c) bc_in))
+    (dvd_trans _ (lcm_right b c) bc_in) in
     let right : lcm a (lcm b c) ∣ lcm (lcm a b) c = lcm_divides a (lcm b c) _ pbc
-        (dvd_trans _ (lcm_left a b) ab_in)
-        (lcm_divides b c _ pc (dvd_trans _ (lcm_right a b) ab_in) (lcm_right (lcm a b) c)) in
+    (dvd_trans _ (lcm_left a b) ab_in)
+    (lcm_divides b c _ pc (dvd_trans _ (lcm_right a b) ab_in) (lcm_right (lcm a b) c)) in
     dvd_antisymm left right
 
 pub lcm_of_one : (a : ℕ) → 0 < a → lcm 1 a ≡ a

@@ -11,15 +11,15 @@ use Rattle.query_check.proofs.Limits.{below_is, beyond_is}
 use Rattle.query_check.proofs.MultipleLemmas.{lcm_positive, lcm_parts, lcm_assoc, lcm_of_one, lcm_one, lcm_step, le_lcm_left, le_lcm_right}
 use Rattle.query_check.proofs.Walks.{drop_at, drop_end}
 
-both_left : (a b : Bool) → (a && b) ≡ true → a ≡ true
+pub both_left : (a b : Bool) → (a && b) ≡ true → a ≡ true
 both_left true b h = refl
 both_left false b h = cc
 
-both_right : (a b : Bool) → (a && b) ≡ true → b ≡ true
+pub both_right : (a b : Bool) → (a && b) ≡ true → b ≡ true
 both_right true b h = h
 both_right false b h = cc
 
-same_number : (m n : ℕ) → (m == n) ≡ true → m ≡ n
+pub same_number : (m n : ℕ) → (m == n) ≡ true → m ≡ n
 same_number m n h = grind (arith, nat_tests)
 
 -- the number before the arguments

@@ -11,12 +11,12 @@ use Rattle.query_check.specs.Trees.{scaled_tree}
 -- the plain tree that a checked query stands for
 abbrev pub whole_checked : Checked → CheckedTree
 whole_checked c = record {
-    filters = map filter_tree c.filters.items;
-    range = c.range;
-    leaves = map leaf_tree c.leaves.items;
-    tree = scaled_tree c.tree;
-    scale = c.scale
-  }
+  filters = map filter_tree c.filters.items;
+  range = c.range;
+  leaves = map leaf_tree c.leaves.items;
+  tree = scaled_tree c.tree;
+  scale = c.scale;
+}
 
 abbrev pub Answers : Result Checked CheckFault → Result CheckedTree CheckFault → Type 0
 Answers (Ok c) checks = checks ≡ Ok (whole_checked c)

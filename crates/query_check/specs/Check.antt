@@ -2,6 +2,7 @@
 use Rattle.std.specs.Prelude.{◌≡◌, ℕ, ◌+◌, ◌*◌, ◌/◌, ◌^◌, Bool, true, false, not, ◌==◌, ◌&&◌, ◌||◌, nat_le, if◌then◌else◌, List, [], ◌∷◌, ◌++◌, Option, None, Some, Result, Ok, Err, position, find}
 use Rattle.std.specs.Str.{bytes_eq}
 use Rattle.std.specs.List.{list_any}
+use Rattle.std.specs.Option.{option_map}
 use Rattle.std.specs.Prelude.{codes}
 use Rattle.ri_base.specs.declared.query.Range.{Range}
 use Rattle.ri_base.specs.Query.{FilterTree, QueryTree, BeliefTree, BeliefTrees, WeightedTrees, combine, weight, greatest, prior, leaf, none, more, none_weighted, more_weighted, belief_trees}
@@ -176,23 +177,27 @@ unfoldable mutual
 abbrev pub whole : QueryTree → BeliefTree
 whole q = combine (belief_trees q.beliefs)
 
-unfoldable pub checked_tree : QueryTree → List (List ℕ) → CheckedTree
+abbrev pub checked_tree : QueryTree → List (List ℕ) → CheckedTree
 checked_tree q names = record {
-    filters = q.filters;
-    range = q.range;
-    leaves = leaves_of names (pruned (whole q));
-    tree = tree_from 0 (pruned (whole q));
-    scale = scale (tree_from 0 (pruned (whole q)))
-  }
+  filters = q.filters;
+  range = q.range;
+  leaves = leaves_of names (pruned (whole q));
+  tree = tree_from 0 (pruned (whole q));
+  scale = scale (tree_from 0 (pruned (whole q)));
+}
 
-abbrev pub known_or : Option (List ℕ) → CheckedTree → Result CheckedTree CheckFault
-known_or None checked = Ok checked
-known_or (Some f) checked = Err (UnknownPrior f)
+-- Weights and priors are looked at in all beliefs as they are read, leaves and the scale in what is left of them.
+unfoldable pub first_fault : List (List ℕ) → BeliefTree → Option CheckFault
+first_fault names x =
+    if not (has_weights x) then Some NoWeight else
+    if not (has_leaf (pruned x)) then Some NoLeaf else
+    if nat_le (2 ^ 60) (scale (tree_from 0 (pruned x))) then Some ScaleTooLarge else
+    option_map UnknownPrior (find (is_unknown names) (priors x))
 
--- weights and priors are looked at in the whole query as it is read, leaves and the scale in what is left
-unfoldable pub checks : QueryTree → List (List ℕ) → Result CheckedTree CheckFault
-checks q names =
-    if not (has_weights (whole q)) then Err NoWeight else
-    if not (has_leaf (pruned (whole q))) then Err NoLeaf else
-    if nat_le (2 ^ 60) (scale (tree_from 0 (pruned (whole q)))) then Err ScaleTooLarge else
-    known_or (find (is_unknown names) (priors (whole q))) (checked_tree q names)
+abbrev pub checked_or : Option CheckFault → CheckedTree → Result CheckedTree CheckFault
+checked_or None checked = Ok checked
+checked_or (Some fault) checked = Err fault
+
+-- the checked query, or its first fault
+abbrev pub checks : QueryTree → List (List ℕ) → Result CheckedTree CheckFault
+checks q names = checked_or (first_fault names (whole q)) (checked_tree q names)

@@ -72,7 +72,11 @@ fn take_leaves(leaves: &mut Vec<LeafKind>, x: Belief, names: &[Name]) -> Result<
 
 #[cycle(taking)]
 #[tactic(auto, using(crate::proofs::Walks::all_leaves_start))]
-pub(crate) fn take_all_leaves(leaves: &mut Vec<LeafKind>, all: Vec<Belief>, names: &[Name]) -> Result<(), NoMemory>
+pub(crate) fn take_all_leaves(
+    leaves: &mut Vec<LeafKind>,
+    all: Vec<Belief>,
+    names: &[Name],
+) -> Result<(), NoMemory>
     requires { length names.now ≤ 8 }
     ensures { OnOk result (map leaf_tree leaves.new.items ≡ map leaf_tree leaves.old.items ++ all_leaves names.now (all_pruned (belief_trees (map belief_tree all.items)))) }
 {
@@ -84,7 +88,11 @@ pub(crate) fn take_all_leaves(leaves: &mut Vec<LeafKind>, all: Vec<Belief>, name
 
 #[cycle(taking)]
 #[tactic(auto, using(crate::proofs::Walks::weighted_leaves_start))]
-fn take_weighted_leaves(leaves: &mut Vec<LeafKind>, all: Vec<(u64, Belief)>, names: &[Name]) -> Result<(), NoMemory>
+fn take_weighted_leaves(
+    leaves: &mut Vec<LeafKind>,
+    all: Vec<(u64, Belief)>,
+    names: &[Name],
+) -> Result<(), NoMemory>
     requires { length names.now ≤ 8 }
     ensures { OnOk result (map leaf_tree leaves.new.items ≡ map leaf_tree leaves.old.items ++ weighted_leaves names.now (weighted_pruned (weighted_trees (map weighted_tree all.items)))) }
 {

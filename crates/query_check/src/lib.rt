@@ -7,10 +7,13 @@ mod leaf_kind;
 mod leaves;
 mod multiples;
 mod priors;
+mod query;
+mod scaling;
 mod tree;
 mod weights;
 
 pub use checked::Checked;
 pub use fault::CheckFault;
 pub use leaf_kind::LeafKind;
+pub use query::check;
 pub use tree::Tree;

@@ -71,7 +71,11 @@ fn unknown_in(alloc: Global, x: &Belief, names: &[Name]) -> Result<Option<Name>,
 /// The first prior in reading order that is unknown.
 #[cycle(priors)]
 #[tactic(auto, using(crate::proofs::Walks::priors_found, crate::proofs::Walks::priors_passed, crate::proofs::Walks::priors_end))]
-pub(crate) fn first_unknown(alloc: Global, all: &[Belief], names: &[Name]) -> Result<Option<Name>, NoMemory>
+pub(crate) fn first_unknown(
+    alloc: Global,
+    all: &[Belief],
+    names: &[Name],
+) -> Result<Option<Name>, NoMemory>
     ensures { IfOk result (λ found. found ≡ find (is_unknown names.now) (all_priors (belief_trees (map belief_tree all.now)))) }
 {
     for x in all {
@@ -84,7 +88,11 @@ pub(crate) fn first_unknown(alloc: Global, all: &[Belief], names: &[Name]) -> Re
 
 #[cycle(priors)]
 #[tactic(auto, using(crate::proofs::Walks::weighted_priors_found, crate::proofs::Walks::weighted_priors_passed, crate::proofs::Walks::weighted_priors_end))]
-fn unknown_in_weighted(alloc: Global, all: &[(u64, Belief)], names: &[Name]) -> Result<Option<Name>, NoMemory>
+fn unknown_in_weighted(
+    alloc: Global,
+    all: &[(u64, Belief)],
+    names: &[Name],
+) -> Result<Option<Name>, NoMemory>
     ensures { IfOk result (λ found. found ≡ find (is_unknown names.now) (weighted_priors (weighted_trees (map weighted_tree all.now)))) }
 {
     for (_, x) in all {

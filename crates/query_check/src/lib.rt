@@ -3,6 +3,7 @@
 
 mod checked;
 mod fault;
+mod laws;
 mod leaf_kind;
 mod leaves;
 mod multiples;
@@ -14,6 +15,7 @@ mod weights;
 
 pub use checked::Checked;
 pub use fault::CheckFault;
+pub use laws::{common_divisor_is_greatest, common_multiple_is_least};
 pub use leaf_kind::LeafKind;
 pub use query::check;
 pub use tree::Tree;

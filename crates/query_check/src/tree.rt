@@ -1,5 +1,5 @@
 // The beliefs of a query that was checked.
-ghost use Rattle.std.specs.Prelude.{◌≡◌, ◌<◌, ◌*◌, ◌+◌, map, true};
+ghost use Rattle.std.specs.Prelude.{◌≡◌, ◌<◌, ◌*◌, ◌+◌, map, true, IfOk};
 ghost use Rattle.query_check.specs.Limit.{below_limit};
 ghost use Rattle.query_check.specs.Scale.{count, total, common, weighted_common, is_scaled, are_scaled, are_weighted_scaled, scale};
 ghost use Rattle.query_check.specs.Check.{combined, weighed, greatest_of};
@@ -8,6 +8,8 @@ ghost use Rattle.query_check.specs.Trees.{scaled_tree, scaled_trees, weighted_sc
 
 use crate::CheckFault;
 use crate::multiples::{least_common_multiple, product, sum};
+use ri_base::NoMemory;
+use std::alloc::Global;
 
 /// The beliefs of a query that was checked. The number before the arguments is the scale of the operator.
 #[derive(Drop)]
@@ -21,6 +23,20 @@ pub enum Tree {
 }
 
 impl Tree {
+    /// An equal tree.
+    #[cycle(cloning)]
+    #[tactic(auto, using(crate::proofs::TreeLemmas::scaled_tree_laws))]
+    pub fn clone_in(&self, alloc: Global) -> Result<Tree, NoMemory>
+        ensures { IfOk result (λ tree. scaled_tree tree ≡ scaled_tree self.now) }
+    {
+        match self {
+            Tree::Leaf(number) => Ok(Tree::Leaf(*number)),
+            Tree::Combine(scale, trees) => Ok(Tree::Combine(*scale, clone_all(alloc, trees)?)),
+            Tree::Weight(scale, trees) => Ok(Tree::Weight(*scale, clone_weighted(alloc, trees)?)),
+            Tree::Max(scale, trees) => Ok(Tree::Max(*scale, clone_all(alloc, trees)?)),
+        }
+    }
+
     /// The scale that stands in the tree.
     #[tactic(auto, using(crate::proofs::TreeLemmas::scaled_tree_laws, crate::proofs::Scales::number_is))]
     pub(crate) fn scale(&self) -> u64
@@ -78,6 +94,28 @@ impl Tree {
         };
         Ok(Tree::Weight(scale, trees))
     }
+}
+
+#[cycle(cloning)]
+fn clone_all(alloc: Global, trees: &[Tree]) -> Result<Vec<Tree>, NoMemory>
+    ensures { IfOk result (λ clones. map scaled_tree clones.items ≡ map scaled_tree trees.now) }
+{
+    let mut clones = Vec::new(alloc);
+    for tree in trees {
+        clones.push(tree.clone_in(alloc)?)?;
+    }
+    Ok(clones)
+}
+
+#[cycle(cloning)]
+fn clone_weighted(alloc: Global, trees: &[(u64, Tree)]) -> Result<Vec<(u64, Tree)>, NoMemory>
+    ensures { IfOk result (λ clones. map weighted_scaled_tree clones.items ≡ map weighted_scaled_tree trees.now) }
+{
+    let mut clones = Vec::new(alloc);
+    for (weight, tree) in trees {
+        clones.push((*weight, tree.clone_in(alloc)?))?;
+    }
+    Ok(clones)
 }
 
 /// The least common multiple of the scales, where it is below the limit.

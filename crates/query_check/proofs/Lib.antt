@@ -10,3 +10,4 @@ pub mod Scales
 pub mod TreeLemmas
 pub mod Walks
 pub mod Names
+pub mod Vectors

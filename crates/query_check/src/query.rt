@@ -3,8 +3,7 @@ ghost use Rattle.std.specs.Prelude.{◌≡◌, ◌≤◌, length, map, true};
 ghost use Rattle.ri_base.specs.Queries.{whole_tree};
 ghost use Rattle.ri_base.specs.Query.{belief_tree, belief_trees, combine, is_sound, nodes};
 ghost use Rattle.query_check.specs.Answers.{Answers};
-ghost use Rattle.query_check.specs.Check.{checks, first_fault, pruned, tree_from, all_pruned, all_leaves};
-ghost use Rattle.query_check.specs.Leaves.{leaf_tree};
+ghost use Rattle.query_check.specs.Check.{checks, first_fault, pruned, tree_from};
 ghost use Rattle.query_check.specs.Scaling.{Accepts};
 
 use crate::leaves::{have_leaf, take_all_leaves};
@@ -15,7 +14,8 @@ use crate::{CheckFault, Checked, Tree};
 use ri_base::{Belief, Name, Query};
 use std::alloc::Global;
 
-/// Checks a query, with the names of the priors that are there.
+/// The checked query of a query, or its first fault in the order of `CheckFault`. The names are those of the priors that
+/// are there, beside `length`, which always is.
 pub fn check(alloc: Global, query: Query, priors: &[Name]) -> Result<Checked, CheckFault>
     requires few { length priors.now ≤ 8 }
     ensures exact { Answers result (checks (whole_tree query) priors.now) }

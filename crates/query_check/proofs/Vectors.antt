@@ -57,12 +57,12 @@ at_the_limit = refl
 -- #weight(2 #prior(x) 0 #prior(y) 4 a), where x is the second of the priors
 whole : checks (query (weight (more_weighted 2000000000 (prior (codes "x")) (more_weighted 0 (prior (codes "y")) (more_weighted 4000000000 (term 97) none_weighted))))) (codes "y" ∷ codes "x" ∷ []) ≡
     Ok (record {
-        filters = [];
-        range = Whole;
-        leaves = leaves.prior 1 ∷ leaves.extents (expr.word (97 ∷ [])) None ∷ [];
-        tree = tree.combine 3 (tree.more (tree.weight 3 (tree.more_weighted 1 (tree.leaf 0) (tree.more_weighted 2 (tree.leaf 1) tree.none_weighted))) tree.none);
-        scale = 3
-      })
+      filters = [];
+      range = Whole;
+      leaves = leaves.prior 1 ∷ leaves.extents (expr.word (97 ∷ [])) None ∷ [];
+      tree = tree.combine 3 (tree.more (tree.weight 3 (tree.more_weighted 1 (tree.leaf 0) (tree.more_weighted 2 (tree.leaf 1) tree.none_weighted))) tree.none);
+      scale = 3;
+    })
 unfolding checking
 whole = refl
 

@@ -39,6 +39,7 @@ fn checked(alloc: Global, text: &str) -> Result<Checked, Fail> {
     }
 }
 
+#[cycle(showing)]
 fn push_tree(alloc: Global, out: &mut String, tree: &Tree) -> Result<(), Fail> {
     match tree {
         Tree::Leaf(number) => {
@@ -51,6 +52,7 @@ fn push_tree(alloc: Global, out: &mut String, tree: &Tree) -> Result<(), Fail> {
     }
 }
 
+#[cycle(showing)]
 fn push_all(
     alloc: Global,
     out: &mut String,
@@ -69,6 +71,7 @@ fn push_all(
     Ok(())
 }
 
+#[cycle(showing)]
 fn push_weighted(
     alloc: Global,
     out: &mut String,

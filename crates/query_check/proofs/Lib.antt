@@ -1,0 +1,13 @@
+pub mod Combined
+pub mod Faults
+pub mod Keeps
+pub mod LeafBounds
+pub mod Limits
+pub mod MultipleLemmas
+pub mod Numbering
+pub mod Reduced
+pub mod Scales
+pub mod TreeLemmas
+pub mod Walks
+pub mod Names
+pub mod Vectors

@@ -1,0 +1,40 @@
+use Rattle.std.proofs.Common.{rules, arith, ◌≡◌, ◌<◌, ◌≤◌, ◌^◌, None, Some, true, refl, sym, ◌∙◌}
+use Rattle.query_check.specs.Limit.{below_limit}
+use Rattle.query_check.specs.Multiples.{lcm}
+use Rattle.query_check.specs.Scale.{scale, is_scaled}
+use Rattle.query_check.specs.Trees.{scaled_tree}
+use Rattle.query_check.proofs.Limits.{below_is, beyond_is, is_below, is_beyond}
+use Rattle.query_check.proofs.Scales.{weighted_scaled_at, weighted_common_next, weighted_common_end}
+use Rattle.query_check.proofs.tree.weighted_common_multiple.Goals as goal
+
+pub scale-requires : goal.scale-requires
+scale-requires c = (weighted_scaled_at c.args.trees.now c.loop-tree.tree-index c.loop-tree-item.result c.loop-tree-test.true c.loop-tree-item.is c.loop-tree.invariant.1).0
+
+pub least_common_multiple-requires : goal.least_common_multiple-requires
+least_common_multiple-requires c =
+    let h = weighted_common_next c.args.trees.now c.loop-tree.tree-index c.loop-tree-item.result c.loop-tree-test.true c.loop-tree-item.is c.loop-tree.multiple _ c.requires.positive c.loop-tree.invariant.0 in
+    let e : c.scale.result ≡ scale (scaled_tree c.loop-tree-item.result.1) = search rules in
+    rw e h.2
+
+pub loop-tree-preserved : goal.loop-tree-preserved
+loop-tree-preserved c =
+    let h = weighted_common_next c.args.trees.now c.loop-tree.tree-index c.loop-tree-item.result c.loop-tree-test.true c.loop-tree-item.is c.loop-tree.multiple _ c.requires.positive c.loop-tree.invariant.0 in
+    let e : c.scale.result ≡ scale (scaled_tree c.loop-tree-item.result.1) = search rules in
+    let found : below_limit (lcm c.loop-tree.multiple c.scale.result) ≡ Some c.in_ok-multiple.multiple = search rules in
+    let is = is_below _ _ found in
+    let m : c.in_ok-multiple.multiple ≡ lcm c.loop-tree.multiple (scale (scaled_tree c.loop-tree-item.result.1)) = rw e at is.0 in
+    (rw m h.0, (weighted_scaled_at c.args.trees.now c.loop-tree.tree-index c.loop-tree-item.result c.loop-tree-test.true c.loop-tree-item.is c.loop-tree.invariant.1).1, rw is.0 is.1)
+
+pub returns-in_err-multiple : goal.returns-in_err-multiple
+returns-in_err-multiple c =
+    let h = weighted_common_next c.args.trees.now c.loop-tree.tree-index c.loop-tree-item.result c.loop-tree-test.true c.loop-tree-item.is c.loop-tree.multiple _ c.requires.positive c.loop-tree.invariant.0 in
+    let e : c.scale.result ≡ scale (scaled_tree c.loop-tree-item.result.1) = search rules in
+    let found : below_limit (lcm c.loop-tree.multiple c.scale.result) ≡ None = search rules in
+    let big : 2 ^ 60 ≤ lcm c.loop-tree.multiple (scale (scaled_tree c.loop-tree-item.result.1)) = rw e at (is_beyond _ found) in
+    let none : c.from_residual.result ≡ None = search rules in
+    none ∙ sym (beyond_is _ (omega (arith, h.4, big)))
+
+pub returns : goal.returns
+returns c =
+    let e = weighted_common_end c.args.trees.now c.loop-tree.tree-index c.loop-tree.multiple _ (omega arith) c.requires.positive c.loop-tree.invariant.0 in
+    sym (below_is c.loop-tree.multiple c.loop-tree.invariant.2) ∙ rw e refl

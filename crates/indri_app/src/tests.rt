@@ -131,6 +131,9 @@ fn texts_that_are_refused(rt: HostRuntime) -> Result<(), Fail> {
         ("!", "refused Query EmptyTerm 0\n"),
         ("#1(a.(t) b)", "refused Query ContextInside 4\n"),
         ("a.9", "refused Query BadField 2\n"),
+        ("#combine(a #filreq(b c))", "refused Query Expected 0\n"),
+        ("#max(a #combine[t](b))", "refused Query Expected 0\n"),
+        ("#weight(1234567 a)", "refused Query Expected 0\n"),
         ("#1(a b)", "refused Query NotYetBuilt 0\n"),
         ("state-of", "refused Query NotYetBuilt 0\n"),
     ];

@@ -39,6 +39,14 @@ fn checked(alloc: Global, text: &str) -> Result<Checked, Fail> {
     }
 }
 
+/// Appends a space, unless a bracket was opened just now.
+fn push_space(out: &mut String) -> Result<(), Fail> {
+    if !out.as_str().as_bytes().ends_with(b"(") {
+        out.push_str(" ")?;
+    }
+    Ok(())
+}
+
 #[cycle(showing)]
 fn push_tree(alloc: Global, out: &mut String, tree: &Tree) -> Result<(), Fail> {
     match tree {
@@ -61,11 +69,9 @@ fn push_all(
     all: &[Tree],
 ) -> Result<(), Fail> {
     out.push_str(format!(in alloc; "{kind}{scale}(")?.as_str())?;
-    let mut separator = "";
     for tree in all {
-        out.push_str(separator)?;
+        push_space(out)?;
         push_tree(alloc, out, tree)?;
-        separator = " ";
     }
     out.push_str(")")?;
     Ok(())
@@ -79,11 +85,10 @@ fn push_weighted(
     all: &[(u64, Tree)],
 ) -> Result<(), Fail> {
     out.push_str(format!(in alloc; "w{scale}(")?.as_str())?;
-    let mut separator = "";
     for (weight, tree) in all {
-        out.push_str(format!(in alloc; "{separator}{weight}*")?.as_str())?;
+        push_space(out)?;
+        out.push_str(format!(in alloc; "{weight}*")?.as_str())?;
         push_tree(alloc, out, tree)?;
-        separator = " ";
     }
     out.push_str(")")?;
     Ok(())

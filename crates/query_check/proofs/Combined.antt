@@ -1,5 +1,5 @@
 -- The scale of an operator over its arguments.
-use Rattle.std.proofs.Common.{◌≡◌, ℕ, List, [], ◌∷◌, map, Some, None, length, ◌<◌, ◌≤◌, ◌+◌, ◌*◌, ◌^◌, zero, suc, refl, sym, ap, arith, ◌∙◌}
+use Rattle.std.proofs.Common.{◌≡◌, ℕ, List, [], ◌∷◌, map, Some, None, length, ◌<◌, ◌≤◌, ◌+◌, ◌*◌, ◌^◌, zero, suc, refl, ap, arith, ◌∙◌}
 use Rattle.query_check.specs.declared.tree.Tree.{Tree}
 use Rattle.query_check.specs.Check.{combined, weighed, greatest_of}
 use Rattle.query_check.specs.Limit.{below_limit}

@@ -1,6 +1,6 @@
 -- Which fault is the first, and what a query without a fault keeps.
-use Rattle.std.proofs.Common.{◌≡◌, ℕ, List, [], ◌∷◌, ◌++◌, map, Option, None, Some, Ok, Err, length, ◌<◌, ◌≤◌, ◌+◌, ◌^◌, zero, suc, refl, sym, ap, arith, Bool, true, false, ◌∙◌}
-use Rattle.std.specs.Prelude.{max, ◌&&◌, not, nat_le, find, if◌then◌else◌}
+use Rattle.std.proofs.Common.{◌≡◌, ℕ, List, [], ◌∷◌, Option, None, Some, Ok, Err, length, ◌<◌, ◌≤◌, ◌+◌, ◌^◌, refl, arith, Bool, true, false}
+use Rattle.std.specs.Prelude.{◌&&◌, not, nat_le, find, if◌then◌else◌}
 use Rattle.std.specs.Option.{option_map}
 use Rattle.std.proofs.lemmas.Bool.Decides.{nat_tests}
 use Rattle.ri_base.specs.declared.query.Range.{Range}
@@ -8,14 +8,13 @@ use Rattle.ri_base.specs.Query as query
 use Rattle.ri_base.specs.Query.{BeliefTree, BeliefTrees, FilterTree, QueryTree, IsBoundedQuery, belief_trees, depth_in_filters, nodes_in_filters, are_filters, is_range, is_body, window_count}
 use Rattle.query_check.specs.declared.fault.CheckFault.{CheckFault}
 use Rattle.query_check.specs.declared.fault.CheckFault.TheVariants.{NoWeight, NoLeaf, ScaleTooLarge, UnknownPrior, Memory}
-use Rattle.query_check.specs.Check.{has_weights, have_weights, pruned, all_pruned, has_leaf, have_leaf, have_leaf_weighted, have_weights_weighted, weighted_priors, weighted_leaves, priors, all_priors, is_unknown, leaf_count, all_leaves, leaves_of, tree_from, first_fault, whole, checks}
-use Rattle.query_check.specs.Kept as kept
+use Rattle.query_check.specs.Check.{has_weights, have_weights, pruned, all_pruned, has_leaf, have_leaf, have_leaf_weighted, have_weights_weighted, weighted_priors, weighted_leaves, priors, all_priors, is_unknown, all_leaves, leaves_of, tree_from, first_fault, whole, checks}
 use Rattle.query_check.specs.Kept.{IsChecked, IsWithinBounds}
 use Rattle.query_check.specs.Leaves.{LeafTree, leaf_depths}
 use Rattle.query_check.specs.Scale.{scale}
 use Rattle.query_check.specs.Trees.{ScaledTree}
 use Rattle.query_check.specs.Scaling.{IsTooLarge, Accepts}
-use Rattle.query_check.proofs.Keeps.{tree_depth, trees_depth, tree_arguments, tree_below, both, test_at_most}
+use Rattle.query_check.proofs.Keeps.{tree_depth, tree_arguments, tree_below, test_at_most}
 use Rattle.query_check.proofs.LeafBounds.{leaves_length, all_leaves_within}
 use Rattle.query_check.proofs.Numbering.{tree_scaled}
 use Rattle.query_check.proofs.Reduced.{tree_reduced, scale_positive}

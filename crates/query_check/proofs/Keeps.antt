@@ -1,24 +1,16 @@
 -- What the scaled tree and the leaves of a sound query keep.
-use Rattle.std.proofs.Common.{◌≡◌, ℕ, List, [], ◌∷◌, ◌++◌, map, Option, None, Some, length, ◌<◌, ◌≤◌, ◌+◌, ◌*◌, ◌/◌, ◌^◌, zero, suc, refl, sym, ap, arith, Bool, true, false, ◌∙◌, mul-pos}
-use Rattle.std.specs.Prelude.{max, ◌&&◌, ◌||◌, ◌==◌, not, nat_le, nat_lt}
-use Rattle.std.specs.Int.{◌∣◌}
+use Rattle.std.proofs.Common.{◌≡◌, ℕ, ◌<◌, ◌≤◌, ◌+◌, zero, suc, refl, arith, Bool, true}
+use Rattle.std.specs.Prelude.{◌&&◌, ◌==◌, nat_le, nat_lt}
 use Rattle.std.specs.List.{list_any}
 use Rattle.std.proofs.lemmas.Bool.Decides.{nat_tests}
-use Rattle.std.proofs.Math.Nat.{div-mul_cancel}
-use Rattle.std.proofs.lemmas.Nat.Gcd.{dvd_refl, dvd_trans}
 use Rattle.ri_base.specs.Expression as expr
 use Rattle.ri_base.specs.Query as query
 use Rattle.ri_base.specs.Query.{BeliefTree, BeliefTrees, WeightedTrees}
 use Rattle.query_check.specs.Check.{weights, is_some_weight, has_weights, have_weights, have_weights_weighted, pruned, all_pruned, weighted_pruned, leaf_count, all_leaf_count, weighted_leaf_count, combined, weighed, greatest_of, tree_from, trees_from, weighted_trees_from}
-use Rattle.query_check.specs.Kept as kept
-use Rattle.query_check.specs.Kept.{depth, depths, weighted_depths, has_arguments, are_arguments, have_arguments, are_weighted_arguments, have_weighted_arguments, is_below, are_below, are_weighted_below, is_reduced, are_reduced, are_weighted_reduced}
-use Rattle.query_check.specs.Multiples.{gcd, common_divisor}
-use Rattle.query_check.specs.Scale as scaled
-use Rattle.query_check.specs.Scale.{count, total, scale, common, weighted_common}
-use Rattle.query_check.specs.Trees.{ScaledTree, ScaledTrees, WeightedScaledTrees, leaf, combine, weight, greatest, none, more, none_weighted, more_weighted}
-use Rattle.query_check.proofs.MultipleLemmas.{gcd_is, gcd_positive, gcd_positive_left, gcd_times, lcm_positive, quotient_positive}
+use Rattle.query_check.specs.Kept.{depth, depths, weighted_depths, has_arguments, are_arguments, have_arguments, are_weighted_arguments, have_weighted_arguments, is_below, are_below, are_weighted_below}
+use Rattle.query_check.specs.Multiples.{common_divisor}
 use Rattle.query_check.proofs.Scales.{both_left, both_right}
-use Rattle.query_check.proofs.Walks.{weighted_kept, weighted_dropped}
+use Rattle.query_check.proofs.Walks.{weighted_kept}
 
 pub both : (a b : Bool) → a ≡ true → b ≡ true → (a && b) ≡ true
 both a b p q = rw (p, q) refl

@@ -1,12 +1,11 @@
 -- The bounds of the leaves of a sound query.
-use Rattle.std.proofs.Common.{◌≡◌, ℕ, List, [], ◌∷◌, ◌++◌, map, Option, None, Some, length, ◌<◌, ◌≤◌, ◌+◌, zero, suc, refl, sym, ap, arith, Bool, true, false, ◌∙◌, length-append}
+use Rattle.std.proofs.Common.{◌≡◌, ℕ, List, [], ◌∷◌, ◌++◌, Option, None, Some, length, ◌<◌, ◌≤◌, ◌+◌, zero, suc, refl, arith, Bool, true, false, length-append}
 use Rattle.std.specs.Prelude.{max, ◌&&◌, position, if◌then◌else◌}
 use Rattle.std.specs.Str.{bytes_eq}
-use Rattle.ri_base.specs.Expression as expr
 use Rattle.ri_base.specs.Query as query
 use Rattle.ri_base.specs.Query.{BeliefTree, BeliefTrees, WeightedTrees, FilterTree, depth_in_filters}
 use Rattle.query_check.specs.Check.{pruned, all_pruned, weighted_pruned, leaf_count, all_leaf_count, weighted_leaf_count, leaves_of, all_leaves, weighted_leaves, prior_number, is_length, place_or}
-use Rattle.query_check.specs.Leaves.{LeafTree, extents, prior, leaf_depths, all_leaf_nodes, are_sound_leaves}
+use Rattle.query_check.specs.Leaves.{LeafTree, leaf_depths, all_leaf_nodes, are_sound_leaves}
 use Rattle.query_check.proofs.Keeps.{both, test_at_most, arguments_sound, weighted_sound}
 use Rattle.query_check.proofs.Names.{place_below}
 use Rattle.query_check.proofs.Scales.{both_left, both_right}

@@ -1,10 +1,10 @@
 -- Common divisors and common multiples by divisibility.
-use Rattle.std.proofs.Common.{◌≡◌, ℕ, zero, suc, ◌+◌, ◌*◌, ◌/◌, ◌%◌, ◌<◌, ◌≤◌, List, [], ◌∷◌, arith, refl, sym, ◌∙◌, mul-pos, mul_comm, mul-lt-mul_of_pos_right}
+use Rattle.std.proofs.Common.{◌≡◌, ℕ, zero, suc, ◌+◌, ◌*◌, ◌/◌, ◌%◌, ◌<◌, ◌≤◌, arith, refl, ◌∙◌, mul-pos, mul_comm, mul-lt-mul_of_pos_right}
 use Rattle.std.specs.Int.{IsGcd, ◌∣◌}
 use Rattle.std.proofs.Math.Nat.{dvd-mul_right, mul-dvd-mul_left, dvd-mul_left_of_dvd, div-mul_cancel, one-dvd, zero-div, dvd_of_mul-dvd-mul_left}
 use Rattle.std.proofs.lemmas.Nat.{mod-mul-add, div-add-mod'}
 use Rattle.std.proofs.lemmas.Nat.Gcd.{IsGcd-from_zero, IsGcd-from_mod, same_from_IsGcd, dvd_refl, dvd-zero, dvd_trans, dvd_antisymm, le_of_dvd}
-use Rattle.query_check.specs.Multiples.{gcd_within, gcd, lcm, common_divisor}
+use Rattle.query_check.specs.Multiples.{gcd_within, gcd, lcm}
 
 gcd_within_is : (n a b : ℕ) → b ≤ n → IsGcd a b (gcd_within n a b)
 unfolding gcd_within

@@ -1,5 +1,5 @@
 -- The place of a name among the priors.
-use Rattle.std.proofs.Common.{◌≡◌, ℕ, List, [], ◌∷◌, Option, Some, None, length, ◌<◌, Bool, true, false, arith}
+use Rattle.std.proofs.Common.{◌≡◌, ℕ, List, Some, length, ◌<◌, Bool, arith}
 use Rattle.std.specs.Prelude.{position}
 use Rattle.std.proofs.lemmas.Bool.Decides.{nat_tests}
 

@@ -1,6 +1,6 @@
 -- The scaled trees of a list, from one place on, behind those that are made.
-use Rattle.std.proofs.Common.{◌≡◌, ℕ, List, [], ◌∷◌, ◌++◌, map, Option, length, drop, get_or, ◌<◌, ◌≤◌, ◌+◌, ◌*◌, ◌/◌, zero, suc, refl, sym, ap, arith, Bool, true, false, ◌⊎◌, inl, inr, ◌∙◌}
-use Rattle.std.specs.Prelude.{◌&&◌, ◌==◌}
+use Rattle.std.proofs.Common.{◌≡◌, ℕ, List, [], ◌∷◌, ◌++◌, map, Option, length, drop, get_or, ◌<◌, ◌≤◌, ◌+◌, ◌*◌, ◌/◌, zero, suc, refl, ap, arith, true, ◌⊎◌, inl, inr, ◌∙◌}
+use Rattle.std.specs.Prelude.{◌==◌}
 use Rattle.std.proofs.lemmas.Bool.Decides.{nat_tests}
 use Rattle.std.proofs.Math.Nat.{div-zero}
 use Rattle.std.proofs.lemmas.List.{map-append}
@@ -11,14 +11,14 @@ use Rattle.ri_base.specs.Expression.{ExprTree, expr_tree}
 use Rattle.ri_base.specs.Query as query
 use Rattle.ri_base.specs.Query.{BeliefTree, BeliefTrees, WeightedTrees, belief_tree, belief_trees, weighted_tree, weighted_trees}
 use Rattle.query_check.specs.Check.{weights, pruned, all_pruned, weighted_pruned, leaf_count, all_leaf_count, weighted_leaf_count, combined, weighed, greatest_of, tree_from, trees_from, weighted_trees_from}
-use Rattle.query_check.specs.Multiples.{lcm, common_divisor}
+use Rattle.query_check.specs.Multiples.{common_divisor}
 use Rattle.query_check.specs.Scale.{count, total, scale, common, weighted_common, is_scaled, are_scaled, are_weighted_scaled}
-use Rattle.query_check.specs.Trees.{ScaledTree, ScaledTrees, WeightedScaledTrees, leaf, combine, weight, greatest, none, more, none_weighted, more_weighted, scaled_tree, scaled_trees, weighted_scaled_tree, weighted_scaled_trees}
+use Rattle.query_check.specs.Trees.{ScaledTree, ScaledTrees, WeightedScaledTrees, leaf, none, more, none_weighted, more_weighted, scaled_tree, scaled_trees, weighted_scaled_tree, weighted_scaled_trees}
 use Rattle.query_check.specs.Scaling.{IsTooLarge}
 use Rattle.query_check.specs.declared.tree.Tree.{Tree}
 use Rattle.query_check.specs.declared.fault.CheckFault.{CheckFault}
 use Rattle.query_check.specs.declared.fault.CheckFault.TheVariants.{NoWeight, NoLeaf, ScaleTooLarge, UnknownPrior, Memory}
-use Rattle.query_check.proofs.MultipleLemmas.{lcm_positive, lcm_parts, le_lcm_left, le_lcm_right}
+use Rattle.query_check.proofs.MultipleLemmas.{lcm_parts, le_lcm_left, le_lcm_right}
 use Rattle.query_check.proofs.Walks.{drop_at, drop_end, weighted_kept, weighted_dropped}
 
 -- trees before those of an operator

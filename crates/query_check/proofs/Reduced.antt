@@ -1,6 +1,6 @@
 -- The weights of an operator, divided by their greatest common divisor, and the scale that is then above 0.
-use Rattle.std.proofs.Common.{◌≡◌, ℕ, List, [], ◌∷◌, map, ◌<◌, ◌≤◌, ◌+◌, ◌*◌, ◌/◌, zero, suc, refl, sym, ap, arith, Bool, true, false, ◌∙◌, mul-pos}
-use Rattle.std.specs.Prelude.{◌&&◌, ◌||◌, ◌==◌, nat_le}
+use Rattle.std.proofs.Common.{◌≡◌, ℕ, List, [], ◌∷◌, map, ◌<◌, ◌≤◌, ◌+◌, ◌*◌, ◌/◌, zero, suc, refl, sym, ap, arith, true, ◌∙◌, mul-pos}
+use Rattle.std.specs.Prelude.{◌&&◌, ◌==◌, nat_le}
 use Rattle.std.specs.Int.{◌∣◌}
 use Rattle.std.specs.List.{list_any}
 use Rattle.std.proofs.Math.Nat.{div-mul_cancel}
@@ -14,8 +14,8 @@ use Rattle.query_check.specs.Scale as scaled
 use Rattle.query_check.specs.Scale.{count, total, scale, common, weighted_common}
 use Rattle.query_check.specs.Trees.{ScaledTree, ScaledTrees, WeightedScaledTrees, leaf, combine, weight, greatest, none, more, none_weighted, more_weighted}
 use Rattle.query_check.proofs.Keeps.{both, test_same, test_at_most, at_most_of}
-use Rattle.query_check.proofs.MultipleLemmas.{gcd_is, gcd_positive, gcd_positive_left, gcd_times, lcm_positive, quotient_positive}
-use Rattle.query_check.proofs.Scales.{both_left, both_right, same_number}
+use Rattle.query_check.proofs.MultipleLemmas.{gcd_is, gcd_positive_left, gcd_times, lcm_positive, quotient_positive}
+use Rattle.query_check.proofs.Scales.{both_left, both_right}
 use Rattle.query_check.proofs.Walks.{weighted_kept}
 
 -- d divides each number of a list

@@ -1,14 +1,12 @@
 -- The scale of trees, from one place of a list on.
-use Rattle.std.proofs.Common.{◌≡◌, ℕ, List, [], ◌∷◌, ◌++◌, map, Option, None, Some, length, drop, get_or, ◌<◌, ◌≤◌, ◌+◌, ◌*◌, ◌^◌, zero, suc, refl, sym, ap, arith, Bool, true, false, ◌∙◌, mul-pos}
+use Rattle.std.proofs.Common.{◌≡◌, ℕ, List, map, length, drop, get_or, ◌<◌, ◌≤◌, ◌+◌, ◌*◌, refl, sym, arith, Bool, true, false, ◌∙◌}
 use Rattle.std.specs.Prelude.{◌==◌, ◌&&◌}
 use Rattle.std.proofs.lemmas.Bool.Decides.{nat_tests}
 use Rattle.query_check.specs.declared.tree.Tree.{Tree}
-use Rattle.query_check.specs.Limit.{below_limit}
 use Rattle.query_check.specs.Multiples.{lcm}
 use Rattle.query_check.specs.Scale.{count, total, scale, common, weighted_common, is_scaled, are_scaled, are_weighted_scaled}
-use Rattle.query_check.specs.Trees.{ScaledTree, ScaledTrees, WeightedScaledTrees, leaf, combine, weight, greatest, none, more, none_weighted, more_weighted, scaled_tree, scaled_trees, weighted_scaled_tree, weighted_scaled_trees}
-use Rattle.query_check.proofs.Limits.{below_is, beyond_is}
-use Rattle.query_check.proofs.MultipleLemmas.{lcm_positive, lcm_parts, lcm_assoc, lcm_of_one, lcm_one, lcm_step, le_lcm_left, le_lcm_right}
+use Rattle.query_check.specs.Trees.{ScaledTree, leaf, combine, weight, greatest, scaled_tree, scaled_trees, weighted_scaled_tree, weighted_scaled_trees}
+use Rattle.query_check.proofs.MultipleLemmas.{lcm_parts, lcm_one, lcm_step}
 use Rattle.query_check.proofs.Walks.{drop_at, drop_end}
 
 pub both_left : (a b : Bool) → (a && b) ≡ true → a ≡ true

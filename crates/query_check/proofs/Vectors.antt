@@ -1,11 +1,11 @@
 -- Worked queries, computed by the definitions alone.
-use Rattle.std.proofs.Common.{◌≡◌, ℕ, List, [], ◌∷◌, Ok, Err, None, refl}
+use Rattle.std.proofs.Common.{◌≡◌, ℕ, [], ◌∷◌, Ok, Err, None, refl}
 use Rattle.std.specs.Prelude.{codes}
 use Rattle.ri_base.specs.Expression as expr
 use Rattle.ri_base.specs.Query.{BeliefTree, QueryTree, combine, weight, greatest, prior, leaf, none, more, none_weighted, more_weighted}
 use Rattle.ri_base.specs.declared.query.Range.TheVariants.{Whole}
 use Rattle.query_check.specs.declared.fault.CheckFault.TheVariants.{NoWeight, NoLeaf, ScaleTooLarge, UnknownPrior}
-use Rattle.query_check.specs.Check.{CheckedTree, has_weights, have_weights, have_weights_weighted, weights, priors, all_priors, weighted_priors, pruned, all_pruned, weighted_pruned, prior_number, is_unknown, leaves_of, all_leaves, weighted_leaves, has_leaf, have_leaf, have_leaf_weighted, leaf_count, all_leaf_count, weighted_leaf_count, combined, weighed, greatest_of, tree_from, trees_from, weighted_trees_from, first_fault, checks}
+use Rattle.query_check.specs.Check.{has_weights, have_weights, have_weights_weighted, weights, priors, all_priors, weighted_priors, pruned, all_pruned, weighted_pruned, prior_number, is_unknown, leaves_of, all_leaves, weighted_leaves, has_leaf, have_leaf, have_leaf_weighted, leaf_count, all_leaf_count, weighted_leaf_count, combined, weighed, greatest_of, tree_from, trees_from, weighted_trees_from, first_fault, checks}
 use Rattle.query_check.specs.Leaves as leaves
 use Rattle.query_check.specs.Multiples.{gcd_within, gcd, lcm, common_divisor}
 use Rattle.query_check.specs.Scale.{count, total, scale, common, weighted_common}

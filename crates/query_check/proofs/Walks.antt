@@ -1,10 +1,10 @@
 -- What a definition says of the beliefs from one place of a list on.
 use Rattle.std.proofs.Common.{append_assoc, append-nil, ◌≡◌, ℕ, List, [], ◌∷◌, ◌++◌, map, Option, None, Some, length, drop, get_or, ◌<◌, ◌≤◌, ◌+◌, zero, suc, refl, sym, ap, arith, add-one, Bool, true, false, cond, ◌∙◌}
-use Rattle.std.specs.Prelude.{find, ◌==◌, ◌&&◌, ◌||◌, not}
+use Rattle.std.specs.Prelude.{find}
 use Rattle.std.specs.List.{list_any}
 use Rattle.std.proofs.lemmas.Bool.Decides.{nat_tests}
 use Rattle.ri_base.specs.declared.belief.Belief.{Belief}
-use Rattle.ri_base.specs.Query.{belief_tree, belief_trees, weighted_tree, weighted_trees, none, more, none_weighted, more_weighted, BeliefTree, WeightedTrees}
+use Rattle.ri_base.specs.Query.{belief_tree, belief_trees, weighted_tree, weighted_trees, none_weighted, more_weighted, BeliefTree, WeightedTrees}
 use Rattle.query_check.specs.Check.{weights, is_some_weight, has_weights, have_weights, have_weights_weighted, priors, all_priors, weighted_priors, pruned, all_pruned, weighted_pruned, has_leaf, have_leaf, have_leaf_weighted, leaves_of, all_leaves, weighted_leaves}
 use Rattle.query_check.specs.Leaves.{LeafTree}
 use Rattle.query_check.specs.Multiples.{gcd, common_divisor}

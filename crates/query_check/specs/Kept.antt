@@ -1,5 +1,5 @@
 -- What every checked query keeps.
-use Rattle.std.specs.Prelude.{◌≡◌, ◌≤◌, ◌<◌, ◌+◌, ◌^◌, ℕ, max, Bool, true, false, ◌&&◌, nat_lt, nat_le, ◌==◌, List, [], ◌∷◌, length}
+use Rattle.std.specs.Prelude.{◌≡◌, ◌≤◌, ◌<◌, ◌+◌, ◌^◌, ℕ, max, Bool, true, false, ◌&&◌, nat_lt, nat_le, ◌==◌, List, length}
 use Rattle.ri_base.specs.declared.query.Range.{Range}
 use Rattle.ri_base.specs.Query.{FilterTree, depth_in_filters, nodes_in_filters, are_filters, window_count, is_range}
 use Rattle.query_check.specs.Leaves.{LeafTree, leaf_depths, all_leaf_nodes, are_sound_leaves}

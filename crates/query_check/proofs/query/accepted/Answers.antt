@@ -1,9 +1,7 @@
-use Rattle.std.proofs.Common.{rules, arith, ◌≡◌, ◌<◌, ◌≤◌, ◌^◌, None, Some, Ok, Err, map, ap, refl, sym, true, ◌∙◌}
+use Rattle.std.proofs.Common.{rules, arith, ◌≡◌, None, Some, Err, map, refl, sym, true, ◌∙◌}
 use Rattle.std.specs.Prelude.{find}
 use Rattle.ri_base.specs.Query.{belief_tree, belief_trees, combine}
-use Rattle.query_check.specs.declared.fault.CheckFault.TheVariants.{UnknownPrior}
-use Rattle.query_check.specs.Check.{have_weights, have_leaf, all_pruned, has_weights, pruned, tree_from, is_unknown, all_priors, first_fault}
-use Rattle.query_check.specs.Scale.{scale}
+use Rattle.query_check.specs.Check.{have_weights, have_leaf, all_pruned, is_unknown, all_priors}
 use Rattle.query_check.proofs.Faults.{no_weight, no_leaf, positive, unknown, large_accepts, combined_weights}
 use Rattle.query_check.proofs.Keeps.{few_leaves}
 use Rattle.query_check.proofs.query.accepted.Goals as goal

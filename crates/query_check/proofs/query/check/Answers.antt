@@ -1,7 +1,7 @@
-use Rattle.std.proofs.Common.{rules, arith, ◌≡◌, ◌++◌, [], None, Ok, map, ap, refl, sym, ◌∙◌}
-use Rattle.ri_base.specs.Query.{belief_tree, belief_trees, filter_tree}
+use Rattle.std.proofs.Common.{rules, ◌≡◌, None, map, sym, ◌∙◌}
+use Rattle.ri_base.specs.Query.{belief_tree, belief_trees}
 use Rattle.ri_base.specs.Queries.{whole_tree}
-use Rattle.query_check.specs.Check.{all_pruned, pruned, tree_from, all_leaves, leaves_of, whole, first_fault}
+use Rattle.query_check.specs.Check.{all_pruned, pruned, tree_from, all_leaves, whole, first_fault}
 use Rattle.query_check.specs.Leaves.{leaf_tree}
 use Rattle.query_check.specs.Scale.{scale}
 use Rattle.query_check.specs.Trees.{scaled_tree}

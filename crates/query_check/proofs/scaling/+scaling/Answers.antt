@@ -1,15 +1,14 @@
-use Rattle.std.proofs.Common.{rules, arith, ◌≡◌, ◌<◌, ◌≤◌, ◌+◌, ◌++◌, [], ◌∷◌, Ok, Err, map, drop, ap, refl, sym, ◌∙◌}
+use Rattle.std.proofs.Common.{rules, arith, ◌≡◌, ◌<◌, ◌+◌, Err, map, ap, sym, ◌∙◌}
 use Rattle.ri_base.specs.declared.belief.Belief.{the_lemmas}
 use Rattle.ri_base.specs.Query as query
 use Rattle.ri_base.specs.Query.{belief_tree, belief_trees, weighted_tree, weighted_trees}
 use Rattle.ri_base.proofs.QueryLemmas.{belief_tree_laws}
 use Rattle.query_check.specs.Check.{pruned, all_pruned, weighted_pruned, leaf_count, all_leaf_count, weighted_leaf_count, weights, tree_from, trees_from, weighted_trees_from}
 use Rattle.query_check.specs.Multiples.{common_divisor}
-use Rattle.query_check.specs.Scale.{scale, common, weighted_common, are_scaled}
-use Rattle.query_check.specs.Scaling.{IsTooLarge, Scales}
-use Rattle.query_check.specs.Trees.{more, leaf, scaled_tree, scaled_trees, weighted_scaled_tree}
+use Rattle.query_check.specs.Scale.{scale, common, weighted_common}
+use Rattle.query_check.specs.Trees.{leaf, scaled_tree, weighted_scaled_tree}
 use Rattle.query_check.proofs.Combined.{combined_parts, combined_common, greatest_scale, greatest_le, weighed_parts, weighed_common}
-use Rattle.query_check.proofs.Numbering.{joined, joined_more, joined_none, more_common, trees_at, count_at, trees_end, count_end, weighted_joined_more, weighted_joined_none, more_weighted_common, weighted_trees_at, weighted_count_at, weighted_dropped_at, weighted_trees_end, weighted_count_end, weighted_trees_more, weighted_trees_scaled, trees_more, too_large_of, trees_scaled, combine_tree, combine_count, greatest_tree, greatest_count, weight_tree, weight_count, divisor_positive, no_operator_tree}
+use Rattle.query_check.proofs.Numbering.{joined_more, joined_none, more_common, trees_at, count_at, trees_end, count_end, weighted_joined_more, weighted_joined_none, more_weighted_common, weighted_trees_at, weighted_count_at, weighted_dropped_at, weighted_trees_end, weighted_count_end, weighted_trees_more, weighted_trees_scaled, trees_more, too_large_of, trees_scaled, combine_tree, combine_count, greatest_tree, greatest_count, weight_tree, weight_count, divisor_positive, no_operator_tree}
 use Rattle.query_check.proofs.TreeLemmas.{scaled_tree-Leaf}
 use Rattle.query_check.proofs.scaling.+scaling.Goals as goal
 

@@ -1,7 +1,6 @@
-use Rattle.std.proofs.Common.{rules, arith, ◌≡◌, ◌<◌, ◌+◌, Ok, Err, map, ap, refl, sym, ◌∙◌}
+use Rattle.std.proofs.Common.{rules, arith, ◌≡◌, Err, map, refl}
 use Rattle.ri_base.specs.Query.{belief_tree, belief_trees}
-use Rattle.query_check.specs.Check.{all_pruned, all_leaf_count, combined, trees_from}
-use Rattle.query_check.specs.Scale.{common}
+use Rattle.query_check.specs.Check.{combined}
 use Rattle.query_check.specs.Scaling.{Scales}
 use Rattle.query_check.specs.Trees.{scaled_tree, scaled_trees}
 use Rattle.query_check.proofs.Combined.{combined_parts, combined_common}

@@ -1,7 +1,7 @@
-use Rattle.std.proofs.Common.{rules, arith, ◌≡◌, ◌<◌, ◌≤◌, ◌^◌, None, Some, true, refl, sym, ◌∙◌}
+use Rattle.std.proofs.Common.{rules, arith, ◌≡◌, ◌≤◌, ◌^◌, None, Some, refl, sym, ◌∙◌}
 use Rattle.query_check.specs.Limit.{below_limit}
 use Rattle.query_check.specs.Multiples.{lcm}
-use Rattle.query_check.specs.Scale.{scale, is_scaled}
+use Rattle.query_check.specs.Scale.{scale}
 use Rattle.query_check.specs.Trees.{scaled_tree}
 use Rattle.query_check.proofs.Limits.{below_is, beyond_is, is_below, is_beyond}
 use Rattle.query_check.proofs.Scales.{scaled_at, common_next, common_end}

@@ -1,8 +1,8 @@
-use Rattle.std.proofs.Common.{rules, arith, ◌≡◌, ◌<◌, ◌*◌, ◌^◌, None, Some, length, map, ap, sym, ◌∙◌}
+use Rattle.std.proofs.Common.{rules, arith, ◌≡◌, ◌*◌, None, Some, length, map, sym, ◌∙◌}
 use Rattle.query_check.specs.Limit.{below_limit}
-use Rattle.query_check.specs.Scale.{count, common, scale}
-use Rattle.query_check.specs.Trees.{combine, scaled_tree, scaled_trees}
-use Rattle.query_check.proofs.Combined.{count_is, combined_is, combined_parts, combined_common, combined_too_large, combined_fits}
+use Rattle.query_check.specs.Scale.{common}
+use Rattle.query_check.specs.Trees.{scaled_tree, scaled_trees}
+use Rattle.query_check.proofs.Combined.{combined_is, combined_parts, combined_common, combined_too_large, combined_fits}
 use Rattle.query_check.proofs.Limits.{is_beyond}
 use Rattle.query_check.proofs.TreeLemmas.{scaled_tree-Combine}
 use Rattle.query_check.proofs.tree.Tree.combine.Goals as goal

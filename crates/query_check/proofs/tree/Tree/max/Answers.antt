@@ -1,7 +1,7 @@
-use Rattle.std.proofs.Common.{rules, arith, ◌≡◌, ◌<◌, ◌^◌, None, Some, map, sym, ◌∙◌}
+use Rattle.std.proofs.Common.{rules, ◌≡◌, None, Some, map, sym, ◌∙◌}
 use Rattle.query_check.specs.Limit.{below_limit}
-use Rattle.query_check.specs.Scale.{common, scale}
-use Rattle.query_check.specs.Trees.{greatest, scaled_tree, scaled_trees}
+use Rattle.query_check.specs.Scale.{common}
+use Rattle.query_check.specs.Trees.{scaled_tree, scaled_trees}
 use Rattle.query_check.proofs.Combined.{greatest_is, greatest_scale}
 use Rattle.query_check.proofs.Limits.{is_below, is_beyond}
 use Rattle.query_check.proofs.TreeLemmas.{scaled_tree-Max}

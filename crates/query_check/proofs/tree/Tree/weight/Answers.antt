@@ -1,7 +1,7 @@
-use Rattle.std.proofs.Common.{rules, arith, ◌≡◌, ◌<◌, ◌*◌, ◌^◌, None, Some, map, sym, ◌∙◌}
+use Rattle.std.proofs.Common.{rules, arith, ◌≡◌, ◌*◌, None, Some, map, sym, ◌∙◌}
 use Rattle.query_check.specs.Limit.{below_limit}
-use Rattle.query_check.specs.Scale.{total, weighted_common, scale}
-use Rattle.query_check.specs.Trees.{weight, scaled_tree, weighted_scaled_tree, weighted_scaled_trees}
+use Rattle.query_check.specs.Scale.{total, weighted_common}
+use Rattle.query_check.specs.Trees.{weighted_scaled_tree, weighted_scaled_trees}
 use Rattle.query_check.proofs.Combined.{weighed_is, weighed_parts, weighed_common, weighed_total, weighed_too_large, weighed_fits}
 use Rattle.query_check.proofs.Limits.{is_beyond}
 use Rattle.query_check.proofs.TreeLemmas.{scaled_tree-Weight}

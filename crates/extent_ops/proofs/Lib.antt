@@ -1,0 +1,4 @@
+pub mod ChainLemmas
+pub mod CoverLemmas
+pub mod MergeLemmas
+pub mod NearestLemmas

@@ -2,3 +2,4 @@ pub mod ChainLemmas
 pub mod CoverLemmas
 pub mod MergeLemmas
 pub mod NearestLemmas
+pub mod WindowLemmas

@@ -1,5 +1,5 @@
 -- Places in a list of extents, and how the least end of a range of begins is found.
-use Rattle.std.specs.Prelude.{◌≡◌, ℕ, ◌+◌, ◌-◌, ◌<◌, ◌≤◌, ◌&&◌, nat_lt, nat_le, Option, Some, None, if◌then◌else◌, List, length, slice_index, slice_index_or}
+use Rattle.std.specs.Prelude.{◌≡◌, ℕ, ◌+◌, ◌-◌, ◌<◌, ◌≤◌, ◌&&◌, nat_lt, nat_le, min, Option, Some, None, if◌then◌else◌, List, length, slice_index, slice_index_or}
 use Rattle.ri_base.specs.Pair.{Pair}
 
 abbrev pub begin_at : List Pair → ℕ → ℕ
@@ -28,3 +28,15 @@ Leads xs n low count =
 abbrev pub end_led : List Pair → ℕ → ℕ → Option ℕ
 end_led xs low count =
     if nat_lt 0 count && nat_le low (begin_at xs (count - 1)) then Some (end_at xs (count - 1)) else None
+
+-- the lesser of an end and what may be one
+abbrev pub least_with : ℕ → Option ℕ → Option ℕ
+least_with end None = Some end
+least_with end (Some other) = Some (min end other)
+
+-- the extents from place `from` on begin at `low` or behind, and this is their least end
+pub record IsTail (xs : List Pair) (low from : ℕ) (found : Option ℕ) : Type 0 where
+  pub within : from ≤ length xs
+  pub behind : (k : ℕ) → from ≤ k → k < length xs → low ≤ begin_at xs k
+  pub only : (m : ℕ) → found ≡ Some m → (k : ℕ) × (from ≤ k) × (k < length xs) × (end_at xs k ≡ m)
+  pub least : (k : ℕ) → from ≤ k → k < length xs → (m : ℕ) × (found ≡ Some m) × (m ≤ end_at xs k)

@@ -39,6 +39,10 @@ IsChain n (R ∷ S ∷ rest) b e = Joins n R (IsChain n (S ∷ rest)) b e
 abbrev pub HasInside : (ℕ → ℕ → Type 0) → ℕ → ℕ → Type 0
 HasInside R b e = (from : ℕ) × (to : ℕ) × R from to × IsInside from to b e
 
+-- from the begin of an extent of the first set so far that it and one of the second set are inside
+abbrev pub Widens : (ℕ → ℕ → Type 0) → (ℕ → ℕ → Type 0) → ℕ → ℕ → Type 0
+Widens R S b e = (to : ℕ) × R b to × (to ≤ e) × HasInside S b e
+
 -- each set has an extent inside the one from b to e
 abbrev pub HasEachInside : List (ℕ → ℕ → Type 0) → ℕ → ℕ → Type 0
 HasEachInside [] b e = ⊤

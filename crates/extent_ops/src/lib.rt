@@ -5,3 +5,4 @@ mod ends;
 mod nearest;
 mod ordered;
 mod union;
+mod unordered;

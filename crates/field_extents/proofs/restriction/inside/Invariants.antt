@@ -1,0 +1,5 @@
+use Rattle.field_extents.proofs.ReachLemmas.{HasReached}
+use Rattle.field_extents.proofs.restriction.inside.Given as goal
+
+abbrev pub invariant-loop-extent : goal.invariant-loop-extent
+invariant-loop-extent l = HasReached l.extent-items l.spans l.name l.extent-index l.begun l.reach l.kept

@@ -1,11 +1,15 @@
 -- Lists of extents by recursion, for the functions that go over them.
-use Rattle.std.specs.Prelude.{◌≡◌, ℕ, ◌<◌, ◌≤◌, ◌==◌, ◌&&◌, ◌||◌, nat_lt, Bool, min, List, [], ◌∷◌, ◌⊎◌, ⊤, Option, Some, map, if◌then◌else◌}
+use Rattle.std.specs.Prelude.{◌≡◌, ℕ, ◌+◌, ◌<◌, ◌≤◌, ◌==◌, ◌&&◌, ◌||◌, nat_lt, Bool, min, List, [], ◌∷◌, ◌⊎◌, ⊤, Option, Some, map, if◌then◌else◌}
 use Rattle.ri_base.specs.Pair.{Pair}
 use Rattle.extent_ops.specs.Listing.{IsBefore}
 
 -- the test whether one extent stands before another
 abbrev pub is_earlier : Pair → Pair → Bool
 is_earlier x y = nat_lt x.begin y.begin || (x.begin == y.begin && nat_lt x.end y.end)
+
+-- the extent of one token
+abbrev pub extent_at : ℕ → Pair
+extent_at place = record { begin = place; end = place + 1 }
 
 -- the list has the extent from b to e
 abbrev pub Has : List Pair → ℕ → ℕ → Type 0

@@ -1,7 +1,9 @@
 //! The extents of an expression in a document.
 #![tactic(auto)]
 
+mod band;
 mod ends;
+mod leaves;
 mod nearest;
 mod ordered;
 mod union;

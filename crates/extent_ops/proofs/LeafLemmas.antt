@@ -91,10 +91,10 @@ abbrev pub named : List ℕ → List Field → List Pair
 named f [] = []
 named f (s ∷ rest) = cond (bytes_eq s.name f) (record { begin = s.begin; end = s.end } ∷ named f rest) (named f rest)
 
-AllPairs-head : {X : Type 0} (R : X → X → Type 0) (x : X) (xs : List X) → AllPairs R (x ∷ xs) → All (R x) xs
+pub AllPairs-head : {X : Type 0} (R : X → X → Type 0) (x : X) (xs : List X) → AllPairs R (x ∷ xs) → All (R x) xs
 AllPairs-head R x xs h = λ k d inside. h zero (suc k) d (omega arith) (omega (arith, inside))
 
-AllPairs-tail : {X : Type 0} (R : X → X → Type 0) (x : X) (xs : List X) → AllPairs R (x ∷ xs) → AllPairs R xs
+pub AllPairs-tail : {X : Type 0} (R : X → X → Type 0) (x : X) (xs : List X) → AllPairs R (x ∷ xs) → AllPairs R xs
 AllPairs-tail R x xs h = λ i j d lower inside. h (suc i) (suc j) d (omega (arith, lower)) (omega (arith, inside))
 
 never_before_itself : (x y : List ℕ) → slice_cmp nat_cmp x y ≡ Less → x ≡ y → ⊥
@@ -104,19 +104,19 @@ never_before_itself x y less same =
     let clash : Less ≡ Equal = sym again ∙ tied in
     cc
 
-field_here : (s : Field) (rest : List Field) (f : List ℕ) (b e : ℕ) → s.name ≡ f → s.begin ≡ b → s.end ≡ e → IsField (s ∷ rest) f b e
+pub field_here : (s : Field) (rest : List Field) (f : List ℕ) (b e : ℕ) → s.name ≡ f → s.begin ≡ b → s.end ≡ e → IsField (s ∷ rest) f b e
 field_here s rest f b e p q r =
     let make : List ℕ → ℕ → ℕ → Field = λ n from to. record { name = n; begin = from; end = to } in
     (zero, omega arith, ap (λ (n : List ℕ). make n s.begin s.end) p ∙ ap (λ (from : ℕ). make f from s.end) q ∙ ap (λ (to : ℕ). make f b to) r)
 
-field_later : (s : Field) (rest : List Field) (f : List ℕ) (b e : ℕ) → IsField rest f b e → IsField (s ∷ rest) f b e
+pub field_later : (s : Field) (rest : List Field) (f : List ℕ) (b e : ℕ) → IsField rest f b e → IsField (s ∷ rest) f b e
 field_later s rest f b e h = (suc h.0, omega (arith, h.1), h.2)
 
-field_cases : (s : Field) (rest : List Field) (f : List ℕ) (b e : ℕ) → IsField (s ∷ rest) f b e → ((s.name ≡ f) × (s.begin ≡ b) × (s.end ≡ e)) ⊎ IsField rest f b e
+pub field_cases : (s : Field) (rest : List Field) (f : List ℕ) (b e : ℕ) → IsField (s ∷ rest) f b e → ((s.name ≡ f) × (s.begin ≡ b) × (s.end ≡ e)) ⊎ IsField rest f b e
 field_cases s rest f b e (zero, inside, is) = inl (ap (λ (x : Field). x.name) is, ap (λ (x : Field). x.begin) is, ap (λ (x : Field). x.end) is)
 field_cases s rest f b e (suc k, inside, is) = inr (k, omega (arith, inside), is)
 
-field_none : (f : List ℕ) (b e : ℕ) → IsField [] f b e → ⊥
+pub field_none : (f : List ℕ) (b e : ℕ) → IsField [] f b e → ⊥
 field_none f b e (k, inside, is) = omega (arith, inside)
 
 record IsNamed (f : List ℕ) (spans : List Field) (zs : List Pair) : Type 0 where

@@ -6,6 +6,7 @@ use Rattle.extent_ops.specs.Nearest.{IsTail, begin_at, end_at, least_with}
 use Rattle.extent_ops.specs.Operators.{HasEachInside, HasInside, IsInSome, IsInside, IsLeastEnd, IsWindow, Widens}
 use Rattle.extent_ops.specs.Rows.{BeginsAfter, Covers, Has, IsAscending, IsBeforeAll, IsLeastOf, IsRising, Lists, sets}
 use Rattle.extent_ops.proofs.CoverLemmas.{BeginsFrom, BeginsFrom-ascending, CoversFrom, Lists-covers, drop_before}
+use Rattle.extent_ops.proofs.FilterLemmas.{IsFiltered-filter, pair}
 use Rattle.extent_ops.proofs.NearestLemmas.{Has-at, Has-from}
 
 -- ---- the tail of a list
@@ -218,44 +219,17 @@ module _ (n : ℕ) where
   abbrev is_narrow : Pair → Bool
   is_narrow x = nat_le x.end (x.begin + n)
 
-  record IsNarrow (xs zs : List Pair) : Type 0 where
-    after : (b : ℕ) → BeginsAfter b xs → BeginsAfter b zs
-    rising : IsRising xs → IsRising zs
-    only : (b e : ℕ) → Has zs b e → Has xs b e × (e ≤ b + n)
-    all : (b e : ℕ) → Has xs b e → e ≤ b + n → Has zs b e
+  narrow-true : (b e : ℕ) → is_narrow (pair b e) ≡ true → e ≤ b + n
+  narrow-true b e h = grind (arith, nat_tests)
 
-  narrowed : (xs : List Pair) → IsNarrow xs (filter is_narrow xs)
-  narrowed [] = record {
-    after = λ b h. tt;
-    rising = λ h. tt;
-    only = λ b e h. absurd h;
-    all = λ b e h p. absurd h;
-  }
-  narrowed (x ∷ xs) = by (is_narrow x) refl (narrowed xs)
-    where
-      by : (v : Bool) → is_narrow x ≡ v → IsNarrow xs (filter is_narrow xs) → IsNarrow (x ∷ xs) (cond v (x ∷ filter is_narrow xs) (filter is_narrow xs))
-      by true h m =
-          let le : x.end ≤ x.begin + n = grind (arith, nat_tests) in
-          record {
-            after = λ b k. (k.0, m.after b k.1);
-            rising = λ k. (m.after x.begin k.0, m.rising k.1);
-            only = λ b e. ⊎_elim (λ k. (inl k, omega (arith, k.0, k.1))) (λ k. let w = m.only b e k in (inr w.0, w.1));
-            all = λ b e k p. ⊎_elim (λ u. inl u) (λ u. inr (m.all b e u p)) k;
-          }
-      by false h m =
-          let more : x.begin + n < x.end = grind (arith, nat_tests) in
-          record {
-            after = λ b k. m.after b k.1;
-            rising = λ k. m.rising k.1;
-            only = λ b e k. let w = m.only b e k in (inr w.0, w.1);
-            all = λ b e k p. ⊎_elim (λ u. absurd (omega (arith, u.0, u.1, p))) (λ u. m.all b e u p) k;
-          }
+  true-narrow : (b e : ℕ) → e ≤ b + n → is_narrow (pair b e) ≡ true
+  true-narrow b e h = grind (arith, nat_tests)
 
   pub Lists-windows : (all : List (List Pair)) (xs zs : List Pair) → Covers (Encloses all all) xs → zs ≡ filter (λ x. nat_le x.end (x.begin + n)) xs → Lists (IsLeastEnd (IsWindow n (sets all))) zs
   Lists-windows all xs zs c is =
-      let m = narrowed xs in
+      let m = IsFiltered-filter is_narrow xs in
       rw is (Lists-covers (IsWindow n (sets all)) (filter is_narrow xs) (record {
         rising = m.rising c.rising;
-        only = λ b e h. let w = m.only b e h in let u = c.only b e w.0 in record { narrow = w.1; each = u.0; begins = u.1 };
-        least = λ b e h. let w = c.least b e (h.each, h.begins) in (w.0, m.all b w.0 w.1 (omega (arith, w.2, h.narrow)), w.2);
+        only = λ b e h. let w = m.only b e h in let u = c.only b e w.0 in record { narrow = narrow-true b e w.1; each = u.0; begins = u.1 };
+        least = λ b e h. let w = c.least b e (h.each, h.begins) in (w.0, m.all b w.0 w.1 (true-narrow b w.0 (omega (arith, w.2, h.narrow))), w.2);
       }))

@@ -3,8 +3,11 @@
 
 mod band;
 mod ends;
+mod evaluation;
 mod leaves;
 mod nearest;
 mod ordered;
 mod union;
 mod unordered;
+
+pub use evaluation::extents;

@@ -1,11 +1,10 @@
 -- all of several
-use Rattle.std.proofs.Common.{◌≡◌, ◌≢◌, ℕ, zero, suc, ◌<◌, ◌⊎◌, inl, inr, ⊎_elim, List, [], ◌∷◌, refl, sym, subst, arith}
+use Rattle.std.proofs.Common.{◌≡◌, ◌≢◌, ℕ, ◌<◌, ◌⊎◌, inl, ⊎_elim, List, [], ◌∷◌, refl, sym, subst, arith}
 use Rattle.std.specs.List.{All}
 use Rattle.std.proofs.lemmas.List.Elements.{All-cons, All-head, All-nil, All-tail}
 use Rattle.ri_base.specs.Pair.{Pair}
 use Rattle.extent_ops.specs.Operators.{HasEach}
 use Rattle.extent_ops.specs.Rows.{Has, Lists, sets}
-
 
 one_of : (xs : List Pair) → xs ≢ [] → (b : ℕ) × (e : ℕ) × Has xs b e
 one_of [] some = absurd (some refl)

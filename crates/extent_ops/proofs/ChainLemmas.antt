@@ -1,5 +1,5 @@
 -- chains of extents
-use Rattle.std.proofs.Common.{◌≡◌, ℕ, ◌+◌, ◌-◌, ◌<◌, ◌≤◌, ◌⊎◌, inl, inr, ⊎_elim, Option, Some, None, List, [], ◌∷◌, length, drop, get_or, refl, sym, subst, arith, length-drop}
+use Rattle.std.proofs.Common.{◌≡◌, ℕ, ◌-◌, ◌<◌, ◌≤◌, ◌⊎◌, inl, inr, ⊎_elim, Some, None, List, [], ◌∷◌, length, drop, get_or, refl, sym, subst, arith, length-drop}
 use Rattle.ri_base.specs.Pair.{Pair}
 use Rattle.extent_ops.specs.Operators.{Follows, IsChain, IsLeastEnd, Joins}
 use Rattle.extent_ops.specs.Rows.{Covers, Has, IsAscending, IsLeastOf, Lists, sets, with_least}

@@ -1,10 +1,9 @@
 -- the least end for each begin
-use Rattle.std.proofs.Common.{◌≡◌, ℕ, ◌+◌, ◌<◌, ◌≤◌, ◌⊎◌, inl, inr, ⊎_elim, Bool, true, false, cond, ◌==◌, min, ◌-◌, zero, suc, List, [], ◌∷◌, length, drop, get_or, refl, sym, ap, subst, arith}
+use Rattle.std.proofs.Common.{◌≡◌, ℕ, ◌+◌, ◌<◌, ◌≤◌, ◌⊎◌, inl, inr, ⊎_elim, Bool, true, false, cond, ◌==◌, min, ◌-◌, zero, suc, List, [], ◌∷◌, length, drop, get_or, refl, subst, arith}
 use Rattle.std.specs.Bool.{⊤}
 use Rattle.std.proofs.lemmas.List.{drop_more}
 use Rattle.std.proofs.lemmas.Bool.Decides.{nat_tests}
 use Rattle.ri_base.specs.Pair.{Pair}
-use Rattle.extent_ops.specs.Listing.{IsBefore}
 use Rattle.extent_ops.specs.Operators.{IsLeastEnd}
 use Rattle.extent_ops.specs.Rows.{BeginsAfter, Covers, Has, IsAscending, IsBeforeAll, IsRising, Lists, with_least}
 

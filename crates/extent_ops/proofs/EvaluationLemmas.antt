@@ -1,14 +1,14 @@
 -- the extents of an operator, of the lists of its arguments
-use Rattle.std.proofs.Common.{◌≡◌, ℕ, zero, suc, ◌+◌, ◌<◌, List, [], ◌∷◌, ◌++◌, filter, map, Vec, Box, Global, add-one, arith, length, get_or, take, refl, ap, ◌∙◌}
-use Rattle.std.specs.List.{All, AllPairs, AllZip}
+use Rattle.std.proofs.Common.{◌≡◌, ℕ, zero, suc, ◌+◌, ◌<◌, List, [], ◌∷◌, ◌++◌, filter, map, Vec, Box, Global, add-one, arith, length, get_or, take}
+use Rattle.std.specs.List.{AllZip}
 use Rattle.field_extents.specs.Fields.{lies_in_some}
-use Rattle.ri_base.specs.Documents.{Document, Field, IsBefore as IsFieldBefore}
-use Rattle.ri_base.specs.Expression.{ExprTree, ExprTrees, expr_tree, expr_trees, any, band, in_field, ordered, syn, unordered, word}
+use Rattle.ri_base.specs.Documents.{Document, Field}
+use Rattle.ri_base.specs.Expression.{ExprTree, expr_tree, expr_trees, any, band, in_field, ordered, syn, unordered, word}
 use Rattle.ri_base.specs.Pair.{Pair}
 use Rattle.ri_base.specs.Places.{places}
-use Rattle.ri_base.specs.declared.expression.ExtentExpr.{ExtentExpr, Word, Any, Ordered, Unordered, Syn, Band, InField}
-use Rattle.ri_base.proofs.ExpressionLemmas.{expr_tree-Word, expr_tree-Any, expr_tree-Ordered, expr_tree-Unordered, expr_tree-Syn, expr_tree-Band, expr_tree-InField}
-use Rattle.extent_ops.specs.Extents.{Ext, Exts, IsField, LiesInField}
+use Rattle.ri_base.specs.declared.expression.ExtentExpr.{ExtentExpr, Any, Ordered, Unordered, Syn, Band, InField}
+use Rattle.ri_base.proofs.ExpressionLemmas.{expr_tree-Any, expr_tree-Ordered, expr_tree-Unordered, expr_tree-Syn, expr_tree-Band, expr_tree-InField}
+use Rattle.extent_ops.specs.Extents.{Ext, Exts, IsField}
 use Rattle.extent_ops.specs.Operators.{HasEach, IsChain, IsInSome, IsLeastEnd, IsWindow}
 use Rattle.extent_ops.specs.Rows.{Lists, extent_at, sets}
 use Rattle.extent_ops.proofs.BandLemmas.{IsWhole}

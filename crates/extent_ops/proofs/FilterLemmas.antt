@@ -1,7 +1,5 @@
 -- the extents of a list that pass a test
-use Rattle.std.proofs.Common.{◌≡◌, ℕ, ◌+◌, ◌<◌, ◌≤◌, ◌⊎◌, inl, inr, ⊎_elim, Bool, true, false, cond, ◌&&◌, ◌||◌, nat_le, List, [], ◌∷◌, filter, length, refl, sym, ap, ◌∙◌, subst, arith}
-use Rattle.std.specs.Bool.{Decides}
-use Rattle.std.specs.List.{list_any}
+use Rattle.std.proofs.Common.{◌≡◌, ℕ, ◌≤◌, ◌⊎◌, inl, inr, ⊎_elim, Bool, true, false, cond, ◌&&◌, ◌||◌, nat_le, List, [], ◌∷◌, filter, refl, sym, ap, ◌∙◌, subst, arith}
 use Rattle.std.specs.Str.{bytes_eq}
 use Rattle.std.proofs.lemmas.Bool.{true≢false}
 use Rattle.std.proofs.lemmas.Bool.Decides.{nat_tests}
@@ -9,8 +7,7 @@ use Rattle.std.proofs.lemmas.Slice.Eq.{bytes_eq-Decides}
 use Rattle.field_extents.specs.Fields.{lies_in, lies_in_some}
 use Rattle.ri_base.specs.Documents.{Field}
 use Rattle.ri_base.specs.Pair.{Pair}
-use Rattle.extent_ops.specs.Extents.{IsField, LiesInField}
-use Rattle.extent_ops.specs.Operators.{IsInside}
+use Rattle.extent_ops.specs.Extents.{LiesInField}
 use Rattle.extent_ops.specs.Rows.{BeginsAfter, Has, IsAscending, IsBeforeAll, IsRising, Lists}
 use Rattle.extent_ops.proofs.LeafLemmas.{field_cases, field_here, field_later, field_none}
 

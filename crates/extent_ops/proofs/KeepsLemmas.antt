@@ -1,5 +1,5 @@
 -- two calls in a row
-use Rattle.std.proofs.Common.{◌≡◌, ℕ, ◌+◌, ◌-◌, ◌^◌, ◌≤◌, min, List, ◌∙◌, arith}
+use Rattle.std.proofs.Common.{ℕ, ◌≤◌, List, ◌∙◌, arith}
 use Rattle.ri_base.specs.Documents.{Document}
 use Rattle.ri_base.specs.Keeps.{Keeps, Rose}
 

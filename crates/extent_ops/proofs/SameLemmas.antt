@@ -1,5 +1,5 @@
 -- the operators on sets that have the same extents
-use Rattle.std.proofs.Common.{ℕ, ◌≤◌, ◌⊎◌, inl, inr, ⊎_elim, List, [], ◌∷◌}
+use Rattle.std.proofs.Common.{ℕ, inl, inr, ⊎_elim, List, [], ◌∷◌}
 use Rattle.std.specs.Bool.{⊤}
 use Rattle.ri_base.specs.Pair.{Pair}
 use Rattle.extent_ops.specs.Operators.{HasEach, HasEachInside, IsChain, IsInSome, IsLeastEnd, IsWindow}

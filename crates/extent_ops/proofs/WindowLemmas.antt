@@ -1,11 +1,11 @@
 -- unordered windows
-use Rattle.std.proofs.Common.{◌≡◌, ℕ, ◌+◌, ◌-◌, ◌<◌, ◌≤◌, ◌⊎◌, inl, inr, ⊎_elim, Bool, true, false, cond, nat_le, nat_lt, min, max, Option, Some, None, zero, suc, List, [], ◌∷◌, ◌++◌, filter, length, drop, get_or, refl, sym, ◌∙◌, ap, subst, arith, length-drop}
+use Rattle.std.proofs.Common.{◌≡◌, ℕ, ◌+◌, ◌-◌, ◌<◌, ◌≤◌, ◌⊎◌, inl, inr, ⊎_elim, Bool, true, false, nat_le, nat_lt, min, max, Option, Some, None, zero, suc, List, [], ◌∷◌, filter, length, drop, get_or, refl, sym, ◌∙◌, ap, subst, arith}
 use Rattle.std.proofs.lemmas.Bool.Decides.{nat_tests}
 use Rattle.ri_base.specs.Pair.{Pair}
 use Rattle.extent_ops.specs.Nearest.{IsTail, begin_at, end_at, least_with}
-use Rattle.extent_ops.specs.Operators.{HasEachInside, HasInside, IsInSome, IsInside, IsLeastEnd, IsWindow, Widens}
-use Rattle.extent_ops.specs.Rows.{BeginsAfter, Covers, Has, IsAscending, IsBeforeAll, IsLeastOf, IsRising, Lists, sets}
-use Rattle.extent_ops.proofs.CoverLemmas.{BeginsFrom, BeginsFrom-ascending, CoversFrom, Lists-covers, drop_before}
+use Rattle.extent_ops.specs.Operators.{HasEachInside, HasInside, IsInSome, IsLeastEnd, IsWindow, Widens}
+use Rattle.extent_ops.specs.Rows.{BeginsAfter, Covers, Has, IsAscending, IsLeastOf, IsRising, Lists, sets}
+use Rattle.extent_ops.proofs.CoverLemmas.{BeginsFrom, BeginsFrom-ascending, Lists-covers, drop_before}
 use Rattle.extent_ops.proofs.FilterLemmas.{IsFiltered-filter, pair}
 use Rattle.extent_ops.proofs.NearestLemmas.{Has-at, Has-from}
 

@@ -1,4 +1,4 @@
-use Rattle.std.proofs.Common.{◌≡◌, inl, inr, arith}
+use Rattle.std.proofs.Common.{inl, inr, arith}
 use Rattle.std.proofs.lemmas.Grind.{common_steps}
 use Rattle.extent_ops.proofs.BandLemmas.{Lists-not_whole, Lists-whole}
 use Rattle.extent_ops.proofs.band.whole_if_each.Goals as goal

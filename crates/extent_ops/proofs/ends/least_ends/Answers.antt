@@ -1,4 +1,4 @@
-use Rattle.std.proofs.Common.{arith, refl}
+use Rattle.std.proofs.Common.{arith}
 use Rattle.extent_ops.proofs.CoverLemmas.{least_ends_step}
 use Rattle.extent_ops.proofs.ends.least_ends.Goals as goal
 

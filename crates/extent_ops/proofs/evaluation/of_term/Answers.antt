@@ -1,4 +1,4 @@
-use Rattle.std.proofs.Common.{◌≡◌, refl}
+use Rattle.std.proofs.Common.{refl}
 use Rattle.extent_ops.proofs.EvaluationLemmas.{lists_word}
 use Rattle.extent_ops.proofs.ListingLemmas.{IsAscending-places}
 use Rattle.extent_ops.proofs.evaluation.of_term.Goals as goal

@@ -1,5 +1,4 @@
-use Rattle.std.proofs.Common.{◌≡◌, ◌+◌, ◌<◌, ◌≤◌, ◌-◌, ℕ, arith}
-use Rattle.extent_ops.specs.Nearest.{begin_at}
+use Rattle.std.proofs.Common.{arith}
 use Rattle.extent_ops.proofs.NearestLemmas.{IsLeastOf-led, Leads-on}
 use Rattle.extent_ops.proofs.nearest.least_following.Goals as goal
 

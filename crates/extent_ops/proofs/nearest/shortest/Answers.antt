@@ -1,6 +1,5 @@
-use Rattle.std.proofs.Common.{◌<◌, ◌-◌, slice_index, arith}
+use Rattle.std.proofs.Common.{◌-◌, slice_index, arith}
 use Rattle.std.proofs.lemmas.Grind.{common_steps}
-use Rattle.extent_ops.specs.Nearest.{begin_at}
 use Rattle.extent_ops.proofs.NearestLemmas.{before_stop}
 use Rattle.extent_ops.proofs.nearest.shortest.Goals as goal
 use Rattle.extent_ops.proofs.nearest.shortest.Goals.{then-next-eq0-via-then-next-eq0, then-next-eq0-via-else-next-eq0+then-begin-low}

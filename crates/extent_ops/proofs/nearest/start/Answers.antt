@@ -1,4 +1,4 @@
-use Rattle.std.proofs.Common.{◌≡◌, ◌+◌, ◌<◌, ltb, true, false, get_or, rules, arith}
+use Rattle.std.proofs.Common.{◌≡◌, ◌+◌, ltb, true, false, get_or, rules, arith}
 use Rattle.std.specs.List.Sorted.{IsPartitionPoint}
 use Rattle.std.proofs.lemmas.List.Sorted.{IsPartitionedBy-ltb, IsPartitionPoint-from_clause}
 use Rattle.std.proofs.lemmas.Bool.Decides.{nat_tests}

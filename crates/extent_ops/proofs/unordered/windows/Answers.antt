@@ -1,7 +1,6 @@
 use Rattle.std.proofs.Common.{◌≡◌, arith}
-use Rattle.std.proofs.lemmas.Grind.{common_steps}
 use Rattle.std.proofs.lemmas.Result.{IfOk-weaker}
-use Rattle.extent_ops.proofs.WindowLemmas.{Covers-begins, Covers-widened_step, Lists-windows}
+use Rattle.extent_ops.proofs.WindowLemmas.{Covers-widened_step, Lists-windows}
 use Rattle.extent_ops.proofs.unordered.windows.Goals as goal
 
 pub loop-i-preserved : goal.loop-i-preserved

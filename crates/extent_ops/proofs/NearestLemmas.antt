@@ -1,6 +1,6 @@
 -- the least end of a range of begins
-use Rattle.std.proofs.Common.{◌≡◌, ℕ, ◌+◌, ◌-◌, ◌<◌, ◌≤◌, inl, inr, ⊎_elim, Bool, true, false, cond, ◌&&◌, nat_le, nat_lt, Some, None, zero, suc, List, [], ◌∷◌, length, refl, subst, arith}
-use Rattle.std.specs.List.Sorted.{IsNonDecreasingBy}
+use Rattle.std.proofs.Common.{◌≡◌, ℕ, ◌+◌, ◌-◌, ◌<◌, ◌≤◌, inl, inr, ⊎_elim, Bool, true, false, cond, ◌&&◌, nat_le, nat_lt, ltb, get_or, Some, None, zero, suc, List, [], ◌∷◌, length, refl, subst, arith}
+use Rattle.std.specs.List.Sorted.{IsNonDecreasingBy, IsPartitionPoint}
 use Rattle.std.proofs.lemmas.List.Sorted.{IsNonDecreasingBy-from_default}
 use Rattle.std.proofs.lemmas.Bool.Decides.{nat_tests}
 use Rattle.ri_base.specs.Pair.{Pair}
@@ -152,3 +152,31 @@ Leads-past xs n low count past = λ k at_least in_list in_range. absurd (omega (
 
 pub begins_do_not_fall : (xs : List Pair) → IsRising xs → IsNonDecreasingBy (λ (x : Pair). x.begin) xs
 begins_do_not_fall xs up = IsNonDecreasingBy-from_default (λ (x : Pair). x.begin) xs (record { begin = 0; end = 0 }) (begins_no_later xs up)
+
+-- what a search for `top` among rising begins says
+point_at : (xs : List Pair) (top count : ℕ) → IsPartitionPoint (λ (x : Pair). ltb x.begin top ≡ true) (λ (x : Pair). ltb x.begin top ≡ false) xs count → (k : ℕ) → k < count → begin_at xs k < top
+point_at xs top count p k lower =
+    let none : Pair = record { begin = 0; end = 0 } in
+    let h : ltb (get_or xs k none).begin top ≡ true = p.0 k none (omega arith) lower in
+    grind (arith, nat_tests)
+
+pub point_last : (xs : List Pair) (top count : ℕ) → count ≤ length xs → IsPartitionPoint (λ (x : Pair). ltb x.begin top ≡ true) (λ (x : Pair). ltb x.begin top ≡ false) xs count → 0 < count → begin_at xs (count - 1) < top
+point_last xs top count within p some = point_at xs top count p (count - 1) (omega arith)
+
+pub point_others : (xs : List Pair) (top count : ℕ) → IsPartitionPoint (λ (x : Pair). ltb x.begin top ≡ true) (λ (x : Pair). ltb x.begin top ≡ false) xs count → (k : ℕ) → count ≤ k → k < length xs → top ≤ begin_at xs k
+point_others xs top count p k at_least inside =
+    let none : Pair = record { begin = 0; end = 0 } in
+    let h : ltb (get_or xs k none).begin top ≡ false = p.1 k none at_least inside in
+    grind (arith, nat_tests)
+
+-- a search stays below a place whose begin isn't below `top`
+pub count_within : (xs : List Pair) → IsRising xs → (top count place : ℕ) → 0 < place → place ≤ length xs → top ≤ begin_at xs (place - 1) → count ≤ length xs → (0 < count → begin_at xs (count - 1) < top) → count ≤ place
+count_within xs up top count place some inside past within last = by (nat_lt place count) refl
+  where
+    by : (v : Bool) → nat_lt place count ≡ v → count ≤ place
+    by true h =
+        let more : place < count = grind (arith, nat_tests) in
+        let rises : begin_at xs (place - 1) ≤ begin_at xs (count - 1) = begins_no_later xs up (place - 1) (count - 1) (omega arith) (omega arith) in
+        let below : begin_at xs (count - 1) < top = last (omega arith) in
+        absurd (omega arith)
+    by false h = grind (arith, nat_tests)

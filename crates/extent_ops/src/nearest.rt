@@ -7,6 +7,9 @@ ghost use Rattle.extent_ops.specs.Rows.{IsLeastOf, IsRising};
 use ri_base::{Extent, NoMemory};
 use std::alloc::Global;
 
+/// How many extents are looked at one by one before a search.
+const NEAR: usize = 16;
+
 /// For each extent the number of extents up to the last one before it that ends earlier, and 0 where none does.
 pub fn shorter_before(alloc: Global, ys: &[Extent]) -> Result<Vec<usize>, NoMemory>
     ensures { IfOk result (λ v. IsShorter ys.now v.items) }
@@ -40,7 +43,7 @@ pub struct Reach {
 }
 
 /// The least end of the extents that follow the end `low`. Where `low` falls from call to call, `count` falls too, so
-/// all calls together take a step for each extent.
+/// all calls together take a step for each extent. Where it rises, the place is searched for.
 pub fn least_following(
     reach: &mut Reach,
     ys: &[Extent],
@@ -77,7 +80,16 @@ fn start(reach: &Reach, ys: &[Extent], n: u32, low: u32) -> usize
     if low <= reach.low {
         return reach.count;
     }
-    let top = u64::from(low) + u64::from(n);
+    count_below(ys, u64::from(low) + u64::from(n))
+}
+
+/// How many extents begin below `top`.
+fn count_below(ys: &[Extent], top: u64) -> usize
+    requires { IsRising ys.now }
+    ensures within { result ≤ length ys.now }
+    ensures last { 0 < result → begin_at ys.now (result - 1) < top }
+    ensures others { (k : ℕ) → result ≤ k → k < length ys.now → top ≤ begin_at ys.now k }
+{
     ys.partition_point(|y| u64::from(y.begin()) < top)
 }
 
@@ -97,15 +109,21 @@ fn led_end(ys: &[Extent], count: usize, low: u32) -> Option<u32>
     Some(y.end())
 }
 
-/// How many of the first `count` extents begin below `top`.
+/// How many of the first `count` extents begin below `top`. It looks at the last few, and searches for a place further to
+/// the left.
 fn begins_below(ys: &[Extent], count: usize, top: u64) -> usize
-    requires { count ≤ length ys.now }
+    requires rising { IsRising ys.now }
+    requires within { count ≤ length ys.now }
     ensures within { result ≤ count }
     ensures last { 0 < result → begin_at ys.now (result - 1) < top }
     ensures others { (k : ℕ) → result ≤ k → k < count → top ≤ begin_at ys.now k }
 {
+    let near = count.saturating_sub(NEAR);
     let mut count = count;
     while count > 0 && top <= u64::from(ys[count - 1].begin()) {
+        if count <= near {
+            return count_below(ys, top);
+        }
         count -= 1;
     }
     count

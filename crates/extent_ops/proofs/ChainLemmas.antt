@@ -1,9 +1,13 @@
 -- chains of extents
-use Rattle.std.proofs.Common.{◌≡◌, ℕ, ◌-◌, ◌<◌, ◌≤◌, ◌⊎◌, inl, inr, ⊎_elim, Some, None, List, [], ◌∷◌, length, drop, get_or, refl, sym, subst, arith, length-drop}
+use Rattle.std.proofs.Common.{◌≡◌, ℕ, zero, suc, ◌-◌, ◌<◌, ◌≤◌, ◌⊎◌, inl, inr, ⊎_elim, Some, None, List, [], ◌∷◌, length, drop, get_or, refl, sym, ap, subst, arith, length-drop}
+use Rattle.std.specs.List.{Contains}
+use Rattle.std.specs.List.Sorted.{IsPermutation}
+use Rattle.std.proofs.lemmas.List.Sorted.{Contains-permutation, IsPermutation-sym}
 use Rattle.ri_base.specs.Pair.{Pair}
 use Rattle.extent_ops.specs.Operators.{Follows, IsChain, IsLeastEnd, Joins}
-use Rattle.extent_ops.specs.Rows.{Covers, Has, IsAscending, IsLeastOf, Lists, sets, with_least}
-use Rattle.extent_ops.proofs.CoverLemmas.{CoversFrom, CoversFrom-none, CoversFrom-put, IsAscending-drop, Lists-covers, drop_before}
+use Rattle.extent_ops.specs.Rows.{Covers, Finds, Has, IsLeastOf, Lists, sets}
+use Rattle.extent_ops.proofs.CoverLemmas.{Lists-covers, drop_before}
+use Rattle.extent_ops.proofs.ListingLemmas.{Contains-has}
 
 module _ (n : ℕ) (x : Pair) (xs later : List Pair) where
   joins_on : (b e : ℕ) → Joins n (Has xs) (Has later) b e → Joins n (Has (x ∷ xs)) (Has later) b e
@@ -22,37 +26,56 @@ module _ (n : ℕ) (x : Pair) (xs later : List Pair) where
   same_some p q h = cc
 
   -- no later extent follows x
-  joined_passed : (zs : List Pair) → IsLeastOf (Follows n x.end) later None → CoversFrom (Joins n (Has xs) (Has later)) xs zs → CoversFrom (Joins n (Has (x ∷ xs)) (Has later)) (x ∷ xs) zs
-  joined_passed zs none c = record {
-    from = λ b h. c.from b h.1;
-    covers = record {
-      rising = c.covers.rising;
-      only = λ b e h. joins_on b e (c.covers.only b e h);
-      least = λ b e h. ⊎_elim (λ k. absurd (never (none.least k.1.0 e k.1.1 k.1.2).1)) (λ k. c.covers.least b e k) (joins_cases b e h);
-    };
+  finds_passed : (zs : List Pair) → IsLeastOf (Follows n x.end) later None → Finds (Joins n (Has xs) (Has later)) zs → Finds (Joins n (Has (x ∷ xs)) (Has later)) zs
+  finds_passed zs none f = record {
+    only = λ b e h. joins_on b e (f.only b e h);
+    least = λ b e h. ⊎_elim (λ k. absurd (never (none.least k.1.0 e k.1.1 k.1.2).1)) (λ k. f.least b e k) (joins_cases b e h);
   }
 
   -- m is the least end of those that follow x
-  joined_put : (zs : List Pair) (m : ℕ) → IsLeastOf (Follows n x.end) later (Some m) → IsAscending (x ∷ xs) → CoversFrom (Joins n (Has xs) (Has later)) xs zs → CoversFrom (Joins n (Has (x ∷ xs)) (Has later)) (x ∷ xs) (with_least (record { begin = x.begin; end = m }) zs)
-  joined_put zs m found up c =
+  finds_more : (zs : List Pair) (m : ℕ) → IsLeastOf (Follows n x.end) later (Some m) → Finds (Joins n (Has xs) (Has later)) zs → Finds (Joins n (Has (x ∷ xs)) (Has later)) (record { begin = x.begin; end = m } ∷ zs)
+  finds_more zs m found f =
       let w = found.only m refl in
-      CoversFrom-put (Joins n (Has xs) (Has later)) (Joins n (Has (x ∷ xs)) (Has later)) x m xs zs up.0 c joins_on
-      (x.end, w.0, inl (refl, refl), w.1, w.2)
-      (λ b e h. ⊎_elim (λ k. let u = found.least k.1.0 e k.1.1 k.1.2 in let s : m ≡ u.0 = same_some m u.0 u.1 in inl (k.0, omega (arith, s, u.2))) (λ k. inr k) (joins_cases b e h))
+      record {
+        only = λ b e. ⊎_elim
+            (λ k. (x.end, w.0, inl (k.0, refl), w.1, subst (λ (v : ℕ). Has later w.0 v) k.1 w.2))
+            (λ k. joins_on b e (f.only b e k));
+        least = λ b e h. ⊎_elim
+            (λ k. let u = found.least k.1.0 e k.1.1 k.1.2 in let s : m ≡ u.0 = same_some m u.0 u.1 in (m, inl (k.0, refl), omega (arith, s, u.2)))
+            (λ k. let u = f.least b e k in (u.0, inr u.1, u.2))
+            (joins_cases b e h);
+      }
 
 -- the same at a place of the list
 module _ (n : ℕ) (xs later zs : List Pair) (i : ℕ) (x : Pair) (some : 0 < i) (within : i ≤ length xs) (is : x ≡ get_or xs (i - 1) x)
-    (c : CoversFrom (Joins n (Has (drop i xs)) (Has later)) (drop i xs) zs) where
-  pub joined_passed_step : IsLeastOf (Follows n x.end) later None → CoversFrom (Joins n (Has (drop (i - 1) xs)) (Has later)) (drop (i - 1) xs) zs
-  joined_passed_step none = rw (drop_before xs i x some within is) (joined_passed n x (drop i xs) later zs none c)
+    (f : Finds (Joins n (Has (drop i xs)) (Has later)) zs) where
+  pub finds_passed_step : IsLeastOf (Follows n x.end) later None → Finds (Joins n (Has (drop (i - 1) xs)) (Has later)) zs
+  finds_passed_step none = rw (drop_before xs i x some within is) (finds_passed n x (drop i xs) later zs none f)
 
-  pub joined_put_step : (m : ℕ) → IsLeastOf (Follows n x.end) later (Some m) → IsAscending xs → CoversFrom (Joins n (Has (drop (i - 1) xs)) (Has later)) (drop (i - 1) xs) (with_least (record { begin = x.begin; end = m }) zs)
-  joined_put_step m found up =
-      let e = drop_before xs i x some within is in
-      rw e (joined_put n x (drop i xs) later zs m found (rw e at (IsAscending-drop (i - 1) xs up)) c)
+  pub finds_more_step : (m : ℕ) → IsLeastOf (Follows n x.end) later (Some m) → Finds (Joins n (Has (drop (i - 1) xs)) (Has later)) (record { begin = x.begin; end = m } ∷ zs)
+  finds_more_step m found = rw (drop_before xs i x some within is) (finds_more n x (drop i xs) later zs m found f)
 
-pub joined_none : (n : ℕ) (later : List Pair) → CoversFrom (Joins n (Has []) (Has later)) [] []
-joined_none n later = CoversFrom-none _ (λ b e h. h.2)
+-- ---- the same extents in another order
+
+has_contains : (xs : List Pair) (b e : ℕ) → Contains xs (record { begin = b; end = e }) → Has xs b e
+has_contains [] b e (k, inside, is) = absurd (omega (arith, inside))
+has_contains (x ∷ xs) b e (zero, inside, is) = inl (ap (λ (y : Pair). y.begin) is, ap (λ (y : Pair). y.end) is)
+has_contains (x ∷ xs) b e (suc k, inside, is) = inr (has_contains xs b e (k, omega (arith, inside), is))
+
+Has-permutation : (xs ys : List Pair) → IsPermutation xs ys → (b e : ℕ) → Has xs b e → Has ys b e
+Has-permutation xs ys p b e h = has_contains ys b e (Contains-permutation xs ys (record { begin = b; end = e }) p (Contains-has xs b e h))
+
+pub Covers-joined : (n : ℕ) (xs firsts later found sorted zs : List Pair) → IsPermutation xs firsts → Finds (Joins n (Has firsts) (Has later)) found → IsPermutation found sorted → Covers (Has sorted) zs → Covers (Joins n (Has xs) (Has later)) zs
+Covers-joined n xs firsts later found sorted zs p f q c = record {
+  rising = c.rising;
+  only = λ b e h.
+      let w = f.only b e (Has-permutation sorted found (IsPermutation-sym found sorted q) b e (c.only b e h)) in
+      (w.0, w.1, Has-permutation firsts xs (IsPermutation-sym xs firsts p) b w.0 w.2, w.3, w.4);
+  least = λ b e h.
+      let w = f.least b e (h.0, h.1, Has-permutation xs firsts p b h.0 h.2, h.3, h.4) in
+      let u = c.least b w.0 (Has-permutation found sorted q b w.0 w.1) in
+      (u.0, u.1, omega (arith, u.2, w.2));
+}
 
 -- ---- a chain of several lists
 

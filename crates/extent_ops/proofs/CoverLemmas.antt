@@ -1,7 +1,9 @@
 -- the least end for each begin
 use Rattle.std.proofs.Common.{◌≡◌, ℕ, ◌+◌, ◌<◌, ◌≤◌, ◌⊎◌, inl, inr, ⊎_elim, Bool, true, false, cond, ◌==◌, min, ◌-◌, zero, suc, List, [], ◌∷◌, length, drop, get_or, refl, subst, arith}
 use Rattle.std.specs.Bool.{⊤}
+use Rattle.std.specs.List.Sorted.{IsNonDecreasingBy}
 use Rattle.std.proofs.lemmas.List.{drop_more}
+use Rattle.std.proofs.lemmas.List.Sorted.{IsNonDecreasingBy-drop, IsNonDecreasingBy-from_default}
 use Rattle.std.proofs.lemmas.Bool.Decides.{nat_tests}
 use Rattle.ri_base.specs.Pair.{Pair}
 use Rattle.extent_ops.specs.Operators.{IsLeastEnd}
@@ -109,11 +111,11 @@ CoversFrom-none R none = record {
 }
 
 -- one extent more in front
-pub CoversFrom-put : (R S : ℕ → ℕ → Type 0) (x : Pair) (m : ℕ) (xs zs : List Pair) → IsBeforeAll x xs → CoversFrom R xs zs →
+pub CoversFrom-put : (R S : ℕ → ℕ → Type 0) (x : Pair) (m : ℕ) (xs zs : List Pair) → BeginsFrom x.begin xs → CoversFrom R xs zs →
     ((b e : ℕ) → R b e → S b e) → S x.begin m → ((b e : ℕ) → S b e → ((x.begin ≡ b) × (m ≤ e)) ⊎ R b e) → CoversFrom S (x ∷ xs) (with_least (record { begin = x.begin; end = m }) zs)
 CoversFrom-put R S x m xs zs before c wider here cases =
     let y : Pair = record { begin = x.begin; end = m } in
-    let p = IsPut-with_least y zs c.covers.rising (c.from x.begin (BeginsFrom-ascending x xs before)) in
+    let p = IsPut-with_least y zs c.covers.rising (c.from x.begin before) in
     record {
       from = λ b h. p.from b h.0;
       covers = record {
@@ -134,17 +136,32 @@ drop_before xs i x some within is =
     let e : (i - 1) + 1 ≡ i = omega arith in
     cc
 
-pub IsAscending-drop : (i : ℕ) (xs : List Pair) → IsAscending xs → IsAscending (drop i xs)
-IsAscending-drop zero xs up = up
-IsAscending-drop (suc i) [] up = tt
-IsAscending-drop (suc i) (x ∷ xs) up = IsAscending-drop i xs up.1
+begins_from : (b : ℕ) (xs : List Pair) → ((k : ℕ) (d : Pair) → k < length xs → b ≤ (get_or xs k d).begin) → BeginsFrom b xs
+begins_from b [] h = tt
+begins_from b (x ∷ xs) h = (h zero x (omega arith), begins_from b xs (λ k d inside. h (suc k) d (omega (arith, inside))))
+
+BeginsFrom-sorted : (x : Pair) (xs : List Pair) → IsNonDecreasingBy (λ (y : Pair). y.begin) (x ∷ xs) → BeginsFrom x.begin xs
+BeginsFrom-sorted x xs up = begins_from x.begin xs (λ k d inside. up zero (suc k) d (omega arith) (omega (arith, inside)))
 
 -- one step of `least_ends`
-least_ends_more : (x : Pair) (xs zs : List Pair) → IsAscending (x ∷ xs) → CoversFrom (Has xs) xs zs → CoversFrom (Has (x ∷ xs)) (x ∷ xs) (with_least x zs)
-least_ends_more x xs zs up c = CoversFrom-put (Has xs) (Has (x ∷ xs)) x x.end xs zs up.0 c (λ b e h. inr h) (inl (refl, refl))
+least_ends_more : (x : Pair) (xs zs : List Pair) → BeginsFrom x.begin xs → CoversFrom (Has xs) xs zs → CoversFrom (Has (x ∷ xs)) (x ∷ xs) (with_least x zs)
+least_ends_more x xs zs before c = CoversFrom-put (Has xs) (Has (x ∷ xs)) x x.end xs zs before c (λ b e h. inr h) (inl (refl, refl))
     (λ b e. ⊎_elim (λ k. inl (k.0, omega (arith, k.1))) (λ k. inr k))
 
-pub least_ends_step : (xs zs : List Pair) (i : ℕ) (x : Pair) → 0 < i → i ≤ length xs → x ≡ get_or xs (i - 1) x → IsAscending xs → CoversFrom (Has (drop i xs)) (drop i xs) zs → CoversFrom (Has (drop (i - 1) xs)) (drop (i - 1) xs) (with_least x zs)
+pub least_ends_step : (xs zs : List Pair) (i : ℕ) (x : Pair) → 0 < i → i ≤ length xs → x ≡ get_or xs (i - 1) x → IsNonDecreasingBy (λ (y : Pair). y.begin) xs → CoversFrom (Has (drop i xs)) (drop i xs) zs → CoversFrom (Has (drop (i - 1) xs)) (drop (i - 1) xs) (with_least x zs)
 least_ends_step xs zs i x some within is up c =
     let e = drop_before xs i x some within is in
-    rw e (least_ends_more x (drop i xs) zs (rw e at (IsAscending-drop (i - 1) xs up)) c)
+    rw e (least_ends_more x (drop i xs) zs (BeginsFrom-sorted x (drop i xs) (rw e at (IsNonDecreasingBy-drop (λ (y : Pair). y.begin) (i - 1) xs up))) c)
+
+from_at : (b : ℕ) (xs : List Pair) (k : ℕ) (d : Pair) → BeginsFrom b xs → k < length xs → b ≤ (get_or xs k d).begin
+from_at b [] k d h inside = absurd (omega (arith, inside))
+from_at b (x ∷ xs) zero d h inside = h.0
+from_at b (x ∷ xs) (suc k) d h inside = from_at b xs k d h.1 (omega (arith, inside))
+
+-- the begins of extents in order don't fall
+pub begins_ascend : (xs : List Pair) → IsAscending xs → IsNonDecreasingBy (λ (x : Pair). x.begin) xs
+begins_ascend [] up i j d lower inside = absurd (omega (arith, inside))
+begins_ascend (x ∷ xs) up zero zero d lower inside = omega arith
+begins_ascend (x ∷ xs) up zero (suc j) d lower inside = from_at x.begin xs j d (BeginsFrom-ascending x xs up.0) (omega (arith, inside))
+begins_ascend (x ∷ xs) up (suc i) zero d lower inside = absurd (omega (arith, lower))
+begins_ascend (x ∷ xs) up (suc i) (suc j) d lower inside = begins_ascend xs up.1 i j d (omega (arith, lower)) (omega (arith, inside))

@@ -22,7 +22,7 @@ All-has : (R : ℕ → ℕ → Type 0) (xs : List Pair) → ((b e : ℕ) → Has
 All-has R [] h = All-nil (λ (x : Pair). R x.begin x.end)
 All-has R (x ∷ xs) h = All-cons (λ (y : Pair). R y.begin y.end) x xs (h x.begin x.end (inl (refl, refl))) (All-has R xs (λ b e k. h b e (inr k)))
 
-Contains-has : (xs : List Pair) (b e : ℕ) → Has xs b e → Contains xs (record { begin = b; end = e })
+pub Contains-has : (xs : List Pair) (b e : ℕ) → Has xs b e → Contains xs (record { begin = b; end = e })
 Contains-has [] b e h = absurd h
 Contains-has (x ∷ xs) b e h =
     let make : ℕ → ℕ → Pair = λ m n. record { begin = m; end = n } in

@@ -5,23 +5,11 @@ use Rattle.ri_base.specs.Pair.{Pair}
 use Rattle.extent_ops.specs.Nearest.{IsTail, begin_at, end_at, least_with}
 use Rattle.extent_ops.specs.Operators.{HasEachInside, HasInside, IsInSome, IsLeastEnd, IsWindow, Widens}
 use Rattle.extent_ops.specs.Rows.{BeginsAfter, Covers, Has, IsAscending, IsLeastOf, IsRising, Lists, sets}
-use Rattle.extent_ops.proofs.CoverLemmas.{BeginsFrom, BeginsFrom-ascending, Lists-covers, drop_before}
+use Rattle.extent_ops.proofs.CoverLemmas.{Lists-covers, begins_ascend, drop_before}
 use Rattle.extent_ops.proofs.FilterLemmas.{IsFiltered-filter, pair}
 use Rattle.extent_ops.proofs.NearestLemmas.{Has-at, Has-from}
 
 -- ---- the tail of a list
-
-from_at : (b : ℕ) (xs : List Pair) (k : ℕ) → BeginsFrom b xs → k < length xs → b ≤ begin_at xs k
-from_at b [] k h inside = absurd (omega (arith, inside))
-from_at b (x ∷ xs) zero h inside = h.0
-from_at b (x ∷ xs) (suc k) h inside = from_at b xs k h.1 (omega (arith, inside))
-
-begins_ascend : (xs : List Pair) → IsAscending xs → (i j : ℕ) → i ≤ j → j < length xs → begin_at xs i ≤ begin_at xs j
-begins_ascend [] up i j lower inside = absurd (omega (arith, inside))
-begins_ascend (x ∷ xs) up zero zero lower inside = omega arith
-begins_ascend (x ∷ xs) up zero (suc j) lower inside = from_at x.begin xs j (BeginsFrom-ascending x xs up.0) (omega (arith, inside))
-begins_ascend (x ∷ xs) up (suc i) zero lower inside = absurd (omega (arith, lower))
-begins_ascend (x ∷ xs) up (suc i) (suc j) lower inside = begins_ascend xs up.1 i j (omega (arith, lower)) (omega (arith, inside))
 
 never : {m : ℕ} → None ≡ Some m → ⊥
 never h = cc
@@ -101,7 +89,7 @@ module _ (xs : List Pair) (low : ℕ) where
       is_behind : (k : ℕ) → k < length xs → low ≤ begin_at xs k → (v : Bool) → nat_lt k from ≡ v → from ≤ k
       is_behind k inside begins true h = absurd (⊎_elim
           (λ e. omega (arith, lower))
-          (λ e. omega (arith, begins_ascend xs up k (from - 1) (omega (arith, lower)) (omega (arith, t.within, lower)), e, begins))
+          (λ e. omega (arith, begins_ascend xs up k (from - 1) (record { begin = 0; end = 0 }) (omega (arith, lower)) (omega (arith, t.within, lower)), e, begins))
           stops)
         where
           lower : k < from

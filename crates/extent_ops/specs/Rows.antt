@@ -50,6 +50,11 @@ pub record Covers (R : ℕ → ℕ → Type 0) (xs : List Pair) : Type 0 where
   pub only : (b e : ℕ) → Has xs b e → R b e
   pub least : (b e : ℕ) → R b e → (m : ℕ) × Has xs b m × (m ≤ e)
 
+-- the list has extents of the set, and for each of the set one of the same begin that ends no later
+pub record Finds (R : ℕ → ℕ → Type 0) (xs : List Pair) : Type 0 where
+  pub only : (b e : ℕ) → Has xs b e → R b e
+  pub least : (b e : ℕ) → R b e → (m : ℕ) × Has xs b m × (m ≤ e)
+
 -- the least end of those extents whose begin passes, where there is one
 pub record IsLeastOf (Passes : ℕ → Type 0) (xs : List Pair) (found : Option ℕ) : Type 0 where
   pub only : (m : ℕ) → found ≡ Some m → (b : ℕ) × Passes b × Has xs b m

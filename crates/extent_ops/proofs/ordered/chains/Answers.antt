@@ -1,7 +1,14 @@
 use Rattle.std.proofs.Common.{◌≡◌, arith}
-use Rattle.std.proofs.lemmas.Grind.{common_steps}
+use Rattle.std.proofs.lemmas.Grind.{common_steps, elements}
+use Rattle.extent_ops.specs.Rows.{IsAscending}
 use Rattle.extent_ops.proofs.ChainLemmas.{Covers-chain_step, Lists-chain}
+use Rattle.extent_ops.proofs.CoverLemmas.{begins_ascend}
 use Rattle.extent_ops.proofs.ordered.chains.Goals as goal
+
+pub least_ends-requires : goal.least_ends-requires
+least_ends-requires c =
+    let up : IsAscending c.as_slice.result.now = first_of (grind (arith, elements), grind (arith, common_steps)) in
+    begins_ascend c.as_slice.result.now up
 
 pub loop-i-preserved : goal.loop-i-preserved
 loop-i-preserved c = record {

@@ -1,24 +1,8 @@
-use Rattle.std.proofs.Common.{◌≡◌, arith}
-use Rattle.extent_ops.proofs.ChainLemmas.{joined_passed_step, joined_put_step}
+use Rattle.std.proofs.lemmas.Result.{IfOk-weaker}
+use Rattle.extent_ops.proofs.ChainLemmas.{Covers-joined}
 use Rattle.extent_ops.proofs.ordered.joined.Goals as goal
 
-pub loop-i-preserved-in-Continue-branch-2 : goal.loop-i-preserved-in-Continue-branch-2
-loop-i-preserved-in-Continue-branch-2 c = record {
-  within = omega arith;
-  reached = c.least_following.ensures.within;
-  leads = c.least_following.ensures.leads;
-  so_far = rw (c.in_ok-put_least.ensures, c.new.ensures, c.begin.ensures.begin) (joined_put_step c.args.n c.args.xs.now c.args.later.now _ c.loop-i.i c.index-xs-i.result (omega arith) (omega arith) c.index-xs-i.is c.loop-i.invariant.so_far c.in-Some.end (rw c.end.ensures.end at c.in-Some.ensures.least) c.requires.left);
-}
-
-pub loop-i-preserved : goal.loop-i-preserved
-loop-i-preserved c = record {
-  within = omega arith;
-  reached = c.least_following.ensures.within;
-  leads = c.least_following.ensures.leads;
-  so_far = joined_passed_step c.args.n c.args.xs.now c.args.later.now _ c.loop-i.i c.index-xs-i.result (omega arith) (omega arith) c.index-xs-i.is c.loop-i.invariant.so_far (rw c.end.ensures.end at c.in_default.ensures.least);
-}
-
 pub returns : goal.returns
-returns c =
-    let first : c.loop-i.i ≡ 0 = omega arith in
-    rw c.reverse.ensures.items (rw first at c.loop-i.invariant.so_far).covers
+returns c = IfOk-weaker _ _ _
+    (λ v covers. Covers-joined c.args.n c.args.xs.now c.in_ok-firsts.firsts.items c.args.later.now c.in_ok-found.found.items c.sort_by_begin.new.xs.items _ c.in_ok-firsts.ensures (rw c.deref.ensures.value at c.in_ok-found.ensures) c.sort_by_begin.ensures.same covers)
+    (rw c.deref-2.ensures.value at c.least_ends.ensures)

@@ -1,7 +1,11 @@
 use Rattle.std.proofs.Common.{◌≡◌, arith}
 use Rattle.std.proofs.lemmas.Result.{IfOk-weaker}
+use Rattle.extent_ops.proofs.CoverLemmas.{begins_ascend}
 use Rattle.extent_ops.proofs.WindowLemmas.{Covers-widened_step, Lists-windows}
 use Rattle.extent_ops.proofs.unordered.windows.Goals as goal
+
+pub least_ends-requires : goal.least_ends-requires
+least_ends-requires c = rw c.deref.ensures.value (begins_ascend c.in_ok-all.all.items c.in_ok-all.ensures.ascending)
 
 pub loop-i-preserved : goal.loop-i-preserved
 loop-i-preserved c = record {

@@ -1,16 +1,15 @@
 use Rattle.std.proofs.Common.{◌≤◌, drop, length, reverse}
 use Rattle.extent_ops.specs.Nearest.{Leads}
 use Rattle.extent_ops.specs.Operators.{Joins}
-use Rattle.extent_ops.specs.Rows.{Has}
-use Rattle.extent_ops.proofs.CoverLemmas.{CoversFrom}
-use Rattle.extent_ops.proofs.ordered.joined.Given as goal
+use Rattle.extent_ops.specs.Rows.{Finds, Has}
+use Rattle.extent_ops.proofs.ordered.following.Given as goal
 
 abbrev pub invariant-loop-i : goal.invariant-loop-i
 invariant-loop-i l = record {
-  within : l.i ≤ length l.xs;
+  within : l.i ≤ length l.firsts;
   reached : l.reach.count ≤ length l.later;
   leads : Leads l.later l.n l.reach.low l.reach.count;
-  so_far : CoversFrom (Joins l.n (Has (drop l.i l.xs)) (Has l.later)) (drop l.i l.xs) (reverse l.out.items);
+  so_far : Finds (Joins l.n (Has (drop l.i l.firsts)) (Has l.later)) (reverse l.out.items);
 }
 
 abbrev pub decreases-loop-i : goal.decreases-loop-i

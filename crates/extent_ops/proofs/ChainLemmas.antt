@@ -91,15 +91,5 @@ pub Covers-chain_step : (n : ℕ) (ls : List (List Pair)) (i : ℕ) (l cs zs : L
 Covers-chain_step n ls i l cs zs some within is c j =
     rw (drop_before ls i l some (omega (arith, within)) is) (Covers-chain n l (drop i ls) cs zs (omega (arith, length-drop i ls, within)) c j)
 
-pub Covers-chain_one : (n : ℕ) (l zs : List Pair) → Covers (Has l) zs → Covers (IsChain n (sets (l ∷ []))) zs
-Covers-chain_one n l zs c = c
-
 pub Lists-chain : (n : ℕ) (ls : List (List Pair)) (zs : List Pair) → Covers (IsChain n (sets ls)) zs → Lists (IsLeastEnd (IsChain n (sets ls))) zs
 Lists-chain n ls zs c = Lists-covers _ zs c
-
-pub Lists-chain_none : (n : ℕ) (ls : List (List Pair)) (zs : List Pair) → ls ≡ [] → zs ≡ [] → Lists (IsLeastEnd (IsChain n (sets ls))) zs
-Lists-chain_none n ls zs e f = rw (e, f) (record {
-  ascending = tt;
-  only = λ b e h. absurd h;
-  all = λ b e h. absurd h.ends;
-})

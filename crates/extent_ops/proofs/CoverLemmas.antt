@@ -3,7 +3,7 @@ use Rattle.std.proofs.Common.{◌≡◌, ℕ, ◌+◌, ◌<◌, ◌≤◌, ◌�
 use Rattle.std.specs.Bool.{⊤}
 use Rattle.std.specs.List.Sorted.{IsNonDecreasingBy}
 use Rattle.std.proofs.lemmas.List.{drop_more}
-use Rattle.std.proofs.lemmas.List.Sorted.{IsNonDecreasingBy-drop, IsNonDecreasingBy-from_default}
+use Rattle.std.proofs.lemmas.List.Sorted.{IsNonDecreasingBy-drop}
 use Rattle.std.proofs.lemmas.Bool.Decides.{nat_tests}
 use Rattle.ri_base.specs.Pair.{Pair}
 use Rattle.extent_ops.specs.Operators.{IsLeastEnd}
@@ -99,16 +99,6 @@ IsPut-with_least x (y ∷ ys) r f = chosen (x.begin == y.begin) refl
 pub record CoversFrom (R : ℕ → ℕ → Type 0) (xs zs : List Pair) : Type 0 where
   pub from : (b : ℕ) → BeginsFrom b xs → BeginsFrom b zs
   pub covers : Covers R zs
-
-pub CoversFrom-none : (R : ℕ → ℕ → Type 0) → ((b e : ℕ) → R b e → ⊥) → CoversFrom R [] []
-CoversFrom-none R none = record {
-  from = λ b h. tt;
-  covers = record {
-    rising = tt;
-    only = λ b e h. absurd h;
-    least = λ b e h. absurd (none b e h);
-  };
-}
 
 -- one extent more in front
 pub CoversFrom-put : (R S : ℕ → ℕ → Type 0) (x : Pair) (m : ℕ) (xs zs : List Pair) → BeginsFrom x.begin xs → CoversFrom R xs zs →

@@ -134,22 +134,6 @@ sets-back : (ls ms : List (List Pair)) (b e : ℕ) → IsInSome (sets ms) b e �
 sets-back [] ms b e h = h
 sets-back (l ∷ ls) ms b e h = inr (sets-back ls ms b e h)
 
--- no list
-pub union_none : (ls : List (List Pair)) (zs : List Pair) → ls ≡ [] → zs ≡ [] → Lists (IsInSome (sets ls)) zs
-union_none ls zs e f = rw (e, f) (record {
-  ascending = tt;
-  only = λ b e h. absurd h;
-  all = λ b e h. absurd h;
-})
-
--- one list
-pub union_one : (ls : List (List Pair)) (l zs : List Pair) → ls ≡ l ∷ [] → zs ≡ l → IsAscending l → Lists (IsInSome (sets ls)) zs
-union_one ls l zs e f up = rw (e, f) (record {
-  ascending = up;
-  only = λ b e h. inl h;
-  all = λ b e h. ⊎_elim (λ k. k) (λ k. absurd k) h;
-})
-
 -- the lists of a front and of what follows it
 pub union_halves : (ls : List (List Pair)) (n : ℕ) (xs ys zs : List Pair) → Lists (IsInSome (sets (take n ls))) xs → Lists (IsInSome (sets (drop n ls))) ys → Lists (λ b e. Has xs b e ⊎ Has ys b e) zs → Lists (IsInSome (sets ls)) zs
 union_halves ls n xs ys zs l r m = record {

@@ -34,14 +34,6 @@ least_with-is end (Some other) m h = by (nat_le end other) refl
     by false j = let s : min end other ≡ m = same_some (min end other) m h in let e : other ≡ m = grind (arith, nat_tests) in inr (ap (λ (k : ℕ). Some k) e)
 
 module _ (xs : List Pair) (low : ℕ) where
-  pub IsTail-none : (top : ℕ) → IsTail xs top (length xs) None
-  IsTail-none top = record {
-    within = omega arith;
-    behind = λ k p q. absurd (omega (arith, p, q));
-    only = λ m h. absurd (never h);
-    least = λ k p q. absurd (omega (arith, p, q));
-  }
-
   pub IsTail-lower : (top from : ℕ) (found : Option ℕ) → low ≤ top → IsTail xs top from found → IsTail xs low from found
   IsTail-lower top from found lower t = record {
     within = t.within;
@@ -110,16 +102,6 @@ pub record IsWidened (list xs zs : List Pair) : Type 0 where
   pub after : (b : ℕ) → BeginsAfter b xs → BeginsAfter b zs
   pub covers : Covers (Widens (Has xs) (Has list)) zs
 
-pub IsWidened-none : (list : List Pair) → IsWidened list [] []
-IsWidened-none list = record {
-  after = λ b h. tt;
-  covers = record {
-    rising = tt;
-    only = λ b e h. absurd h;
-    least = λ b e h. absurd h.1;
-  };
-}
-
 module _ (list : List Pair) (x : Pair) (xs zs : List Pair) (up : IsRising (x ∷ xs)) (w : IsWidened list xs zs) where
   -- no extent of the list begins at x or behind
   left_out : IsLeastOf (λ b. x.begin ≤ b) list None → IsWidened list (x ∷ xs) zs
@@ -183,13 +165,6 @@ Begins ls b e = (to : ℕ) × (to ≤ e) × IsInSome (sets ls) b to
 -- each of these lists has an extent inside, and some list has one that begins at b
 abbrev pub Encloses : List (List Pair) → List (List Pair) → ℕ → ℕ → Type 0
 Encloses all ls b e = HasEachInside (sets ls) b e × Begins all b e
-
-pub Covers-begins : (all : List (List Pair)) (xs zs : List Pair) → Lists (IsInSome (sets all)) xs → Covers (Has xs) zs → Covers (Encloses all []) zs
-Covers-begins all xs zs l c = record {
-  rising = c.rising;
-  only = λ b e h. (tt, (e, omega arith, l.only b e (c.only b e h)));
-  least = λ b e h. let w = c.least b h.1.0 (l.all b h.1.0 h.1.2) in (w.0, w.1, omega (arith, w.2, h.1.1));
-}
 
 Covers-widened : (all : List (List Pair)) (l : List Pair) (ls : List (List Pair)) (xs zs : List Pair) → Covers (Encloses all ls) xs → Covers (Widens (Has xs) (Has l)) zs → Covers (Encloses all (l ∷ ls)) zs
 Covers-widened all l ls xs zs c j = record {

@@ -1,6 +1,4 @@
-use Rattle.std.proofs.Common.{◌≡◌, ltb, true, false, get_or, rules, arith}
-use Rattle.std.specs.List.Sorted.{IsPartitionPoint}
-use Rattle.std.proofs.lemmas.Bool.Decides.{nat_tests}
+use Rattle.std.proofs.Common.{ltb, rules}
 use Rattle.std.proofs.lemmas.List.Sorted.{IsPartitionedBy-ltb, IsPartitionPoint-from_clause}
 use Rattle.ri_base.specs.Pair.{Pair}
 use Rattle.extent_ops.proofs.NearestLemmas.{begins_do_not_fall, point_last, point_others}

@@ -1,5 +1,4 @@
 use Rattle.std.proofs.Common.{◌≡◌, List, [], ◌∷◌, reverse, ap, ◌∙◌, arith}
-use Rattle.std.proofs.lemmas.Grind.{common_steps}
 use Rattle.std.proofs.lemmas.List.{reverse-append}
 use Rattle.ri_base.specs.Pair.{Pair}
 use Rattle.extent_ops.proofs.ChainLemmas.{finds_more_step, finds_passed_step}

@@ -9,5 +9,5 @@ invariant-loop-word l = record {
   some : All (λ f. f.begin < f.end) l.spans.items;
   within : All (λ f. f.end ≤ l.length) l.spans.items;
   in_order : AllPairs IsBefore l.spans.items;
-  none_later : All (λ f. (f.begin < l.last.0) ⊎ (f.begin ≡ l.last.0) × (f.end ≤ l.last.1)) l.spans.items
+  none_later : All (λ f. (f.begin < l.last.0) ⊎ (f.begin ≡ l.last.0) × (f.end ≤ l.last.1)) l.spans.items;
 }

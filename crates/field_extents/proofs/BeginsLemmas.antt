@@ -1,4 +1,4 @@
--- The walk over extents in order that counts the places at which those inside a window begin.
+-- The pass over extents in order that counts the positions at which those inside a window begin.
 use Rattle.std.proofs.Common.{◌≡◌, ℕ, ◌+◌, ◌-◌, ◌<◌, ◌≤◌, ⊎_elim, Bool, true, false, ◌||◌, ◌&&◌, nat_le, nat_eq, min, max, List, [], ◌∷◌, length, take, get_or, filter, refl, sym, ◌∙◌, arith}
 use Rattle.std.specs.List.{All, AllWithin, count_by, list_any}
 use Rattle.std.specs.Set.{is_member}

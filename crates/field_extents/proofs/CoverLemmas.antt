@@ -1,15 +1,14 @@
--- The walk over the fields of a document that counts the positions which those of a name cover.
+-- The pass over the fields of a document that counts the positions which those of a name cover.
 use Rattle.std.proofs.Common.{◌≡◌, ℕ, ◌+◌, ◌-◌, ◌<◌, ◌≤◌, ⊎_elim, true, false, ◌||◌, min, max, List, [], length, take, get_or, refl, sym, ◌∙◌, arith}
-use Rattle.std.specs.List.{AllPairs, AllWithin, count_by}
+use Rattle.std.specs.List.{AllPairs, AllWithin}
 use Rattle.std.specs.Str.{bytes_eq}
 use Rattle.std.proofs.Math.Bool.{or-false}
 use Rattle.std.proofs.lemmas.Bool.{cases_Bool, or_right}
 use Rattle.std.proofs.lemmas.Bool.Decides.{nat_tests}
-use Rattle.std.proofs.lemmas.List.{get_or_read, take_all}
+use Rattle.std.proofs.lemmas.List.{get_or_read}
 use Rattle.std.proofs.lemmas.List.Folds.{list_any_more}
 use Rattle.ri_base.specs.Documents.{Field, IsBefore}
 use Rattle.ri_base.specs.Pair.{Pair}
-use Rattle.field_extents.specs.Extents.{positions}
 use Rattle.field_extents.specs.Fields.{covers, is_covered}
 use Rattle.field_extents.proofs.Counts.{count_by-none}
 use Rattle.field_extents.proofs.Orders.{begin-IsBefore}
@@ -44,9 +43,6 @@ CoversFront-none spans name window some = record {
   };
   filled = λ k d l u. record { passes = λ i m n o. absurd (omega arith) };
 }
-
-pub count_from_front : (spans : List Field) (name : List ℕ) (window : Pair) (k count next : ℕ) → length spans ≤ k → CoversFront spans name window k count next → count ≡ count_by (is_covered spans name) (positions window)
-count_from_front spans name window k count next all f = rw (← take_all k spans all) f.swept.counted
 
 module _ (spans : List Field) (name : List ℕ) (window : Pair) (k count next : ℕ) (s : Field) (within : k < length spans) (read : s ≡ get_or spans k s) (in_order : AllPairs IsBefore spans) (f : CoversFront spans name window k count next) where
   with_next : (i : ℕ) → is_covered (take (k + 1) spans) name i ≡ (is_covered (take k spans) name i || covers name i s)

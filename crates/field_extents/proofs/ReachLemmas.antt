@@ -6,7 +6,7 @@ use Rattle.std.proofs.Math.Seq.{take-add}
 use Rattle.std.proofs.Math.Bool.{or-false, or_assoc}
 use Rattle.std.proofs.lemmas.Bool.{and_left, and_right, cases_Bool, cases_eq, le-leb, leb-false, leb-true, lt-leb}
 use Rattle.std.proofs.lemmas.Bool.Decides.{nat_tests}
-use Rattle.std.proofs.lemmas.List.{get_or-drop, get_or-take, get_or_read, take-append-drop, take_all}
+use Rattle.std.proofs.lemmas.List.{get_or-drop, get_or-take, get_or_read, take-append-drop}
 use Rattle.std.proofs.lemmas.List.Elements.{All-append, All-head, All-tail, filter_more}
 use Rattle.std.proofs.lemmas.List.Folds.{list_any_none, list_any-append}
 use Rattle.std.proofs.lemmas.List.Sums.{fold-append, prefix_len-le-length, prefix_len_passes, prefix_len_stops}
@@ -61,24 +61,14 @@ all_behind fields n position in_order k d l =
     let here : get_or (drop (n + more) fields) k d ≡ get_or fields ((n + more) + k) d = get_or-drop (n + more) fields k d in
     omega (arith, ap (λ (f : Field). f.begin) here)
 
--- the walk along the fields has come past n of them, whose ends of the name are at most reach
+-- the first k extents have been decided: n fields begin at or before those, and the greatest of their ends is `reach`
 pub record HasReached (xs : List Pair) (fields : List Field) (name : List ℕ) (k n reach : ℕ) (kept : List Pair) : Type 0 where
   pub within : n ≤ length fields
   pub greatest : reach ≡ greatest_end name 0 (take n fields)
   pub begun : AllWithin (λ x. All (λ f. f.begin ≤ x.begin) (take n fields)) xs k (length xs)
   pub exact : kept ≡ filter (lies_in_some fields name) (take k xs)
 
-pub HasReached-none : (xs : List Pair) (fields : List Field) (name : List ℕ) → HasReached xs fields name 0 0 0 []
-HasReached-none xs fields name = record {
-  within = omega arith;
-  greatest = refl;
-  begun = λ k d l u i e m. absurd (omega arith);
-  exact = refl;
-}
-
-pub HasReached-all : (xs : List Pair) (fields : List Field) (name : List ℕ) (k n reach : ℕ) (kept : List Pair) → length xs ≤ k → HasReached xs fields name k n reach kept → kept ≡ filter (lies_in_some fields name) xs
-HasReached-all xs fields name k n reach kept all h = rw (← take_all k xs all) h.exact
-
+-- the next extent is x, and `more` fields begin behind those and not behind it
 module _ (xs : List Pair) (fields : List Field) (name : List ℕ) (k n reach : ℕ) (kept : List Pair) (x : Pair) (inside : k < length xs) (read : x ≡ get_or xs k x) (some : 0 < x.end) (extents : AreInOrder xs) (in_order : AllPairs IsBefore fields) (h : HasReached xs fields name k n reach kept) (more to : ℕ) (begun_more : more ≡ prefix_len (λ f. nat_le f.begin x.begin) (drop n fields)) (reached : to ≡ greatest_end name reach (take more (drop n fields))) where
   within_more : n + more ≤ length fields
   within_more = omega (arith, h.within, begun_more, prefix_len-le-length {X = Field} (λ f. nat_le f.begin x.begin) (drop n fields), length-drop n fields)

@@ -1,4 +1,4 @@
--- A walk over runs of positions whose begins don't fall, which counts the positions of a window that lie in some run.
+-- A sweep over runs of positions whose begins don't fall: it counts the positions of a window that lie in some run.
 use Rattle.std.proofs.Common.{◌≡◌, ℕ, ◌+◌, ◌-◌, ◌<◌, ◌≤◌, ⊎_elim, Bool, true, false, min, max, sym, ◌∙◌, arith}
 use Rattle.std.specs.List.{count_by}
 use Rattle.std.proofs.lemmas.Bool.{cases_lt}

@@ -1,5 +1,5 @@
-//! Extents of a document in its fields and in parts of it: which lie inside a field, which places a field covers, and at
-//! how many places extents begin. Each call goes over its lists once.
+//! Which extents of a document lie in fields of a name, how many positions such fields cover, and at how many positions
+//! extents begin. Each call goes over its lists once.
 #![tactic(auto)]
 
 mod begins;

@@ -23,18 +23,20 @@ pub fn inside(
     let mut begun = 0;
     let mut reach = 0;
     for extent in xs.as_slice() {
+        let begin = extent.begin();
+        let end = extent.end();
         let ahead = &spans[begun..];
-        let more = begun_by(ahead, extent.begin());
+        let more = begun_by(ahead, begin);
         reach = reach_of(reach, &ahead[..more], name);
         begun += more;
-        if extent.end() <= reach {
+        if end <= reach {
             kept.push(*extent)?;
         }
     }
     Ok(kept)
 }
 
-/// How many fields begin at or before this position. The fields are those up to the first that begins behind it.
+/// How many fields stand before the first that begins behind this position.
 fn begun_by(spans: &[FieldSpan], position: u32) -> usize
     ensures { result ≡ prefix_len (λ f. nat_le f.begin position) spans.now }
 {

@@ -139,7 +139,7 @@ fn positions_in_fields(rt: HostRuntime) -> Result<(), Fail> {
 #[test]
 fn begins_in_windows(rt: HostRuntime) -> Result<(), Fail> {
     let alloc = rt.alloc();
-    let xs = [(0, 1), (2, 3), (2, 5), (2, 5), (4, 9)];
+    let xs = [(0, 3), (2, 3), (2, 5), (2, 5), (4, 9)];
     assert_eq!(rt; begins_in(alloc, &xs, Extent::new(0, 9))?, 3);
     // the last reaches over the end of the window
     assert_eq!(rt; begins_in(alloc, &xs, Extent::new(0, 8))?, 2);

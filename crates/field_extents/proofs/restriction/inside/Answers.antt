@@ -16,7 +16,7 @@ loop-extent-preserved c =
     let some : 0 < item.end = omega arith in
     let ahead : take (length spans - at.begun) (drop at.begun spans) ≡ drop at.begun spans = take_rest spans at.begun in
     let more : c.begun_by-more.result ≡ prefix_len (λ f. nat_le f.begin item.begin) (drop at.begun spans) =
-    rw (← c.begin.ensures.begin) (rw ahead at c.begun_by-more.ensures) in
+    rw (← c.begin-begin.ensures.begin) (rw ahead at c.begun_by-more.ensures) in
     let reached : c.reach_of-reach.result ≡ greatest_end c.args.name.now at.reach (take c.begun_by-more.result (drop at.begun spans)) =
     rw ahead at c.reach_of-reach.ensures in
     elim c.if-end-reach.branch [

@@ -5,5 +5,5 @@ use Rattle.field_extents.proofs.tests.extents.Given as goal
 abbrev pub invariant-loop-next : goal.invariant-loop-next
 invariant-loop-next l = record {
   in_order : AreInOrder l.xs;
-  none_later : All (λ x. IsNoLater x (record { begin = l.last.0; end = l.last.1 })) l.xs
+  none_later : All (λ x. IsNoLater x (record { begin = l.last.0; end = l.last.1 })) l.xs;
 }

@@ -6,5 +6,5 @@ use Rattle.field_extents.proofs.tests.fields.Given as goal
 abbrev pub invariant-loop-letter : goal.invariant-loop-letter
 invariant-loop-letter l = record {
   in_order : AllPairs IsBefore l.spans.items;
-  none_later : All (λ f. (f.begin < l.last.0) ⊎ (f.begin ≡ l.last.0) × (f.end ≤ l.last.1)) l.spans.items
+  none_later : All (λ f. (f.begin < l.last.0) ⊎ (f.begin ≡ l.last.0) × (f.end ≤ l.last.1)) l.spans.items;
 }

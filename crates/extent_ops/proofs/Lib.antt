@@ -1,0 +1,12 @@
+pub mod BandLemmas
+pub mod ChainLemmas
+pub mod CoverLemmas
+pub mod EvaluationLemmas
+pub mod FilterLemmas
+pub mod KeepsLemmas
+pub mod LeafLemmas
+pub mod ListingLemmas
+pub mod MergeLemmas
+pub mod NearestLemmas
+pub mod SameLemmas
+pub mod WindowLemmas

@@ -1,0 +1,5 @@
+pub mod Extents
+pub mod Listing
+pub mod Nearest
+pub mod Operators
+pub mod Rows

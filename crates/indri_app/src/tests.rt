@@ -150,7 +150,7 @@ fn texts_that_are_refused(rt: HostRuntime) -> Result<(), Fail> {
 #[test]
 fn texts_of_one_word(rt: HostRuntime) -> Result<(), Fail> {
     let alloc = rt.alloc();
-    for text in ["a", "A", " a ", "\"A\"", "a..."] {
+    for text in ["a", "A", " a ", "\"a\""] {
         let words = words_of(alloc, &[".", "scan", text])?;
         let (status, written, _) = ran(alloc, &words)?;
         assert_eq!(rt; status, Status::Done, "at {text}");

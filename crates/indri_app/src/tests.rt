@@ -216,16 +216,32 @@ const NEWSWIRE: &[u8] = b"<DOC>
 </DOC>
 ";
 
+const CAFE: &[u8] =
+    b"<doc id=7><DocNo> X-1 </DocNo><Title lang=\"en\">Caf&eacute; au Lait</title></b><Text>one &amp; two</DOC>";
+
 #[test]
-fn scans_newswire(rt: HostRuntime) -> Result<(), Fail> {
+fn scans_for_a_word(rt: HostRuntime) -> Result<(), Fail> {
     let alloc = rt.alloc();
-    let words = words_of(alloc, &[".", "scan", "launch"])?;
-    let mut source = MemSource::new(NEWSWIRE.to_vec(alloc)?, 64, Vec::new(alloc));
-    let mut sink = MemSink::new(alloc, Vec::new(alloc));
-    let status = run(alloc, &words, &mut source, &mut sink);
-    assert_eq!(rt; status, Status::Done);
-    let want = b"AP880212-0001 8 9\nAP880212-0001 12 13\nAP880212-0001 14 15\n".as_slice();
-    assert_eq!(rt; sink.bytes(), want);
+    let rows: [(&str, &[u8], &[u8]); 6] = [
+        ("caf", CAFE, b"X-1 0 1\n"),
+        ("Lait", CAFE, b"X-1 2 3\n"),
+        ("two", CAFE, b"X-1 4 5\n"),
+        (
+            "launch",
+            NEWSWIRE,
+            b"AP880212-0001 8 9\nAP880212-0001 12 13\nAP880212-0001 14 15\n",
+        ),
+        ("monday", NEWSWIRE, b"AP880212-0001 19 20\n"),
+        ("b", b"<DOC><DOCNO>d1</DOCNO>a\xffb</DOC>", b"d1 1 2\n"),
+    ];
+    for (text, input, lines) in rows {
+        let words = words_of(alloc, &[".", "scan", text])?;
+        let mut source = MemSource::new(input.to_vec(alloc)?, 64, Vec::new(alloc));
+        let mut sink = MemSink::new(alloc, Vec::new(alloc));
+        let status = run(alloc, &words, &mut source, &mut sink);
+        assert_eq!(rt; status, Status::Done, "at {text}");
+        assert_eq!(rt; sink.bytes(), lines, "at {text}");
+    }
     Ok(())
 }
 

@@ -23,6 +23,9 @@ const FIRST_ROOM: usize = 65536;
 /// By how many bytes the buffer grows at most.
 const MOST_GROWTH: usize = 1 << 22;
 
+/// Up to how many bytes a buffer is kept when its document is read.
+const MOST_KEPT: usize = 1 << 20;
+
 /// Bytes taken ahead: those of `buffer` from `at` up to `end`. Before them stood `offset` bytes.
 #[derive(Drop)]
 pub struct ReadAhead {
@@ -72,6 +75,26 @@ fn make_room(buffer: &mut Vec<u8>, at: usize, end: usize) -> Result<usize, NoMem
     let room = buffer.len();
     buffer.resize(room + room.min(MOST_GROWTH), 0)?;
     Ok(0)
+}
+
+/// Gives back what a large document took of a buffer, where its bytes from `at` up to `end` are few. The answer is where
+/// these bytes begin then.
+fn give_back(buffer: &mut Vec<u8>, at: usize, end: usize) -> usize
+    requires order { at ≤ end }
+    requires within { end ≤ vec_len buffer.old }
+    requires some { 0 < vec_len buffer.old }
+    ensures same { slice_range buffer.new.items result (result + (end - at)) ≡ slice_range buffer.old.items at end }
+    ensures within { result + (end - at) ≤ vec_len buffer.new }
+    ensures some { 0 < vec_len buffer.new }
+{
+    let ahead = end - at;
+    if buffer.len() <= MOST_KEPT || buffer.len() / 4 < ahead {
+        return at;
+    }
+    move_to_front(buffer, at, end);
+    buffer.truncate((2 * ahead).max(FIRST_ROOM));
+    buffer.shrink_to_fit();
+    0
 }
 
 /// Reads the source into the part of a buffer from `end` on.
@@ -129,6 +152,15 @@ impl ReadAhead {
         self.offset += count as u64;
     }
 
+    /// Gives back the memory that the bytes ahead don't need, where it is much.
+    pub fn give_back(&mut self)
+        ensures { self.new ≡ self.old }
+    {
+        let ahead = self.end - self.at;
+        self.at = give_back(&mut self.buffer, self.at, self.end);
+        self.end = self.at + ahead;
+    }
+
     /// Takes more bytes from the source, behind those that are ahead. The answer is whether the source has ended.
     pub fn fill<S: Source>(&mut self, source: &mut S) -> Result<bool, TrecRefusal>
         ensures unread { prepend_known self.new.bytes (S.left source.new) ≡ prepend_known self.old.bytes (S.left source.old) }
@@ -166,24 +198,5 @@ impl ReadAhead {
                 return Ok(false);
             }
         }
-    }
-
-    /// Takes bytes from the source until at least so many are ahead. The answer is whether the source has ended.
-    pub fn grow<S: Source>(&mut self, source: &mut S, most: usize) -> Result<bool, TrecRefusal>
-        ensures unread { prepend_known self.new.bytes (S.left source.new) ≡ prepend_known self.old.bytes (S.left source.old) }
-        ensures offset { self.new.offset ≡ self.old.offset }
-        ensures steps { Steps S.left S.layers S.held S.faults S.can_give self.old self.new source.old source.new }
-        ensures ended { IfOk result (λ ended. OnTrue ended (IsAtEnd (S.left source.new))) }
-        ensures grows { IfOk result (λ ended. OnFalse ended (most ≤ length self.new.bytes)) }
-        ensures some { length self.old.bytes ≤ length self.new.bytes }
-        ensures gives { S.can_give source.new + length self.new.bytes ≡ S.can_give source.old + length self.old.bytes }
-        ensures failed { IsFillRefusal result (S.faults source.old) (S.faults source.new) }
-    {
-        'pieces: while self.bytes().len() < most {
-            if self.fill(source)? {
-                return Ok(true);
-            }
-        }
-        Ok(false)
     }
 }

@@ -75,6 +75,7 @@ fn taken(ahead: &mut ReadAhead, document: (Docno, Pieces), count: usize) -> RawD
 {
     let offset = ahead.offset();
     ahead.advance(count);
+    ahead.give_back();
     let (docno, pieces) = document;
     RawDoc {
         docno,
@@ -125,11 +126,15 @@ fn read_whole<S: Source>(
     ensures moves { IfOk result (λ found. OnSome found (ahead.old.offset < ahead.new.offset)) }
 {
     let mut ended = false;
+    let mut least = 1;
     'windows: loop {
-        if let Some(answer) = answer_of(alloc, ahead, ended) {
-            return answer;
+        if ended || least <= ahead.bytes().len() {
+            if let Some(answer) = answer_of(alloc, ahead, ended) {
+                return answer;
+            }
+            least = next_size(ahead.bytes().len());
         }
-        ended = ahead.grow(source, next_size(ahead.bytes().len()))?;
+        ended = ahead.fill(source)?;
     }
 }
 

@@ -1,21 +1,56 @@
 // The lines of a document.
-ghost use Rattle.std.specs.Prelude.{◌≡◌, ◌+◌, ◌^◌, ◌<◌, ◌++◌, is_err, IfOk, OnOk};
-ghost use Rattle.ri_base.specs.Documents.{places_among};
+ghost use Rattle.std.specs.Prelude.{◌≡◌, ◌<◌, ◌++◌, ◌∷◌, [], length, is_err, IfOk, OnOk};
+ghost use Rattle.ri_base.specs.Collection.{document_at};
+ghost use Rattle.ri_base.specs.Expression.{expr_tree};
 ghost use Rattle.tokens.specs.Content.{content};
-ghost use Rattle.indri_app.specs.Scan.{document_lines, line, place_lines};
+ghost use Rattle.extent_lists.specs.Listed.{extent_list};
+ghost use Rattle.indri_app.specs.Scan.{document_lines, extent_lines, line};
 
 use crate::lines::document_refused_line;
-use ri_base::{Doc, NoMemory};
+use extent_ops::extents;
+use memory_index::{MemIndex, MemRefusal};
+use ri_base::{Doc, Extent, ExtentExpr, Extents, NoMemory, Postings, Sealed, SegFault};
 use std::alloc::{AllocError, Global};
 use tokens::{TokenRefusal, doc_of};
 use trec_reader::RawDoc;
 
-fn push_line(alloc: Global, lines: &mut Vec<u8>, docno: &[u8], place: usize) -> Result<(), NoMemory>
-    requires { place + 1 < 2 ^ 64 }
-    ensures { OnOk result (lines.new.items ≡ lines.old.items ++ line docno.now place) }
+/// The index of one document.
+fn sealed(alloc: Global, doc: Doc) -> Result<Sealed, NoMemory>
+    ensures { IfOk result (λ s. s ≡ doc ∷ []) }
 {
-    let begin = place.to_string(alloc)?;
-    let end = (place + 1).to_string(alloc)?;
+    let mut index = MemIndex::new(alloc, 1)?;
+    match index.add(alloc, &doc) {
+        Ok(_) => {}
+        Err(MemRefusal::IndexFull) => unreachable!(),
+        Err(MemRefusal::Memory) => return Err(AllocError),
+    }
+    drop(doc);
+    match index.seal(alloc) {
+        Ok(sealed) => Ok(sealed),
+        Err(_) => Err(AllocError),
+    }
+}
+
+/// The extents of the expression in a document, by its index.
+fn found(alloc: Global, expr: &ExtentExpr, index: &mut Sealed) -> Result<Extents, NoMemory>
+    requires { 0 < length index.old }
+    ensures exact { IfOk result (λ xs. xs ≡ extent_list (expr_tree expr.now) (document_at index.old 0)) }
+    ensures same { index.new ≡ index.old }
+{
+    match extents(alloc, expr, index, 0) {
+        Ok(found) => Ok(found),
+        Err(SegFault::Memory) => Err(AllocError),
+        // an index in memory has no file and no store
+        Err(SegFault::Malformed { .. } | SegFault::Missing { .. } | SegFault::Store) =>
+            unreachable!(),
+    }
+}
+
+fn push_line(alloc: Global, lines: &mut Vec<u8>, docno: &[u8], x: Extent) -> Result<(), NoMemory>
+    ensures { OnOk result (lines.new.items ≡ lines.old.items ++ line docno.now x) }
+{
+    let begin = x.begin().to_string(alloc)?;
+    let end = x.end().to_string(alloc)?;
     lines.extend_from_slice(docno)?;
     lines.push(b' ')?;
     lines.extend_from_slice(begin.as_bytes())?;
@@ -25,34 +60,38 @@ fn push_line(alloc: Global, lines: &mut Vec<u8>, docno: &[u8], place: usize) -> 
     Ok(())
 }
 
-/// A line for each place of the term in a document.
-fn place_lines(alloc: Global, term: &[u8], doc: &Doc) -> Result<Vec<u8>, NoMemory>
-    ensures { IfOk result (λ lines. lines.items ≡ place_lines doc.now.docno (places_among term.now doc.now.tokens)) }
+/// A line for each extent.
+fn extent_lines(alloc: Global, docno: &[u8], found: &Extents) -> Result<Vec<u8>, NoMemory>
+    ensures { IfOk result (λ lines. lines.items ≡ extent_lines docno.now found.now) }
 {
     let mut lines = Vec::new(alloc);
-    let docno = doc.docno().as_bytes();
-    let mut place = 0;
-    for token in doc.tokens().as_slice() {
-        if token.as_bytes() == term {
-            push_line(alloc, &mut lines, docno, place)?;
-        }
-        place += 1;
+    for x in found.as_slice() {
+        push_line(alloc, &mut lines, docno, *x)?;
     }
     Ok(lines)
 }
 
-/// The lines of a document, and whether it is refused: one for each place of the term, or the refusal's.
+/// A line for each extent of the expression in the document.
+fn lines_of(alloc: Global, expr: &ExtentExpr, doc: Doc) -> Result<Vec<u8>, NoMemory>
+    ensures { IfOk result (λ lines. lines.items ≡ extent_lines doc.docno (extent_list (expr_tree expr.now) doc)) }
+{
+    let mut index = sealed(alloc, doc)?;
+    let found = found(alloc, expr, &mut index)?;
+    extent_lines(alloc, index.docno(0).as_bytes(), &found)
+}
+
+/// The lines of a document, and whether it is refused: one for each extent of the expression, or the refusal's.
 #[tactic(auto, unfolding(crate::specs::Scan::document_lines))]
 pub fn document_lines(
     alloc: Global,
-    term: &[u8],
+    expr: &ExtentExpr,
     document: RawDoc,
 ) -> Result<(Vec<u8>, bool), NoMemory>
-    ensures lines { IfOk result (λ x. x.0.items ≡ document_lines term.now document) }
+    ensures lines { IfOk result (λ x. x.0.items ≡ document_lines (expr_tree expr.now) document) }
     ensures refused { IfOk result (λ x. x.1 ≡ is_err (content document)) }
 {
     match doc_of(alloc, document) {
-        Ok(doc) => Ok((place_lines(alloc, term, &doc)?, false)),
+        Ok(doc) => Ok((lines_of(alloc, expr, doc)?, false)),
         Err(TokenRefusal::TooManyTokens { docno }) => {
             let line = document_refused_line(alloc, b"TooManyTokens", &docno)?;
             Ok((line, true))

@@ -1,5 +1,6 @@
 // The program's one public call.
 ghost use Rattle.std.specs.Prelude.{◌≡◌, ◌≢◌, ◌≤◌, ◌<◌, ◌++◌, ℕ, List, IfSome, None, true, false, take, length, codes};
+ghost use Rattle.ri_base.specs.Expression.{expr_tree};
 ghost use Rattle.ri_ends.specs.Causes.{Rose};
 ghost use Rattle.trec_reader.specs.Read.{read};
 ghost use Rattle.indri_app.specs.Command.{AsksFor, HasFault, IfAsksFor, IfFault, asked, usage_line};
@@ -9,11 +10,11 @@ ghost use Rattle.indri_app.specs.Status.{IsQueryOutcome, IsReadFaultOutcome, IsR
 ghost use Rattle.indri_app.specs.Scan.{has_refusal, refusal_line, scan_text};
 
 use crate::Status;
-use crate::command::{scan_text_of, text_term};
+use crate::command::scan_text_of;
 use crate::lines::{query_line, refusal_line};
 use crate::scan::{Stop, scan_documents};
-use query_reader::{QueryFault, QueryKind};
-use ri_base::ArgList;
+use query_reader::{QueryFault, QueryKind, read_expr};
+use ri_base::{ArgList, ExtentExpr};
 use ri_ends::{OutFault, Sink, Source};
 use std::alloc::Global;
 use trec_reader::TrecRefusal;
@@ -92,17 +93,22 @@ fn write_read_fault<K: Sink>(sink: &mut K) -> Status
     }
 }
 
-/// Writes what a scan for the term writes.
+/// Writes what a scan for the expression writes.
 #[tactic(auto, using(crate::proofs::Scanned::refused_front, crate::proofs::Scanned::fault_front))]
-fn scan<S: Source, K: Sink>(alloc: Global, term: &[u8], source: &mut S, sink: &mut K) -> Status
+fn scan<S: Source, K: Sink>(
+    alloc: Global,
+    expr: &ExtentExpr,
+    source: &mut S,
+    sink: &mut K,
+) -> Status
     ensures done { result ≡ Status.Done → IfSome (S.left source.old) (λ bytes.
-        (has_refusal (read bytes) ≡ false) × Writes (K.taken sink.old) (K.taken sink.new) (scan_text term.now bytes)) }
+        (has_refusal (read bytes) ≡ false) × Writes (K.taken sink.old) (K.taken sink.new) (scan_text (expr_tree expr.now) bytes)) }
     ensures refused { result ≡ Status.SomeRefused → IfSome (S.left source.old) (λ bytes.
-        (has_refusal (read bytes) ≡ true) × Writes (K.taken sink.old) (K.taken sink.new) (scan_text term.now bytes)) }
+        (has_refusal (read bytes) ≡ true) × Writes (K.taken sink.old) (K.taken sink.new) (scan_text (expr_tree expr.now) bytes)) }
     ensures front { result ≢ Status.ReadFault → IfSome (S.left source.old) (λ bytes.
-        WritesFront (K.taken sink.old) (K.taken sink.new) (scan_text term.now bytes)) }
+        WritesFront (K.taken sink.old) (K.taken sink.new) (scan_text (expr_tree expr.now) bytes)) }
     ensures fault_line { result ≡ Status.ReadFault → IfSome (S.left source.old) (λ bytes.
-        WritesFault (K.taken sink.old) (K.taken sink.new) (scan_text term.now bytes) (K.faults sink.old) (K.faults sink.new)) }
+        WritesFault (K.taken sink.old) (K.taken sink.new) (scan_text (expr_tree expr.now) bytes) (K.faults sink.old) (K.faults sink.new)) }
 
     ensures command { (result ≢ Status.Usage) × (result ≢ Status.QueryRefused) }
     ensures read { result ≡ Status.ReadFault → Rose (S.faults source.old) (S.faults source.new) }
@@ -112,7 +118,7 @@ fn scan<S: Source, K: Sink>(alloc: Global, term: &[u8], source: &mut S, sink: &m
     ensures layers { S.layers source.new ≡ S.layers source.old }
     ensures held { S.held source.new ≡ S.held source.old }
 {
-    match scan_documents(alloc, term, source, sink) {
+    match scan_documents(alloc, expr, source, sink) {
         Stop::End {
             some_refused: false,
         } => Status::Done,
@@ -133,12 +139,12 @@ pub fn run<S: Source, K: Sink>(
     sink: &mut K,
 ) -> Status
     // Done: the words are a scan, nothing is refused, and the text of the scan is written.
-    ensures done { result ≡ Status.Done → AsksFor (asked words.now) (λ term. IfSome (S.left source.old) (λ bytes.
-        (has_refusal (read bytes) ≡ false) × Writes (K.taken sink.old) (K.taken sink.new) (scan_text term bytes))) }
+    ensures done { result ≡ Status.Done → AsksFor (asked words.now) (λ x. IfSome (S.left source.old) (λ bytes.
+        (has_refusal (read bytes) ≡ false) × Writes (K.taken sink.old) (K.taken sink.new) (scan_text x bytes))) }
 
     // SomeRefused: the words are a scan, a document or the input is refused, and the text of the scan is written.
-    ensures refused { result ≡ Status.SomeRefused → AsksFor (asked words.now) (λ term. IfSome (S.left source.old) (λ bytes.
-        (has_refusal (read bytes) ≡ true) × Writes (K.taken sink.old) (K.taken sink.new) (scan_text term bytes))) }
+    ensures refused { result ≡ Status.SomeRefused → AsksFor (asked words.now) (λ x. IfSome (S.left source.old) (λ bytes.
+        (has_refusal (read bytes) ≡ true) × Writes (K.taken sink.old) (K.taken sink.new) (scan_text x bytes))) }
 
     // Usage: exactly where the words are no command, unless the sink fails or memory is missing. The source stays.
     ensures usage { result ≡ Status.Usage → (asked words.now ≡ None) × Writes (K.taken sink.old) (K.taken sink.new) usage_line }
@@ -155,10 +161,10 @@ pub fn run<S: Source, K: Sink>(
     ensures write_later { K.faults sink.old ≤ K.faults sink.new }
 
     // However a scan ends, a front of its text is written, and behind it the last line where the source failed.
-    ensures front { result ≢ Status.ReadFault → IfAsksFor (asked words.now) (λ term. IfSome (S.left source.old) (λ bytes.
-        WritesFront (K.taken sink.old) (K.taken sink.new) (scan_text term bytes))) }
-    ensures fault_line { result ≡ Status.ReadFault → IfAsksFor (asked words.now) (λ term. IfSome (S.left source.old) (λ bytes.
-        WritesFault (K.taken sink.old) (K.taken sink.new) (scan_text term bytes) (K.faults sink.old) (K.faults sink.new))) }
+    ensures front { result ≢ Status.ReadFault → IfAsksFor (asked words.now) (λ x. IfSome (S.left source.old) (λ bytes.
+        WritesFront (K.taken sink.old) (K.taken sink.new) (scan_text x bytes))) }
+    ensures fault_line { result ≡ Status.ReadFault → IfAsksFor (asked words.now) (λ x. IfSome (S.left source.old) (λ bytes.
+        WritesFault (K.taken sink.old) (K.taken sink.new) (scan_text x bytes) (K.faults sink.old) (K.faults sink.new))) }
 
     ensures layers { S.layers source.new ≡ S.layers source.old }
     ensures held { S.held source.new ≡ S.held source.old }
@@ -166,8 +172,8 @@ pub fn run<S: Source, K: Sink>(
     let Some(text) = scan_text_of(words) else {
         return write_usage(sink);
     };
-    match text_term(alloc, text) {
-        Ok(term) => scan(alloc, term.as_bytes(), source, sink),
+    match read_expr(alloc, text) {
+        Ok(expr) => scan(alloc, &expr, source, sink),
         Err(QueryFault::Refused { kind, place }) => write_query_refusal(alloc, kind, place, sink),
         Err(QueryFault::Memory) => Status::Memory,
     }

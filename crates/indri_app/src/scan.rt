@@ -1,6 +1,7 @@
-// A scan of all documents of a source for a term.
+// A scan of all documents of a source for an expression.
 ghost use Rattle.std.specs.Prelude.{◌≡◌, ◌≤◌, ℕ, IfOk, IfSome, OnOk, IsErrOf, IsErr, is_err, take};
 ghost use Rattle.std.specs.Io.KnownBytes.{append_known};
+ghost use Rattle.ri_base.specs.Expression.{expr_tree};
 ghost use Rattle.ri_ends.specs.Causes.{Rose};
 ghost use Rattle.trec_reader.specs.Read.{read};
 ghost use Rattle.tokens.specs.Content.{content};
@@ -10,6 +11,7 @@ ghost use Rattle.indri_app.specs.Stopped.{DoneAt, RefusedAt};
 
 use crate::Status;
 use crate::documents::document_lines;
+use ri_base::ExtentExpr;
 use ri_ends::{OutFault, Sink, Source};
 use std::alloc::Global;
 use trec_reader::{DocReader, RawDoc, TrecRefusal};
@@ -28,17 +30,17 @@ pub enum Stop {
 /// Writes the lines of a document, and answers whether it is refused.
 fn write_document<K: Sink>(
     alloc: Global,
-    term: &[u8],
+    expr: &ExtentExpr,
     document: RawDoc,
     sink: &mut K,
 ) -> Result<bool, OutFault>
-    ensures whole { OnOk result (Writes (K.taken sink.old) (K.taken sink.new) (document_lines term.now document)) }
+    ensures whole { OnOk result (Writes (K.taken sink.old) (K.taken sink.new) (document_lines (expr_tree expr.now) document)) }
     ensures refused { IfOk result (λ refused. refused ≡ is_err (content document)) }
-    ensures front { IsErr result → WritesFront (K.taken sink.old) (K.taken sink.new) (document_lines term.now document) }
+    ensures front { IsErr result → WritesFront (K.taken sink.old) (K.taken sink.new) (document_lines (expr_tree expr.now) document) }
     ensures later { K.faults sink.old ≤ K.faults sink.new }
     ensures cause { IsErrOf result OutFault.Failed → Rose (K.faults sink.old) (K.faults sink.new) }
 {
-    let (lines, refused) = document_lines(alloc, term, document)?;
+    let (lines, refused) = document_lines(alloc, expr, document)?;
     sink.write_all(&lines)?;
     Ok(refused)
 }
@@ -46,14 +48,14 @@ fn write_document<K: Sink>(
 /// Writes the lines of all documents.
 pub fn scan_documents<S: Source, K: Sink>(
     alloc: Global,
-    term: &[u8],
+    expr: &ExtentExpr,
     source: &mut S,
     sink: &mut K,
 ) -> Stop
     // At the end all of the text is written, and at a refusal all of it but the line of the refusal.
-    ensures done { DoneAt result (S.left source.old) (K.taken sink.old) (K.taken sink.new) term.now }
-    ensures refused { RefusedAt result (S.left source.old) (K.taken sink.old) (K.taken sink.new) term.now }
-    ensures front { IfSome (S.left source.old) (λ bytes. WritesFront (K.taken sink.old) (K.taken sink.new) (scan_text term.now bytes)) }
+    ensures done { DoneAt result (S.left source.old) (K.taken sink.old) (K.taken sink.new) (expr_tree expr.now) }
+    ensures refused { RefusedAt result (S.left source.old) (K.taken sink.old) (K.taken sink.new) (expr_tree expr.now) }
+    ensures front { IfSome (S.left source.old) (λ bytes. WritesFront (K.taken sink.old) (K.taken sink.new) (scan_text (expr_tree expr.now) bytes)) }
 
     ensures read { result ≡ Stop.ReadFault → Rose (S.faults source.old) (S.faults source.new) }
     ensures write { result ≡ Stop.WriteFault → Rose (K.faults sink.old) (K.faults sink.new) }
@@ -75,7 +77,7 @@ pub fn scan_documents<S: Source, K: Sink>(
             Err(TrecRefusal::Ended) => unreachable!(),
             Err(refusal) => return Stop::Refused(refusal),
         };
-        match write_document(alloc, term, document, sink) {
+        match write_document(alloc, expr, document, sink) {
             Ok(refused) => some_refused |= refused,
             Err(OutFault::Failed) => return Stop::WriteFault,
             Err(OutFault::Memory) => return Stop::Memory,

@@ -1,7 +1,8 @@
 use super::*;
 use ri_base::ArgList;
 use ri_ends::{MemSink, MemSource, SinkFail, Source};
-use std::alloc::Global;
+use std::alloc::{AllocGlobal, Global};
+use std::process::Abort;
 use std::test::Fail;
 
 const TWO: &[u8] = b"<DOC><DOCNO>d1</DOCNO>a b</DOC><DOC><DOCNO>d2</DOCNO>a</DOC>";
@@ -134,8 +135,8 @@ fn texts_that_are_refused(rt: HostRuntime) -> Result<(), Fail> {
         ("#combine(a #filreq(b c))", "refused Query Expected 0\n"),
         ("#max(a #combine[t](b))", "refused Query Expected 0\n"),
         ("#weight(1234567 a)", "refused Query Expected 0\n"),
-        ("#1(a b)", "refused Query NotYetBuilt 0\n"),
-        ("state-of", "refused Query NotYetBuilt 0\n"),
+        ("#less(a 5)", "refused Query NotYetBuilt 0\n"),
+        ("car*", "refused Query NotYetBuilt 0\n"),
     ];
     for (text, line) in rows {
         let words = words_of(alloc, &[".", "scan", text])?;
@@ -219,30 +220,79 @@ const NEWSWIRE: &[u8] = b"<DOC>
 const CAFE: &[u8] =
     b"<doc id=7><DocNo> X-1 </DocNo><Title lang=\"en\">Caf&eacute; au Lait</title></b><Text>one &amp; two</DOC>";
 
-#[test]
-fn scans_for_a_word(rt: HostRuntime) -> Result<(), Fail> {
+/// Checks what a scan for each text writes over an input.
+fn assert_scans(
+    rt: &(impl Abort + AllocGlobal),
+    input: &[u8],
+    rows: &[(&str, &[u8])],
+) -> Result<(), Fail> {
     let alloc = rt.alloc();
-    let rows: [(&str, &[u8], &[u8]); 6] = [
-        ("caf", CAFE, b"X-1 0 1\n"),
-        ("Lait", CAFE, b"X-1 2 3\n"),
-        ("two", CAFE, b"X-1 4 5\n"),
-        (
-            "launch",
-            NEWSWIRE,
-            b"AP880212-0001 8 9\nAP880212-0001 12 13\nAP880212-0001 14 15\n",
-        ),
-        ("monday", NEWSWIRE, b"AP880212-0001 19 20\n"),
-        ("b", b"<DOC><DOCNO>d1</DOCNO>a\xffb</DOC>", b"d1 1 2\n"),
-    ];
-    for (text, input, lines) in rows {
+    for (text, lines) in rows {
         let words = words_of(alloc, &[".", "scan", text])?;
         let mut source = MemSource::new(input.to_vec(alloc)?, 64, Vec::new(alloc));
         let mut sink = MemSink::new(alloc, Vec::new(alloc));
         let status = run(alloc, &words, &mut source, &mut sink);
         assert_eq!(rt; status, Status::Done, "at {text}");
-        assert_eq!(rt; sink.bytes(), lines, "at {text}");
+        assert_eq!(rt; sink.bytes(), *lines, "at {text}");
     }
     Ok(())
+}
+
+#[test]
+fn scans_of_tagged_text(rt: HostRuntime) -> Result<(), Fail> {
+    let rows: [(&str, &[u8]); 8] = [
+        ("caf", b"X-1 0 1\n"),
+        ("Lait", b"X-1 2 3\n"),
+        ("two", b"X-1 4 5\n"),
+        ("#any:title", b"X-1 0 3\n"),
+        ("#any:text", b"X-1 3 5\n"),
+        ("#any:b", b""),
+        ("au.title", b"X-1 1 2\n"),
+        ("one.title", b""),
+    ];
+    assert_scans(&rt, CAFE, &rows)
+}
+
+#[test]
+fn scans_of_newswire(rt: HostRuntime) -> Result<(), Fail> {
+    let rows: [(&str, &[u8]); 12] = [
+        (
+            "launch",
+            b"AP880212-0001 8 9\nAP880212-0001 12 13\nAP880212-0001 14 15\n",
+        ),
+        ("monday", b"AP880212-0001 19 20\n"),
+        ("launch.head", b"AP880212-0001 8 9\n"),
+        (
+            "#uw3(the launch)",
+            b"AP880212-0001 11 13\nAP880212-0001 12 14\nAP880212-0001 13 15\n",
+        ),
+        ("#1(rain delays)", b"AP880212-0001 6 8\n"),
+        ("#1(rain delays).text", b""),
+        ("#2(launch launch)", b"AP880212-0001 12 15\n"),
+        ("#1(#any:head rain)", b"AP880212-0001 6 10\n"),
+        (
+            "#syn(monday delays)",
+            b"AP880212-0001 7 8\nAP880212-0001 19 20\n",
+        ),
+        ("#band(rain launch)", b"AP880212-0001 0 20\n"),
+        ("#band(rain sun)", b""),
+        ("AP-NR", b"AP880212-0001 0 2\n"),
+    ];
+    assert_scans(&rt, NEWSWIRE, &rows)
+}
+
+#[test]
+fn scans_of_windows(rt: HostRuntime) -> Result<(), Fail> {
+    let ordered: [(&str, &[u8]); 3] = [
+        ("#1(a b)", b"d1 1 3\n"),
+        ("#2(a b)", b"d1 0 3\nd1 1 3\n"),
+        ("#uw1(a b)", b""),
+    ];
+    assert_scans(&rt, b"<DOC><DOCNO>d1</DOCNO>a a b b</DOC>", &ordered)?;
+    let unordered: [(&str, &[u8]); 1] = [("#uw3(a b)", b"d1 0 2\nd1 1 4\nd1 2 4\n")];
+    assert_scans(&rt, b"<DOC><DOCNO>d1</DOCNO>b a a b</DOC>", &unordered)?;
+    let lossy: [(&str, &[u8]); 1] = [("b", b"d1 1 2\n")];
+    assert_scans(&rt, b"<DOC><DOCNO>d1</DOCNO>a\xffb</DOC>", &lossy)
 }
 
 /// A document with this text so many times, and behind it one of the word `a`.

@@ -1,5 +1,5 @@
 // The bytes that a reader takes from its source ahead of what it reads.
-ghost use Rattle.std.specs.Prelude.{◌≡◌, ◌+◌, ◌-◌, ◌^◌, ◌<◌, ◌≤◌, ◌↔◌, ℕ, List, [], length, take, drop, IfOk, OnOk, OnErr, MatchResult, vec_len};
+ghost use Rattle.std.specs.Prelude.{◌≡◌, ◌⊎◌, ◌+◌, ◌-◌, ◌/◌, ◌^◌, ◌<◌, ◌≤◌, ◌↔◌, ℕ, List, [], length, take, drop, IfOk, OnOk, OnErr, MatchResult, vec_len};
 ghost use Rattle.std.specs.Bool.{OnFalse, OnTrue};
 ghost use Rattle.std.specs.List.{prefix_len, slice_range};
 ghost use Rattle.std.specs.Option.{option_map};
@@ -86,6 +86,7 @@ fn give_back(buffer: &mut Vec<u8>, at: usize, end: usize) -> usize
     ensures same { slice_range buffer.new.items result (result + (end - at)) ≡ slice_range buffer.old.items at end }
     ensures within { result + (end - at) ≤ vec_len buffer.new }
     ensures some { 0 < vec_len buffer.new }
+    ensures few { (vec_len buffer.new ≤ MOST_KEPT) ⊎ (vec_len buffer.new / 4 < end - at) }
 {
     let ahead = end - at;
     if buffer.len() <= MOST_KEPT || buffer.len() / 4 < ahead {
@@ -141,7 +142,7 @@ impl ReadAhead {
         &self.buffer[self.at..self.end]
     }
 
-    /// Reads so many of the bytes ahead.
+    /// Reads so many of the bytes ahead, and gives back the memory that the others don't need, where it is much.
     pub fn advance(&mut self, count: usize)
         requires some { count ≤ length self.old.bytes }
         requires fits { self.old.offset + count < 2 ^ 64 }
@@ -150,12 +151,6 @@ impl ReadAhead {
     {
         self.at += count;
         self.offset += count as u64;
-    }
-
-    /// Gives back the memory that the bytes ahead don't need, where it is much.
-    pub fn give_back(&mut self)
-        ensures { self.new ≡ self.old }
-    {
         let ahead = self.end - self.at;
         self.at = give_back(&mut self.buffer, self.at, self.end);
         self.end = self.at + ahead;

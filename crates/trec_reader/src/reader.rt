@@ -75,7 +75,6 @@ fn taken(ahead: &mut ReadAhead, document: (Docno, Pieces), count: usize) -> RawD
 {
     let offset = ahead.offset();
     ahead.advance(count);
-    ahead.give_back();
     let (docno, pieces) = document;
     RawDoc {
         docno,

@@ -17,6 +17,7 @@ mod postings;
 mod query;
 mod sealed;
 mod seg_fault;
+mod short_bytes;
 mod steps;
 mod terms;
 mod text;

@@ -4,8 +4,9 @@ ghost use Rattle.std.specs.List.{list_all};
 ghost use Rattle.ri_base.specs.Ascii.{lower, is_upper, is_lower, is_digit};
 ghost use Rattle.ri_base.specs.Text.{is_docno, is_docno_byte, is_term, is_name, is_name_byte, starts_with_letter};
 
+use crate::NoMemory;
 use crate::ascii::{is_digit, is_lower, lower};
-use crate::{Bytes, NoMemory};
+use crate::short_bytes::ShortBytes;
 use std::alloc::Global;
 use std::marker::Model;
 
@@ -21,7 +22,7 @@ pub const NAME_BYTES: usize = 32;
 /// A document's identifier: 1 to 255 visible bytes of ASCII, none of them `<`.
 #[derive(Debug, Drop, PartialEq, Eq, PartialOrd, Ord, Hash)]
 pub struct Docno {
-    bytes: Bytes,
+    bytes: ShortBytes,
 }
 
 impl Model for Docno {
@@ -58,7 +59,7 @@ impl Docno {
         if bytes.is_empty() || bytes.len() > DOCNO_BYTES || !are_docno_bytes(bytes) {
             return Ok(None);
         }
-        let bytes = Bytes::copy_of(alloc, bytes)?;
+        let bytes = ShortBytes::copy_of(alloc, bytes)?;
         Ok(Some(Docno { bytes }))
     }
 
@@ -81,7 +82,7 @@ impl Docno {
 /// A term: 1 to 128 bytes of any kind.
 #[derive(Debug, Drop, PartialEq, Eq, PartialOrd, Ord, Hash)]
 pub struct Term {
-    bytes: Bytes,
+    bytes: ShortBytes,
 }
 
 impl Model for Term {
@@ -105,7 +106,7 @@ impl Term {
         if bytes.is_empty() || bytes.len() > TERM_BYTES {
             return Ok(None);
         }
-        let bytes = Bytes::copy_of(alloc, bytes)?;
+        let bytes = ShortBytes::copy_of(alloc, bytes)?;
         Ok(Some(Term { bytes }))
     }
 
@@ -128,7 +129,7 @@ impl Term {
 /// The name of a field: a letter and then letters and digits of ASCII, in lower case, at most 32 bytes.
 #[derive(Debug, Drop, PartialEq, Eq, PartialOrd, Ord, Hash)]
 pub struct Name {
-    bytes: Bytes,
+    bytes: ShortBytes,
 }
 
 impl Model for Name {
@@ -181,9 +182,8 @@ impl Name {
         if !starts_with_letter(&bytes) || !are_name_bytes(&bytes) {
             return Ok(None);
         }
-        Ok(Some(Name {
-            bytes: Bytes::of(bytes),
-        }))
+        let bytes = ShortBytes::copy_of(alloc, &bytes)?;
+        Ok(Some(Name { bytes }))
     }
 
     pub fn as_bytes(&self) -> &[u8]

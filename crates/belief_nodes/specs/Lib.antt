@@ -3,5 +3,6 @@ pub mod Fractions
 pub mod Kept
 pub mod Keys
 pub mod Leaves
+pub mod Network
 pub mod Order
 pub mod Products

@@ -1,8 +1,8 @@
 -- What the calculation of a key asks of a tree, so that its numbers are in range.
-use Rattle.std.specs.Prelude.{◌≡◌, ◌<◌, ℕ, ◌*◌, ◌^◌, true}
+use Rattle.std.specs.Prelude.{◌≡◌, ◌<◌, ℕ, ◌^◌, true}
 use Rattle.std.specs.Int.{◌∣◌}
 use Rattle.query_check.specs.Kept.{is_below, are_below, are_weighted_below}
-use Rattle.query_check.specs.Scale.{scale, common, weighted_common, total, is_scaled, are_scaled, are_weighted_scaled}
+use Rattle.query_check.specs.Scale.{scale, common, weighted_common, is_scaled, are_scaled, are_weighted_scaled}
 use Rattle.query_check.specs.Trees.{ScaledTree, ScaledTrees, WeightedScaledTrees}
 
 -- a tree over n leaves
@@ -26,4 +26,4 @@ pub record AreWeightedFit (n m : ℕ) (xs : WeightedScaledTrees) : Type 0 where
   pub scaled : are_weighted_scaled xs ≡ true
   pub divides : weighted_common xs ∣ m
   pub positive : 0 < m
-  pub small : total xs * m < 2 ^ 60
+  pub small : m < 2 ^ 60

@@ -1,5 +1,5 @@
 -- The beliefs of the leaves of a query in one window, which is a document, a field or a passage.
-use Rattle.std.specs.Prelude.{List, map, zip, ◌×◌}
+use Rattle.std.specs.Prelude.{List, map, zip}
 use Rattle.ri_base.specs.Ratio.{Ratio}
 use Rattle.ri_base.specs.declared.hit.LeafStats.{LeafStats}
 use Rattle.smoothing.specs.Fractions.{fraction_of}

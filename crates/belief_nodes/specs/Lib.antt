@@ -1,5 +1,6 @@
 pub mod Fits
 pub mod Fractions
+pub mod Kept
 pub mod Keys
 pub mod Leaves
 pub mod Network

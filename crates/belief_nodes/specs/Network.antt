@@ -1,19 +1,26 @@
 -- A network as contracts see it: the leaves of a checked query, what windows are scored, what the collection has of each leaf,
 -- and the tree.
-use Rattle.std.specs.Prelude.{◌≡◌, ◌<◌, ◌≤◌, ◌^◌, true, List, map, length, All}
+use Rattle.std.specs.Prelude.{List, map}
 use Rattle.ri_base.specs.declared.hit.LeafStats.{LeafStats}
 use Rattle.ri_base.specs.declared.query.Range.{Range}
 use Rattle.query_check.specs.declared.checked.Checked.{Checked}
 use Rattle.query_check.specs.Leaves.{LeafTree, leaf_tree}
 use Rattle.query_check.specs.Trees.{ScaledTree, scaled_tree}
-use Rattle.belief_nodes.specs.Fits.{IsFit}
-use Rattle.belief_nodes.specs.Leaves.{AreLeafStats}
+use Rattle.belief_nodes.specs.declared.network.Network.{Network}
 
 pub record NetworkTree : Type 0 where
   pub leaves : List LeafTree
   pub range : Range
   pub stats : List LeafStats
   pub tree : ScaledTree
+
+abbrev pub network_tree : Network → NetworkTree
+network_tree n = record {
+  leaves = map leaf_tree n.leaves.items;
+  range = n.range;
+  stats = n.stats.items;
+  tree = scaled_tree n.tree;
+}
 
 -- the network of a checked query
 abbrev pub network_of : Checked → List LeafStats → NetworkTree
@@ -23,9 +30,3 @@ network_of checked stats = record {
   stats = stats;
   tree = scaled_tree checked.tree;
 }
-
--- what each network keeps
-pub record IsNetwork (leaves : List LeafTree) (stats : List LeafStats) (tree : ScaledTree) : Type 0 where
-  pub each : length stats ≡ length leaves
-  pub counted : All (λ s. AreLeafStats s) stats
-  pub fit : IsFit (length leaves) tree

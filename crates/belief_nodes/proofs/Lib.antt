@@ -1,0 +1,5 @@
+pub mod Kept
+pub mod Powers
+pub mod Sizes
+pub mod Walks
+pub mod LeafBeliefs

@@ -15,11 +15,13 @@ split m n d =
 
 times-div : (m n d : ℕ) → 0 < d → m * n / d ≡ m * (n / d) + m * (n % d) / d
 times-div m n d some =
-    ap (λ k. k / d) (split m n d) ∙ div-mul-add (m * (n / d) + m * (n % d) / d) d (m * (n % d) % d) (mod_below (m * (n % d)) d some)
+    let k = m * (n % d) in
+    ap (λ a. a / d) (split m n d) ∙ div-mul-add (m * (n / d) + k / d) d (k % d) (mod_below k d some)
 
 times-mod : (m n d : ℕ) → 0 < d → m * n % d ≡ m * (n % d) % d
 times-mod m n d some =
-    ap (λ k. k % d) (split m n d) ∙ mod-mul-add (m * (n / d) + m * (n % d) / d) d (m * (n % d) % d) (mod_below (m * (n % d)) d some)
+    let k = m * (n % d) in
+    ap (λ a. a % d) (split m n d) ∙ mod-mul-add (m * (n / d) + k / d) d (k % d) (mod_below k d some)
 
 -- what m times the rest gives is below m
 next_below : (m n d : ℕ) → 0 < m → 0 < d → m * (n % d) / d < m
@@ -40,11 +42,16 @@ power_more : (k x : ℕ) → 10 ^ suc k * x ≡ 10 * (10 ^ k * x)
 power_more k x = ap (λ p. p * x) (pow-succ' 10 k) ∙ mul_assoc 10 (10 ^ k) x
 
 -- one digit more
-digit_more : (k x d : ℕ) → 0 < d → last_digits (suc k) (10 ^ suc k * x / d) ≡ last_digits k (10 ^ k * x / d) ++ (48 + 10 * (10 ^ k * x % d) / d) ∷ []
+digit_more : (k x d : ℕ) → 0 < d
+    → last_digits (suc k) (10 ^ suc k * x / d) ≡ last_digits k (10 ^ k * x / d) ++ (48 + 10 * (10 ^ k * x % d) / d) ∷ []
 unfolding last_digits
 digit_more k x d some =
     let n = 10 ^ k * x in
-    ap (λ m. last_digits (suc k) (m / d)) (power_more k x) ∙ ap (λ m. last_digits k m ++ (48 + 10 * n / d % 10) ∷ []) (front 10 n d (omega arith) some) ∙ ap (λ m. last_digits k (n / d) ++ (48 + m) ∷ []) (last 10 n d (omega arith) some)
+    let shorter = front 10 n d (omega arith) some in
+    let digit = last 10 n d (omega arith) some in
+    ap (λ m. last_digits (suc k) (m / d)) (power_more k x)
+    ∙ ap (λ m. last_digits k m ++ (48 + 10 * n / d % 10) ∷ []) shorter
+    ∙ ap (λ m. last_digits k (n / d) ++ (48 + m) ∷ []) digit
 
 -- the rest behind it
 rest_more : (k x d : ℕ) → 0 < d → 10 ^ suc k * x % d ≡ 10 * (10 ^ k * x % d) % d
@@ -55,20 +62,37 @@ no_digits : (n : ℕ) → last_digits 0 n ≡ []
 unfolding last_digits
 no_digits n = refl
 
--- six digits make the text of the score
-pub six_digits : (x d : ℕ) → 0 < d → decimal (x / d) ++ 46 ∷ last_digits 6 (10 ^ 6 * x / d) ≡ score_text (x * 1000000 / d)
-six_digits x d some =
+-- the text of x / d with so many places behind the point, and what is left of the division
+pub record IsDivided (x d places rest : ℕ) (text : List ℕ) : Type 0 where
+  pub digits : text ≡ decimal (x / d) ++ 46 ∷ last_digits places (10 ^ places * x / d)
+  pub left : rest ≡ 10 ^ places * x % d
+
+pub first : (x d : ℕ) (text : List ℕ) → text ≡ decimal (x / d) ++ 46 ∷ [] → IsDivided x d 0 (x % d) text
+first x d text e =
+    let one : x ≡ 1 * x = omega arith in
+    record {
+      digits = e ∙ ap (λ ds. decimal (x / d) ++ 46 ∷ ds) (sym (no_digits (1 * x / d)));
+      left = ap (λ n. n % d) one;
+    }
+
+pub next : (x d places rest : ℕ) (text longer : List ℕ) → 0 < d → IsDivided x d places rest text
+    → longer ≡ text ++ (48 + 10 * rest / d) ∷ [] → IsDivided x d (places + 1) (10 * rest % d) longer
+next x d places rest text longer some h e =
+    let whole = decimal (x / d) in
+    let so_far = last_digits places (10 ^ places * x / d) in
+    let digit = ap (λ r. so_far ++ (48 + 10 * r / d) ∷ []) (sym h.left) in
+    let digits = digit_more places x d some ∙ digit in
+    rw (add-one places) (record {
+      digits = e ∙ ap (λ t. t ++ (48 + 10 * rest / d) ∷ []) h.digits
+          ∙ append_assoc whole (46 ∷ so_far) ((48 + 10 * rest / d) ∷ []) ∙ ap (λ ds. whole ++ 46 ∷ ds) (sym digits);
+      left = ap (λ r. 10 * r % d) h.left ∙ sym (rest_more places x d some);
+    })
+
+-- six places make the text of a score
+pub six_places : (x d rest : ℕ) (text : List ℕ) → 0 < d → IsDivided x d 6 rest text → text ≡ score_text (x * 1000000 / d)
+six_places x d rest text some h =
     let turned : 1000000 * x ≡ x * 1000000 = omega arith in
-    let whole : x / d ≡ x * 1000000 / d / 1000000 = sym (front 1000000 x d (omega arith) some) ∙ ap (λ n. n / d / 1000000) turned in
-    ap (λ n. decimal (x / d) ++ 46 ∷ last_digits 6 (n / d)) turned ∙ ap (λ n. decimal n ++ 46 ∷ last_digits 6 (x * 1000000 / d)) whole
-
--- the text before the first digit, and the text behind each
-pub first : (x d : ℕ) (text : List ℕ) → text ≡ decimal (x / d) ++ 46 ∷ [] → (text ≡ decimal (x / d) ++ 46 ∷ last_digits 0 (1 * x / d)) × (x % d ≡ 1 * x % d)
-first x d text e = (e ∙ ap (λ ds. decimal (x / d) ++ 46 ∷ ds) (sym (no_digits (1 * x / d))), (let one : x ≡ 1 * x = omega arith in ap (λ n. n % d) one))
-
-pub next : (k x d rest : ℕ) (text longer front : List ℕ) → 0 < d → text ≡ front ++ 46 ∷ last_digits k (10 ^ k * x / d) → rest ≡ 10 ^ k * x % d → longer ≡ text ++ (48 + 10 * rest / d) ∷ [] →
-    (longer ≡ front ++ 46 ∷ last_digits (k + 1) (10 ^ (k + 1) * x / d)) × (10 * rest % d ≡ 10 ^ (k + 1) * x % d)
-next k x d rest text longer front some a b e =
-    let digits : last_digits (suc k) (10 ^ suc k * x / d) ≡ last_digits k (10 ^ k * x / d) ++ (48 + 10 * rest / d) ∷ [] =
-    digit_more k x d some ∙ ap (λ r. last_digits k (10 ^ k * x / d) ++ (48 + 10 * r / d) ∷ []) (sym b) in
-    rw (add-one k) (e ∙ ap (λ t. t ++ (48 + 10 * rest / d) ∷ []) a ∙ append_assoc front (46 ∷ last_digits k (10 ^ k * x / d)) _ ∙ ap (λ ds. front ++ 46 ∷ ds) (sym digits), ap (λ r. 10 * r % d) b ∙ sym (rest_more k x d some))
+    let shorter = front 1000000 x d (omega arith) some in
+    let whole : x / d ≡ x * 1000000 / d / 1000000 = sym shorter ∙ ap (λ n. n / d / 1000000) turned in
+    h.digits ∙ ap (λ n. decimal (x / d) ++ 46 ∷ last_digits 6 (n / d)) turned
+    ∙ ap (λ n. decimal n ++ 46 ∷ last_digits 6 (x * 1000000 / d)) whole

@@ -51,7 +51,8 @@ sign Near = 126
 -- RANK MARK -SCORE DOCNO BEGIN END
 abbrev pub line_text : ℕ → Line → List ℕ
 line_text rank l =
-    decimal rank ++ 32 ∷ sign l.mark ∷ 32 ∷ 45 ∷ score_text l.score ++ 32 ∷ l.docno ++ 32 ∷ decimal l.begin ++ 32 ∷ decimal l.end ++ 10 ∷ []
+    decimal rank ++ 32 ∷ sign l.mark ∷ 32 ∷ 45 ∷ score_text l.score ++ 32 ∷ l.docno ++ 32 ∷ decimal l.begin
+    ++ 32 ∷ decimal l.end ++ 10 ∷ []
 
 -- the lines of hits behind the one above them, if there is one
 abbrev pub lines_behind : ℕ → Option Hit → List Hit → List Line

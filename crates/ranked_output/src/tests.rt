@@ -70,6 +70,12 @@ fn rankings(rt: HostRuntime) -> Result<(), Fail> {
         ],
         ["1 - -1.923998 d2 0 1\n", "2 > -2.508960 d1 0 2\n"],
     )?;
+    Ok(())
+}
+
+#[test]
+fn near_rankings(rt: HostRuntime) -> Result<(), Fail> {
+    let alloc = rt.alloc();
     // "a b" twice: the query a, and the same belief written in two ways
     assert_lines(
         &rt,

@@ -28,7 +28,7 @@ fn quotient_text(alloc: Global, dividend: u128, divisor: u128) -> Result<Vec<u8>
     Ok(text)
 }
 
-/// The score of a key as its whole part, a point and six digits, cut and without a sign. The scale is that of the query.
+/// The score of a key: whole part, point and six digits, cut and without a sign. The scale is that of the query.
 pub fn score_text(alloc: Global, key: u128, scale: u64) -> Result<Bytes, NoMemory>
     requires { IsScale scale }
     ensures { IfOk result (λ text. text ≡ score_text (score scale key)) }

@@ -2,8 +2,10 @@
 #![tactic(auto)]
 
 mod keys;
+mod laws;
 mod leaf_count;
 mod network;
 
+pub use laws::{key_encloses, keys_apart, keys_near, keys_of_same};
 pub use leaf_count::LeafCount;
 pub use network::Network;

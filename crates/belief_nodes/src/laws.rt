@@ -42,3 +42,30 @@ pub fn keys_of_same()
     ensures { (t : ScaledTree) (a b : List Ratio) (k : ℕ) → All IsBelief a → All IsBelief b → IsSame a b
         → key_at k a t ≡ key_at k b t }
 {}
+
+/// The score of a key at the last level tells the logarithm of the belief in millionths: with `s` the score,
+/// `2 ^ (s * scale) ≤ (Q / P) ^ 1000000 < 2 ^ ((s + 2) * scale)`.
+pub fn key_scored()
+    ensures lower { (t : ScaledTree) (beliefs : List Ratio) → All IsBelief beliefs
+        → 2 ^ (score (key_at LAST beliefs t) (scale t) * scale t) * (product beliefs t).p ^ 1000000
+            ≤ (product beliefs t).q ^ 1000000 }
+    ensures upper { (t : ScaledTree) (beliefs : List Ratio) → All IsBelief beliefs → 1 ≤ scale t
+        → (product beliefs t).q ^ 1000000
+            < 2 ^ ((score (key_at LAST beliefs t) (scale t) + 2) * scale t) * (product beliefs t).p ^ 1000000 }
+{}
+
+/// The key at one level tells between which bounds the key at each further level lies, and how large it is.
+pub fn key_levels()
+    ensures least { (t : ScaledTree) (beliefs : List Ratio) (k s : ℕ)
+        → key_at k beliefs t * 2 ^ s ≤ key_at (k + s) beliefs t }
+    ensures most { (t : ScaledTree) (beliefs : List Ratio) (k s : ℕ)
+        → key_at (k + s) beliefs t + scale t ≤ (key_at k beliefs t + scale t) * 2 ^ s }
+    ensures small { (t : ScaledTree) (beliefs : List Ratio) (k : ℕ) → 1 ≤ scale t
+        → key_at k beliefs t < scale t * 2 ^ (k + 6) }
+{}
+
+/// The beliefs of leaves under Dirichlet smoothing are above 0 and at most 1, and their numbers have 64 bits.
+pub fn fractions_are_beliefs()
+    ensures { (mu : ℕ) (counts : List LeafCount) (stats : List LeafStats) → IsMu mu
+        → All IsLeafCount counts → All AreLeafStats stats → All IsBelief (leaf_fractions (Dirichlet mu) counts stats) }
+{}

@@ -17,11 +17,21 @@ use Rattle.belief_nodes.specs.Products.{product}
 use Rattle.ranked_output.specs.declared.marks.Mark.TheVariants.{Below, Same, Near}
 use Rattle.ranked_output.specs.Marks.{mark_of}
 use Rattle.ranked_output.specs.Texts.{Line, lines_of, score}
-use Rattle.true_order.specs.Ranked.{IsRanked, KeysTell, hit_beliefs}
+use Rattle.true_order.specs.Ranked.{IsRanked, hit_beliefs}
 use Rattle.true_order.specs.TrueOrder.{IsLine, IsScore, IsTrueOrder, above, beliefs}
 use Rattle.true_order.proofs.Marks.{below_is, same_above, near_above}
 use Rattle.true_order.proofs.Places.{all_at, get_left, get_right, mapped_at, pair_at}
 use Rattle.true_order.proofs.Shown.{Shows, hit_above, line_at, shown_at}
+
+-- what the keys of a tree tell of beliefs
+pub record KeysTell (tree : ScaledTree) : Type 0 where
+  pub apart : (a b : List Ratio) → All IsBelief a → All IsBelief b
+      → key_at LAST a tree + 2 * scale tree < key_at LAST b tree → IsGreater tree a b
+  pub near : (a b : List Ratio) → All IsBelief a → All IsBelief b
+      → key_at LAST a tree ≤ key_at LAST b tree + 2 * scale tree
+      → key_at LAST b tree ≤ key_at LAST a tree + 2 * scale tree → IsNear tree a b
+  pub scored : (a : List Ratio) → All IsBelief a
+      → IsScore (score (scale tree) (key_at LAST a tree)) (scale tree) (product a tree)
 
 -- a fraction of the program is a belief
 is_belief : (f : Fraction) → IsBelief (ratio_of f)
@@ -68,12 +78,7 @@ hit_near : (tree : ScaledTree) (hits : List Hit) (i j : ℕ) (x y : Hit) → Key
 hit_near tree hits i j x y t r e f l m =
     let kx = key_is tree hits i x r e in
     let ky = key_is tree hits j y r f in
-    let bx = are_beliefs x.fractions in
-    let by = are_beliefs y.fractions in
-    record {
-      left = t.near (hit_beliefs y) (hit_beliefs x) by bx (omega arith);
-      right = t.near (hit_beliefs x) (hit_beliefs y) bx by (omega arith);
-    }
+    t.near (hit_beliefs x) (hit_beliefs y) (are_beliefs x.fractions) (are_beliefs y.fractions) (omega arith) (omega arith)
 
 -- the line above shows the hit above
 above_is : (e : ℕ) (shown : List Hit) (i : ℕ) (u : Hit) (P : Line → Type 0) → hit_above None shown i ≡ Some u

@@ -1,4 +1,4 @@
-//! A law is a function that does nothing: a caller calls it, and its proof then knows the clauses.
+//! A law is a function that computes nothing: a caller calls it, and its proof then knows the clauses.
 ghost use Rattle.std.specs.Prelude.{ℕ, List, map, take, drop};
 ghost use Rattle.ri_base.specs.declared.hit.Hit.{Hit};
 ghost use Rattle.query_check.specs.Scale.{scale};

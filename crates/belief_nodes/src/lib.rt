@@ -1,0 +1,11 @@
+//! The belief of a query in one window: the fractions of its leaves, and the key by which windows are ordered.
+#![tactic(auto)]
+
+mod keys;
+mod laws;
+mod leaf_count;
+mod network;
+
+pub use laws::{fractions_are_beliefs, key_encloses, key_levels, key_scored, keys_apart, keys_near, keys_of_same};
+pub use leaf_count::LeafCount;
+pub use network::Network;

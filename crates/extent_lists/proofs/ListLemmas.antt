@@ -10,7 +10,8 @@ use Rattle.extent_ops.specs.Rows.{Has, IsAscending, IsBeforeAll, Lists}
 use Rattle.std.proofs.lemmas.List.Elements.{All-head, All-tail}
 use Rattle.extent_ops.proofs.LeafLemmas.{AllPairs-head, AllPairs-tail}
 use Rattle.extent_ops.proofs.FilterLemmas.{IsFiltered, IsFiltered-filter}
-use Rattle.extent_ops.proofs.ListingLemmas.{IsListing-lists}
+use Rattle.extent_ops.proofs.ListingLemmas.{AreInOrder-ascending, IsListing-lists}
+use Rattle.field_extents.specs.Extents.{AreInOrder}
 use Rattle.extent_lists.specs.Listed.{extent_list, has_extent, pair, pairs}
 use Rattle.extent_lists.specs.Tested.{Tested, bound, ext_tested}
 
@@ -170,3 +171,6 @@ listing_is x d xs h =
 
 pub listing : (x : ExprTree) (d : Document) → IsListing (Ext x d) (extent_list x d)
 listing x d = IsListing-lists (Ext x d) (extent_list x d) (Lists_extent_list x d)
+
+pub order_from : (xs : List Pair) → AllPairs IsBefore xs → AreInOrder xs
+order_from xs h = AreInOrder-ascending xs (ascending_from xs h)

@@ -1,46 +1,105 @@
--- What the words of the command line ask for. The program takes FOLDER scan TEXT.
-use Rattle.std.specs.Prelude.{ℕ, List, [], ◌∷◌, codes, Option, None, Some, Result, Ok, Err, if◌then◌else◌}
+-- What the words of the command line ask for. The program takes FOLDER scan TEXT, FOLDER query TEXT and
+-- FOLDER query --mu N TEXT.
+use Rattle.std.specs.Prelude.{ℕ, ◌+◌, ◌*◌, ◌-◌, Bool, true, ◌&&◌, not, nat_le, ◌==◌, List, [], ◌∷◌, length, codes, Option, None, Some, Result, Ok, Err, if◌then◌else◌}
+use Rattle.std.specs.List.{list_all}
 use Rattle.std.specs.Option.{option_map}
 use Rattle.std.specs.Str.{bytes_eq}
+use Rattle.ri_base.specs.Ascii.{is_digit}
 use Rattle.ri_base.specs.Expression.{ExprTree}
-use Rattle.query_reader.specs.QueryText.{expr_text}
+use Rattle.ri_base.specs.Query.{QueryTree}
+use Rattle.query_reader.specs.QueryText.{expr_text, query_text}
 use Rattle.query_reader.specs.declared.fault.QueryKind.{QueryKind}
+use Rattle.query_reader.specs.declared.fault.QueryKind.TheVariants.{NotYetBuilt}
+use Rattle.query_check.specs.Check.{CheckedTree, checks}
+use Rattle.query_check.specs.declared.fault.CheckFault.{CheckFault}
+use Rattle.plain_query.specs.Plain.{is_plain_query}
 
--- a text's kind of fault and its place
-abbrev pub Fault : Type 0
-Fault = QueryKind × ℕ
+-- why the text of a command is refused: a kind of fault and its place, or a fault of the check
+pub data Fault : Type 0 where
+  bad_text : QueryKind → ℕ → Fault
+  bad_query : CheckFault → Fault
 
--- the text of a scan, where the words are one
-abbrev pub scan_text_of : List (List ℕ) → Option (List ℕ)
-scan_text_of (folder ∷ verb ∷ text ∷ []) = if bytes_eq verb (codes "scan") then Some text else None
-scan_text_of _ = None
+-- a command whose text has no fault: the scan for an expression, or the ranking by a checked query under Dirichlet
+-- smoothing with this mu
+pub data Command : Type 0 where
+  scan_for : ExprTree → Command
+  rank_by : ℕ → CheckedTree → Command
 
--- what the words ask for: nothing, where they are no command; an expression; or the fault of their text
-abbrev pub asked : List (List ℕ) → Option (Result ExprTree Fault)
-asked words = option_map expr_text (scan_text_of words)
+abbrev pub default_mu : ℕ
+default_mu = 2500
 
--- the words ask for an expression, of which P holds
-abbrev pub AsksFor : Option (Result ExprTree Fault) → (ExprTree → Type 0) → Type 0
+-- digits without a leading zero, of a value in the range of mu
+abbrev pub value_from : ℕ → List ℕ → ℕ
+value_from n [] = n
+value_from n (c ∷ cs) = value_from (10 * n + (c - 48)) cs
+
+abbrev pub starts_with_zero : List ℕ → Bool
+starts_with_zero [] = true
+starts_with_zero (c ∷ cs) = c == 48
+
+abbrev pub is_number : List ℕ → Bool
+is_number text = list_all is_digit text && not (starts_with_zero text)
+
+abbrev pub mu_of : List ℕ → Option ℕ
+mu_of text = if is_number text && nat_le (value_from 0 text) 1000000 then Some (value_from 0 text) else None
+
+-- the words of a command, its text not read
+pub data Words : Type 0 where
+  scan_words : List ℕ → Words
+  query_words : ℕ → List ℕ → Words
+
+abbrev pub words_of : List (List ℕ) → Option Words
+words_of (folder ∷ verb ∷ text ∷ []) =
+    if bytes_eq verb (codes "scan") then Some (scan_words text)
+    else if bytes_eq verb (codes "query") then Some (query_words default_mu text)
+    else None
+words_of (folder ∷ verb ∷ option ∷ n ∷ text ∷ []) =
+    if bytes_eq verb (codes "query") && bytes_eq option (codes "--mu") then option_map (λ mu. query_words mu text) (mu_of n) else None
+words_of _ = None
+
+abbrev pub scan_read : Result ExprTree (QueryKind × ℕ) → Result Command Fault
+scan_read (Ok x) = Ok (scan_for x)
+scan_read (Err fault) = Err (bad_text fault.0 fault.1)
+
+abbrev pub query_checked : ℕ → Result CheckedTree CheckFault → Result Command Fault
+query_checked mu (Ok q) = Ok (rank_by mu q)
+query_checked mu (Err fault) = Err (bad_query fault)
+
+-- a query of another form than those that are ranked today is refused before it is checked
+abbrev pub query_read : ℕ → Result QueryTree (QueryKind × ℕ) → Result Command Fault
+query_read mu (Ok q) = if is_plain_query q then query_checked mu (checks q []) else Err (bad_text NotYetBuilt 0)
+query_read mu (Err fault) = Err (bad_text fault.0 fault.1)
+
+abbrev pub text_read : Words → Result Command Fault
+text_read (scan_words text) = scan_read (expr_text text)
+text_read (query_words mu text) = query_read mu (query_text text)
+
+-- what the words ask for: nothing, where they are no command; a command; or the fault of its text
+abbrev pub asked : List (List ℕ) → Option (Result Command Fault)
+asked words = option_map text_read (words_of words)
+
+-- the words ask for a command, of which P holds
+abbrev pub AsksFor : Option (Result Command Fault) → (Command → Type 0) → Type 0
 AsksFor None P = ⊥
-AsksFor (Some (Ok x)) P = P x
+AsksFor (Some (Ok command)) P = P command
 AsksFor (Some (Err fault)) P = ⊥
 
--- P holds of the expression, where the words ask for one
-abbrev pub IfAsksFor : Option (Result ExprTree Fault) → (ExprTree → Type 0) → Type 0
+-- P holds of the command, where the words ask for one
+abbrev pub IfAsksFor : Option (Result Command Fault) → (Command → Type 0) → Type 0
 IfAsksFor None P = Unit {0}
-IfAsksFor (Some (Ok x)) P = P x
+IfAsksFor (Some (Ok command)) P = P command
 IfAsksFor (Some (Err fault)) P = Unit {0}
 
 -- the words have a text with a fault, of which P holds
-abbrev pub HasFault : Option (Result ExprTree Fault) → (Fault → Type 0) → Type 0
+abbrev pub HasFault : Option (Result Command Fault) → (Fault → Type 0) → Type 0
 HasFault None P = ⊥
-HasFault (Some (Ok x)) P = ⊥
+HasFault (Some (Ok command)) P = ⊥
 HasFault (Some (Err fault)) P = P fault
 
 -- P holds of the fault, where the text has one
-abbrev pub IfFault : Option (Result ExprTree Fault) → (Fault → Type 0) → Type 0
+abbrev pub IfFault : Option (Result Command Fault) → (Fault → Type 0) → Type 0
 IfFault None P = Unit {0}
-IfFault (Some (Ok x)) P = Unit {0}
+IfFault (Some (Ok command)) P = Unit {0}
 IfFault (Some (Err fault)) P = P fault
 
 -- what is written where the words are no command

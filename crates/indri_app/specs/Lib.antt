@@ -1,3 +1,5 @@
+pub mod Answer
+pub mod Collection
 pub mod Command
 pub mod Outcome
 pub mod QueryLine

@@ -1,5 +1,5 @@
 -- The list of the extents of an expression lists its set, and no other list does.
-use Rattle.std.proofs.Common.{◌≡◌, ℕ, zero, suc, ◌+◌, ◌<◌, ◌≤◌, ◌⊎◌, inl, inr, ⊎_elim, Bool, true, false, List, [], ◌∷◌, ◌++◌, map, filter, flat_map, refl, sym, ap, ◌∙◌, subst, arith}
+use Rattle.std.proofs.Common.{◌≡◌, ℕ, zero, suc, ◌+◌, ◌<◌, ◌≤◌, ◌⊎◌, inl, inr, ⊎_elim, List, [], ◌∷◌, ◌++◌, map, flat_map, refl, sym, ap, ◌∙◌, subst, arith}
 use Rattle.std.specs.List.{All, AllPairs, Contains, range_with_len}
 use Rattle.ri_base.specs.Documents.{Document}
 use Rattle.ri_base.specs.Expression.{ExprTree}
@@ -9,11 +9,11 @@ use Rattle.extent_ops.specs.Listing.{IsBefore, IsListing}
 use Rattle.extent_ops.specs.Rows.{Has, IsAscending, IsBeforeAll, Lists}
 use Rattle.std.proofs.lemmas.List.Elements.{All-head, All-tail}
 use Rattle.extent_ops.proofs.LeafLemmas.{AllPairs-head, AllPairs-tail}
-use Rattle.extent_ops.proofs.FilterLemmas.{IsFiltered, IsFiltered-filter}
+use Rattle.extent_ops.proofs.FilterLemmas.{IsFiltered-filter}
 use Rattle.extent_ops.proofs.ListingLemmas.{AreInOrder-ascending, IsListing-lists}
 use Rattle.field_extents.specs.Extents.{AreInOrder}
 use Rattle.extent_lists.specs.Listed.{extent_list, has_extent, pair, pairs}
-use Rattle.extent_lists.specs.Tested.{Tested, bound, ext_tested}
+use Rattle.extent_lists.specs.Tested.{bound, ext_tested}
 
 -- ---- all pairs
 
@@ -122,9 +122,9 @@ first_same : (x y : Pair) (xs ys : List Pair) → IsBeforeAll x xs → IsBeforeA
 first_same x y xs ys h k in_ys in_xs = ⊎_elim
     (λ u. sym (same_pair y x u.0 u.1))
     (λ later. ⊎_elim
-        (λ u. same_pair x y u.0 u.1)
-        (λ other. absurd (never_both x y (before_has x xs y.begin y.end h other) (before_has y ys x.begin x.end k later)))
-        in_xs)
+    (λ u. same_pair x y u.0 u.1)
+    (λ other. absurd (never_both x y (before_has x xs y.begin y.end h other) (before_has y ys x.begin x.end k later)))
+    in_xs)
     in_ys
 
 tail_has : (x y : Pair) (xs ys : List Pair) → x ≡ y → IsBeforeAll x xs → ((b e : ℕ) → Has (x ∷ xs) b e → Has (y ∷ ys) b e) → (b e : ℕ) → Has xs b e → Has ys b e
@@ -166,8 +166,8 @@ pub listing_is : (x : ExprTree) (d : Document) (xs : List Pair) → IsListing (E
 listing_is x d xs h =
     let l = Lists_extent_list x d in
     same_lists xs (extent_list x d) (ascending_from xs h.ascending) l.ascending
-        (λ b e u. l.all b e (all_from (Ext x d) xs h.only b e u))
-        (λ b e u. has_from xs b e (h.all b e (l.only b e u)))
+    (λ b e u. l.all b e (all_from (Ext x d) xs h.only b e u))
+    (λ b e u. has_from xs b e (h.all b e (l.only b e u)))
 
 pub listing : (x : ExprTree) (d : Document) → IsListing (Ext x d) (extent_list x d)
 listing x d = IsListing-lists (Ext x d) (extent_list x d) (Lists_extent_list x d)

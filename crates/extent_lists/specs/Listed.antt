@@ -4,7 +4,7 @@ use Rattle.std.specs.List.{range_with_len}
 use Rattle.ri_base.specs.Documents.{Document}
 use Rattle.ri_base.specs.Expression.{ExprTree}
 use Rattle.ri_base.specs.Pair.{Pair}
-use Rattle.extent_lists.specs.Tested.{Tested, bound, ext_tested}
+use Rattle.extent_lists.specs.Tested.{bound, ext_tested}
 
 abbrev pub pair : ℕ → ℕ → Pair
 pair b e = record { begin = b; end = e }

@@ -1,7 +1,7 @@
 -- Whether an expression has an extent in a document can be tested: each operator looks for extents below a bound that none
 -- passes.
-use Rattle.std.specs.Prelude.{◌≡◌, ◌<◌, ◌≤◌, ℕ, zero, suc, ◌+◌, ◌-◌, Bool, true, false, ◌&&◌, ◌||◌, not, nat_lt, nat_eq, List, [], ◌∷◌, ◌⊎◌, Option, Some, None, slice_get, length, sum_by, Decides}
-use Rattle.std.proofs.Common.{refl, sym, ap, subst, arith, inl, inr, ⊎_elim, bytes_eq}
+use Rattle.std.specs.Prelude.{◌≡◌, ◌<◌, ◌≤◌, ℕ, zero, suc, ◌+◌, ◌-◌, Bool, true, false, ◌&&◌, ◌||◌, not, nat_lt, nat_eq, List, [], ◌∷◌, ◌⊎◌, Some, None, slice_get, length, Decides}
+use Rattle.std.proofs.Common.{refl, ap, arith, inl, inr, ⊎_elim, bytes_eq}
 use Rattle.std.proofs.lemmas.Bool.Decides.{Decides-and, Decides-or, Decides-not, Decides-like, Decides-ltb, Decides-eqb, Decides-below_or, leb_tells}
 use Rattle.std.proofs.lemmas.Slice.Eq.{bytes_eq-Decides}
 use Rattle.ri_base.specs.Documents.{Document, Field}
@@ -109,8 +109,8 @@ joined n m R S r s = record {
       (λ (end, low, (begin, high, h)). (end, begin, h.0, h.1, h.2))
       (λ (end, begin, first, follows, later). (end, r.ends b end first, (begin, s.begins begin e later, (first, follows, later))))
       (some_below (λ end. (begin : ℕ) × (begin < n) × (R b end × Follows m end begin × S begin e)) n
-          (λ end. some_below (λ begin. R b end × Follows m end begin × S begin e) n
-              (λ begin. three (r.test b end) (both (is_at_most end begin) (is_at_most (begin + 1) (end + m))) (s.test begin e))));
+      (λ end. some_below (λ begin. R b end × Follows m end begin × S begin e) n
+      (λ begin. three (r.test b end) (both (is_at_most end begin) (is_at_most (begin + 1) (end + m))) (s.test begin e))));
   begins = λ b e (end, begin, first, follows, later). r.begins b end first;
   ends = λ b e (end, begin, first, follows, later). s.ends begin e later;
 }
@@ -127,8 +127,8 @@ has_inside n R t b e = like
     (λ (from, low, (to, high, h)). (from, to, h.0, h.1))
     (λ (from, to, r, lies). (from, t.begins from to r, (to, t.ends from to r, (r, lies))))
     (some_below (λ from. (to : ℕ) × (to < n) × (R from to × IsInside from to b e)) n
-        (λ from. some_below (λ to. R from to × IsInside from to b e) n
-            (λ to. both (t.test from to) (both (is_at_most b from) (is_at_most to e)))))
+    (λ from. some_below (λ to. R from to × IsInside from to b e) n
+    (λ to. both (t.test from to) (both (is_at_most b from) (is_at_most to e)))))
 
 has_each_inside : (n : ℕ) (rs : List (ℕ → ℕ → Type 0)) → AllTested n rs → (b e : ℕ) → Test (HasEachInside rs b e)
 has_each_inside n [] t b e = always tt
@@ -138,10 +138,10 @@ window : (n m : ℕ) (rs : List (ℕ → ℕ → Type 0)) → AllTested n rs →
 window n m rs t b e =
     let some = some_set n rs t in
     like
-        (λ (short, inside, (to, low, h)). record { narrow = short; each = inside; begins = (to, h.0, h.1) })
-        (λ w. (w.narrow, w.each, (w.begins.0, some.ends b w.begins.0 w.begins.2, (w.begins.1, w.begins.2))))
-        (three (is_at_most e (b + m)) (has_each_inside n rs t b e)
-            (some_below (λ to. (to ≤ e) × IsInSome rs b to) n (λ to. both (is_at_most to e) (some.test b to))))
+    (λ (short, inside, (to, low, h)). record { narrow = short; each = inside; begins = (to, h.0, h.1) })
+    (λ w. (w.narrow, w.each, (w.begins.0, some.ends b w.begins.0 w.begins.2, (w.begins.1, w.begins.2))))
+    (three (is_at_most e (b + m)) (has_each_inside n rs t b e)
+    (some_below (λ to. (to ≤ e) × IsInSome rs b to) n (λ to. both (is_at_most to e) (some.test b to))))
 
 -- what is inside a window that ends behind the bound is inside the one that ends at it
 cut_inside : (n : ℕ) (rs : List (ℕ → ℕ → Type 0)) → AllTested n rs → (b e : ℕ) → HasEachInside rs b e → HasEachInside rs b (n - 1)
@@ -184,8 +184,8 @@ has_around n R t b e = like
     (λ (from, low, (to, high, h)). (from, to, h.0, h.1))
     (λ (from, to, r, lies). (from, t.begins from to r, (to, t.ends from to r, (r, lies))))
     (some_below (λ from. (to : ℕ) × (to < n) × (R from to × IsInside b e from to)) n
-        (λ from. some_below (λ to. R from to × IsInside b e from to) n
-            (λ to. both (t.test from to) (both (is_at_most from b) (is_at_most e to)))))
+    (λ from. some_below (λ to. R from to × IsInside b e from to) n
+    (λ to. both (t.test from to) (both (is_at_most from b) (is_at_most e to)))))
 
 -- ---- terms and fields
 

@@ -10,7 +10,12 @@ use ri_base::{ExtentExpr, Extents, NoMemory, Sealed, SegFault};
 use std::alloc::{AllocError, Global};
 
 /// The extents of the expression in a document of an index in memory, which has no file and no store to fail.
-pub fn extents_in(alloc: Global, expr: &ExtentExpr, index: &mut Sealed, id: u32) -> Result<Extents, NoMemory>
+pub fn extents_in(
+    alloc: Global,
+    expr: &ExtentExpr,
+    index: &mut Sealed,
+    id: u32,
+) -> Result<Extents, NoMemory>
     requires { id < length index.old }
     ensures exact { IfOk result (λ xs. xs ≡ extent_list (expr_tree expr.now) (document_at index.old id)) }
     ensures order { IfOk result AreInOrder }
@@ -19,6 +24,7 @@ pub fn extents_in(alloc: Global, expr: &ExtentExpr, index: &mut Sealed, id: u32)
     match extents(alloc, expr, index, id) {
         Ok(found) => Ok(found),
         Err(SegFault::Memory) => Err(AllocError),
-        Err(SegFault::Malformed { .. } | SegFault::Missing { .. } | SegFault::Store) => unreachable!(),
+        Err(SegFault::Malformed { .. } | SegFault::Missing { .. } | SegFault::Store) =>
+            unreachable!(),
     }
 }

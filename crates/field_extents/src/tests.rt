@@ -34,6 +34,21 @@ fn name(alloc: Global, letter: u8) -> Result<Name, Fail> {
     Ok(Name::new(alloc, &[letter])?.ok_or("no name")?)
 }
 
+/// Whether a begin and an end stand behind others: the begin is greater, or the same and the end greater.
+fn stands_behind(last: (u32, u32), next: (u32, u32)) -> bool
+    ensures { IsTrue result → (last.0 < next.0) ⊎ (last.0 ≡ next.0) × (last.1 < next.1) }
+{
+    last.0 < next.0 || (last.0 == next.0 && last.1 < next.1)
+}
+
+/// The field of this begin and end, with its letter as its name.
+fn field(alloc: Global, letter: u8, ends: (u32, u32)) -> Result<FieldSpan, Fail>
+    requires { ends.0 < ends.1 }
+    ensures { IfOk result (λ f. (f.begin ≡ ends.0) × (f.end ≡ ends.1)) }
+{
+    Ok(FieldSpan::new(name(alloc, letter)?, ends.0, ends.1))
+}
+
 /// The fields of these begins and ends, which are in order and differ, each with its letter as its name.
 fn fields(alloc: Global, ends: &[(u8, u32, u32)]) -> Result<Spans, Fail>
     ensures { IfOk result (AllPairs IsBefore) }
@@ -42,10 +57,10 @@ fn fields(alloc: Global, ends: &[(u8, u32, u32)]) -> Result<Spans, Fail>
     let mut last = (0, 0);
     for (letter, begin, end) in ends {
         let next = (*begin, *end);
-        if next.1 <= next.0 || !may_follow(last, next) || last.0 == next.0 && last.1 == next.1 {
+        if next.1 <= next.0 || !stands_behind(last, next) {
             return Err(Fail::from("no fields in order"));
         }
-        spans.push(FieldSpan::new(name(alloc, *letter)?, next.0, next.1))?;
+        spans.push(field(alloc, *letter, next)?)?;
         last = next;
     }
     Ok(Spans::of(spans))

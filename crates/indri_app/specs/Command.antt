@@ -1,12 +1,14 @@
 -- What the words of the command line ask for. The program takes FOLDER scan TEXT, FOLDER query TEXT and
 -- FOLDER query --mu N TEXT.
-use Rattle.std.specs.Prelude.{ℕ, ◌+◌, ◌*◌, ◌-◌, Bool, true, ◌&&◌, not, nat_le, ◌==◌, List, [], ◌∷◌, length, codes, Option, None, Some, Result, Ok, Err, if◌then◌else◌}
+use Rattle.std.specs.Prelude.{ℕ, Bool, true, false, ◌&&◌, not, nat_le, ◌==◌, List, [], ◌∷◌, length, codes, Option, None, Some, Result, Ok, Err, if◌then◌else◌}
 use Rattle.std.specs.List.{list_all}
 use Rattle.std.specs.Option.{option_map}
 use Rattle.std.specs.Str.{bytes_eq}
 use Rattle.ri_base.specs.Ascii.{is_digit}
 use Rattle.ri_base.specs.Expression.{ExprTree}
 use Rattle.ri_base.specs.Query.{QueryTree}
+use Rattle.smoothing.specs.declared.rule.TheConstants.{MAX_MU}
+use Rattle.query_reader.specs.Parts.{value_from}
 use Rattle.query_reader.specs.QueryText.{expr_text, query_text}
 use Rattle.query_reader.specs.declared.fault.QueryKind.{QueryKind}
 use Rattle.query_reader.specs.declared.fault.QueryKind.TheVariants.{NotYetBuilt}
@@ -28,34 +30,31 @@ pub data Command : Type 0 where
 abbrev pub default_mu : ℕ
 default_mu = 2500
 
--- digits without a leading zero, of a value in the range of mu
-abbrev pub value_from : ℕ → List ℕ → ℕ
-value_from n [] = n
-value_from n (c ∷ cs) = value_from (10 * n + (c - 48)) cs
-
 abbrev pub starts_with_zero : List ℕ → Bool
-starts_with_zero [] = true
+starts_with_zero [] = false
 starts_with_zero (c ∷ cs) = c == 48
 
+-- digits without a leading zero
 abbrev pub is_number : List ℕ → Bool
 is_number text = list_all is_digit text && not (starts_with_zero text)
 
+abbrev pub is_mu : ℕ → Bool
+is_mu n = nat_le 1 n && nat_le n MAX_MU
+
 abbrev pub mu_of : List ℕ → Option ℕ
-mu_of text = if is_number text && nat_le (value_from 0 text) 1000000 then Some (value_from 0 text) else None
+mu_of text = if is_number text && is_mu (value_from 0 text) then Some (value_from 0 text) else None
 
--- the words of a command, its text not read
-pub data Words : Type 0 where
-  scan_words : List ℕ → Words
-  query_words : ℕ → List ℕ → Words
+-- the text of a scan, where the words are one
+abbrev pub scan_text_of : List (List ℕ) → Option (List ℕ)
+scan_text_of (folder ∷ verb ∷ text ∷ []) = if bytes_eq verb (codes "scan") then Some text else None
+scan_text_of _ = None
 
-abbrev pub words_of : List (List ℕ) → Option Words
-words_of (folder ∷ verb ∷ text ∷ []) =
-    if bytes_eq verb (codes "scan") then Some (scan_words text)
-    else if bytes_eq verb (codes "query") then Some (query_words default_mu text)
-    else None
-words_of (folder ∷ verb ∷ option ∷ n ∷ text ∷ []) =
-    if bytes_eq verb (codes "query") && bytes_eq option (codes "--mu") then option_map (λ mu. query_words mu text) (mu_of n) else None
-words_of _ = None
+-- mu and the text of a query, where the words are one
+abbrev pub query_words_of : List (List ℕ) → Option (ℕ × List ℕ)
+query_words_of (folder ∷ verb ∷ text ∷ []) = if bytes_eq verb (codes "query") then Some (default_mu, text) else None
+query_words_of (folder ∷ verb ∷ option ∷ n ∷ text ∷ []) =
+    if bytes_eq verb (codes "query") && bytes_eq option (codes "--mu") then option_map (λ mu. (mu, text)) (mu_of n) else None
+query_words_of _ = None
 
 abbrev pub scan_read : Result ExprTree (QueryKind × ℕ) → Result Command Fault
 scan_read (Ok x) = Ok (scan_for x)
@@ -70,13 +69,14 @@ abbrev pub query_read : ℕ → Result QueryTree (QueryKind × ℕ) → Result C
 query_read mu (Ok q) = if is_plain_query q then query_checked mu (checks q []) else Err (bad_text NotYetBuilt 0)
 query_read mu (Err fault) = Err (bad_text fault.0 fault.1)
 
-abbrev pub text_read : Words → Result Command Fault
-text_read (scan_words text) = scan_read (expr_text text)
-text_read (query_words mu text) = query_read mu (query_text text)
+abbrev pub read_words : Option (List ℕ) → Option (ℕ × List ℕ) → Option (Result Command Fault)
+read_words (Some text) query = Some (scan_read (expr_text text))
+read_words None (Some words) = Some (query_read words.0 (query_text words.1))
+read_words None None = None
 
 -- what the words ask for: nothing, where they are no command; a command; or the fault of its text
 abbrev pub asked : List (List ℕ) → Option (Result Command Fault)
-asked words = option_map text_read (words_of words)
+asked words = read_words (scan_text_of words) (query_words_of words)
 
 -- the words ask for a command, of which P holds
 abbrev pub AsksFor : Option (Result Command Fault) → (Command → Type 0) → Type 0

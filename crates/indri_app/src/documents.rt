@@ -1,15 +1,14 @@
 // The lines of a document.
-ghost use Rattle.std.specs.Prelude.{◌≡◌, ◌<◌, ◌++◌, ◌∷◌, [], length, is_err, IfOk, OnOk};
-ghost use Rattle.ri_base.specs.Collection.{document_at};
+ghost use Rattle.std.specs.Prelude.{◌≡◌, ◌++◌, ◌∷◌, [], is_err, IfOk, OnOk};
 ghost use Rattle.ri_base.specs.Expression.{expr_tree};
 ghost use Rattle.tokens.specs.Content.{content};
 ghost use Rattle.extent_lists.specs.Listed.{extent_list};
 ghost use Rattle.indri_app.specs.Scan.{document_lines, extent_lines, line};
 
 use crate::lines::document_refused_line;
-use extent_ops::extents;
+use extent_lists::extents_in;
 use memory_index::{MemIndex, MemRefusal};
-use ri_base::{Doc, Extent, ExtentExpr, Extents, NoMemory, Postings, Sealed, SegFault};
+use ri_base::{Doc, Extent, ExtentExpr, Extents, NoMemory, Postings, Sealed};
 use std::alloc::{AllocError, Global};
 use tokens::{TokenRefusal, doc_of};
 use trec_reader::RawDoc;
@@ -28,21 +27,6 @@ fn sealed(alloc: Global, doc: Doc) -> Result<Sealed, NoMemory>
     match index.seal(alloc) {
         Ok(sealed) => Ok(sealed),
         Err(_) => Err(AllocError),
-    }
-}
-
-/// The extents of the expression in a document, by its index.
-fn found(alloc: Global, expr: &ExtentExpr, index: &mut Sealed) -> Result<Extents, NoMemory>
-    requires { 0 < length index.old }
-    ensures exact { IfOk result (λ xs. xs ≡ extent_list (expr_tree expr.now) (document_at index.old 0)) }
-    ensures same { index.new ≡ index.old }
-{
-    match extents(alloc, expr, index, 0) {
-        Ok(found) => Ok(found),
-        Err(SegFault::Memory) => Err(AllocError),
-        // an index in memory has no file and no store
-        Err(SegFault::Malformed { .. } | SegFault::Missing { .. } | SegFault::Store) =>
-            unreachable!(),
     }
 }
 
@@ -76,7 +60,7 @@ fn lines_of(alloc: Global, expr: &ExtentExpr, doc: Doc) -> Result<Vec<u8>, NoMem
     ensures { IfOk result (λ lines. lines.items ≡ extent_lines doc.docno (extent_list (expr_tree expr.now) doc)) }
 {
     let mut index = sealed(alloc, doc)?;
-    let found = found(alloc, expr, &mut index)?;
+    let found = extents_in(alloc, expr, &mut index, 0)?;
     extent_lines(alloc, index.docno(0).as_bytes(), &found)
 }
 

@@ -1,5 +1,8 @@
 //! What keys tell. A law is a function that does nothing: a caller calls it, and its proof then knows the clauses.
-ghost use Rattle.std.specs.Prelude.{◌≡◌, ℕ, ◌+◌, ◌*◌, ◌^◌, ◌<◌, ◌≤◌, List, All};
+ghost use Rattle.std.specs.Prelude.{◌≡◌, ℕ, ◌+◌, ◌*◌, ◌^◌, ◌<◌, ◌≤◌, true, List, [], All};
+ghost use Rattle.std.specs.List.{list_all};
+ghost use Rattle.ri_base.specs.Query.{BeliefTree};
+ghost use Rattle.query_check.specs.Check.{priors, pruned, leaves_of};
 ghost use Rattle.ri_base.specs.Ratio.{Ratio, IsBelief};
 ghost use Rattle.query_check.specs.Scale.{scale};
 ghost use Rattle.query_check.specs.Trees.{ScaledTree};
@@ -7,7 +10,7 @@ ghost use Rattle.smoothing.specs.Fractions.{IsMu};
 ghost use Rattle.smoothing.specs.declared.rule.RuleKind.TheVariants.{Dirichlet};
 ghost use Rattle.belief_nodes.specs.Fractions.{leaf_fractions};
 ghost use Rattle.belief_nodes.specs.Keys.{key_at, score};
-ghost use Rattle.belief_nodes.specs.Leaves.{IsLeafCount, AreLeafStats};
+ghost use Rattle.belief_nodes.specs.Leaves.{IsLeafCount, AreLeafStats, has_extents};
 ghost use Rattle.belief_nodes.specs.Order.{IsGreater, IsSame, IsNear};
 ghost use Rattle.belief_nodes.specs.Products.{product};
 ghost use Rattle.belief_nodes.specs.declared.leaf_count.LeafCount.{LeafCount};
@@ -68,4 +71,9 @@ pub fn key_levels()
 pub fn fractions_are_beliefs()
     ensures { (mu : ℕ) (counts : List LeafCount) (stats : List LeafStats) → IsMu mu
         → All IsLeafCount counts → All AreLeafStats stats → All IsBelief (leaf_fractions (Dirichlet mu) counts stats) }
+{}
+
+/// A query without priors has none among its leaves.
+pub fn leaves_have_extents()
+    ensures { (names : List (List ℕ)) (x : BeliefTree) → priors x ≡ [] → list_all has_extents (leaves_of names (pruned x)) ≡ true }
 {}

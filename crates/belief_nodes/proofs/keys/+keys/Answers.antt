@@ -12,7 +12,7 @@ use Rattle.belief_nodes.proofs.keys.+keys.Goals as goal
 pub key_of-bounds-digits-number : goal.key_of-bounds-digits-number
 key_of-bounds-digits-number t c =
     let e : scaled_tree c.args.tree.now ≡ leaf c.in-Leaf.number = search (rules, scaled_tree_laws) in
-    leaf_fit _ _ (rw e at c.requires.fit)
+    omega (arith, leaf_fit _ _ (rw e at c.requires.fit))
 
 pub key_of-nonzero_div-scale : goal.key_of-nonzero_div-scale
 key_of-nonzero_div-scale t c =
@@ -126,9 +126,9 @@ least_of-brought_to-requires-clause-small t c =
 pub least_of-loop-tree-preserved : goal.least_of-loop-tree-preserved
 least_of-loop-tree-preserved t c =
     let share : c.brought_to.result ≡ c.args.common / scale (scaled_tree c.tree-item.result) * key c.args.digits.now (scaled_tree c.tree-item.result) = rw c.key_of-in-loop-tree.ensures at c.brought_to.ensures in
-    let least : c.min-least.result ≡ min c.loop-tree.least c.brought_to.result = search rules in
+    let least = rw (← share) at (least_next c.args.digits.now c.args.common c.in-Some.rest.now c.loop-tree.tree-index c.tree-item.result c.loop-tree-test.true c.tree-item.is _ _ c.loop-tree.invariant.1) in
     (next_fit _ _ c.in-Some.rest.now c.loop-tree.tree-index c.tree-item.result c.loop-tree-test.true c.tree-item.is c.loop-tree.invariant.0,
-    rw (least, share) (least_next c.args.digits.now c.args.common c.in-Some.rest.now c.loop-tree.tree-index c.tree-item.result c.loop-tree-test.true c.tree-item.is _ _ c.loop-tree.invariant.1))
+    search (rules, least))
 
 pub least_of-returns : goal.least_of-returns
 least_of-returns t c =

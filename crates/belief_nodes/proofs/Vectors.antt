@@ -1,8 +1,8 @@
 -- The definitions at written-out trees, worked out by hand.
-use Rattle.std.proofs.Common.{◌≡◌, ℕ, List, [], ◌∷◌, refl}
+use Rattle.std.proofs.Common.{◌≡◌, List, [], ◌∷◌, refl}
 use Rattle.ri_base.specs.Ratio.{Ratio}
 use Rattle.query_check.specs.Multiples.{lcm, gcd, gcd_within}
-use Rattle.query_check.specs.Scale.{scale, common, weighted_common, count, total, is_scaled, are_scaled, are_weighted_scaled}
+use Rattle.query_check.specs.Scale.{scale, common, weighted_common, count, total}
 use Rattle.query_check.specs.Trees.{ScaledTree, leaf, combine, weight, greatest, none, more, none_weighted, more_weighted}
 use Rattle.belief_nodes.specs.Keys.{key, shares, weighted_shares, least_of, score}
 use Rattle.belief_nodes.specs.Products.{product, powers, weighted_powers, greatest_of}

@@ -1,5 +1,5 @@
-// Worked queries in worked documents, with mu 1. The fractions are worked out by hand, the digits are those of logarithms
-// that were computed elsewhere, to 80 digits, and the keys are added up from them by hand.
+// Worked queries in worked documents, with mu 1. The fractions are worked out by hand, the digits are those of
+// logarithms that were computed elsewhere, to 80 digits, and the keys are added up from them by hand.
 ghost use Rattle.std.specs.Prelude.{◌≡◌, ◌<◌, ◌^◌, map, All, IfOk};
 ghost use Rattle.std.specs.List.{list_all};
 ghost use Rattle.ri_base.specs.Ratio.{ratio_of};

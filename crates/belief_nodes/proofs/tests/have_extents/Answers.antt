@@ -1,6 +1,4 @@
-use Rattle.std.proofs.Common.{rules, arith, ◌≡◌, ◌+◌, true, false, map, drop, sym, ◌∙◌}
-use Rattle.std.specs.Prelude.{◌&&◌}
-use Rattle.std.specs.List.{list_all}
+use Rattle.std.proofs.Common.{rules, arith, ◌≡◌, true}
 use Rattle.query_check.proofs.Walks.{drop_at, drop_end}
 use Rattle.query_check.specs.Leaves.{leaf_tree}
 use Rattle.belief_nodes.specs.Leaves.{has_extents}

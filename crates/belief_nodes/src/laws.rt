@@ -2,19 +2,19 @@
 ghost use Rattle.std.specs.Prelude.{◌≡◌, ℕ, ◌+◌, ◌*◌, ◌^◌, ◌<◌, ◌≤◌, true, List, [], All};
 ghost use Rattle.std.specs.List.{list_all};
 ghost use Rattle.ri_base.specs.Query.{BeliefTree};
-ghost use Rattle.query_check.specs.Check.{priors, pruned, leaves_of};
 ghost use Rattle.ri_base.specs.Ratio.{Ratio, IsBelief};
-ghost use Rattle.query_check.specs.Scale.{scale};
-ghost use Rattle.query_check.specs.Trees.{ScaledTree};
+ghost use Rattle.ri_base.specs.declared.hit.LeafStats.{LeafStats};
 ghost use Rattle.smoothing.specs.Fractions.{IsMu};
 ghost use Rattle.smoothing.specs.declared.rule.RuleKind.TheVariants.{Dirichlet};
+ghost use Rattle.query_check.specs.Check.{priors, pruned, leaves_of};
+ghost use Rattle.query_check.specs.Scale.{scale};
+ghost use Rattle.query_check.specs.Trees.{ScaledTree};
 ghost use Rattle.belief_nodes.specs.Fractions.{leaf_fractions};
 ghost use Rattle.belief_nodes.specs.Keys.{key_at, score};
 ghost use Rattle.belief_nodes.specs.Leaves.{IsLeafCount, AreLeafStats, has_extents};
 ghost use Rattle.belief_nodes.specs.Order.{IsGreater, IsSame, IsNear};
 ghost use Rattle.belief_nodes.specs.Products.{product};
 ghost use Rattle.belief_nodes.specs.declared.leaf_count.LeafCount.{LeafCount};
-ghost use Rattle.ri_base.specs.declared.hit.LeafStats.{LeafStats};
 
 use log_chain::{LAST, MAX_LEVEL};
 

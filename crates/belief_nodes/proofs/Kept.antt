@@ -1,5 +1,5 @@
 -- What the product and two keys of a tree keep of what its leaves have.
-use Rattle.std.proofs.Common.{◌≡◌, ℕ, ◌+◌, ◌*◌, ◌/◌, ◌^◌, List, [], ◌∷◌, arith, refl, min}
+use Rattle.std.proofs.Common.{◌≡◌, ℕ, ◌+◌, ◌*◌, ◌/◌, List, arith, refl, min}
 use Rattle.std.specs.Prelude.{fold, slice_index, slice_index_or, cond}
 use Rattle.std.specs.Int.{◌∣◌}
 use Rattle.std.specs.List.{best_of}

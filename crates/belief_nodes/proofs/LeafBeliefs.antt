@@ -1,6 +1,6 @@
 -- The beliefs of leaves, one after the other.
 use Rattle.std.proofs.Common.{◌≡◌, ℕ, List, [], ◌∷◌, ◌++◌, map, drop, length, get_or, ◌+◌, ◌<◌, ◌≤◌, arith, refl, ap}
-use Rattle.std.specs.Prelude.{All, zip}
+use Rattle.std.specs.Prelude.{All}
 use Rattle.std.proofs.lemmas.List.Elements.{All-cons}
 use Rattle.ri_base.specs.Ratio.{Ratio, IsBelief, ratio_of}
 use Rattle.ri_base.specs.declared.fraction.Fraction.{Fraction}

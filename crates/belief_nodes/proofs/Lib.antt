@@ -8,3 +8,5 @@ pub mod Sizes
 pub mod Levels
 pub mod Walks
 pub mod LeafBeliefs
+pub mod Priors
+mod Vectors

@@ -1,5 +1,5 @@
 -- What holds of each element of a list.
-use Rattle.std.proofs.Common.{suc, ◌+◌, ◌<◌, List, ◌∷◌, length, arith}
+use Rattle.std.proofs.Common.{suc, List, ◌∷◌, arith}
 use Rattle.std.specs.Prelude.{All}
 
 module _ {X : Type 0} (P : X → Type 0) (x : X) (xs : List X) where

@@ -2,7 +2,7 @@
 use Rattle.std.proofs.Common.{◌≡◌, ℕ, ◌*◌, List, [], ◌∷◌, arith, refl, ap, ap₂}
 use Rattle.std.specs.Prelude.{All}
 use Rattle.ri_base.specs.Ratio.{Ratio, IsBelief}
-use Rattle.log_chain.specs.Chain.{Chain, chain}
+use Rattle.log_chain.specs.Chain.{Chain}
 use Rattle.log_chain.proofs.Rises.{chain_same}
 use Rattle.belief_nodes.specs.Keys.{digits_at}
 use Rattle.belief_nodes.specs.Order.{IsSame}

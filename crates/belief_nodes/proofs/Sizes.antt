@@ -1,6 +1,6 @@
 -- How large a key is.
-use Rattle.std.proofs.Common.{◌≡◌, ℕ, ◌+◌, ◌*◌, ◌/◌, ◌^◌, ◌<◌, ◌≤◌, List, [], refl, arith, inl, inr, min, mul-le-mul_left, mul-le-mul_right}
-use Rattle.std.specs.Prelude.{All, sum, fold, length, slice_index}
+use Rattle.std.proofs.Common.{◌≡◌, ℕ, ◌*◌, ◌/◌, ◌≤◌, List, [], refl, arith, inl, inr, min, mul-le-mul_left}
+use Rattle.std.specs.Prelude.{All, sum, length, slice_index}
 use Rattle.std.specs.Int.{◌∣◌}
 use Rattle.std.proofs.Math.Nat.{div-mul_cancel, min-eq_left, min-eq_right}
 use Rattle.std.proofs.lemmas.Bool.{cases_lt}

@@ -1,6 +1,6 @@
 -- What the calculation of a key asks of an operator and of its arguments, from one place of a list on.
 use Rattle.std.proofs.Common.{◌≡◌, ℕ, zero, suc, ◌+◌, ◌*◌, ◌/◌, ◌^◌, ◌<◌, ◌≤◌, List, [], ◌∷◌, map, drop, length, get_or, arith, refl, min, le_of_lt}
-use Rattle.std.specs.Prelude.{All, sum, fold, ◌==◌, ◌&&◌, slice_index}
+use Rattle.std.specs.Prelude.{All, sum, fold, ◌==◌, slice_index}
 use Rattle.std.specs.Int.{◌∣◌}
 use Rattle.std.proofs.Math.Nat.{pos_of_dvd_of_pos, le_of_dvd, div-eq_of_eq-mul_right}
 use Rattle.std.proofs.lemmas.Bool.{ltb-true}
@@ -33,8 +33,8 @@ le_times_right : (a b : ℕ) → 0 < b → a ≤ a * b
 le_times_right a zero h = absurd (omega arith)
 le_times_right a (suc b) h = omega arith
 
--- an operator over arguments: the number before them, its quotient by the number of arguments or their weights, and what holds of
--- the arguments
+-- an operator over arguments: the number before them, its quotient by the number of arguments or their weights, and
+-- what holds of the arguments
 module _ (n e : ℕ) (xs : ScaledTrees) where
   combine_is : IsFit n (combine e xs) → e ≡ count xs * common xs
   unfolding is_scaled are_scaled are_weighted_scaled

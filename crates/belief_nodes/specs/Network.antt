@@ -1,5 +1,5 @@
--- A network as contracts see it: the leaves of a checked query, what windows are scored, what the collection has of each leaf,
--- and the tree.
+-- A network as contracts see it: the leaves of a checked query, which windows are scored, what the collection has of
+-- each leaf, and the tree.
 use Rattle.std.specs.Prelude.{List, map}
 use Rattle.ri_base.specs.declared.hit.LeafStats.{LeafStats}
 use Rattle.ri_base.specs.declared.query.Range.{Range}

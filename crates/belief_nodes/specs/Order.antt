@@ -1,6 +1,7 @@
--- How the beliefs of two windows stand to each other, in powers of whole numbers and without keys. Each window is told by the
--- beliefs of its leaves. P / Q is the product of the tree in the window, and a greater product is a greater belief.
-use Rattle.std.specs.Prelude.{◌≡◌, ◌<◌, ◌≤◌, ℕ, ◌*◌, ◌^◌, List}
+-- How the beliefs of two windows stand to each other, in powers of whole numbers and without keys. Each window is
+-- told by the beliefs of its leaves. P / Q is the product of the tree in the window, and a greater product is a
+-- greater belief.
+use Rattle.std.specs.Prelude.{◌≡◌, ◌<◌, ◌≤◌, ◌*◌, ◌^◌, List}
 use Rattle.std.specs.List.{AllZip}
 use Rattle.ri_base.specs.Ratio.{Ratio}
 use Rattle.log_chain.specs.declared.chain.TheConstants.{LAST}

@@ -1,8 +1,9 @@
--- The belief of a query in one window, without rounding. In the inference network of Indri (Metzler and Croft, Combining the
--- Language Model and Inference Network Approaches to Retrieval, 2004) the belief of `#combine` is the geometric mean of the
--- beliefs of its arguments, that of `#weight` their mean weighted by the weights, and that of `#max` the greatest. Where E is
--- the scale of a tree, the E-th power of its belief is a product of whole powers of the beliefs of leaves: this product is P / Q,
--- and the belief is the E-th root of P / Q. That a belief is kept as such a product is this project's own.
+-- The belief of a query in one window, a document, a field or a passage, without rounding. In the inference network
+-- of Indri (Metzler and Croft, Combining the Language Model and Inference Network Approaches to Retrieval, 2004) the
+-- belief of `#combine` is the geometric mean of the beliefs of its arguments, that of `#weight` their geometric mean
+-- with weights, and that of `#max` the greatest of them. With E the scale of a tree, the E-th power of its belief is
+-- a product P / Q of powers of the beliefs of leaves, with whole numbers as exponents: so the belief is the E-th root
+-- of P / Q. That a belief is kept as this product is the project's own.
 use Rattle.std.specs.Prelude.{ℕ, ◌*◌, ◌/◌, ◌^◌, Bool, nat_lt, List, [], ◌∷◌, fold, slice_index_or}
 use Rattle.std.specs.List.{best_of}
 use Rattle.ri_base.specs.Ratio.{Ratio}
@@ -37,7 +38,7 @@ unfoldable mutual
   product beliefs (weight e xs) = fold times one (weighted_powers beliefs (weighted_common xs) xs)
   product beliefs (greatest e xs) = greatest_of (powers beliefs (common xs) xs)
 
-  -- the products of some arguments, each raised so that all have the scale m, the least common multiple of their scales
+  -- the products of some arguments, each raised to the scale m, the least common multiple of their scales
   pub powers : List Ratio → ℕ → ScaledTrees → List Ratio
   powers beliefs m none = []
   powers beliefs m (more x xs) = power (product beliefs x) (m / scale x) ∷ powers beliefs m xs
@@ -45,4 +46,5 @@ unfoldable mutual
   -- each raised to its weight too
   pub weighted_powers : List Ratio → ℕ → WeightedScaledTrees → List Ratio
   weighted_powers beliefs m none_weighted = []
-  weighted_powers beliefs m (more_weighted w x xs) = power (product beliefs x) (w * (m / scale x)) ∷ weighted_powers beliefs m xs
+  weighted_powers beliefs m (more_weighted w x xs) =
+      power (product beliefs x) (w * (m / scale x)) ∷ weighted_powers beliefs m xs

@@ -41,10 +41,12 @@ fn sum_of(trees: &[Tree], common: u64, digits: &[u128]) -> u128
 /// The sum of the arguments' keys, each brought to the scale `common` and taken as often as its weight says.
 #[cycle(keys)]
 fn weighted_sum_of(trees: &[(u64, Tree)], common: u64, digits: &[u128]) -> u128
-    requires fit { AreWeightedFit (length digits.now) common (weighted_scaled_trees (map weighted_scaled_tree trees.now)) }
+    requires fit { AreWeightedFit (length digits.now) common
+        (weighted_scaled_trees (map weighted_scaled_tree trees.now)) }
     requires whole { total (weighted_scaled_trees (map weighted_scaled_tree trees.now)) * common < 2 ^ 60 }
     requires small { All (λ c. c < 2 ^ 66) digits.now }
-    ensures { result ≡ sum (weighted_shares digits.now common (weighted_scaled_trees (map weighted_scaled_tree trees.now))) }
+    ensures { result
+        ≡ sum (weighted_shares digits.now common (weighted_scaled_trees (map weighted_scaled_tree trees.now))) }
 {
     let mut sum = 0;
     for (weight, tree) in trees {

@@ -70,7 +70,8 @@ impl Network {
         &self.stats
     }
 
-    /// The beliefs of the leaves in one window, in order of their numbers.
+    /// The beliefs of the leaves in one window, in order of their numbers, from their counts there. The docno and the
+    /// length of the document are for priors, which have no belief yet.
     pub fn fractions<F: Fn(u32, u32, u64, u64) -> Fraction>(
         &self,
         alloc: Global,
@@ -83,7 +84,8 @@ impl Network {
         requires each { length counts.now ≡ length (network_tree self.now).leaves }
         requires counts { All (λ n. IsLeafCount n) counts.now }
         requires no_priors { list_all has_extents (network_tree self.now).leaves ≡ true }
-        ensures { IfOk result (λ fractions. map ratio_of fractions ≡ leaf_fractions rule.now.kind counts.now (network_tree self.now).stats) }
+        ensures { IfOk result (λ fractions.
+            map ratio_of fractions ≡ leaf_fractions rule.now.kind counts.now (network_tree self.now).stats) }
     {
         let mut fractions = Vec::with_capacity(alloc, counts.len())?;
         for (count, stats) in counts.iter().zip(&self.stats) {

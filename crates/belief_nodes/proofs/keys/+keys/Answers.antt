@@ -1,4 +1,4 @@
-use Rattle.std.proofs.Common.{rules, arith, ◌≡◌, ◌+◌, ◌*◌, ◌/◌, ◌<◌, [], ◌∷◌, map, min, sym, ◌∙◌}
+use Rattle.std.proofs.Common.{rules, arith, ◌≡◌, ◌*◌, ◌/◌, [], ◌∷◌, map, sym, ◌∙◌}
 use Rattle.std.proofs.lemmas.List.{nil_from_length}
 use Rattle.query_check.specs.declared.tree.Tree.{the_lemmas}
 use Rattle.query_check.specs.Scale.{count, total, scale}
@@ -12,7 +12,7 @@ use Rattle.belief_nodes.proofs.keys.+keys.Goals as goal
 pub key_of-bounds-digits-number : goal.key_of-bounds-digits-number
 key_of-bounds-digits-number t c =
     let e : scaled_tree c.args.tree.now ≡ leaf c.in-Leaf.number = search (rules, scaled_tree_laws) in
-    leaf_fit _ _ (rw e at c.requires.fit)
+    omega (arith, leaf_fit _ _ (rw e at c.requires.fit))
 
 pub key_of-nonzero_div-scale : goal.key_of-nonzero_div-scale
 key_of-nonzero_div-scale t c =
@@ -126,9 +126,10 @@ least_of-brought_to-requires-clause-small t c =
 pub least_of-loop-tree-preserved : goal.least_of-loop-tree-preserved
 least_of-loop-tree-preserved t c =
     let share : c.brought_to.result ≡ c.args.common / scale (scaled_tree c.tree-item.result) * key c.args.digits.now (scaled_tree c.tree-item.result) = rw c.key_of-in-loop-tree.ensures at c.brought_to.ensures in
-    let least : c.min-least.result ≡ min c.loop-tree.least c.brought_to.result = search rules in
-    (next_fit _ _ c.in-Some.rest.now c.loop-tree.tree-index c.tree-item.result c.loop-tree-test.true c.tree-item.is c.loop-tree.invariant.0,
-    rw (least, share) (least_next c.args.digits.now c.args.common c.in-Some.rest.now c.loop-tree.tree-index c.tree-item.result c.loop-tree-test.true c.tree-item.is _ _ c.loop-tree.invariant.1))
+    let least = rw (← share) at (least_next c.args.digits.now c.args.common c.in-Some.rest.now c.loop-tree.tree-index c.tree-item.result c.loop-tree-test.true c.tree-item.is _ _ c.loop-tree.invariant.1) in (
+      next_fit _ _ c.in-Some.rest.now c.loop-tree.tree-index c.tree-item.result c.loop-tree-test.true c.tree-item.is c.loop-tree.invariant.0,
+      search (rules, least),
+    )
 
 pub least_of-returns : goal.least_of-returns
 least_of-returns t c =
@@ -162,9 +163,10 @@ sum_of-overflow_add-sum t c =
 
 pub sum_of-loop-tree-preserved : goal.sum_of-loop-tree-preserved
 sum_of-loop-tree-preserved t c =
-    let share : c.brought_to-sum.result ≡ c.args.common / scale (scaled_tree c.tree-item.result) * key c.args.digits.now (scaled_tree c.tree-item.result) = rw c.key_of.ensures at c.brought_to-sum.ensures in
-    (next_fit _ _ c.args.trees.now c.loop-tree.tree-index c.tree-item.result c.loop-tree-test.true c.tree-item.is c.loop-tree.invariant.0,
-    rw share (sum_next c.args.digits.now c.args.common c.args.trees.now c.loop-tree.tree-index c.tree-item.result c.loop-tree-test.true c.tree-item.is _ _ c.loop-tree.invariant.1))
+    let share : c.brought_to-sum.result ≡ c.args.common / scale (scaled_tree c.tree-item.result) * key c.args.digits.now (scaled_tree c.tree-item.result) = rw c.key_of.ensures at c.brought_to-sum.ensures in (
+      next_fit _ _ c.args.trees.now c.loop-tree.tree-index c.tree-item.result c.loop-tree-test.true c.tree-item.is c.loop-tree.invariant.0,
+      rw share (sum_next c.args.digits.now c.args.common c.args.trees.now c.loop-tree.tree-index c.tree-item.result c.loop-tree-test.true c.tree-item.is _ _ c.loop-tree.invariant.1),
+    )
 
 pub sum_of-returns : goal.sum_of-returns
 sum_of-returns t c =
@@ -209,9 +211,10 @@ pub weighted_sum_of-loop-weight-preserved : goal.weighted_sum_of-loop-weight-pre
 weighted_sum_of-loop-weight-preserved t c =
     let share : c.brought_to.result ≡ c.args.common / scale (scaled_tree c.loop-weight-item.result.1) * key c.args.digits.now (scaled_tree c.loop-weight-item.result.1) = rw c.key_of.ensures at c.brought_to.ensures in
     let weight : c.from.result ≡ c.loop-weight-item.result.0 = search rules in
-    let one_more = weighted_sum_next c.args.digits.now c.args.common c.args.trees.now c.loop-weight.weight-index c.loop-weight-item.result c.loop-weight-test.true c.loop-weight-item.is _ _ c.loop-weight.invariant.1 in
-    (weighted_next_fit _ _ c.args.trees.now c.loop-weight.weight-index c.loop-weight-item.result c.loop-weight-test.true c.loop-weight-item.is c.loop-weight.invariant.0,
-    rw (share, weight, times_assoc) one_more)
+    let one_more = weighted_sum_next c.args.digits.now c.args.common c.args.trees.now c.loop-weight.weight-index c.loop-weight-item.result c.loop-weight-test.true c.loop-weight-item.is _ _ c.loop-weight.invariant.1 in (
+      weighted_next_fit _ _ c.args.trees.now c.loop-weight.weight-index c.loop-weight-item.result c.loop-weight-test.true c.loop-weight-item.is c.loop-weight.invariant.0,
+      rw (share, weight, times_assoc) one_more,
+    )
 
 pub weighted_sum_of-returns : goal.weighted_sum_of-returns
 weighted_sum_of-returns t c =

@@ -1,4 +1,4 @@
-use Rattle.std.proofs.Common.{◌≡◌, ◌+◌, List, length, map, min, ℕ}
+use Rattle.std.proofs.Common.{◌≡◌, ◌+◌, length, map, min}
 use Rattle.std.specs.Prelude.{fold, sum}
 use Rattle.query_check.specs.Trees.{scaled_tree, scaled_trees, weighted_scaled_tree, weighted_scaled_trees}
 use Rattle.belief_nodes.specs.Fits.{AreFit, AreWeightedFit}

@@ -1,5 +1,5 @@
 -- The ranking of a list of documents, each scored as a whole, by one sort of all that may be shown.
-use Rattle.std.specs.Prelude.{◌≡◌, ℕ, Bool, List, map, filter, All, length}
+use Rattle.std.specs.Prelude.{◌≡◌, ℕ, List, map, filter, All, length}
 use Rattle.std.specs.Cmp.Lexicographic.{slice_cmp}
 use Rattle.std.specs.List.Sorted.{IsPermutation, IsSortedBy}
 use Rattle.std.specs.Ordering.{is_lt, nat_cmp, ordering_then}

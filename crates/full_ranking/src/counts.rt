@@ -1,5 +1,5 @@
 // How often the leaves of a query occur.
-ghost use Rattle.std.specs.Prelude.{◌≡◌, ◌<◌, ◌≤◌, ◌^◌, true, length, map, All, IfOk};
+ghost use Rattle.std.specs.Prelude.{◌≡◌, ◌==◌, ◌<◌, ◌≤◌, ◌^◌, true, length, map, All, IfOk};
 ghost use Rattle.std.specs.List.{list_all};
 ghost use Rattle.field_extents.specs.Extents.{AreInOrder, begin_count};
 ghost use Rattle.extent_lists.specs.Listed.{pair};
@@ -87,4 +87,24 @@ pub fn all_stats(alloc: Global, leaves: &[LeafKind], index: &mut Sealed) -> Resu
         stats.push(stats_of(alloc, leaf, index)?)?;
     }
     Ok(stats)
+}
+
+fn is_plain(leaf: &LeafKind) -> bool
+    ensures { result ≡ is_plain (leaf_tree leaf.now) }
+{
+    matches!(leaf, LeafKind::Extents(_, None))
+}
+
+/// Whether each leaf is an expression without a context.
+pub fn are_plain(leaves: &[LeafKind]) -> bool
+    ensures { result ≡ list_all is_plain (map leaf_tree leaves.now) }
+{
+    leaves.iter().all(|leaf| is_plain(leaf))
+}
+
+/// Whether no leaf occurs.
+pub fn none_occurs(counts: &[LeafCount]) -> bool
+    ensures { result ≡ list_all (λ count. count.tf == 0) counts.now }
+{
+    counts.iter().all(|count| count.tf == 0)
 }

@@ -43,8 +43,20 @@ impl Row {
     fn into_hit(self) -> Hit
         ensures { result ≡ row_hit self }
     {
-        let Row { key, docno, begin, end, fractions } = self;
-        Hit { docno, begin, end, key, fractions }
+        let Row {
+            key,
+            docno,
+            begin,
+            end,
+            fractions,
+        } = self;
+        Hit {
+            docno,
+            begin,
+            end,
+            key,
+            fractions,
+        }
     }
 }
 
@@ -97,7 +109,14 @@ fn row_of<F: Fn(u32, u32, u64, u64) -> Fraction>(
     if none_occurs(&counts) {
         return Ok(None);
     }
-    let row = scored(alloc, network, rule, &counts, index.docno(id), index.length(id))?;
+    let row = scored(
+        alloc,
+        network,
+        rule,
+        &counts,
+        index.docno(id),
+        index.length(id),
+    )?;
     Ok(Some(row))
 }
 

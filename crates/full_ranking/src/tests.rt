@@ -8,7 +8,9 @@ ghost use Rattle.smoothing.specs.Fractions.{dirichlet};
 use crate::{are_plain, rank};
 use memory_index::MemIndex;
 use query_check::{Checked, check};
-use ri_base::{Belief, Doc, Docno, ExtentExpr, Fraction, Hit, Hits, Query, Range, Sealed, Spans, Term, Terms};
+use ri_base::{
+    Belief, Doc, Docno, ExtentExpr, Fraction, Hit, Hits, Query, Range, Sealed, Spans, Term, Terms,
+};
 use smoothing::{Rule, RuleKind, dirichlet_fraction};
 use std::alloc::Global;
 use std::process::Abort;
@@ -112,7 +114,10 @@ fn two_documents(rt: HostRuntime) -> Result<(), Fail> {
 #[test]
 fn no_hit(rt: HostRuntime) -> Result<(), Fail> {
     assert_eq!(rt; ranked(rt.alloc(), &[], "a", 10)?.len(), 0);
-    assert_eq!(rt; ranked(rt.alloc(), &[("d1", "a b"), ("d2", "a")], "z", 10)?.len(), 0);
+    assert_eq!(rt;
+        ranked(rt.alloc(), &[("d1", "a b"), ("d2", "a")], "z", 10)?.len(),
+        0
+    );
     Ok(())
 }
 

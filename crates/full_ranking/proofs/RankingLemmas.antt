@@ -1,6 +1,6 @@
 -- A sorted list of rows as the ranking that it stands for, and what each ranking keeps.
-use Rattle.std.proofs.Common.{◌≡◌, ◌<◌, ◌≤◌, ℕ, ◌+◌, Bool, true, false, not, ◌==◌, List, [], ◌∷◌, ◌++◌, length, map, filter, take, zip, Option, None, Some, get_or, slice_get, unwrap_or, cond, refl, sym, ap, subst, ◌∙◌, arith, ⊎_elim}
-use Rattle.std.specs.List.{All, AllPairs, list_all}
+use Rattle.std.proofs.Common.{◌≡◌, ◌<◌, ◌≤◌, ℕ, ◌+◌, Bool, true, false, not, ◌==◌, List, [], ◌∷◌, ◌++◌, length, map, filter, take, zip, Option, None, Some, get_or, unwrap_or, cond, refl, sym, ap, subst, ◌∙◌, arith}
+use Rattle.std.specs.List.{All, list_all}
 use Rattle.std.specs.List.Sorted.{IsPermutation, IsSortedBy}
 use Rattle.std.specs.Option.{option_map}
 use Rattle.std.specs.Ordering.{is_lt, nat_cmp, ordering_then}

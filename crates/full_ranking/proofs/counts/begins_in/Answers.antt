@@ -1,5 +1,4 @@
-use Rattle.std.proofs.Common.{rules, ◌≡◌, ◌≤◌, ℕ, min, max, arith}
-use Rattle.ri_base.specs.Pair.{Pair}
+use Rattle.std.proofs.Common.{rules, ◌≡◌, min, max}
 use Rattle.extent_lists.specs.Listed.{pair}
 use Rattle.full_ranking.proofs.CountLemmas.{begin_count_within}
 use Rattle.full_ranking.proofs.counts.begins_in.Goals as goal

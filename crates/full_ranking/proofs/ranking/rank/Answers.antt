@@ -1,4 +1,4 @@
-use Rattle.std.proofs.Common.{◌≡◌, ◌<◌, ◌≤◌, length, map, take, List, ap, subst, sym, ◌∙◌}
+use Rattle.std.proofs.Common.{◌≡◌, ◌≤◌, length, map, take, List, ap, sym, ◌∙◌}
 use Rattle.std.specs.List.{All}
 use Rattle.std.proofs.lemmas.List.{take-map}
 use Rattle.std.proofs.lemmas.Result.{IfOk-weaker}
@@ -7,7 +7,7 @@ use Rattle.query_check.specs.Leaves.{leaf_tree}
 use Rattle.query_check.specs.Trees.{scaled_tree}
 use Rattle.belief_nodes.specs.Network.{network_of, network_tree}
 use Rattle.full_ranking.specs.Ranking.{IsRanking}
-use Rattle.full_ranking.specs.Rows.{row_candidate, row_hit}
+use Rattle.full_ranking.specs.Rows.{row_hit}
 use Rattle.full_ranking.proofs.RankingLemmas.{IsRanking-rows, first_each, first_few}
 use Rattle.full_ranking.proofs.ranking.rank.Goals as goal
 use Rattle.full_ranking.proofs.ranking.rank.Goals.{After-drop-stats-2}

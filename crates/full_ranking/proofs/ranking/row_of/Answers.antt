@@ -1,4 +1,4 @@
-use Rattle.std.proofs.Common.{◌≡◌, ◌==◌, false, true, List, map, ap, sym, ◌∙◌}
+use Rattle.std.proofs.Common.{◌≡◌, ◌==◌, false, map, ap, sym, ◌∙◌}
 use Rattle.std.specs.List.{list_all}
 use Rattle.ri_base.specs.Collection.{document_at}
 use Rattle.query_check.specs.Leaves.{leaf_tree}

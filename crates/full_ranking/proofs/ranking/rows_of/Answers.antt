@@ -1,4 +1,4 @@
-use Rattle.std.proofs.Common.{Global, Vec, arith, ◌≡◌, ◌<◌, [], ◌∷◌, ◌++◌, length, map, List, ap, subst, sym, ◌∙◌}
+use Rattle.std.proofs.Common.{Global, Vec, arith, ◌≡◌, ◌<◌, [], ◌∷◌, ◌++◌, length, map, ap, subst, sym, ◌∙◌}
 use Rattle.std.specs.List.{All}
 use Rattle.std.specs.Option.{IfSome}
 use Rattle.std.proofs.lemmas.List.Elements.{All-push}
@@ -9,7 +9,7 @@ use Rattle.query_check.specs.Trees.{scaled_tree}
 use Rattle.belief_nodes.specs.Keys.{key_at}
 use Rattle.full_ranking.specs.Rows.{row_candidate}
 use Rattle.full_ranking.specs.declared.ranking.Row.{Row}
-use Rattle.full_ranking.proofs.RankingLemmas.{first_candidates, next_row, next_without}
+use Rattle.full_ranking.proofs.RankingLemmas.{next_row, next_without}
 use Rattle.full_ranking.proofs.ranking.rows_of.Goals as goal
 use Rattle.full_ranking.proofs.ranking.rows_of.Goals.{in-Some+in_ok-push, in_default}
 

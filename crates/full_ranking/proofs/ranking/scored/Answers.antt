@@ -1,4 +1,4 @@
-use Rattle.std.proofs.Common.{◌≡◌, map, ap, ◌∙◌}
+use Rattle.std.proofs.Common.{map, ap, ◌∙◌}
 use Rattle.query_check.specs.Leaves.{leaf_tree}
 use Rattle.log_chain.specs.declared.chain.TheConstants.{LAST}
 use Rattle.ri_base.specs.Ratio.{ratio_of}

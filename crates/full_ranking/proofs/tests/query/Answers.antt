@@ -1,4 +1,4 @@
-use Rattle.std.proofs.Common.{◌≡◌, List, ℕ, Bool, true, false, ◌&&◌, IsTrue, [], ◌∷◌, ◌++◌, None, refl, sym, ap, subst, ◌∙◌, arith}
+use Rattle.std.proofs.Common.{◌≡◌, List, ℕ, Bool, true, ◌&&◌, IsTrue, [], ◌∷◌, ◌++◌, None, refl, sym, ap, subst, ◌∙◌, arith}
 use Rattle.ri_base.specs.Expression as expr
 use Rattle.ri_base.specs.Expression.{expr_tree}
 use Rattle.ri_base.specs.Query.{IsBoundedQuery, belief_tree, are_sound, depth, depths, is_sound, nodes, all_nodes, query_tree}
@@ -6,7 +6,6 @@ use Rattle.ri_base.specs.Text.{is_term}
 use Rattle.ri_base.specs.declared.belief.Belief.{Belief, Leaf}
 use Rattle.ri_base.specs.declared.expression.ExtentExpr.{Word}
 use Rattle.ri_base.specs.declared.query.Filter.{Filter}
-use Rattle.ri_base.specs.declared.query.Range.{Range}
 use Rattle.ri_base.specs.declared.query.Range.TheVariants.{Whole}
 use Rattle.full_ranking.proofs.tests.query.Goals as goal
 

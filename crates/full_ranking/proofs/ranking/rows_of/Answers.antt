@@ -19,8 +19,9 @@ loop-id-preserved g c =
     let P : Row → Type 0 = λ row. row.key ≡ key_at LAST (map ratio_of row.fractions) (scaled_tree c.args.network.now.tree) in
     elim c.match-branch-2.branch [
       | in-Some+in_ok-push w ↦
+          let moved : c.match-branch-2.rows.items ≡ w.push.new.self.items = ap (λ (v : Vec Row Global). v.items) w.rows-is in
           let pushed : c.match-branch-2.rows.items ≡ c.loop-id.rows.items ++ w.in-Some.row ∷ [] =
-          ap (λ (v : Vec Row Global). v.items) w.rows-is ∙ w.in_ok-push.ensures.items in
+          subst (λ (rows : List Row). c.match-branch-2.rows.items ≡ rows) w.in_ok-push.ensures.items moved in
           record {
             same = c.in_ok-row.ensures.same ∙ c.loop-id.invariant.same;
             so_far = next_row c.args.rule.now.kind (map leaf_tree c.args.network.now.leaves.items) c.args.index.now c.loop-id.index c.loop-id.id c.loop-id.rows.items _ w.in-Some.row

@@ -22,6 +22,7 @@ fn last_digits<L: Ledger>(f: Fraction, squares: &mut Steps<L>) -> u128
     chain.digits()
 }
 
+/// The digits of all beliefs at the last level. The blank says which counter takes the squarings.
 fn all_digits<L: Ledger>(
     alloc: Global,
     fractions: &[Fraction],

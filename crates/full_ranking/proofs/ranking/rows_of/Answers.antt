@@ -1,4 +1,4 @@
-use Rattle.std.proofs.Common.{Global, Vec, arith, ◌≡◌, ◌<◌, [], ◌∷◌, ◌++◌, length, map, ap, subst, sym, ◌∙◌}
+use Rattle.std.proofs.Common.{Global, Vec, arith, ◌≡◌, ◌<◌, [], ◌∷◌, ◌++◌, List, length, map, ap, subst, sym, ◌∙◌}
 use Rattle.std.specs.List.{All}
 use Rattle.std.specs.Option.{IfSome}
 use Rattle.std.proofs.lemmas.List.Elements.{All-push}

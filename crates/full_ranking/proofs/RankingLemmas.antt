@@ -1,6 +1,6 @@
 -- A sorted list of rows as the ranking that it stands for, and what each ranking keeps.
-use Rattle.std.proofs.Common.{◌≡◌, ◌<◌, ◌≤◌, ℕ, ◌+◌, Bool, true, false, not, ◌==◌, List, [], ◌∷◌, ◌++◌, length, map, filter, take, zip, Option, None, Some, get_or, slice_get, unwrap_or, cond, refl, sym, ap, subst, ◌∙◌, arith, ⊎_elim}
-use Rattle.std.specs.List.{All, AllPairs, list_all}
+use Rattle.std.proofs.Common.{◌≡◌, ◌<◌, ◌≤◌, ℕ, ◌+◌, Bool, true, false, not, ◌==◌, List, [], ◌∷◌, ◌++◌, length, map, filter, take, zip, Option, None, Some, get_or, unwrap_or, cond, refl, sym, ap, subst, ◌∙◌, arith}
+use Rattle.std.specs.List.{All, list_all}
 use Rattle.std.specs.List.Sorted.{IsPermutation, IsSortedBy}
 use Rattle.std.specs.Option.{option_map}
 use Rattle.std.specs.Ordering.{is_lt, nat_cmp, ordering_then}
@@ -119,11 +119,11 @@ row_shown kind leaves docs read i counts stats docno end r same counted summed s
     let name : docno ≡ d.docno = named ∙ ap (λ (ds : List Document). (document_at ds i).docno) same in
     let last : end ≡ length d.tokens = long ∙ ap (λ (ds : List Document). length (document_at ds i).tokens) same in
     some_row (has_some leaves d) (candidate kind leaves docs d) r (sym (none_occurs leaves d) ∙ sym (ap (list_all (λ (count : LeafCount). count.tf == 0)) counted) ∙ some)
-        (is
-        ∙ ap (λ n. record { docno = n; begin = 0; end = end; beliefs = leaf_fractions kind counts stats }) name
-        ∙ ap (λ n. record { docno = d.docno; begin = 0; end = n; beliefs = leaf_fractions kind counts stats }) last
-        ∙ ap (λ ns. record { docno = d.docno; begin = 0; end = length d.tokens; beliefs = leaf_fractions kind ns stats }) counted
-        ∙ ap (λ ss. record { docno = d.docno; begin = 0; end = length d.tokens; beliefs = leaf_fractions kind (map (count_of d) leaves) ss }) summed)
+    (is
+    ∙ ap (λ n. record { docno = n; begin = 0; end = end; beliefs = leaf_fractions kind counts stats }) name
+    ∙ ap (λ n. record { docno = d.docno; begin = 0; end = n; beliefs = leaf_fractions kind counts stats }) last
+    ∙ ap (λ ns. record { docno = d.docno; begin = 0; end = length d.tokens; beliefs = leaf_fractions kind ns stats }) counted
+    ∙ ap (λ ss. record { docno = d.docno; begin = 0; end = length d.tokens; beliefs = leaf_fractions kind (map (count_of d) leaves) ss }) summed)
 
 -- ---- sorted rows
 
@@ -164,7 +164,7 @@ pub IsRanking-rows : (kind : RuleKind) (network seen : NetworkTree) (docs read :
 IsRanking-rows kind network seen docs read rows sorted is same all keys moved up =
     subst (λ (n : NetworkTree). IsRanking kind n.leaves n.tree docs (map row_hit sorted)) is
     (subst (λ (ds : List Document). IsRanking kind network.leaves network.tree ds (map row_hit sorted)) same
-        (IsRanking-made kind network.leaves network.tree read rows sorted all keys moved up))
+    (IsRanking-made kind network.leaves network.tree read rows sorted all keys moved up))
 
 -- ---- as many fractions as leaves
 

@@ -1,6 +1,6 @@
 -- What is counted of a query's leaves in documents, each scored as a whole. Which extents a leaf has, and that each token
 -- counts once at which one begins, is the project's own.
-use Rattle.std.specs.Prelude.{ℕ, Bool, true, false, nat_lt, List, [], length, map, filter, sum_by, Option, None, Some}
+use Rattle.std.specs.Prelude.{ℕ, Bool, true, false, nat_lt, List, [], length, map, filter, sum_by, None, Some}
 use Rattle.std.specs.List.{list_any}
 use Rattle.ri_base.specs.Documents.{Document}
 use Rattle.ri_base.specs.Pair.{Pair}

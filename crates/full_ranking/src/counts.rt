@@ -27,7 +27,12 @@ fn begins_in(found: &Extents, length: u32) -> u32
 }
 
 /// The counts of a leaf in a document.
-fn count_of(alloc: Global, leaf: &LeafKind, index: &mut Sealed, id: u32) -> Result<LeafCount, NoMemory>
+fn count_of(
+    alloc: Global,
+    leaf: &LeafKind,
+    index: &mut Sealed,
+    id: u32,
+) -> Result<LeafCount, NoMemory>
     requires id { id < length index.old }
     requires plain { is_plain (leaf_tree leaf.now) ≡ true }
     ensures count { IfOk result (λ n. n ≡ count_of (document_at index.old id) (leaf_tree leaf.now)) }
@@ -39,11 +44,19 @@ fn count_of(alloc: Global, leaf: &LeafKind, index: &mut Sealed, id: u32) -> Resu
     };
     let len = index.length(id);
     let found = extents_in(alloc, expr, index, id)?;
-    Ok(LeafCount { tf: begins_in(&found, len), len })
+    Ok(LeafCount {
+        tf: begins_in(&found, len),
+        len,
+    })
 }
 
 /// The counts of all leaves in a document.
-pub fn counts_of(alloc: Global, leaves: &[LeafKind], index: &mut Sealed, id: u32) -> Result<Vec<LeafCount>, NoMemory>
+pub fn counts_of(
+    alloc: Global,
+    leaves: &[LeafKind],
+    index: &mut Sealed,
+    id: u32,
+) -> Result<Vec<LeafCount>, NoMemory>
     requires id { id < length index.old }
     requires plain { list_all is_plain (map leaf_tree leaves.now) ≡ true }
     ensures counts { IfOk result (λ v. v.items ≡ map (count_of (document_at index.old id)) (map leaf_tree leaves.now)) }
@@ -75,7 +88,11 @@ fn stats_of(alloc: Global, leaf: &LeafKind, index: &mut Sealed) -> Result<LeafSt
 }
 
 /// The sums of all leaves' counts over all documents.
-pub fn all_stats(alloc: Global, leaves: &[LeafKind], index: &mut Sealed) -> Result<Vec<LeafStats>, NoMemory>
+pub fn all_stats(
+    alloc: Global,
+    leaves: &[LeafKind],
+    index: &mut Sealed,
+) -> Result<Vec<LeafStats>, NoMemory>
     requires plain { list_all is_plain (map leaf_tree leaves.now) ≡ true }
     requires few { token_count index.old ≤ 2 ^ 29 }
     ensures stats { IfOk result (λ v. v.items ≡ map (stats_of index.old) (map leaf_tree leaves.now)) }

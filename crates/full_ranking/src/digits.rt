@@ -22,7 +22,12 @@ fn last_digits<L: Ledger>(f: Fraction, squares: &mut Steps<L>) -> u128
     chain.digits()
 }
 
-fn all_digits<L: Ledger>(alloc: Global, fractions: &[Fraction], blank: Blank) -> Result<Vec<u128>, NoMemory>
+/// The digits of all beliefs at the last level. The blank says which counter takes the squarings.
+fn all_digits<L: Ledger>(
+    alloc: Global,
+    fractions: &[Fraction],
+    blank: Blank,
+) -> Result<Vec<u128>, NoMemory>
     requires name { blank.name ≡ L.name }
     requires parts { blank.parts ≡ L.parts }
     requires some { 0 < blank.parts }

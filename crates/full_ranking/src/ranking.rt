@@ -43,8 +43,20 @@ impl Row {
     fn into_hit(self) -> Hit
         ensures { result ≡ row_hit self }
     {
-        let Row { key, docno, begin, end, fractions } = self;
-        Hit { docno, begin, end, key, fractions }
+        let Row {
+            key,
+            docno,
+            begin,
+            end,
+            fractions,
+        } = self;
+        Hit {
+            docno,
+            begin,
+            end,
+            key,
+            fractions,
+        }
     }
 }
 
@@ -97,7 +109,14 @@ fn row_of<F: Fn(u32, u32, u64, u64) -> Fraction>(
     if none_occurs(&counts) {
         return Ok(None);
     }
-    let row = scored(alloc, network, rule, &counts, index.docno(id), index.length(id))?;
+    let row = scored(
+        alloc,
+        network,
+        rule,
+        &counts,
+        index.docno(id),
+        index.length(id),
+    )?;
     Ok(Some(row))
 }
 
@@ -135,8 +154,10 @@ fn hits_of(alloc: Global, rows: Vec<Row>) -> Result<Hits, NoMemory>
     Ok(Hits::of(hits))
 }
 
-/// The first hits of the ranking of an index's documents, at most so many, by a checked query whose leaves have no context
-/// and are no priors.
+/// The first hits of the ranking of an index's documents, at most so many, by the beliefs of a checked query.
+///
+/// The leaves have no context and are no priors, as [`are_plain`](crate::are_plain) tells. Documents are scored as a
+/// whole: the query's range and its filters aren't looked at.
 pub fn rank<F: Fn(u32, u32, u64, u64) -> Fraction>(
     alloc: Global,
     checked: &Checked,

@@ -1,14 +1,17 @@
 // Rankings of small indexes that were worked out by hand. A key is that of the belief's logarithm in 40 binary places.
-ghost use Rattle.std.specs.Prelude.{◌≡◌, ◌≤◌, ◌^◌, IfOk};
+ghost use Rattle.std.specs.Prelude.{◌≡◌, ◌≤◌, ◌^◌, IfOk, IsTrue};
 ghost use Rattle.ri_base.specs.Collection.{token_count};
 ghost use Rattle.ri_base.specs.Ratio.{ratio_of};
+ghost use Rattle.ri_base.specs.Text.{is_term};
 ghost use Rattle.smoothing.specs.Counts.{AreCounts};
 ghost use Rattle.smoothing.specs.Fractions.{dirichlet};
 
 use crate::{are_plain, rank};
 use memory_index::MemIndex;
 use query_check::{Checked, check};
-use ri_base::{Belief, Doc, Docno, ExtentExpr, Fraction, Hit, Hits, Query, Range, Sealed, Spans, Term, Terms};
+use ri_base::{
+    Belief, Doc, Docno, ExtentExpr, Fraction, Hit, Hits, Query, Range, Sealed, Spans, Term, Terms,
+};
 use smoothing::{Rule, RuleKind, dirichlet_fraction};
 use std::alloc::Global;
 use std::process::Abort;
@@ -17,8 +20,12 @@ use std::test::Fail;
 /// A document: its docno and its words.
 type Text = (&'static str, &'static str);
 
-fn term(alloc: Global, text: &str) -> Result<Term, Fail> {
-    Ok(Term::new(alloc, text.as_bytes())?.ok_or("no term")?)
+fn term(alloc: Global, text: &str) -> Result<Term, Fail>
+    ensures { IfOk result (λ term. IsTrue (is_term term)) }
+{
+    let term = Term::new(alloc, text.as_bytes())?.ok_or("no term")?;
+    let _form = term.as_bytes();
+    Ok(term)
 }
 
 fn doc(alloc: Global, text: Text) -> Result<Doc, Fail> {
@@ -112,7 +119,10 @@ fn two_documents(rt: HostRuntime) -> Result<(), Fail> {
 #[test]
 fn no_hit(rt: HostRuntime) -> Result<(), Fail> {
     assert_eq!(rt; ranked(rt.alloc(), &[], "a", 10)?.len(), 0);
-    assert_eq!(rt; ranked(rt.alloc(), &[("d1", "a b"), ("d2", "a")], "z", 10)?.len(), 0);
+    assert_eq!(rt;
+        ranked(rt.alloc(), &[("d1", "a b"), ("d2", "a")], "z", 10)?.len(),
+        0
+    );
     Ok(())
 }
 

@@ -1,7 +1,6 @@
 use Rattle.std.proofs.Common.{rules, ◌==◌}
 use Rattle.std.proofs.lemmas.Iterator.{YieldsList-from_slice}
 use Rattle.std.proofs.lemmas.Iterator.Search.{all_from_yields_List}
-use Rattle.ri_base.specs.Pair.{Pair}
 use Rattle.belief_nodes.specs.declared.leaf_count.LeafCount.{LeafCount}
 use Rattle.full_ranking.proofs.counts.none_occurs.Goals as goal
 use borrow.Author.Tests.{tests}

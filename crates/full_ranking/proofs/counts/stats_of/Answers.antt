@@ -1,4 +1,4 @@
-use Rattle.std.proofs.Common.{arith, ◌≡◌, ◌<◌, ◌≤◌, ◌+◌, ◌∙◌, ap, length}
+use Rattle.std.proofs.Common.{arith, ◌≡◌, ◌<◌, ◌+◌, ◌∙◌, ap, length}
 use Rattle.query_check.specs.Leaves.{leaf_tree}
 use Rattle.full_ranking.proofs.CountLemmas.{AreNextSums, next_sums}
 use Rattle.full_ranking.proofs.counts.stats_of.Goals as goal

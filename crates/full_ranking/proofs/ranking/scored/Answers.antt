@@ -1,4 +1,4 @@
-use Rattle.std.proofs.Common.{◌≡◌, map, ap, ◌∙◌}
+use Rattle.std.proofs.Common.{map, ap, ◌∙◌}
 use Rattle.query_check.specs.Leaves.{leaf_tree}
 use Rattle.log_chain.specs.declared.chain.TheConstants.{LAST}
 use Rattle.ri_base.specs.Ratio.{ratio_of}
@@ -16,4 +16,4 @@ pub key-requires-clause-each : goal.key-requires-clause-each
 key-requires-clause-each g c =
     let digits = c.deref.ensures.value ∙ c.in_ok-digits.ensures.values ∙ ap (λ (fs : List Fraction). digits_at LAST (map ratio_of fs)) c.as_slice.ensures in
     digits_length c.args.rule.now.kind c.args.counts.now c.args.network.now.stats.items (map leaf_tree c.args.network.now.leaves.items) c.in_ok-fractions.fractions _
-        c.args.network.now.kept.each c.requires.each c.in_ok-fractions.ensures digits
+    c.args.network.now.kept.each c.requires.each c.in_ok-fractions.ensures digits

@@ -7,7 +7,7 @@ ghost use Rattle.smoothing.specs.Fractions.{IsMu, dirichlet};
 ghost use Rattle.ri_base.specs.Ratio.{ratio_of};
 ghost use Rattle.query_check.specs.Answers.{whole_checked};
 ghost use Rattle.query_check.specs.Leaves.{leaf_tree};
-ghost use Rattle.plain_query.specs.Plain.{is_plain_leaf};
+ghost use Rattle.full_ranking.specs.Counts.{is_plain};
 ghost use Rattle.ranked_output.specs.Texts.{lines_of, lines_text};
 ghost use Rattle.indri_app.specs.Answer.{IsResult, first_lines};
 
@@ -49,7 +49,7 @@ pub fn ranking_text(
     index: MemIndex,
 ) -> Result<Vec<u8>, NoMemory>
     requires mu { IsMu mu }
-    requires plain { list_all is_plain_leaf (whole_checked checked.now).leaves ≡ true }
+    requires plain { list_all is_plain (whole_checked checked.now).leaves ≡ true }
     ensures { IfOk result (λ text. (ranking : List Hit) × IsResult mu (whole_checked checked.now) index.documents ranking
         × (text.items ≡ lines_text (first_lines (whole_checked checked.now) ranking))) }
 {

@@ -5,7 +5,7 @@ ghost use Rattle.ri_ends.specs.Causes.{Rose};
 ghost use Rattle.trec_reader.specs.Read.{read};
 ghost use Rattle.smoothing.specs.Fractions.{IsMu};
 ghost use Rattle.std.specs.List.{list_all};
-ghost use Rattle.plain_query.specs.Plain.{is_plain_leaf};
+ghost use Rattle.full_ranking.specs.Counts.{is_plain};
 ghost use Rattle.query_check.specs.Answers.{whole_checked};
 ghost use Rattle.indri_app.specs.Answer.{Begun, Failed, Finished};
 ghost use Rattle.indri_app.specs.Shown.{Shows, ShowsFront};
@@ -171,7 +171,7 @@ fn write_ranking<K: Sink>(
     sink: &mut K,
 ) -> Status
     requires mu { IsMu mu }
-    requires plain { list_all is_plain_leaf (whole_checked checked.now).leaves ≡ true }
+    requires plain { list_all is_plain (whole_checked checked.now).leaves ≡ true }
     ensures done { result ≡ Status.Done → (some_refused ≡ false) × Shows mu (whole_checked checked.now) index.documents (K.taken sink.old) (K.taken sink.new) }
     ensures refused { result ≡ Status.SomeRefused → (some_refused ≡ true) × Shows mu (whole_checked checked.now) index.documents (K.taken sink.old) (K.taken sink.new) }
     ensures front { ShowsFront mu (whole_checked checked.now) index.documents (K.taken sink.old) (K.taken sink.new) }
@@ -199,7 +199,7 @@ fn query<S: Source, K: Sink>(
     sink: &mut K,
 ) -> Status
     requires mu { IsMu mu }
-    requires plain { list_all is_plain_leaf (whole_checked checked.now).leaves ≡ true }
+    requires plain { list_all is_plain (whole_checked checked.now).leaves ≡ true }
     ensures done { result ≡ Status.Done → IfSome (S.left source.old) (λ bytes.
         Finished (rank_by mu (whole_checked checked.now)) false bytes (K.taken sink.old) (K.taken sink.new)) }
     ensures refused { result ≡ Status.SomeRefused → IfSome (S.left source.old) (λ bytes.

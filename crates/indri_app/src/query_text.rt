@@ -1,7 +1,7 @@
 // The text of a query.
 ghost use Rattle.std.specs.Prelude.{◌≡◌, Ok, Err, Result, true, IfOk};
 ghost use Rattle.std.specs.List.{list_all};
-ghost use Rattle.plain_query.specs.Plain.{is_plain_leaf};
+ghost use Rattle.full_ranking.specs.Counts.{is_plain};
 ghost use Rattle.query_check.specs.Answers.{whole_checked};
 ghost use Rattle.query_reader.specs.QueryText.{query_text};
 ghost use Rattle.indri_app.specs.Command.{query_read};
@@ -23,7 +23,7 @@ pub enum TextFault {
 /// The checked query of a text, where it is of a form that is ranked today.
 pub fn read_checked(alloc: Global, text: &str) -> Result<Checked, TextFault>
     ensures read { Reads result (query_text text.now) }
-    ensures plain { IfOk result (λ c. list_all is_plain_leaf (whole_checked c).leaves ≡ true) }
+    ensures plain { IfOk result (λ c. list_all is_plain (whole_checked c).leaves ≡ true) }
 {
     let query = match read_query(alloc, text) {
         Ok(query) => query,

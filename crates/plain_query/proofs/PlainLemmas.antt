@@ -9,7 +9,8 @@ use Rattle.query_check.specs.Check.{CheckedTree, checked_or, checked_tree, check
 use Rattle.query_check.specs.Leaves.{LeafTree}
 use Rattle.query_check.specs.declared.fault.CheckFault.{CheckFault}
 use Rattle.query_check.proofs.Walks.{drop_at, drop_end}
-use Rattle.plain_query.specs.Plain.{are_plain, are_weighted_plain, has_none, is_plain, is_plain_leaf, is_plain_query, is_whole}
+use Rattle.full_ranking.specs.Counts.{is_plain as is_plain_leaf}
+use Rattle.plain_query.specs.Plain.{are_plain, are_weighted_plain, has_none, is_plain, is_plain_query, is_whole}
 
 module _ (xs : List Belief) (i : ℕ) where
   pub are_plain_found : (x : Belief) → i < length xs → x ≡ get_or xs i x → is_plain (belief_tree x) ≡ false → are_plain (belief_trees (map belief_tree (drop i xs))) ≡ false

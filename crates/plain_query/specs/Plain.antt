@@ -3,8 +3,6 @@ use Rattle.std.specs.Prelude.{Bool, true, false, ◌&&◌, List, [], ◌∷◌, 
 use Rattle.ri_base.specs.declared.query.Range.{Range}
 use Rattle.ri_base.specs.declared.query.Range.TheVariants.{Whole, Field, Passages}
 use Rattle.ri_base.specs.Query.{BeliefTree, BeliefTrees, WeightedTrees, QueryTree, combine, weight, greatest, prior, leaf, none, more, none_weighted, more_weighted, belief_trees}
-use Rattle.query_check.specs.Leaves as leaves
-use Rattle.query_check.specs.Leaves.{LeafTree, extents}
 
 unfoldable mutual
   -- no prior and no context
@@ -35,9 +33,3 @@ is_whole (Passages width every) = false
 
 abbrev pub is_plain_query : QueryTree → Bool
 is_plain_query q = has_none q.filters && is_whole q.range && are_plain (belief_trees q.beliefs)
-
--- a leaf that is an expression without a context
-abbrev pub is_plain_leaf : LeafTree → Bool
-is_plain_leaf (extents x None) = true
-is_plain_leaf (extents x (Some c)) = false
-is_plain_leaf (leaves.prior n) = false

@@ -30,5 +30,11 @@ take_weighted_leaves-loop-weight-preserved-else-weight-gt0-4 t c = weighted_leav
 pub take_weighted_leaves-loop-weight-preserved-else-weight-gt0-5 : goal.take_weighted_leaves-loop-weight-preserved-else-weight-gt0-5
 take_weighted_leaves-loop-weight-preserved-else-weight-gt0-5 t c = weighted_leaves_dropped c.args.names.now _ _ c.loop-weight.yielded c.in-Some.weight c.in-Some.x c.if-weight-gt0.false c.loop-weight.invariant
 
+pub take_weighted_leaves-loop-weight-preserved-else-weight-gt0-6 : goal.take_weighted_leaves-loop-weight-preserved-else-weight-gt0-6
+take_weighted_leaves-loop-weight-preserved-else-weight-gt0-6 t c = weighted_leaves_dropped c.args.names.now _ _ c.loop-weight.yielded c.in-Some.weight c.in-Some.x c.if-weight-gt0.false c.loop-weight.invariant
+
+pub take_weighted_leaves-loop-weight-preserved-else-weight-gt0-7 : goal.take_weighted_leaves-loop-weight-preserved-else-weight-gt0-7
+take_weighted_leaves-loop-weight-preserved-else-weight-gt0-7 t c = weighted_leaves_dropped c.args.names.now _ _ c.loop-weight.yielded c.in-Some.weight c.in-Some.x c.if-weight-gt0.false c.loop-weight.invariant
+
 pub take_weighted_leaves-loop-weight-preserved : goal.take_weighted_leaves-loop-weight-preserved
 take_weighted_leaves-loop-weight-preserved t c = weighted_leaves_dropped c.args.names.now _ _ c.loop-weight.yielded c.in-Some.weight c.in-Some.x c.if-weight-gt0.false c.loop-weight.invariant

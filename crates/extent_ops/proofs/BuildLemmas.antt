@@ -144,15 +144,21 @@ module _ (n : ℕ) (R C L : ℕ → ℕ → Type 0) (same : (b e : ℕ) → L b 
       by other j false k =
           let lower : other < e = grind (arith, nat_tests) in
           absurd (no_least C j.1 other other
-              (λ m l p. let above = h.least m (j.0, j.1, j.2, j.3, (same j.1 m).1 l) in omega (arith, above, p, lower))
-              other (omega arith) (omega arith) j.4)
+          (λ m l p. let above = h.least m (j.0, j.1, j.2, j.3, (same j.1 m).1 l) in omega (arith, above, p, lower))
+          other (omega arith) (omega arith) j.4)
 
   least_from : IsLeastEnd (Joins n R C) b e → IsLeastEnd (Joins n R L) b e
   least_from h = record {
-    ends = (h.ends.0, h.ends.1, h.ends.2, h.ends.3, (same h.ends.1 e).1 (record {
-      ends = h.ends.4;
-      least = λ other c. h.least other (h.ends.0, h.ends.1, h.ends.2, h.ends.3, c);
-    }));
+    ends = (
+      h.ends.0,
+      h.ends.1,
+      h.ends.2,
+      h.ends.3,
+      (same h.ends.1 e).1 (record {
+        ends = h.ends.4;
+        least = λ other c. h.least other (h.ends.0, h.ends.1, h.ends.2, h.ends.3, c);
+      }),
+    );
     least = λ other j. h.least other (j.0, j.1, j.2, j.3, ((same j.1 other).0 j.4).ends);
   }
 
@@ -251,3 +257,6 @@ module _ (R : ℕ → ℕ → Type 0) (begin end : ℕ) where
               let ends : x.end ≡ e = grind (arith, nat_tests) in
               let make : ℕ → ℕ → Pair = λ m n. record { begin = m; end = n } in
               absurd (other (ap (λ (v : Pair). Some v) (ap (λ n. make n x.end) k.0 ∙ ap (λ n. make b n) ends)))
+
+pub Takes-next : (p q : Plan) (begin end : ℕ) (x : Pair) → q ≡ p → IsNext (set p) begin end (Some x) → Takes (λ b e. set p b e × IsFrom begin end b e) (λ b e. set q b e × IsFrom x.begin (x.end + 1) b e) (Some x)
+Takes-next p q begin end x same h = subst (λ (r : Plan). Takes (λ b e. set p b e × IsFrom begin end b e) (λ b e. set r b e × IsFrom x.begin (x.end + 1) b e) (Some x)) (sym same) (Takes-some (set p) begin end x h)

@@ -251,9 +251,9 @@ before_next [] i x up inside is y h = absurd (omega (arith, inside))
 before_next (z ∷ zs) zero x up inside is y h = absurd h
 before_next (z ∷ zs) (suc i) x up inside is y h = ⊎_elim
     (λ k.
-        let before : IsBefore z (get_or zs i x) = AllPairs-ascending (z ∷ zs) up zero (suc i) x (omega arith) inside in
-        let next : IsBefore z x = subst (λ (v : Pair). IsBefore z v) (sym is) before in
-        same_before z y x k next)
+    let before : IsBefore z (get_or zs i x) = AllPairs-ascending (z ∷ zs) up zero (suc i) x (omega arith) inside in
+    let next : IsBefore z x = subst (λ (v : Pair). IsBefore z v) (sym is) before in
+    same_before z y x k next)
     (λ k. before_next zs i x up.1 (omega (arith, inside)) is y k)
     h
 

@@ -21,6 +21,7 @@ IfSome-each P (Some m) h = h m refl
 
 mutual
   unfolding set each_set
+
   pub set-some : (p : Plan) (b e : ℕ) → set p b e → b < e
   set-some (listed xs) b e h = h.1
   set-some (union_of g) b e h = sets-some g b e h
@@ -255,5 +256,7 @@ pub within_at : (b : Box Ahead Global) (fields : List Pair) (w : Walk) → b.val
 within_at b fields w e = rw (plan-Within, e) refl
 
 pub ruleset plan_laws = (plan-Listed, plan-Union, plan-Within, plan-Shortest, plan-Joined, plan-Window, plan-Whole, plans-End, plans-More)
+
 pub ruleset kept_laws = (IsKept-Listed, IsKept-Union, IsKept-Within, IsKept-Shortest, IsKept-Joined, IsKept-Window, IsKept-Whole, AreKept-End, AreKept-More)
+
 pub ruleset walk_laws = (plan_laws, kept_laws)

@@ -122,7 +122,6 @@ pub struct ExtentIter {
 impl Model for ExtentIter {
     ghost use Rattle.std.specs.Prelude.{ℕ};
     ghost use Rattle.extent_ops.specs.declared.walk.Walk.{Walk};
-
     ghost use Rattle.extent_ops.specs.contracts.walk.Walk as walks;
     ghost use Rattle.std.specs.Coded.{codes};
 

@@ -331,12 +331,7 @@ fn next_joined(
 
 /// The least end of a later extent that follows a first one of this begin.
 #[cycle(next)]
-fn joined_end(
-    n: u32,
-    first: &mut Box<Ahead>,
-    later: &mut Box<Ahead>,
-    begin: u32,
-) -> Option<u32>
+fn joined_end(n: u32, first: &mut Box<Ahead>, later: &mut Box<Ahead>, begin: u32) -> Option<u32>
     requires first { IsAheadKept first.old.value }
     requires later { IsAheadKept later.old.value }
     ensures least { IsLeast (Joins n (set (plan first.old.value.walk)) (set (plan later.old.value.walk)) begin) result }

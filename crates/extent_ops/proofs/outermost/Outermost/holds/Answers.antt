@@ -24,9 +24,10 @@ returns-then-count-gt0 c =
     let is : c.end-then-count-gt0.result ≡ end_at xs (count - 1) = c.end-then-count-gt0.ensures.end ∙ at in
     let lies = lies-last xs rise b c.args.x.end count c.partition_point-count.ensures.bound point in
     let last = last-lies xs rise b c.args.x.end count c.partition_point-count.ensures.bound point in
-    rw (is, c.end.ensures.end, ← c.self.view_is)
-    (λ yes. let ends : c.args.x.end ≤ end_at xs (count - 1) = grind (arith, nat_tests) in rw c.deref.ensures.value at (lies c.if-count-gt0.true ends),
-    λ within. let ends = (last (subst (λ (l : List Pair). LiesInSome l b c.args.x.end) (sym c.deref.ensures.value) within)).1 in grind (arith, nat_tests))
+    rw (is, c.end.ensures.end, ← c.self.view_is) (
+      λ yes. let ends : c.args.x.end ≤ end_at xs (count - 1) = grind (arith, nat_tests) in rw c.deref.ensures.value at (lies c.if-count-gt0.true ends),
+      λ within. let ends = (last (subst (λ (l : List Pair). LiesInSome l b c.args.x.end) (sym c.deref.ensures.value) within)).1 in grind (arith, nat_tests),
+    )
 
 pub returns-else-count-gt0 : goal.returns-else-count-gt0
 returns-else-count-gt0 c =
@@ -37,6 +38,7 @@ returns-else-count-gt0 c =
     let rise : EndsRise xs = rw c.deref.ensures.value c.self.invariant.1 in
     let point = IsPartitionPoint-from_clause (λ (x : Pair). leb x.begin b) xs count c.partition_point-count.ensures.partitioned (IsPartitionedBy-leb (λ (x : Pair). x.begin) xs b (begins_ascend xs up)) (λ a r f t. search rules) in
     let lies = last-lies xs rise b c.args.x.end count c.partition_point-count.ensures.bound point in
-    rw (← c.self.view_is)
-    (λ yes. absurd (grind (arith, nat_tests)),
-    λ within. absurd (omega (arith, c.if-count-gt0.false, (lies (subst (λ (l : List Pair). LiesInSome l b c.args.x.end) (sym c.deref.ensures.value) within)).0)))
+    rw (← c.self.view_is) (
+      λ yes. absurd (grind (arith, nat_tests)),
+      λ within. absurd (omega (arith, c.if-count-gt0.false, (lies (subst (λ (l : List Pair). LiesInSome l b c.args.x.end) (sym c.deref.ensures.value) within)).0)),
+    )

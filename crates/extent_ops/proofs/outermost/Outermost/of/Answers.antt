@@ -13,7 +13,7 @@ loop-x-preserved c =
     let step : take (i + 1) xs ≡ take i xs ++ x ∷ [] = take_more xs i x c.loop-x-test.true ∙ ap (λ (y : Pair). take i xs ++ y ∷ []) (sym c.x-item.is) in
     let before = before_next xs i x c.requires c.loop-x-test.true c.x-item.is in
     elim c.if-end-reach.branch [
-        then-end-reach+in_ok-push w ↦
+      | then-end-reach+in_ok-push w ↦
           rw (step, w.items-is, w.in_ok-push.ensures.items, w.reach-is, w.end-reach.ensures.end)
           (AreOutermost-taken (take i xs) c.loop-x.items.items c.loop-x.reach x c.loop-x.invariant before (omega (arith, w.if-end-reach.true, c.end.ensures.end)))
       | else-end-reach w ↦

@@ -287,7 +287,11 @@ fn steps_text(alloc: Global, case: &Case) -> Result<String> {
 
 /// The extents that both calls give, which agree.
 fn found(alloc: Global, case: &Case) -> Result<Vec<(u32, u32)>> {
-    let doc = document(alloc, &tokens_text(alloc, case)?, &fields_text(alloc, case)?)?;
+    let doc = document(
+        alloc,
+        &tokens_text(alloc, case)?,
+        &fields_text(alloc, case)?,
+    )?;
     let expr = expression(alloc, &steps_text(alloc, case)?)?;
     let mut part = sealed(alloc, &doc)?;
     if part.docs() == 0 {

@@ -1,5 +1,5 @@
 -- the plan of an expression
-use Rattle.std.proofs.Common.{◌≡◌, ◌≢◌, ◌↔◌, ℕ, zero, suc, ◌+◌, ◌-◌, ◌<◌, ◌≤◌, ◌⊎◌, inl, inr, ⊎_elim, Bool, true, false, nat_le, nat_lt, Option, Some, None, List, [], ◌∷◌, length, drop, get_or, map, Vec, Box, Global, refl, sym, ap, ◌∙◌, subst, arith}
+use Rattle.std.proofs.Common.{◌≡◌, ◌≢◌, ◌↔◌, ℕ, zero, suc, ◌+◌, ◌-◌, ◌<◌, ◌≤◌, inl, inr, ⊎_elim, Bool, true, false, nat_le, nat_lt, Some, None, List, [], ◌∷◌, length, drop, get_or, map, Vec, Box, Global, refl, sym, ap, ◌∙◌, subst, arith}
 use Rattle.std.specs.List.{All, Contains}
 use Rattle.std.proofs.lemmas.Bool.Decides.{nat_tests}
 use Rattle.ri_base.specs.Documents.{Document, Field}
@@ -7,12 +7,12 @@ use Rattle.ri_base.specs.Expression.{ExprTree, expr_tree, expr_trees, any, band,
 use Rattle.ri_base.specs.Pair.{Pair}
 use Rattle.ri_base.specs.declared.expression.ExtentExpr.{ExtentExpr, Any, Ordered, Unordered, Syn, Band, InField, Word}
 use Rattle.ri_base.proofs.ExpressionLemmas.{expr_tree-Word, expr_tree-Any, expr_tree-Ordered, expr_tree-Unordered, expr_tree-Syn, expr_tree-Band, expr_tree-InField}
-use Rattle.extent_ops.specs.Extents.{Ext, Exts, IsField, LiesInField}
+use Rattle.extent_ops.specs.Extents.{Ext, Exts, IsField}
 use Rattle.extent_ops.specs.Left.{Takes}
 use Rattle.extent_ops.specs.Next.{IsFrom, IsNext, LiesInSome}
-use Rattle.extent_ops.specs.Operators.{Follows, HasEach, IsChain, IsInSome, IsLeastEnd, IsWindow, Joins}
+use Rattle.extent_ops.specs.Operators.{IsChain, IsLeastEnd, IsWindow, Joins}
 use Rattle.extent_ops.specs.Plans.{GiveEach, Gives, Plan, Plans, each_set, joined, listed, more, none, set, shortest, union_of, whole, window, within}
-use Rattle.extent_ops.specs.Rows.{Has, Lists}
+use Rattle.extent_ops.specs.Rows.{Lists}
 use Rattle.extent_ops.specs.Walks.{plan, plans}
 use Rattle.extent_ops.specs.declared.walk.Walk.{Walk, Joined, Listed, Shortest}
 use Rattle.extent_ops.specs.declared.walk.Group.{Group, End, More}

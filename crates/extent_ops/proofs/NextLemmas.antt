@@ -1,11 +1,11 @@
 -- the least extent of a set from a place on
-use Rattle.std.proofs.Common.{◌≡◌, ◌↔◌, IsTrue, ℕ, ◌+◌, ◌-◌, ◌*◌, ◌<◌, ◌≤◌, ◌⊎◌, inl, inr, ⊎_elim, Bool, true, false, cond, max, Option, Some, None, List, [], ◌∷◌, length, nat_lt, nat_le, refl, sym, ◌∙◌, ap, subst, arith}
+use Rattle.std.proofs.Common.{◌≡◌, ◌↔◌, IsTrue, ℕ, ◌+◌, ◌-◌, ◌*◌, ◌<◌, ◌≤◌, ◌⊎◌, inl, inr, ⊎_elim, Bool, true, false, cond, max, Option, Some, None, List, [], ◌∷◌, nat_lt, refl, sym, ◌∙◌, ap, subst, arith}
 use Rattle.std.proofs.lemmas.Bool.Decides.{nat_tests}
 use Rattle.ri_base.specs.Pair.{Pair}
-use Rattle.extent_ops.specs.Nearest.{begin_at, end_at, least_with}
+use Rattle.extent_ops.specs.Nearest.{least_with}
 use Rattle.extent_ops.specs.Next.{EndsFrom, IsFrom, IsLeast, IsLeastBelow, IsNext, LiesInSome, earlier, is_from, least_either}
 use Rattle.extent_ops.specs.Operators.{Follows, HasEach, HasEachInside, HasInside, IsInSome, IsLeastEnd, IsWindow, Joins}
-use Rattle.extent_ops.specs.Rows.{Has, IsAscending, is_earlier}
+use Rattle.extent_ops.specs.Rows.{is_earlier}
 use Rattle.extent_ops.proofs.WindowLemmas.{least_with-is, least_with-old, least_with-some}
 
 pub never : {X : Type 0} {x : X} → None ≡ Some x → ⊥

@@ -1,6 +1,6 @@
 -- lists in which the next extent is looked up, and the outermost of fields
-use Rattle.std.proofs.Common.{◌≡◌, ◌↔◌, ℕ, zero, suc, ◌+◌, ◌-◌, ◌<◌, ◌≤◌, ◌⊎◌, inl, inr, ⊎_elim, Bool, true, false, cond, not, leb, nat_lt, Some, None, List, [], ◌∷◌, ◌++◌, length, take, get_or, slice_index_or, refl, sym, ap, ◌∙◌, subst, arith}
-use Rattle.std.specs.List.Sorted.{IsPartitionedBy, IsPartitionPoint, IsNonDecreasingBy}
+use Rattle.std.proofs.Common.{◌≡◌, ◌↔◌, ℕ, zero, suc, ◌-◌, ◌<◌, ◌≤◌, ◌⊎◌, inl, inr, ⊎_elim, Bool, true, false, not, leb, nat_lt, Some, None, List, [], ◌∷◌, ◌++◌, length, take, get_or, refl, sym, ap, ◌∙◌, subst, arith}
+use Rattle.std.specs.List.Sorted.{IsPartitionedBy, IsPartitionPoint}
 use Rattle.std.proofs.lemmas.Bool.Decides.{nat_tests}
 use Rattle.std.proofs.lemmas.Bool.{true≢false}
 use Rattle.ri_base.specs.Pair.{Pair}
@@ -8,7 +8,6 @@ use Rattle.extent_ops.specs.Listing.{IsBefore}
 use Rattle.extent_ops.specs.Nearest.{begin_at, end_at}
 use Rattle.extent_ops.specs.Next.{EndsAfter, EndsRise, IsFrom, IsNext, LiesInSome, is_from}
 use Rattle.extent_ops.specs.Rows.{Has, IsAscending, IsBeforeAll}
-use Rattle.extent_ops.proofs.CoverLemmas.{begins_ascend}
 use Rattle.extent_ops.proofs.ListingLemmas.{AllPairs-ascending}
 use Rattle.extent_ops.proofs.NearestLemmas.{Has-at, Has-from}
 use Rattle.extent_ops.proofs.NextLemmas.{is_from-false, is_from-true, never}

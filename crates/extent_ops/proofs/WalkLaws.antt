@@ -1,11 +1,11 @@
 -- walks, variant by variant
-use Rattle.std.proofs.Common.{◌≡◌, ℕ, ◌+◌, ◌*◌, ◌<◌, ◌≤◌, max, ⊎_elim, Bool, true, Option, Some, None, IfSome, List, [], ◌∷◌, Box, Global, refl, sym, ap, ◌∙◌, subst, arith}
+use Rattle.std.proofs.Common.{◌≡◌, ℕ, ◌+◌, ◌<◌, max, ⊎_elim, Option, Some, None, IfSome, List, [], ◌∷◌, Box, Global, refl, sym, ap, ◌∙◌, subst, arith}
 use Rattle.ri_base.specs.Pair.{Pair}
 use Rattle.extent_ops.specs.Next.{IsNext, LiesInSome}
-use Rattle.extent_ops.specs.Operators.{Follows, HasEach, IsInSome, IsLeastEnd, IsWindow, Joins}
+use Rattle.extent_ops.specs.Operators.{HasEach, IsInSome, IsLeastEnd, IsWindow, Joins}
 use Rattle.extent_ops.specs.Plans.{Plan, Plans, listed, union_of, within, shortest, joined, window, whole, none, more, set, each_set}
 use Rattle.extent_ops.specs.Rows.{Has}
-use Rattle.extent_ops.specs.Walks.{AreKept, IsAheadKept, IsAnswer, IsKept, plan, plans}
+use Rattle.extent_ops.specs.Walks.{AreKept, IsAheadKept, IsKept, plan, plans}
 use Rattle.extent_ops.specs.declared.walk.Walk.{Walk, Listed, Union, Within, Shortest, Joined, Window, Whole}
 use Rattle.extent_ops.specs.declared.walk.Group.{Group, End, More}
 use Rattle.extent_ops.specs.declared.walk.Ahead.{Ahead}

@@ -1,5 +1,5 @@
 -- What an iterator has left, and how an extent is taken from it.
-use Rattle.std.specs.Prelude.{◌≡◌, ◌≢◌, ◌↔◌, ℕ, Option, Some}
+use Rattle.std.specs.Prelude.{◌≢◌, ◌↔◌, ℕ, Option, Some}
 use Rattle.ri_base.specs.Pair.{Pair}
 use Rattle.extent_ops.specs.Next.{IsFrom, IsNext}
 use Rattle.extent_ops.specs.Plans.{set}

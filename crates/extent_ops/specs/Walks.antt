@@ -1,7 +1,7 @@
 -- What a walk is over, and that what it remembers is right.
-use Rattle.std.specs.Prelude.{◌≡◌, ℕ, Bool, true, Option, ⊤}
+use Rattle.std.specs.Prelude.{◌≡◌, Bool, true, Option, ⊤}
 use Rattle.ri_base.specs.Pair.{Pair}
-use Rattle.extent_ops.specs.Next.{IsFrom, IsNext}
+use Rattle.extent_ops.specs.Next.{IsNext}
 use Rattle.extent_ops.specs.Plans.{Plan, Plans, listed, union_of, within, shortest, joined, window, whole, none, more, set}
 use Rattle.extent_ops.specs.declared.place.Place.{Place}
 use Rattle.extent_ops.specs.declared.walk.Walk.{Walk, Listed, Union', Within', Shortest', Joined', Window', Whole'}

@@ -1,10 +1,9 @@
-use Rattle.std.proofs.Common.{rules, ◌≡◌, ◌∙◌, ◌-◌, ◌<◌, length, List, sym, ap, arith}
+use Rattle.std.proofs.Common.{rules, ◌≡◌, ◌∙◌, length, List, ap, arith}
 use Rattle.ri_base.specs.Collection.{document_at}
 use Rattle.ri_base.specs.Documents.{Document}
-use Rattle.extent_ops.specs.Plans.{Plan, Plans, GiveEach, more}
-use Rattle.extent_ops.specs.Walks.{AreKept, IsAheadKept, plan, plans}
-use Rattle.extent_ops.specs.declared.walk.Walk.{Walk}
-use Rattle.extent_ops.specs.declared.walk.Group.{Group, More}
+use Rattle.extent_ops.specs.Plans.{more}
+use Rattle.extent_ops.specs.Walks.{plan, plans}
+use Rattle.extent_ops.specs.declared.walk.Group.{More}
 use Rattle.extent_ops.proofs.BuildLemmas.{GiveEach-more, GiveEach-none, Gives-of_any, Gives-of_band, Gives-of_in_field, Gives-of_ordered, Gives-of_syn, Gives-of_unordered, Gives-of_word}
 use Rattle.extent_ops.proofs.KeepsLemmas.{Keeps-then}
 use Rattle.extent_ops.proofs.WalkLaws.{AreKept-End, AreKept-More, more_of, plan-Listed, plans-End, union_at, whole_at, window_at, within_at}

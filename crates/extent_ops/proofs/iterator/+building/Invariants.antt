@@ -1,4 +1,4 @@
-use Rattle.std.proofs.Common.{◌≡◌, ◌≤◌, drop, length, map}
+use Rattle.std.proofs.Common.{◌≤◌, drop, length, map}
 use Rattle.ri_base.specs.Collection.{document_at}
 use Rattle.ri_base.specs.Expression.{expr_tree}
 use Rattle.ri_base.specs.Keeps.{Keeps}

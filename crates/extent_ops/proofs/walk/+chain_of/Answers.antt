@@ -1,4 +1,4 @@
-use Rattle.std.proofs.Common.{◌≡◌, ◌<◌, ◌+◌, ◌∙◌, sym, ap, subst, arith}
+use Rattle.std.proofs.Common.{◌≡◌, ◌∙◌, sym, ap, subst, arith}
 use Rattle.extent_ops.specs.Walks.{AreKept, plans}
 use Rattle.extent_ops.specs.declared.walk.Ahead.{Ahead}
 use Rattle.extent_ops.specs.declared.walk.Group.{Group, More}

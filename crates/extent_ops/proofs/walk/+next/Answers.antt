@@ -1,12 +1,11 @@
-use Rattle.std.proofs.Common.{◌≡◌, ◌≢◌, ◌<◌, ◌≤◌, ◌+◌, ℕ, ◌⊎◌, ⊎_elim, Some, None, true, false, refl, sym, ap, ◌∙◌, subst, arith}
-use Rattle.ri_base.specs.Pair.{Pair}
-use Rattle.extent_ops.specs.Next.{IsFrom, IsLeast, IsNext}
+use Rattle.std.proofs.Common.{◌≡◌, ◌≢◌, ◌≤◌, ⊎_elim, Some, None, true, false, refl, sym, ap, ◌∙◌, arith}
+use Rattle.extent_ops.specs.Next.{IsNext}
 use Rattle.extent_ops.specs.Operators.{IsInSome, IsWindow, Joins}
 use Rattle.extent_ops.specs.Plans.{each_set, set}
-use Rattle.extent_ops.specs.Walks.{AreKept, IsAheadKept, IsKept, plan, plans}
+use Rattle.extent_ops.specs.Walks.{plan, plans}
 use Rattle.extent_ops.specs.declared.walk.Ahead.{Ahead}
 use Rattle.extent_ops.specs.declared.walk.Group.{Group}
-use Rattle.extent_ops.proofs.NextLemmas.{AreLow-first, AreLow-over, IsFrom-begin, IsJoinedSoFar-more, IsLeast-at_top, IsLeast-joined_beyond, IsLeast-joined_ended, IsLeast-short, IsLeast-too_wide, IsLeast-window, IsLeastBelow-both, IsLeastBelow-missing, IsLeastBelow-none, IsLeastBelow-others_missing, IsLeastSoFar-more, IsNext-either, IsNext-later, IsNext-least, IsNext-none, IsNext-within, IsPassed-over, IsFrom-here, IsLeast-first, place_falls, IsNext-at_begin, IsNext-no_least, has_each_end, has_each_more, has_each_none}
+use Rattle.extent_ops.proofs.NextLemmas.{AreLow-over, IsFrom-begin, IsJoinedSoFar-more, IsLeast-at_top, IsLeast-joined_beyond, IsLeast-short, IsLeast-window, IsLeastBelow-both, IsLeastBelow-missing, IsLeastBelow-none, IsLeastBelow-others_missing, IsLeastSoFar-more, IsNext-either, IsNext-later, IsNext-least, IsNext-none, IsNext-within, IsPassed-over, IsFrom-here, IsLeast-first, place_falls, IsNext-at_begin, IsNext-no_least, has_each_end, has_each_more, has_each_none}
 use Rattle.extent_ops.proofs.WalkLaws.{AreKept-More, IsKept-Union, depth, depth-Joined, depth-Shortest, depth-Union, depth-Whole, depth-Window, depth-Within, depths, depths-More, each_set-End, each_set-More, joined_above, kept_joined, kept_more, kept_shortest, kept_union, kept_whole, kept_window, kept_within, next_of_joined, next_of_list, next_of_shortest, next_of_union, next_of_whole, next_of_window, next_of_within, same_more, same_union, set-some}
 use Rattle.extent_ops.proofs.walk.+next.Goals as goal
 use Rattle.extent_ops.proofs.walk.+next.Goals.{Ahead::next-then-not-answers, Ahead::next-else-not-answers}

@@ -1,4 +1,4 @@
-use Rattle.std.proofs.Common.{◌≡◌, ℕ, ◌+◌, ◌-◌, ◌*◌, ◌^◌, max}
+use Rattle.std.proofs.Common.{◌≡◌, ◌+◌, ◌-◌, ◌*◌, max}
 use Rattle.extent_ops.specs.Operators.{IsWindow, Joins}
 use Rattle.extent_ops.specs.Plans.{each_set, set}
 use Rattle.extent_ops.specs.Walks.{AreKept, IsAheadKept, plan, plans}

@@ -1,6 +1,5 @@
-use Rattle.std.proofs.Common.{rules, ◌≡◌, ◌≢◌, ◌<◌, ◌≤◌, ◌∙◌, length, sym, arith}
+use Rattle.std.proofs.Common.{rules, ◌≢◌, ◌<◌, ◌∙◌, length, sym, arith}
 use Rattle.std.proofs.lemmas.List.Sorted.{IsPartitionPoint-from_clause}
-use Rattle.ri_base.specs.Pair.{Pair}
 use Rattle.extent_ops.specs.Rows.{IsAscending}
 use Rattle.extent_ops.proofs.PlaceLemmas.{IsNext-listed, IsNext-none_listed, IsPartitionedBy-short, is_short}
 use Rattle.extent_ops.proofs.listed.Listed.next.Goals as goal

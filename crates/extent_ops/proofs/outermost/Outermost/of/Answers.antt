@@ -1,4 +1,4 @@
-use Rattle.std.proofs.Common.{◌≡◌, ◌<◌, ◌≤◌, ◌+◌, ◌++◌, ◌∙◌, List, [], ◌∷◌, get_or, length, take, ap, sym, arith}
+use Rattle.std.proofs.Common.{◌≡◌, ◌+◌, ◌++◌, ◌∙◌, [], ◌∷◌, take, ap, sym, arith}
 use Rattle.std.proofs.lemmas.List.{take_all, take_more}
 use Rattle.ri_base.specs.Pair.{Pair}
 use Rattle.extent_ops.proofs.PlaceLemmas.{AreOutermost, AreOutermost-passed, AreOutermost-taken, LiesInSome-same, before_next}

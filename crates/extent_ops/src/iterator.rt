@@ -70,12 +70,14 @@ fn walk_of<P: Postings>(
     }
 }
 
+/// The arguments in a box.
 fn boxed(alloc: Global, all: Group) -> Result<Box<Group>, NoMemory>
     ensures { IfOk result (λ b. b.value ≡ all) }
 {
     Ok(Box::new(alloc, all)?)
 }
 
+/// What gives extents, in a box, before it is asked.
 fn ahead(alloc: Global, walk: Walk) -> Result<Box<Ahead>, NoMemory>
     requires { IsKept walk }
     ensures walk { IfOk result (λ b. b.value.walk ≡ walk) }
@@ -111,8 +113,8 @@ fn group_of<P: Postings>(
     Ok(out)
 }
 
-/// The extents of an expression in a document, one after the other, seen as what gives them and the place from which on
-/// they are left.
+/// The extents of an expression in a document, one after the other. It is seen as what gives them and the place from
+/// which on they are left.
 #[derive(Drop)]
 pub struct ExtentIter {
     walk: Walk,
@@ -137,8 +139,8 @@ impl Model for ExtentIter {
 }
 
 impl ExtentIter {
-    /// The extents of the expression in the document. The places of all its terms and the fields that it names are taken
-    /// from the part here.
+    /// The extents of the expression in the document. The places of all its terms, and the fields that it names, are
+    /// taken from the part here.
     pub fn new<P: Postings>(
         alloc: Global,
         expr: &ExtentExpr,

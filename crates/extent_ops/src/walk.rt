@@ -1,7 +1,8 @@
 // What gives the extents of an expression one after the other.
 ghost use Rattle.std.specs.Prelude.{◌≡◌, ◌≢◌, ◌<◌, ◌≤◌, ◌+◌, ◌↔◌, ℕ, ◌⊎◌, Some, None, IfOk, IfSome, IsTrue, true};
 ghost use Rattle.ri_base.specs.Pair.{Pair};
-ghost use Rattle.extent_ops.specs.Next.{EndsFrom, IsFrom, IsLeast, IsLeastBelow, IsNext, LiesInSome, earlier, is_from, least_either};
+ghost use Rattle.extent_ops.specs.Next.{EndsFrom, IsFrom, IsLeast, IsLeastBelow, IsNext, LiesInSome};
+ghost use Rattle.extent_ops.specs.Next.{earlier, least_either};
 ghost use Rattle.extent_ops.specs.Operators.{HasEach, HasEachInside, IsChain, IsInSome, IsLeastEnd, IsWindow, Joins};
 ghost use Rattle.extent_ops.specs.Plans.{each_set, set};
 ghost use Rattle.extent_ops.specs.Walks.{AreKept, IsAheadKept, IsKept, plan, plans};
@@ -270,7 +271,8 @@ impl Group {
 #[cycle(next)]
 fn next_within(inner: &mut Box<Ahead>, fields: &Outermost, from: Place) -> Option<Extent>
     requires { IsAheadKept inner.old.value }
-    ensures next { IsNext (λ b e. set (plan inner.old.value.walk) b e × LiesInSome fields.now b e) from.begin from.end result }
+    ensures next { IsNext
+        (λ b e. set (plan inner.old.value.walk) b e × LiesInSome fields.now b e) from.begin from.end result }
     ensures same { plan inner.new.value.walk ≡ plan inner.old.value.walk }
     ensures kept { IsAheadKept inner.new.value }
 {
@@ -312,7 +314,9 @@ fn next_joined(
 ) -> Option<Extent>
     requires first { IsAheadKept first.old.value }
     requires later { IsAheadKept later.old.value }
-    ensures next { IsNext (IsLeastEnd (Joins n (set (plan first.old.value.walk)) (set (plan later.old.value.walk)))) from.begin from.end result }
+    ensures next { IsNext
+        (IsLeastEnd (Joins n (set (plan first.old.value.walk)) (set (plan later.old.value.walk))))
+        from.begin from.end result }
     ensures same_first { plan first.new.value.walk ≡ plan first.old.value.walk }
     ensures same_later { plan later.new.value.walk ≡ plan later.old.value.walk }
     ensures kept_first { IsAheadKept first.new.value }
@@ -397,7 +401,9 @@ fn window_end(n: u32, all: &mut Box<Group>, x: Extent) -> Option<u32>
 #[cycle(next)]
 fn next_whole(length: u32, all: &mut Box<Group>, from: Place) -> Option<Extent>
     requires { AreKept all.old.value }
-    ensures next { IsNext (λ b e. (b ≡ 0) × (e ≡ length) × (b < e) × HasEach (each_set (plans all.old.value))) from.begin from.end result }
+    ensures next { IsNext
+        (λ b e. (b ≡ 0) × (e ≡ length) × (b < e) × HasEach (each_set (plans all.old.value)))
+        from.begin from.end result }
     ensures same { plans all.new.value ≡ plans all.old.value }
     ensures kept { AreKept all.new.value }
 {

@@ -1,4 +1,5 @@
 pub mod BandLemmas
+pub mod BuildLemmas
 pub mod ChainLemmas
 pub mod CoverLemmas
 pub mod EvaluationLemmas
@@ -8,5 +9,8 @@ pub mod LeafLemmas
 pub mod ListingLemmas
 pub mod MergeLemmas
 pub mod NearestLemmas
+pub mod NextLemmas
+pub mod PlaceLemmas
 pub mod SameLemmas
+pub mod WalkLaws
 pub mod WindowLemmas

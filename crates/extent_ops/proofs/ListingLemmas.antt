@@ -14,7 +14,7 @@ All-before : (x : Pair) (xs : List Pair) → IsBeforeAll x xs → All (IsBefore 
 All-before x [] h = All-nil (IsBefore x)
 All-before x (y ∷ ys) h = All-cons (IsBefore x) y ys h.0 (All-before x ys h.1)
 
-AllPairs-ascending : (xs : List Pair) → IsAscending xs → AllPairs IsBefore xs
+pub AllPairs-ascending : (xs : List Pair) → IsAscending xs → AllPairs IsBefore xs
 AllPairs-ascending [] up = λ i j d lower inside. absurd (omega (arith, inside))
 AllPairs-ascending (x ∷ xs) up = AllPairs-cons IsBefore x xs (All-before x xs up.0) (AllPairs-ascending xs up.1)
 

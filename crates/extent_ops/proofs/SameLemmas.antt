@@ -24,7 +24,7 @@ HasEach-within [] (S ∷ ss) w h = absurd w
 HasEach-within (R ∷ rs) [] w h = absurd w
 HasEach-within (R ∷ rs) (S ∷ ss) w h = ((h.0.0, h.0.1, w.0 h.0.0 h.0.1 h.0.2), HasEach-within rs ss w.1 h.1)
 
-IsChain-within : (n : ℕ) (rs ss : List (ℕ → ℕ → Type 0)) → AreWithin rs ss → (b e : ℕ) → IsChain n rs b e → IsChain n ss b e
+pub IsChain-within : (n : ℕ) (rs ss : List (ℕ → ℕ → Type 0)) → AreWithin rs ss → (b e : ℕ) → IsChain n rs b e → IsChain n ss b e
 IsChain-within n [] [] w b e h = h
 IsChain-within n [] (S ∷ ss) w b e h = absurd w
 IsChain-within n (R ∷ rs) [] w b e h = absurd w
@@ -39,14 +39,14 @@ HasEachInside-within [] (S ∷ ss) w b e h = absurd w
 HasEachInside-within (R ∷ rs) [] w b e h = absurd w
 HasEachInside-within (R ∷ rs) (S ∷ ss) w b e h = ((h.0.0, h.0.1, w.0 h.0.0 h.0.1 h.0.2, h.0.3), HasEachInside-within rs ss w.1 b e h.1)
 
-IsWindow-within : (n : ℕ) (rs ss : List (ℕ → ℕ → Type 0)) → AreWithin rs ss → (b e : ℕ) → IsWindow n rs b e → IsWindow n ss b e
+pub IsWindow-within : (n : ℕ) (rs ss : List (ℕ → ℕ → Type 0)) → AreWithin rs ss → (b e : ℕ) → IsWindow n rs b e → IsWindow n ss b e
 IsWindow-within n rs ss w b e h = record {
   narrow = h.narrow;
   each = HasEachInside-within rs ss w b e h.each;
   begins = (h.begins.0, h.begins.1, IsInSome-within rs ss w b h.begins.0 h.begins.2);
 }
 
-IsLeastEnd-same : (R S : ℕ → ℕ → Type 0) → ((b e : ℕ) → R b e → S b e) → ((b e : ℕ) → S b e → R b e) → (b e : ℕ) → IsLeastEnd R b e → IsLeastEnd S b e
+pub IsLeastEnd-same : (R S : ℕ → ℕ → Type 0) → ((b e : ℕ) → R b e → S b e) → ((b e : ℕ) → S b e → R b e) → (b e : ℕ) → IsLeastEnd R b e → IsLeastEnd S b e
 IsLeastEnd-same R S to from b e h = record { ends = to b e h.ends; least = λ other k. h.least other (from b other k) }
 
 pub Lists-same : (R S : ℕ → ℕ → Type 0) (xs : List Pair) → ((b e : ℕ) → R b e → S b e) → ((b e : ℕ) → S b e → R b e) → Lists R xs → Lists S xs

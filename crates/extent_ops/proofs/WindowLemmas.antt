@@ -17,15 +17,15 @@ never h = cc
 same_some : (p q : ℕ) → Some p ≡ Some q → p ≡ q
 same_some p q h = cc
 
-least_with-some : (end : ℕ) (found : Option ℕ) → (m : ℕ) × (least_with end found ≡ Some m) × (m ≤ end)
+pub least_with-some : (end : ℕ) (found : Option ℕ) → (m : ℕ) × (least_with end found ≡ Some m) × (m ≤ end)
 least_with-some end None = (end, refl, omega arith)
 least_with-some end (Some other) = (min end other, refl, omega arith)
 
-least_with-old : (end : ℕ) (found : Option ℕ) (v : ℕ) → found ≡ Some v → (m : ℕ) × (least_with end found ≡ Some m) × (m ≤ v)
+pub least_with-old : (end : ℕ) (found : Option ℕ) (v : ℕ) → found ≡ Some v → (m : ℕ) × (least_with end found ≡ Some m) × (m ≤ v)
 least_with-old end None v h = absurd (never h)
 least_with-old end (Some other) v h = let s : other ≡ v = same_some other v h in (min end other, refl, omega arith)
 
-least_with-is : (end : ℕ) (found : Option ℕ) (m : ℕ) → least_with end found ≡ Some m → (end ≡ m) ⊎ (found ≡ Some m)
+pub least_with-is : (end : ℕ) (found : Option ℕ) (m : ℕ) → least_with end found ≡ Some m → (end ≡ m) ⊎ (found ≡ Some m)
 least_with-is end None m h = inl (same_some end m h)
 least_with-is end (Some other) m h = by (nat_le end other) refl
   where

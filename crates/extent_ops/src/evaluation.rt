@@ -102,7 +102,7 @@ fn all_evaluated<P: Postings>(
 }
 
 /// The extents of a term.
-fn of_term<P: Postings>(
+pub fn of_term<P: Postings>(
     alloc: Global,
     term: &Term,
     postings: &mut P,

@@ -86,7 +86,8 @@ fn grown(tail: Tail, list: &[Extent], low: u32) -> Tail
     Tail { from, least }
 }
 
-fn lesser(end: u32, least: Option<u32>) -> Option<u32>
+/// The lesser of an end and what may be one.
+pub fn lesser(end: u32, least: Option<u32>) -> Option<u32>
     ensures { result ≡ least_with end least }
 {
     match least {

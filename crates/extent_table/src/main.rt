@@ -5,6 +5,8 @@
 
 mod document;
 mod expression;
+#[cfg(test)]
+mod tests;
 
 use anyhow::{Context, Result, bail};
 use document::document;

@@ -1,0 +1,177 @@
+// The extents of an expression, one after the other.
+ghost use Rattle.std.specs.Prelude.{◌≡◌, ◌↔◌, ◌<◌, ℕ, length, map, IfOk, IfErr, Err};
+ghost use Rattle.ri_base.specs.Collection.{document_at};
+ghost use Rattle.ri_base.specs.Expression.{expr_tree};
+ghost use Rattle.ri_base.specs.Faults.{IsOutside};
+ghost use Rattle.ri_base.specs.Keeps.{Keeps, Rose};
+ghost use Rattle.extent_ops.specs.Extents.{Ext};
+ghost use Rattle.extent_ops.specs.Left.{Takes, left};
+ghost use Rattle.extent_ops.specs.Plans.{GiveEach, Gives};
+ghost use Rattle.extent_ops.specs.Walks.{AreKept, IsAheadKept, IsKept, plan, plans};
+
+use crate::evaluation::of_term;
+use crate::leaves::of_fields;
+use crate::listed::Listed;
+use crate::outermost::Outermost;
+use crate::place::Place;
+use crate::walk::{Ahead, Group, Walk, chain_of};
+use ri_base::{Extent, ExtentExpr, NoMemory, Postings, SegFault};
+use std::alloc::Global;
+use std::marker::Model;
+
+/// What gives the extents of the expression.
+#[cycle(building)]
+#[tactic(auto, using(crate::proofs::WalkLaws::walk_laws))]
+fn walk_of<P: Postings>(
+    alloc: Global,
+    expr: &ExtentExpr,
+    postings: &mut P,
+    id: u32,
+) -> Result<Walk, SegFault>
+    requires { id < length (P.documents postings.old) }
+    ensures keeps { Keeps P.documents P.faults P.sound P.quiet postings.old postings.new }
+    ensures exact { P.sound postings.old → IfOk result
+        (λ w. Gives (plan w) (expr_tree expr.now) (document_at (P.documents postings.old) id)) }
+    ensures kept { IfOk result IsKept }
+    ensures honest { P.sound postings.old → IfErr result IsOutside }
+    ensures store { result ≡ Err SegFault.Store → Rose (P.faults postings.old) (P.faults postings.new) }
+{
+    match expr {
+        ExtentExpr::Word(term) => {
+            let found = of_term(alloc, term, postings, id)?;
+            Ok(Walk::Listed(Listed::new(found.into_vec())))
+        }
+        ExtentExpr::Ordered(n, all) => {
+            let all = group_of(alloc, all, postings, id)?;
+            Ok(chain_of(alloc, *n, all)?)
+        }
+        ExtentExpr::Unordered(n, all) => {
+            let all = group_of(alloc, all, postings, id)?;
+            Ok(Walk::Window(*n, boxed(alloc, all)?))
+        }
+        ExtentExpr::Syn(all) => {
+            let all = group_of(alloc, all, postings, id)?;
+            Ok(Walk::Union(boxed(alloc, all)?))
+        }
+        ExtentExpr::Any(name) => {
+            let fields = of_fields(alloc, postings.spans(id), name)?;
+            Ok(Walk::Listed(Listed::new(fields)))
+        }
+        ExtentExpr::Band(all) => {
+            let all = group_of(alloc, all, postings, id)?;
+            Ok(Walk::Whole(postings.length(id), boxed(alloc, all)?))
+        }
+        ExtentExpr::InField(x, name) => {
+            let inner = walk_of(alloc, x, postings, id)?;
+            let fields = of_fields(alloc, postings.spans(id), name)?;
+            let outer = Outermost::of(alloc, &fields)?;
+            Ok(Walk::Within(ahead(alloc, inner)?, outer))
+        }
+    }
+}
+
+/// The arguments in a box.
+fn boxed(alloc: Global, all: Group) -> Result<Box<Group>, NoMemory>
+    ensures { IfOk result (λ b. b.value ≡ all) }
+{
+    Ok(Box::new(alloc, all)?)
+}
+
+/// What gives extents, in a box, before it is asked.
+fn ahead(alloc: Global, walk: Walk) -> Result<Box<Ahead>, NoMemory>
+    requires { IsKept walk }
+    ensures walk { IfOk result (λ b. b.value.walk ≡ walk) }
+    ensures kept { IfOk result (λ b. IsAheadKept b.value) }
+{
+    Ok(Box::new(alloc, Ahead::new(walk))?)
+}
+
+/// What gives the extents of each expression.
+#[cycle(building)]
+#[tactic(auto, using(crate::proofs::WalkLaws::walk_laws))]
+fn group_of<P: Postings>(
+    alloc: Global,
+    all: &[ExtentExpr],
+    postings: &mut P,
+    id: u32,
+) -> Result<Group, SegFault>
+    requires { id < length (P.documents postings.old) }
+    ensures keeps { Keeps P.documents P.faults P.sound P.quiet postings.old postings.new }
+    ensures exact { P.sound postings.old → IfOk result
+        (λ g. GiveEach (plans g) (map expr_tree all.now) (document_at (P.documents postings.old) id)) }
+    ensures kept { IfOk result AreKept }
+    ensures honest { P.sound postings.old → IfErr result IsOutside }
+    ensures store { result ≡ Err SegFault.Store → Rose (P.faults postings.old) (P.faults postings.new) }
+{
+    let mut out = Group::End;
+    let mut i = all.len();
+    while i > 0 {
+        i -= 1;
+        let walk = walk_of(alloc, &all[i], postings, id)?;
+        out = Group::More(ahead(alloc, walk)?, boxed(alloc, out)?);
+    }
+    Ok(out)
+}
+
+/// The extents of an expression in a document, one after the other. It is seen as what gives them and the place from
+/// which on they are left.
+#[derive(Drop)]
+pub struct ExtentIter {
+    walk: Walk,
+    from: Place,
+}
+
+impl Model for ExtentIter {
+    ghost use Rattle.std.specs.Prelude.{ℕ};
+    ghost use Rattle.extent_ops.specs.declared.walk.Walk.{Walk};
+    ghost use Rattle.extent_ops.specs.contracts.walk.Walk as walks;
+    ghost use Rattle.std.specs.Coded.{codes};
+
+    ghost Value = { Walk × ℕ × ℕ };
+
+    ghost coded = { Prim.hlevel (codes, walks.the_row.coded) };
+
+    ghost use Rattle.extent_ops.specs.Walks.{IsKept};
+
+    ghost view = { λ x. (x.walk, x.from.begin, x.from.end) };
+
+    ghost invariant = { λ x. IsKept x.walk };
+}
+
+impl ExtentIter {
+    /// The extents of the expression in the document. The places of all its terms, and the fields that it names, are
+    /// taken from the part here.
+    pub fn new<P: Postings>(
+        alloc: Global,
+        expr: &ExtentExpr,
+        postings: &mut P,
+        id: u32,
+    ) -> Result<ExtentIter, SegFault>
+        requires { id < length (P.documents postings.old) }
+        ensures keeps { Keeps P.documents P.faults P.sound P.quiet postings.old postings.new }
+        ensures exact { P.sound postings.old → IfOk result (λ all. (b : ℕ) → (e : ℕ) →
+            left all b e ↔ Ext (expr_tree expr.now) (document_at (P.documents postings.old) id) b e) }
+        ensures honest { P.sound postings.old → IfErr result IsOutside }
+        ensures store { result ≡ Err SegFault.Store → Rose (P.faults postings.old) (P.faults postings.new) }
+    {
+        let walk = walk_of(alloc, expr, postings, id)?;
+        Ok(ExtentIter {
+            walk,
+            from: Place::at(0),
+        })
+    }
+
+    /// The least extent that is left, by begin and then end, or none where none is left. It takes no memory.
+    pub fn next_extent(&mut self) -> Result<Option<Extent>, SegFault>
+        ensures takes { IfOk result (Takes (left self.old) (left self.new)) }
+        ensures never_fails { IfErr result (λ _. ⊥) }
+    {
+        match self.walk.next(self.from) {
+            None => Ok(None),
+            Some(x) => {
+                self.from = Place::behind(x);
+                Ok(Some(x))
+            }
+        }
+    }
+}

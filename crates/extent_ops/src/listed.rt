@@ -1,0 +1,50 @@
+// Lists of extents in which the next one is looked up.
+ghost use Rattle.std.specs.Prelude.{◌≡◌, ◌<◌};
+ghost use Rattle.extent_ops.specs.Next.{IsNext};
+ghost use Rattle.extent_ops.specs.Rows.{Has, IsAscending};
+
+use crate::place::Place;
+use ri_base::Extent;
+use std::marker::Model;
+
+/// Extents in order, seen as their list.
+#[derive(Drop)]
+pub struct Listed {
+    items: Vec<Extent>,
+}
+
+impl Model for Listed {
+    ghost use Rattle.std.specs.Prelude.{List};
+    ghost use Rattle.ri_base.specs.Pair.{Pair};
+    ghost use Rattle.extent_ops.specs.Rows.{IsAscending};
+
+    ghost Value = { List Pair };
+
+    ghost view = { λ x. x.items.items };
+
+    ghost invariant = { λ x. IsAscending x.items.items };
+}
+
+impl Listed {
+    pub fn new(items: Vec<Extent>) -> Listed
+        requires { IsAscending items.items }
+        ensures { result ≡ items.items }
+    {
+        Listed { items }
+    }
+
+    /// The first extent from this place on.
+    pub fn next(&self, from: Place) -> Option<Extent>
+        ensures { IsNext (λ b e. Has self.now b e × (b < e)) from.begin from.end result }
+    {
+        let count = self
+            .items
+            .partition_point(|x| !from.is_before(x.begin(), x.end()));
+        if count == self.items.len() {
+            return None;
+        }
+        let x = self.items[count];
+        let _begin = x.begin();
+        Some(x)
+    }
+}

@@ -17,24 +17,28 @@ use Rattle.ri_ends.specs.Causes.{Rose}
 use Rattle.indri_app.specs.Outcome.{Writes, WritesFault, WritesFront, WritesLine, fault_line}
 use Rattle.indri_app.specs.Scan.{document_lines, found_text, has_refusal, refusal_line, scan_text}
 
-append_twice : (taken : Option (List ℕ)) (a b : List ℕ) → append_known taken (a ++ b) ≡ append_known (append_known taken a) b
+pub append_twice : (taken : Option (List ℕ)) (a b : List ℕ) → append_known taken (a ++ b) ≡ append_known (append_known taken a) b
 append_twice None a b = refl
 append_twice (Some xs) a b = ap Some (sym (append_assoc xs a b))
 
-append_none : (taken : Option (List ℕ)) → append_known taken [] ≡ taken
+pub append_none : (taken : Option (List ℕ)) → append_known taken [] ≡ taken
 append_none None = refl
 append_none (Some xs) = ap Some (append-nil xs)
 
-or_assoc : (a b c d : Bool) → (a || ((b || c) || d)) ≡ ((a || b) || (c || d))
+-- nothing was written
+pub writes_none : (taken : Option (List ℕ)) → Writes taken taken []
+writes_none taken = sym (append_none taken)
+
+pub or_assoc : (a b c d : Bool) → (a || ((b || c) || d)) ≡ ((a || b) || (c || d))
 or_assoc true b c d = refl
 or_assoc false true c d = refl
 or_assoc false false c d = refl
 
-or-false : (a : Bool) → (a || false) ≡ a
+pub or-false : (a : Bool) → (a || false) ≡ a
 or-false true = refl
 or-false false = refl
 
-or-true : (a : Bool) → (a || true) ≡ true
+pub or-true : (a : Bool) → (a || true) ≡ true
 or-true true = refl
 or-true false = refl
 
@@ -43,7 +47,7 @@ or-true false = refl
 abbrev pub outcome : ExprTree → Option (List ℕ) → Bool → ℕ → List ℕ → Option (List ℕ) × Bool
 outcome x taken noted offset bytes = (append_known taken (found_text x (read_rest (offset + length bytes) bytes)), noted || has_refusal (read_rest (offset + length bytes) bytes))
 
-rest_is : (o : ℕ) (bytes : List ℕ) → read_rest (o + length bytes) bytes ≡ entry_then (entry o bytes) (read_rest (o + length bytes))
+pub rest_is : (o : ℕ) (bytes : List ℕ) → read_rest (o + length bytes) bytes ≡ entry_then (entry o bytes) (read_rest (o + length bytes))
 rest_is o bytes = let here : offset_of (o + length bytes) bytes ≡ o = omega arith in read_is (o + length bytes) bytes ∙ ap (λ k. entry_then (entry k bytes) (read_rest (o + length bytes))) here
 
 -- a document is read, and its lines are written

@@ -1,6 +1,11 @@
+pub mod Answer
+pub mod Collection
 pub mod Command
+pub mod Gathered
 pub mod Outcome
 pub mod QueryLine
 pub mod Scan
+pub mod Shown
 pub mod Status
 pub mod Stopped
+pub mod TextFaults

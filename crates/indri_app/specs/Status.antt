@@ -51,3 +51,13 @@ IsQueryOutcome SomeRefused = ⊥
 IsQueryOutcome ReadFault = ⊥
 IsQueryOutcome WriteFault = Unit {0}
 IsQueryOutcome Memory = Unit {0}
+
+-- how a run ends that writes a ranking
+abbrev pub IsRankingOutcome : Status → Type 0
+IsRankingOutcome Done = Unit {0}
+IsRankingOutcome Usage = ⊥
+IsRankingOutcome QueryRefused = ⊥
+IsRankingOutcome SomeRefused = Unit {0}
+IsRankingOutcome ReadFault = ⊥
+IsRankingOutcome WriteFault = Unit {0}
+IsRankingOutcome Memory = Unit {0}

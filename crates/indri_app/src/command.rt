@@ -1,8 +1,15 @@
 // What the words of the command line ask for.
-ghost use Rattle.std.specs.Prelude.{option_map, ◌≡◌};
-ghost use Rattle.indri_app.specs.Command.{scan_text_of};
+ghost use Rattle.std.specs.Prelude.{option_map, ◌≡◌, ◌<◌, ◌≤◌, MatchOption, IfSome};
+ghost use Rattle.smoothing.specs.Fractions.{IsMu};
+ghost use Rattle.query_reader.specs.Parts.{value_from};
+ghost use Rattle.indri_app.specs.Command.{is_mu, is_number, mu_of, query_words_of, scan_text_of};
 
 use ri_base::ArgList;
+use ri_base::ascii::is_digit;
+use smoothing::MAX_MU;
+
+/// The mu of a query whose words name none.
+const DEFAULT_MU: u32 = 2500;
 
 /// The text of a scan, where the words are `FOLDER scan TEXT`.
 pub fn scan_text_of(words: &ArgList) -> Option<&str>
@@ -14,4 +21,61 @@ pub fn scan_text_of(words: &ArgList) -> Option<&str>
     let verb = words.get(1)?;
     let text = words.get(2)?;
     if verb == "scan" { Some(text) } else { None }
+}
+
+/// Whether these are digits without a leading zero.
+fn is_number(text: &[u8]) -> bool
+    ensures { result ≡ is_number text.now }
+{
+    text.iter().all(|byte| is_digit(*byte)) && !text.starts_with(b"0")
+}
+
+/// The value of digits, where it is in the range of mu.
+fn mu_value(digits: &[u8]) -> Option<u32>
+    ensures { MatchOption result (is_mu (value_from 0 digits.now) ≡ false) (λ n. (n ≡ value_from 0 digits.now) × (is_mu n ≡ true)) }
+{
+    let mut n: u32 = 0;
+    for digit in digits {
+        n = n * 10 + u32::from(digit.saturating_sub(b'0'));
+        if n > MAX_MU {
+            return None;
+        }
+    }
+    if n == 0 { None } else { Some(n) }
+}
+
+fn mu_of(text: &str) -> Option<u32>
+    ensures { result ≡ mu_of text.now }
+{
+    let digits = text.as_bytes();
+    if is_number(digits) {
+        mu_value(digits)
+    } else {
+        None
+    }
+}
+
+/// Mu and the text of a query, where the words are `FOLDER query TEXT` or `FOLDER query --mu N TEXT`.
+pub fn query_words_of(words: &ArgList) -> Option<(u32, &str)>
+    ensures words { option_map (λ x. (x.0, x.1.now)) result ≡ query_words_of words.now }
+    ensures mu { IfSome result (λ x. IsMu x.0) }
+{
+    let verb = words.get(1)?;
+    if verb != "query" {
+        return None;
+    }
+    match words.len() {
+        3 => Some((DEFAULT_MU, words.get(2)?)),
+        5 => {
+            let option = words.get(2)?;
+            let mu = mu_of(words.get(3)?)?;
+            let text = words.get(4)?;
+            if option == "--mu" {
+                Some((mu, text))
+            } else {
+                None
+            }
+        }
+        _ => None,
+    }
 }

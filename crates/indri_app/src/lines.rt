@@ -1,8 +1,10 @@
 // The lines of refusals.
 ghost use Rattle.std.specs.Prelude.{◌≡◌, ◌++◌, IfOk};
-ghost use Rattle.indri_app.specs.QueryLine.{kind_name, query_line};
+ghost use Rattle.indri_app.specs.Command.{bad_query, bad_text};
+ghost use Rattle.indri_app.specs.QueryLine.{check_name, kind_name, query_line};
 ghost use Rattle.indri_app.specs.Scan.{document_refused_line, refusal_line, refused_line};
 
+use query_check::CheckFault;
 use query_reader::QueryKind;
 use ri_base::{Docno, NoMemory};
 use std::alloc::Global;
@@ -71,12 +73,40 @@ fn kind_name(kind: QueryKind) -> &'static [u8]
 /// The line of a text that is refused.
 #[tactic(auto, unfolding(crate::specs::QueryLine::query_line))]
 pub fn query_line(alloc: Global, kind: QueryKind, place: usize) -> Result<Vec<u8>, NoMemory>
-    ensures { IfOk result (λ line. line.items ≡ query_line (kind, place)) }
+    ensures { IfOk result (λ line. line.items ≡ query_line (bad_text kind place)) }
 {
     let mut line = b"refused Query ".to_vec(alloc)?;
     line.extend_from_slice(kind_name(kind))?;
     line.push(b' ')?;
     line.extend_from_slice(place.to_string(alloc)?.as_bytes())?;
+    line.push(b'\n')?;
+    Ok(line)
+}
+
+/// The name of a fault of the check, with the prior that isn't known.
+fn check_name(alloc: Global, fault: &CheckFault) -> Result<Vec<u8>, NoMemory>
+    ensures { IfOk result (λ name. name.items ≡ check_name fault.now) }
+{
+    match fault {
+        CheckFault::NoWeight => b"NoWeight".to_vec(alloc),
+        CheckFault::NoLeaf => b"NoLeaf".to_vec(alloc),
+        CheckFault::ScaleTooLarge => b"ScaleTooLarge".to_vec(alloc),
+        CheckFault::UnknownPrior { name } => {
+            let mut text = b"UnknownPrior ".to_vec(alloc)?;
+            text.extend_from_slice(name.as_bytes())?;
+            Ok(text)
+        }
+        CheckFault::Memory => Ok(Vec::new(alloc)),
+    }
+}
+
+/// The line of a query that the check refuses.
+#[tactic(auto, unfolding(crate::specs::QueryLine::query_line))]
+pub fn check_line(alloc: Global, fault: &CheckFault) -> Result<Vec<u8>, NoMemory>
+    ensures { IfOk result (λ line. line.items ≡ query_line (bad_query fault.now)) }
+{
+    let mut line = b"refused Check ".to_vec(alloc)?;
+    line.extend_from_slice(&check_name(alloc, fault)?)?;
     line.push(b'\n')?;
     Ok(line)
 }

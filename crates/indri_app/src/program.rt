@@ -3,16 +3,27 @@ ghost use Rattle.std.specs.Prelude.{◌≡◌, ◌≢◌, ◌≤◌, ◌<◌, �
 ghost use Rattle.ri_base.specs.Expression.{expr_tree};
 ghost use Rattle.ri_ends.specs.Causes.{Rose};
 ghost use Rattle.trec_reader.specs.Read.{read};
-ghost use Rattle.indri_app.specs.Command.{AsksFor, HasFault, IfAsksFor, IfFault, asked, usage_line};
+ghost use Rattle.smoothing.specs.Fractions.{IsMu};
+ghost use Rattle.std.specs.List.{list_all};
+ghost use Rattle.full_ranking.specs.Counts.{is_plain};
+ghost use Rattle.query_check.specs.Answers.{whole_checked};
+ghost use Rattle.indri_app.specs.Answer.{Begun, Failed, Finished};
+ghost use Rattle.indri_app.specs.Shown.{Shows, ShowsFront};
+ghost use Rattle.indri_app.specs.Command.{AsksFor, HasFault, IfAsksFor, IfFault, asked, bad_query, bad_text, rank_by, usage_line};
 ghost use Rattle.indri_app.specs.QueryLine.{query_line};
 ghost use Rattle.indri_app.specs.Outcome.{Writes, WritesFault, WritesFront, WritesLine, fault_line};
-ghost use Rattle.indri_app.specs.Status.{IsQueryOutcome, IsReadFaultOutcome, IsRefusalOutcome, IsUsageOutcome};
+ghost use Rattle.indri_app.specs.Status.{IsQueryOutcome, IsRankingOutcome, IsReadFaultOutcome, IsRefusalOutcome, IsUsageOutcome};
 ghost use Rattle.indri_app.specs.Scan.{has_refusal, refusal_line, scan_text};
 
 use crate::Status;
-use crate::command::scan_text_of;
-use crate::lines::{query_line, refusal_line};
+use crate::answer::ranking_text;
+use crate::collection::{MOST_DOCUMENTS, gather_documents};
+use crate::command::{query_words_of, scan_text_of};
+use crate::lines::{check_line, query_line, refusal_line};
+use crate::query_text::{TextFault, read_checked};
 use crate::scan::{Stop, scan_documents};
+use memory_index::MemIndex;
+use query_check::{CheckFault, Checked};
 use query_reader::{QueryFault, QueryKind, read_expr};
 use ri_base::{ArgList, ExtentExpr};
 use ri_ends::{OutFault, Sink, Source};
@@ -63,13 +74,32 @@ fn write_query_refusal<K: Sink>(
     place: usize,
     sink: &mut K,
 ) -> Status
-    ensures refused { result ≡ Status.QueryRefused → Writes (K.taken sink.old) (K.taken sink.new) (query_line (kind, place)) }
-    ensures front { WritesFront (K.taken sink.old) (K.taken sink.new) (query_line (kind, place)) }
+    ensures refused { result ≡ Status.QueryRefused → Writes (K.taken sink.old) (K.taken sink.new) (query_line (bad_text kind place)) }
+    ensures front { WritesFront (K.taken sink.old) (K.taken sink.new) (query_line (bad_text kind place)) }
     ensures only { IsQueryOutcome result }
     ensures later { K.faults sink.old ≤ K.faults sink.new }
     ensures write { result ≡ Status.WriteFault → Rose (K.faults sink.old) (K.faults sink.new) }
 {
     let Ok(line) = query_line(alloc, kind, place) else {
+        return Status::Memory;
+    };
+    match sink.write_all(&line) {
+        Ok(()) => Status::QueryRefused,
+        Err(OutFault::Failed) => Status::WriteFault,
+        Err(OutFault::Memory) => Status::Memory,
+    }
+}
+
+/// Writes the line of a query that the check refuses.
+#[tactic(auto, using(crate::proofs::Scanned::front_whole))]
+fn write_check_refusal<K: Sink>(alloc: Global, fault: &CheckFault, sink: &mut K) -> Status
+    ensures refused { result ≡ Status.QueryRefused → Writes (K.taken sink.old) (K.taken sink.new) (query_line (bad_query fault.now)) }
+    ensures front { WritesFront (K.taken sink.old) (K.taken sink.new) (query_line (bad_query fault.now)) }
+    ensures only { IsQueryOutcome result }
+    ensures later { K.faults sink.old ≤ K.faults sink.new }
+    ensures write { result ≡ Status.WriteFault → Rose (K.faults sink.old) (K.faults sink.new) }
+{
+    let Ok(line) = check_line(alloc, fault) else {
         return Status::Memory;
     };
     match sink.write_all(&line) {
@@ -130,6 +160,80 @@ fn scan<S: Source, K: Sink>(
     }
 }
 
+/// Writes the lines of the first results of the index's documents. `some_refused` says whether something was refused
+/// before.
+fn write_ranking<K: Sink>(
+    alloc: Global,
+    mu: u32,
+    checked: &Checked,
+    index: MemIndex,
+    some_refused: bool,
+    sink: &mut K,
+) -> Status
+    requires mu { IsMu mu }
+    requires plain { list_all is_plain (whole_checked checked.now).leaves ≡ true }
+    ensures done { result ≡ Status.Done → (some_refused ≡ false) × Shows mu (whole_checked checked.now) index.documents (K.taken sink.old) (K.taken sink.new) }
+    ensures refused { result ≡ Status.SomeRefused → (some_refused ≡ true) × Shows mu (whole_checked checked.now) index.documents (K.taken sink.old) (K.taken sink.new) }
+    ensures front { ShowsFront mu (whole_checked checked.now) index.documents (K.taken sink.old) (K.taken sink.new) }
+    ensures only { IsRankingOutcome result }
+    ensures later { K.faults sink.old ≤ K.faults sink.new }
+    ensures write { result ≡ Status.WriteFault → Rose (K.faults sink.old) (K.faults sink.new) }
+{
+    let Ok(text) = ranking_text(alloc, mu, checked, index) else {
+        return Status::Memory;
+    };
+    match sink.write_all(&text) {
+        Ok(()) if some_refused => Status::SomeRefused,
+        Ok(()) => Status::Done,
+        Err(OutFault::Failed) => Status::WriteFault,
+        Err(OutFault::Memory) => Status::Memory,
+    }
+}
+
+/// Writes what a query writes.
+fn query<S: Source, K: Sink>(
+    alloc: Global,
+    mu: u32,
+    checked: &Checked,
+    source: &mut S,
+    sink: &mut K,
+) -> Status
+    requires mu { IsMu mu }
+    requires plain { list_all is_plain (whole_checked checked.now).leaves ≡ true }
+    ensures done { result ≡ Status.Done → IfSome (S.left source.old) (λ bytes.
+        Finished (rank_by mu (whole_checked checked.now)) false bytes (K.taken sink.old) (K.taken sink.new)) }
+    ensures refused { result ≡ Status.SomeRefused → IfSome (S.left source.old) (λ bytes.
+        Finished (rank_by mu (whole_checked checked.now)) true bytes (K.taken sink.old) (K.taken sink.new)) }
+    ensures front { result ≢ Status.ReadFault → IfSome (S.left source.old) (λ bytes.
+        Begun (rank_by mu (whole_checked checked.now)) bytes (K.taken sink.old) (K.taken sink.new)) }
+    ensures fault_line { result ≡ Status.ReadFault → IfSome (S.left source.old) (λ bytes.
+        Failed (rank_by mu (whole_checked checked.now)) bytes (K.taken sink.old) (K.taken sink.new) (K.faults sink.old) (K.faults sink.new)) }
+
+    ensures command { (result ≢ Status.Usage) × (result ≢ Status.QueryRefused) }
+    ensures read { result ≡ Status.ReadFault → Rose (S.faults source.old) (S.faults source.new) }
+    ensures write { result ≡ Status.WriteFault → Rose (K.faults sink.old) (K.faults sink.new) }
+    ensures read_later { S.faults source.old ≤ S.faults source.new }
+    ensures write_later { K.faults sink.old ≤ K.faults sink.new }
+    ensures layers { S.layers source.new ≡ S.layers source.old }
+    ensures held { S.held source.new ≡ S.held source.old }
+{
+    let Ok(mut index) = MemIndex::new(alloc, MOST_DOCUMENTS) else {
+        return Status::Memory;
+    };
+    match gather_documents(alloc, &mut index, source, sink) {
+        Stop::End { some_refused } => {
+            write_ranking(alloc, mu, checked, index, some_refused, sink)
+        }
+        Stop::Refused(refusal) => match write_refusal(alloc, refusal, sink) {
+            Status::SomeRefused => write_ranking(alloc, mu, checked, index, true, sink),
+            status => status,
+        },
+        Stop::ReadFault => write_read_fault(sink),
+        Stop::WriteFault => Status::WriteFault,
+        Stop::Memory => Status::Memory,
+    }
+}
+
 /// Runs the command of the words, which are those behind the program's name. It reads its input from the source and
 /// writes its text to the sink.
 pub fn run<S: Source, K: Sink>(
@@ -138,13 +242,13 @@ pub fn run<S: Source, K: Sink>(
     source: &mut S,
     sink: &mut K,
 ) -> Status
-    // Done: the words are a scan, nothing is refused, and the text of the scan is written.
-    ensures done { result ≡ Status.Done → AsksFor (asked words.now) (λ x. IfSome (S.left source.old) (λ bytes.
-        (has_refusal (read bytes) ≡ false) × Writes (K.taken sink.old) (K.taken sink.new) (scan_text x bytes))) }
+    // Done: the words are a command, nothing is refused, and the text of the command is written.
+    ensures done { result ≡ Status.Done → AsksFor (asked words.now) (λ command. IfSome (S.left source.old) (λ bytes.
+        Finished command false bytes (K.taken sink.old) (K.taken sink.new))) }
 
-    // SomeRefused: the words are a scan, a document or the input is refused, and the text of the scan is written.
-    ensures refused { result ≡ Status.SomeRefused → AsksFor (asked words.now) (λ x. IfSome (S.left source.old) (λ bytes.
-        (has_refusal (read bytes) ≡ true) × Writes (K.taken sink.old) (K.taken sink.new) (scan_text x bytes))) }
+    // SomeRefused: the words are a command, a document or the input is refused, and the text of the command is written.
+    ensures refused { result ≡ Status.SomeRefused → AsksFor (asked words.now) (λ command. IfSome (S.left source.old) (λ bytes.
+        Finished command true bytes (K.taken sink.old) (K.taken sink.new))) }
 
     // Usage: exactly where the words are no command, unless the sink fails or memory is missing. The source stays.
     ensures usage { result ≡ Status.Usage → (asked words.now ≡ None) × Writes (K.taken sink.old) (K.taken sink.new) usage_line }
@@ -160,21 +264,31 @@ pub fn run<S: Source, K: Sink>(
     ensures read_later { S.faults source.old ≤ S.faults source.new }
     ensures write_later { K.faults sink.old ≤ K.faults sink.new }
 
-    // However a scan ends, a front of its text is written, and behind it the last line where the source failed.
-    ensures front { result ≢ Status.ReadFault → IfAsksFor (asked words.now) (λ x. IfSome (S.left source.old) (λ bytes.
-        WritesFront (K.taken sink.old) (K.taken sink.new) (scan_text x bytes))) }
-    ensures fault_line { result ≡ Status.ReadFault → IfAsksFor (asked words.now) (λ x. IfSome (S.left source.old) (λ bytes.
-        WritesFault (K.taken sink.old) (K.taken sink.new) (scan_text x bytes) (K.faults sink.old) (K.faults sink.new))) }
+    // However a command ends, a front of its text is written, and behind it the last line where the source failed.
+    ensures front { result ≢ Status.ReadFault → IfAsksFor (asked words.now) (λ command. IfSome (S.left source.old) (λ bytes.
+        Begun command bytes (K.taken sink.old) (K.taken sink.new))) }
+    ensures fault_line { result ≡ Status.ReadFault → IfAsksFor (asked words.now) (λ command. IfSome (S.left source.old) (λ bytes.
+        Failed command bytes (K.taken sink.old) (K.taken sink.new) (K.faults sink.old) (K.faults sink.new))) }
 
     ensures layers { S.layers source.new ≡ S.layers source.old }
     ensures held { S.held source.new ≡ S.held source.old }
 {
-    let Some(text) = scan_text_of(words) else {
-        return write_usage(sink);
-    };
-    match read_expr(alloc, text) {
-        Ok(expr) => scan(alloc, &expr, source, sink),
-        Err(QueryFault::Refused { kind, place }) => write_query_refusal(alloc, kind, place, sink),
-        Err(QueryFault::Memory) => Status::Memory,
+    if let Some(text) = scan_text_of(words) {
+        return match read_expr(alloc, text) {
+            Ok(expr) => scan(alloc, &expr, source, sink),
+            Err(QueryFault::Refused { kind, place }) => {
+                write_query_refusal(alloc, kind, place, sink)
+            }
+            Err(QueryFault::Memory) => Status::Memory,
+        };
     }
+    if let Some((mu, text)) = query_words_of(words) {
+        return match read_checked(alloc, text) {
+            Ok(checked) => query(alloc, mu, &checked, source, sink),
+            Err(TextFault::Text { kind, place }) => write_query_refusal(alloc, kind, place, sink),
+            Err(TextFault::Check(fault)) => write_check_refusal(alloc, &fault, sink),
+            Err(TextFault::Memory) => Status::Memory,
+        };
+    }
+    write_usage(sink)
 }

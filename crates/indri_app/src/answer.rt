@@ -1,0 +1,69 @@
+// The lines of a ranking.
+ghost use Rattle.std.specs.Prelude.{◌≡◌, ◌≤◌, List, true, length, map, take, All, IfOk};
+ghost use Rattle.std.specs.List.{list_all};
+ghost use Rattle.ri_base.specs.declared.hit.Hit.{Hit};
+ghost use Rattle.smoothing.specs.Counts.{AreCounts};
+ghost use Rattle.smoothing.specs.Fractions.{IsMu, dirichlet};
+ghost use Rattle.ri_base.specs.Ratio.{ratio_of};
+ghost use Rattle.query_check.specs.Answers.{whole_checked};
+ghost use Rattle.query_check.specs.Leaves.{leaf_tree};
+ghost use Rattle.full_ranking.specs.Counts.{is_plain};
+ghost use Rattle.ranked_output.specs.Texts.{lines_of, lines_text};
+ghost use Rattle.indri_app.specs.Answer.{IsResult, first_lines};
+
+use full_ranking::{rank, ranking_is_true};
+use memory_index::MemIndex;
+use query_check::Checked;
+use ranked_output::{line, mark};
+use ri_base::{Fraction, Hits, NoMemory};
+use smoothing::{Rule, RuleKind, dirichlet_fraction};
+use std::alloc::{AllocError, Global};
+
+/// How many results are shown.
+pub const MOST_SHOWN: usize = 10;
+
+/// The lines of results.
+fn lines_text(alloc: Global, checked: &Checked, hits: &Hits) -> Result<Vec<u8>, NoMemory>
+    requires leaves { All (λ hit. length hit.fractions ≡ length checked.now.leaves.items) hits.now }
+    requires few { length hits.now ≤ MOST_SHOWN }
+    ensures { IfOk result (λ text. text.items ≡ lines_text (lines_of checked.now.scale hits.now)) }
+{
+    let mut text = Vec::new(alloc);
+    let mut above = None;
+    let mut rank = 1;
+    for hit in hits.as_slice() {
+        let mark = mark(above, hit, checked.scale);
+        let line = line(alloc, rank, mark, hit, checked.scale)?;
+        text.extend_from_slice(line.as_slice())?;
+        above = Some(hit);
+        rank += 1;
+    }
+    Ok(text)
+}
+
+/// The lines of the first results of a ranking of the index's documents.
+pub fn ranking_text(
+    alloc: Global,
+    mu: u32,
+    checked: &Checked,
+    index: MemIndex,
+) -> Result<Vec<u8>, NoMemory>
+    requires mu { IsMu mu }
+    requires plain { list_all is_plain (whole_checked checked.now).leaves ≡ true }
+    ensures { IfOk result (λ text. (ranking : List Hit) × IsResult mu (whole_checked checked.now) index.documents ranking
+        × (text.items ≡ lines_text (first_lines (whole_checked checked.now) ranking))) }
+{
+    let rule = Rule::new(
+        RuleKind::Dirichlet { mu },
+        |tf, len, cf, total| -> Fraction
+            requires { AreCounts tf len cf total }
+            ensures { ratio_of result ≡ dirichlet mu tf len cf total }
+        { dirichlet_fraction(mu, tf, len, cf, total) },
+    );
+    let Ok(mut sealed) = index.seal(alloc) else {
+        return Err(AllocError);
+    };
+    ranking_is_true();
+    let hits = rank(alloc, checked, &rule, &mut sealed, MOST_SHOWN)?;
+    lines_text(alloc, checked, &hits)
+}

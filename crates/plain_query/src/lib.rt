@@ -1,0 +1,8 @@
+//! Which queries are ranked today: those of whole documents, without filters, priors and contexts.
+#![tactic(auto)]
+
+mod laws;
+mod plain;
+
+pub use laws::leaves_are_plain;
+pub use plain::is_plain;

@@ -178,7 +178,7 @@ refused_front (Some bytes) before mid now x r a b c = front_more before mid now 
 rose_before : (before mid now : ℕ) → before ≤ mid → Rose mid now → Rose before now
 rose_before before mid now h r = omega (arith, h, r)
 
-fault_behind : (before mid now : Option (List ℕ)) (text : List ℕ) (count_before count_mid count_now : ℕ) → count_before ≤ count_mid → WritesFront before mid text → WritesLine mid now fault_line count_mid count_now → WritesFault before now text count_before count_now
+pub fault_behind : (before mid now : Option (List ℕ)) (text : List ℕ) (count_before count_mid count_now : ℕ) → count_before ≤ count_mid → WritesFront before mid text → WritesLine mid now fault_line count_mid count_now → WritesFault before now text count_before count_now
 fault_behind before mid now text count_before count_mid count_now h (n, a) l = record {
   of_text = n;
   of_line = l.of_line;

@@ -49,11 +49,15 @@ abbrev pub scan_text_of : List (List ℕ) → Option (List ℕ)
 scan_text_of (folder ∷ verb ∷ text ∷ []) = if bytes_eq verb (codes "scan") then Some text else None
 scan_text_of _ = None
 
+-- the mu of the words --mu N
+abbrev pub option_mu : List ℕ → List ℕ → Option ℕ
+option_mu option n = if bytes_eq option (codes "--mu") then mu_of n else None
+
 -- mu and the text of a query, where the words are one
 abbrev pub query_words_of : List (List ℕ) → Option (ℕ × List ℕ)
 query_words_of (folder ∷ verb ∷ text ∷ []) = if bytes_eq verb (codes "query") then Some (default_mu, text) else None
 query_words_of (folder ∷ verb ∷ option ∷ n ∷ text ∷ []) =
-    if bytes_eq verb (codes "query") && bytes_eq option (codes "--mu") then option_map (λ mu. (mu, text)) (mu_of n) else None
+    if bytes_eq verb (codes "query") then option_map (λ mu. (mu, text)) (option_mu option n) else None
 query_words_of _ = None
 
 abbrev pub scan_read : Result ExprTree (QueryKind × ℕ) → Result Command Fault

@@ -56,7 +56,8 @@ pub fn ranking_text(
     let rule = Rule::new(
         RuleKind::Dirichlet { mu },
         |tf, len, cf, total| -> Fraction
-            requires { AreCounts tf len cf total }
+            requires mu { IsMu mu }
+            requires counts { AreCounts tf len cf total }
             ensures { ratio_of result ≡ dirichlet mu tf len cf total }
         { dirichlet_fraction(mu, tf, len, cf, total) },
     );

@@ -1,8 +1,10 @@
 // What the words of the command line ask for.
-ghost use Rattle.std.specs.Prelude.{option_map, ◌≡◌, ◌<◌, ◌≤◌, MatchOption, IfSome};
+ghost use Rattle.std.specs.Prelude.{option_map, ◌≡◌, ◌<◌, ◌≤◌, MatchOption, IfSome, Some, ℕ, List, true, false};
 ghost use Rattle.smoothing.specs.Fractions.{IsMu};
 ghost use Rattle.query_reader.specs.Parts.{value_from};
-ghost use Rattle.indri_app.specs.Command.{is_mu, is_number, mu_of, query_words_of, scan_text_of};
+ghost use Rattle.indri_app.specs.Command.{is_mu, is_number, mu_of, option_mu, query_words_of, scan_text_of, starts_with_zero};
+ghost use Rattle.std.specs.List.{list_all};
+ghost use Rattle.ri_base.specs.Ascii.{is_digit};
 
 use ri_base::ArgList;
 use ri_base::ascii::is_digit;
@@ -27,10 +29,26 @@ pub fn scan_text_of(words: &ArgList) -> Option<&str>
 fn is_number(text: &[u8]) -> bool
     ensures { result ≡ is_number text.now }
 {
-    text.iter().all(|byte| is_digit(*byte)) && !text.starts_with(b"0")
+    are_digits(text) && !starts_with_zero(text)
+}
+
+fn are_digits(text: &[u8]) -> bool
+    ensures { result ≡ list_all is_digit text.now }
+{
+    text.iter().all(|byte| is_digit(*byte))
+}
+
+fn starts_with_zero(text: &[u8]) -> bool
+    ensures { result ≡ starts_with_zero text.now }
+{
+    match text {
+        [b'0', ..] => true,
+        _ => false,
+    }
 }
 
 /// The value of digits, where it is in the range of mu.
+#[tactic(auto, using(crate::proofs::NumberLemmas::mu_out_of_range))]
 fn mu_value(digits: &[u8]) -> Option<u32>
     ensures { MatchOption result (is_mu (value_from 0 digits.now) ≡ false) (λ n. (n ≡ value_from 0 digits.now) × (is_mu n ≡ true)) }
 {
@@ -55,6 +73,25 @@ fn mu_of(text: &str) -> Option<u32>
     }
 }
 
+/// The mu of the words `--mu N`.
+fn option_mu(option: &str, number: &str) -> Option<u32>
+    ensures { result ≡ option_mu option.now number.now }
+{
+    if option == "--mu" {
+        mu_of(number)
+    } else {
+        None
+    }
+}
+
+/// A mu with a text.
+fn with_mu(mu: Option<u32>, text: &str) -> Option<(u32, &str)>
+    ensures words { option_map (λ x. (x.0, x.1.now)) result ≡ option_map {U = ℕ × List ℕ} (λ n. (n, text.now)) mu }
+    ensures mu { IfSome result (λ x. mu ≡ Some x.0) }
+{
+    mu.map(|mu| (mu, text))
+}
+
 /// Mu and the text of a query, where the words are `FOLDER query TEXT` or `FOLDER query --mu N TEXT`.
 pub fn query_words_of(words: &ArgList) -> Option<(u32, &str)>
     ensures words { option_map (λ x. (x.0, x.1.now)) result ≡ query_words_of words.now }
@@ -67,14 +104,9 @@ pub fn query_words_of(words: &ArgList) -> Option<(u32, &str)>
     match words.len() {
         3 => Some((DEFAULT_MU, words.get(2)?)),
         5 => {
-            let option = words.get(2)?;
-            let mu = mu_of(words.get(3)?)?;
+            let mu = option_mu(words.get(2)?, words.get(3)?);
             let text = words.get(4)?;
-            if option == "--mu" {
-                Some((mu, text))
-            } else {
-                None
-            }
+            with_mu(mu, text)
         }
         _ => None,
     }

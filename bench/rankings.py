@@ -1,0 +1,609 @@
+#!/usr/bin/env python3
+"""What `query` must print for a table of rankings, worked out apart from the program.
+
+usage: bench/rankings.py < bench/rankings.cases
+
+bench/rankings.cases has the cases, and bench/rankings.lines what this script prints of them. No program is compared with
+them yet.
+
+A case is some lines of standard input, and the line `query` ends it:
+
+    # what the case shows
+    mu 7                                              where it isn't 2500
+    text <DOC><DOCNO>d1</DOCNO>a b</DOC>              TREC text, as many lines as wanted; each has a line feed behind it
+    query #combine(a b)
+
+Each line is printed as it stands. Behind the line `query` stand the lines that the program must write for this text and
+this query, and the exit status. Text and query are read by small readers of their own, which stop at a form that no
+case needs. On standard error stands how many cases there are, and how many statements were checked of them.
+
+How the figures were computed. Everything is by the definitions, in whole numbers, and nothing was taken from the
+program or its output:
+
+- Extents: all positions, all chains and all windows are tried. Counts are sums over all documents.
+- A leaf's fraction is p = 2 W tf + mu B over q = 2 W (len + mu), not reduced, with B = max(2 cf, 1) and
+  W = max(total, 1).
+- Scales by least common multiples; weights without those of 0, divided by their greatest common divisor.
+- Digits by the recurrence, 40 squarings from floor(q 2^62 / (p 2^e)). Keys are weighted sums, of `#max` the least.
+- The order of the lines is key, docno, begin, end; the score is the floor of key 10^6 / (scale 2^40).
+
+What the order means is then checked without digits and keys, on products of whole-number powers. Two products are equal
+where their prime factors are. Else they are compared by bounds of some hundred bits, rounded outwards, which are made
+sharper until they lie apart, so each statement is decided, whatever the scale. Where the products have up to some million
+bits they are multiplied out as well. With product P/Q and scale E, these statements are checked:
+
+- 2^c p^(2^40) <= q^(2^40) < 2^(c+2) p^(2^40) of each leaf with the digits c.
+- A line above a `>` has a greater product than each line below that mark and each candidate without a line.
+- `=` stands where all fractions are equal, leaf by leaf, and `~` where some aren't. In both cases the two products are
+  near: as 2^40-th powers neither is more than 2^(4 E) times the other.
+- A candidate without a line has no greater product than a line, or is near to it.
+- 2^(s E) P^(10^6) <= Q^(10^6) < 2^((s+2) E) P^(10^6) of each score of s millionths.
+"""
+import itertools
+import re
+import sys
+from collections import Counter
+from dataclasses import dataclass, field
+from fractions import Fraction
+from functools import cache
+from math import gcd, lcm, prod
+
+LEVEL = 40
+MOST_LINES = 10
+MILLION = 10**6
+BILLION = 10**9
+SMALL_BITS = 6_000_000
+checked = Counter()
+
+
+def check(statement, holds):
+    checked[statement] += 1
+    if not holds:
+        sys.exit(f"not so: {statement}")
+
+
+# Cases.
+
+
+@dataclass
+class Case:
+    mu: int = 2500
+    text: str = ""
+
+
+# TREC text: start and end tags without attributes, comments, entity references and words of ASCII.
+
+
+@dataclass
+class Document:
+    docno: str
+    tokens: list
+    fields: set
+
+
+SPACE = re.compile(r"[\t\n\f\r ]*")
+DOC_TAG = re.compile(r"<doc>", re.IGNORECASE)
+DOCNO_TAG = re.compile(r"<docno>", re.IGNORECASE)
+DOCNO = re.compile(r"[!-;=-~]+")
+DOCNO_END = re.compile(r"</docno>", re.IGNORECASE)
+DOC_END = re.compile(r"</doc>", re.IGNORECASE)
+PIECE = re.compile(r"(?P<break><!--.*?-->|&[A-Za-z0-9#]{1,32};)|<(?P<end>/?)(?P<name>[A-Za-z][A-Za-z0-9]{0,31})>"
+                   r"|(?P<word>[A-Za-z0-9]+)|(?P<gap>[\t\n\f\r -]+)")
+
+
+class Refused(Exception):
+    """The kind and the place of a refusal of TREC text."""
+
+
+def content(docno, text):
+    """The document of a docno and the text behind it."""
+    tokens, opened, fields = [], [], set()
+    at = 0
+    while at < len(text):
+        found = PIECE.match(text, at)
+        assert found, f"a form of TREC text that isn't read here: {text[at:]}"
+        at = found.end()
+        name = (found["name"] or "").lower()
+        if found["word"]:
+            tokens.append(found["word"].lower())
+        elif name and not found["end"]:
+            opened.append((name, len(tokens)))
+        elif name:
+            begins = [i for i, (other, _) in enumerate(opened) if other == name]
+            if begins:
+                fields.add((*opened.pop(begins[-1]), len(tokens)))
+    fields.update((name, begin, len(tokens)) for name, begin in opened)
+    return Document(docno, tokens, {f for f in fields if f[1] < f[2]})
+
+
+def docno_at(text, at):
+    """The docno that begins here, and where its end tag ends."""
+    run = DOCNO.match(text, at)
+    behind = run.end() if run else at
+    mark = SPACE.match(text, behind).end()
+    assert behind - at <= 255 and mark < len(text), "a docno that isn't read here"
+    if not run and text.startswith("<", mark):
+        raise Refused("DocnoEmpty", mark)
+    if not text.startswith("<", mark):
+        raise Refused("DocnoBad", behind)
+    end = DOCNO_END.match(text, mark)
+    if not end:
+        raise Refused("DocnoBad", mark)
+    return run[0], end.end()
+
+
+def document_at(text, begin):
+    """The document that begins here, and where it ends."""
+    tag = DOC_TAG.match(text, begin)
+    if not tag:
+        raise Refused("NotADoc", begin)
+    at = SPACE.match(text, tag.end()).end()
+    tag = DOCNO_TAG.match(text, at)
+    if not tag:
+        raise Refused("NoDocno", at)
+    docno, at = docno_at(text, SPACE.match(text, tag.end()).end())
+    end = DOC_END.search(text, at)
+    if not end:
+        raise Refused("DocOpen", begin)
+    return content(docno, text[at:end.start()]), end.end()
+
+
+def read(text):
+    """The documents, each docno once, and the lines of what is refused."""
+    documents, refusals = {}, []
+    at = SPACE.match(text).end()
+    while at < len(text):
+        try:
+            document, at = document_at(text, at)
+        except Refused as refused:
+            refusals.append("refused {} {}".format(*refused.args))
+            break
+        if document.docno in documents:
+            refusals.append(f"refused Repeated {document.docno}")
+        else:
+            documents[document.docno] = document
+        at = SPACE.match(text, at).end()
+    return list(documents.values()), refusals
+
+
+# Query text: expressions are tuples, an operator's name first; beliefs are of these classes.
+
+
+@dataclass
+class Leaf:
+    expr: tuple
+
+
+@dataclass
+class Sum:
+    """A `#weight`, or a `#combine`, whose weights are all 1. The weights are whole numbers of billionths."""
+
+    weights: list
+    arguments: list
+
+
+@dataclass
+class Greatest:
+    arguments: list
+
+
+class Reader:
+    """Reads a query from the front. It stops at a form that isn't read here."""
+
+    def __init__(self, text):
+        self.text = text
+        self.at = 0
+
+    def take(self, pattern):
+        found = re.compile(pattern).match(self.text, self.at)
+        if found:
+            self.at = found.end()
+        return found
+
+    def need(self, pattern):
+        found = self.take(pattern)
+        assert found, f"a form of query text that isn't read here: {self.text[self.at:]}"
+        return found
+
+    def many(self, one):
+        """What stands before the `)` that closes an operator."""
+        self.take(SPACE)
+        found = [one()]
+        self.take(SPACE)
+        while not self.take(r"\)"):
+            found.append(one())
+            self.take(SPACE)
+        return found
+
+    def atom(self):
+        if self.take(r'"'):
+            return ("word", self.need(r'((?:[^"]|"")+)"')[1].replace('""', '"'))
+        if self.take(r"#any:"):
+            return ("any", self.need(r"[A-Za-z][A-Za-z0-9]*")[0].lower())
+        if found := self.take(r"#(band|syn)\("):
+            return (found[1], *self.many(self.expr))
+        if found := self.take(r"#(od|uw|)(\d+)\("):
+            return ("uw" if found[1] == "uw" else "od", int(found[2]), *self.many(self.expr))
+        terms = self.need(r"[A-Za-z0-9]+(?:-[A-Za-z0-9]+)*")[0].lower().split("-")
+        words = [("word", term) for term in terms]
+        return words[0] if len(words) == 1 else ("od", 1, *words)
+
+    def expr(self):
+        atom = self.atom()
+        if found := self.take(r"\.([A-Za-z][A-Za-z0-9]*)"):
+            return ("in", atom, found[1].lower())
+        return atom
+
+    def weighted(self):
+        text = self.need(r"(\d{1,6}(\.\d{0,9})?|\.\d{1,9})(?![\d.])")[0]
+        value = Fraction(f"0{text}0" if "." in text else text)
+        self.take(SPACE)
+        return int(value * BILLION), self.belief()
+
+    def belief(self):
+        if self.take(r"#combine\("):
+            arguments = self.many(self.belief)
+            return Sum([1] * len(arguments), arguments)
+        if self.take(r"#weight\("):
+            pairs = self.many(self.weighted)
+            return Sum([weight for weight, _ in pairs], [argument for _, argument in pairs])
+        if self.take(r"#max\("):
+            return Greatest(self.many(self.belief))
+        return Leaf(self.expr())
+
+    def query(self):
+        self.text += ")"
+        arguments = self.many(self.belief)
+        assert self.at == len(self.text), "something behind the query"
+        return Sum([1] * len(arguments), arguments)
+
+
+# The check of a query.
+
+
+def has_weights(tree):
+    if isinstance(tree, Leaf):
+        return True
+    return (isinstance(tree, Greatest) or any(tree.weights)) and all(map(has_weights, tree.arguments))
+
+
+def reduced(tree):
+    """The tree without what has the weight 0, whose weights have no common divisor."""
+    if isinstance(tree, Leaf):
+        return tree
+    if isinstance(tree, Greatest):
+        return Greatest([reduced(argument) for argument in tree.arguments])
+    kept = [(w, reduced(argument)) for w, argument in zip(tree.weights, tree.arguments) if w]
+    divisor = gcd(*(w for w, _ in kept))
+    return Sum([w // divisor for w, _ in kept], [argument for _, argument in kept])
+
+
+def leaves_of(tree):
+    if isinstance(tree, Leaf):
+        return [tree]
+    return [leaf for argument in tree.arguments for leaf in leaves_of(argument)]
+
+
+def scale(tree):
+    if isinstance(tree, Leaf):
+        return 1
+    common = lcm(*map(scale, tree.arguments))
+    return common if isinstance(tree, Greatest) else sum(tree.weights) * common
+
+
+# Extents of an expression in a document, as a set of pairs.
+
+
+def chains(n, sets):
+    """All rows of one extent of each set, where each begins at or behind the end before it, within n - 1 tokens."""
+    for chain in itertools.product(*sets):
+        if all(a[1] <= b[0] <= a[1] + n - 1 for a, b in itertools.pairwise(chain)):
+            yield chain
+
+
+def least_ends(pairs):
+    """Of the pairs with one begin that with the least end."""
+    least = {}
+    for begin, end in pairs:
+        least[begin] = min(end, least.get(begin, end))
+    return set(least.items())
+
+
+def is_inside(inner, outer):
+    return outer[0] <= inner[0] and inner[1] <= outer[1]
+
+
+def is_window(window, sets):
+    inside = [[x for x in extents if is_inside(x, window)] for extents in sets]
+    return all(inside) and any(x[0] == window[0] for extents in inside for x in extents)
+
+
+def extents(expr, document):
+    kind, *rest = expr
+    length = len(document.tokens)
+    if kind == "word":
+        return {(i, i + 1) for i, token in enumerate(document.tokens) if token == rest[0]}
+    if kind == "any":
+        return {(begin, end) for name, begin, end in document.fields if name == rest[0]}
+    if kind == "in":
+        spans = extents(("any", rest[1]), document)
+        return {x for x in extents(rest[0], document) if any(is_inside(x, span) for span in spans)}
+    sets = [extents(argument, document) for argument in rest if isinstance(argument, tuple)]
+    if kind == "syn":
+        return set().union(*sets)
+    if kind == "band":
+        return {(0, length)} if all(sets) else set()
+    if kind == "od":
+        return least_ends((chain[0][0], chain[-1][1]) for chain in chains(rest[0], sets))
+    places = range(length + 1)
+    windows = ((b, e) for b in places for e in places if b < e <= b + rest[0])
+    return least_ends(window for window in windows if is_window(window, sets))
+
+
+# Fractions, digits and keys.
+
+
+@cache
+def digits(p, q):
+    c = max(e for e in range(64) if p << e <= q)
+    y = (q << 62) // (p << c)
+    for _ in range(LEVEL):
+        z = y * y
+        c, y = (2 * c, z >> 62) if z < 1 << 125 else (2 * c + 1, z >> 63)
+    turns = 1 << LEVEL
+    low, high = Counter({p: turns, 2: c}), Counter({p: turns, 2: c + 2})
+    if p == 2:
+        low, high = Counter({2: turns + c}), Counter({2: turns + c + 2})
+    check("the digits of a leaf enclose its logarithm", compare(low, {q: turns}) <= 0 < compare(high, {q: turns}))
+    return c
+
+
+def key(tree, values):
+    """The key of a tree. `values` gives the digits of its leaves one after the other."""
+    if isinstance(tree, Leaf):
+        return next(values)
+    common = lcm(*map(scale, tree.arguments))
+    keys = [common // scale(argument) * key(argument, values) for argument in tree.arguments]
+    return min(keys) if isinstance(tree, Greatest) else sum(w * k for w, k in zip(tree.weights, keys))
+
+
+def product(tree, fractions):
+    """The product of a tree, as how often each fraction is a factor of it."""
+    if isinstance(tree, Leaf):
+        return Counter([next(fractions)])
+    common = lcm(*map(scale, tree.arguments))
+    parts = [raised(product(argument, fractions), common // scale(argument)) for argument in tree.arguments]
+    if isinstance(tree, Greatest):
+        greatest = parts[0]
+        for part in parts[1:]:
+            if compare_products(part, greatest) > 0:
+                greatest = part
+        return greatest
+    return sum((raised(part, w) for w, part in zip(tree.weights, parts)), Counter())
+
+
+def raised(powers, n):
+    return Counter({base: n * exponent for base, exponent in powers.items()})
+
+
+# Products of whole-number powers. They are kept as their bases with their exponents.
+
+
+@cache
+def factors(n):
+    """The prime factors of a number, each with its exponent."""
+    found, prime = Counter(), 2
+    while prime * prime <= n:
+        while n % prime == 0:
+            found[prime] += 1
+            n //= prime
+        prime += 1
+    if n > 1:
+        found[n] += 1
+    return found
+
+
+def cut(mantissa, shift, bits, up):
+    """A number of so many bits times 2^shift: this one, or a neighbour below or above it."""
+    excess = mantissa.bit_length() - bits
+    if excess <= 0:
+        return mantissa << -excess, shift + excess
+    short = mantissa >> excess
+    if up and short << excess != mantissa:
+        short += 1
+    if short.bit_length() > bits:
+        return short >> 1, shift + excess + 1
+    return short, shift + excess
+
+
+def bound(powers, bits, up):
+    """A number that isn't above the product, or isn't below it, as (shift, mantissa)."""
+    whole = cut(1, 0, bits, up)
+    for base, exponent in powers.items():
+        power = cut(1, 0, bits, up)
+        for digit in bin(exponent)[2:]:
+            power = cut(power[0] * power[0], 2 * power[1], bits, up)
+            if digit == "1":
+                power = cut(power[0] * base, power[1], bits, up)
+        whole = cut(whole[0] * power[0], whole[1] + power[1], bits, up)
+    return whole[1], whole[0]
+
+
+def multiplied(powers):
+    return prod(base**exponent for base, exponent in powers.items())
+
+
+def size(powers):
+    return sum(exponent * base.bit_length() for base, exponent in powers.items())
+
+
+def sign(upper, lower):
+    bits = 256
+    while True:
+        if bound(upper, bits, False) > bound(lower, bits, True):
+            return 1
+        if bound(upper, bits, True) < bound(lower, bits, False):
+            return -1
+        bits *= 2
+
+
+def compare(left, right):
+    """1, 0 or -1 where the left product of powers is greater than the right one, equal, or smaller."""
+    exponents = Counter()
+    for powers, side in ((left, 1), (right, -1)):
+        for base, exponent in powers.items():
+            for prime, times in factors(base).items():
+                exponents[prime] += side * exponent * times
+    upper = {prime: e for prime, e in exponents.items() if e > 0}
+    lower = {prime: -e for prime, e in exponents.items() if e < 0}
+    found = sign(upper, lower) if upper or lower else 0
+    if size(upper) + size(lower) < SMALL_BITS:
+        above, below = multiplied(upper), multiplied(lower)
+        check("products multiplied out compare the same", found == (above > below) - (above < below))
+    return found
+
+
+def crossed(left, right):
+    """The products P1 Q2 and P2 Q1 of two products P1/Q1 and P2/Q2 of fractions."""
+    above, below = Counter(), Counter()
+    for powers, ps, qs in ((left, above, below), (right, below, above)):
+        for (p, q), exponent in powers.items():
+            ps[p] += exponent
+            qs[q] += exponent
+    return above, below
+
+
+def compare_products(left, right):
+    return compare(*crossed(left, right))
+
+
+# Rankings.
+
+
+@dataclass
+class Candidate:
+    document: Document
+    fractions: list
+    key: int
+    powers: Counter = field(repr=False)
+
+    def order(self):
+        return self.key, self.document.docno.encode(), 0, len(self.document.tokens)
+
+
+def candidates(tree, documents, mu):
+    """Those of the documents in which some leaf occurs."""
+    total = sum(len(document.tokens) for document in documents)
+    counts = []
+    for leaf in leaves_of(tree):
+        begins = [len({begin for begin, _ in extents(leaf.expr, document)}) for document in documents]
+        counts.append((begins, sum(begins)))
+    found = []
+    for i, document in enumerate(documents):
+        fractions = []
+        for begins, cf in counts:
+            p = 2 * max(total, 1) * begins[i] + mu * max(2 * cf, 1)
+            q = 2 * max(total, 1) * (len(document.tokens) + mu)
+            fractions.append((p, q))
+        if any(begins[i] for begins, _ in counts):
+            value = key(tree, iter([digits(p, q) for p, q in fractions]))
+            found.append(Candidate(document, fractions, value, product(tree, iter(fractions))))
+    return found
+
+
+def is_same(left, right):
+    return all(Fraction(*x) == Fraction(*y) for x, y in zip(left.fractions, right.fractions))
+
+
+def is_near(left, right, e):
+    turns = 1 << LEVEL
+    above, below = crossed(left.powers, right.powers)
+    above, below = raised(above, turns), raised(below, turns)
+    room = Counter({2: 4 * e})
+    return compare(above, below + room) <= 0 and compare(below, above + room) <= 0
+
+
+def is_greater(left, right):
+    return compare_products(left.powers, right.powers) > 0
+
+
+def marks(lines, e):
+    found = []
+    for above, line in zip([None, *lines], lines):
+        if above is None:
+            found.append("-")
+        elif is_same(above, line):
+            found.append("=")
+        else:
+            found.append(">" if line.key - above.key > 2 * e else "~")
+    return found
+
+
+def check_order(lines, shown, rest, e):
+    """What the marks say of these lines and of the candidates that have no line."""
+    for i, (line, mark) in enumerate(zip(lines, shown)):
+        if mark == ">":
+            for above, below in itertools.product(lines[:i], lines[i:] + rest):
+                check("what stands above a > has the greater product than each below it", is_greater(above, below))
+        elif mark != "-":
+            above = lines[i - 1]
+            check("= stands where all fractions are equal, ~ where some are not", is_same(above, line) == (mark == "="))
+            check("the products on both sides of = and ~ are near", is_near(above, line, e))
+        for other in rest:
+            holds = not is_greater(other, line) or is_near(other, line, e)
+            check("what has no line is no greater than a line, or near to it", holds)
+
+
+def check_score(line, score, e):
+    ps, qs = crossed(raised(line.powers, MILLION), Counter())
+    low, high = ps + Counter({2: score * e}), ps + Counter({2: (score + 2) * e})
+    check("a score encloses the logarithm of the product", compare(low, qs) <= 0 < compare(high, qs))
+
+
+def ranking(tree, documents, mu):
+    e = scale(tree)
+    ordered = sorted(candidates(tree, documents, mu), key=Candidate.order)
+    lines, rest = ordered[:MOST_LINES], ordered[MOST_LINES:]
+    shown = marks(lines, e)
+    check_order(lines, shown, rest, e)
+    for i, (line, mark) in enumerate(zip(lines, shown)):
+        score = line.key * MILLION // (e << LEVEL)
+        check_score(line, score, e)
+        shown_score = f"-{score // MILLION}.{score % MILLION:06}"
+        yield f"{i + 1} {mark} {shown_score} {line.document.docno} 0 {len(line.document.tokens)}"
+
+
+def answer(case, query):
+    """The lines of a case, and its status."""
+    tree = Reader(query).query()
+    if not has_weights(tree):
+        return ["refused Check NoWeight", "status 2"]
+    tree = reduced(tree)
+    if scale(tree) >= 1 << 60:
+        return ["refused Check ScaleTooLarge", "status 2"]
+    documents, refusals = read(case.text)
+    return [*refusals, *ranking(tree, documents, case.mu), f"status {3 if refusals else 0}"]
+
+
+def main():
+    case = Case()
+    for line in sys.stdin:
+        line = line.rstrip("\n")
+        print(line)
+        word, _, rest = line.partition(" ")
+        if word == "mu":
+            case.mu = int(rest)
+        elif word == "text":
+            case.text += rest + "\n"
+        elif word == "query":
+            print("\n".join(answer(case, rest)))
+            checked["cases"] += 1
+            case = Case()
+        else:
+            assert word in ("", "#"), f"no line of a case: {line}"
+    for statement, count in checked.items():
+        print(f"{count:6} {statement}", file=sys.stderr)
+
+
+if __name__ == "__main__":
+    main()

@@ -32,3 +32,8 @@ StoppedAt (Refused refusal) left before now docs = IfSome left (λ bytes.
 StoppedAt ReadFault left before now docs = Unit {0}
 StoppedAt WriteFault left before now docs = Unit {0}
 StoppedAt Memory left before now docs = Unit {0}
+
+-- All lines of refusals are written, these documents are accepted, and it was noted whether anything was refused.
+abbrev pub IsGathered : Option (List ℕ) → Option (List ℕ) → Option (List ℕ) → List Document → Bool → Type 0
+IsGathered left before now docs noted = IfSome left (λ bytes.
+    ((collection [] (read bytes)).some_refused ≡ noted) × ((collection [] (read bytes)).documents ≡ docs) × Writes before now (collection [] (read bytes)).lines)

@@ -61,3 +61,13 @@ IsRankingOutcome SomeRefused = Unit {0}
 IsRankingOutcome ReadFault = ⊥
 IsRankingOutcome WriteFault = Unit {0}
 IsRankingOutcome Memory = Unit {0}
+
+-- how a run ends while a collection is gathered
+abbrev pub IsGatherOutcome : Status → Type 0
+IsGatherOutcome Done = ⊥
+IsGatherOutcome Usage = ⊥
+IsGatherOutcome QueryRefused = ⊥
+IsGatherOutcome SomeRefused = ⊥
+IsGatherOutcome ReadFault = Unit {0}
+IsGatherOutcome WriteFault = Unit {0}
+IsGatherOutcome Memory = Unit {0}

@@ -1,5 +1,5 @@
 // The program's one public call.
-ghost use Rattle.std.specs.Prelude.{◌≡◌, ◌≢◌, ◌≤◌, ◌<◌, ◌++◌, ℕ, List, IfSome, None, true, false, take, length, codes};
+ghost use Rattle.std.specs.Prelude.{◌≡◌, ◌≢◌, ◌≤◌, ◌<◌, ◌++◌, ℕ, List, [], IfSome, IfOk, IfErr, Err, None, true, false, take, length, codes};
 ghost use Rattle.ri_base.specs.Expression.{expr_tree};
 ghost use Rattle.ri_ends.specs.Causes.{Rose};
 ghost use Rattle.trec_reader.specs.Read.{read};
@@ -8,11 +8,13 @@ ghost use Rattle.std.specs.List.{list_all};
 ghost use Rattle.full_ranking.specs.Counts.{is_plain};
 ghost use Rattle.query_check.specs.Answers.{whole_checked};
 ghost use Rattle.indri_app.specs.Answer.{Begun, Failed, Finished};
+ghost use Rattle.indri_app.specs.Collection.{collection};
+ghost use Rattle.indri_app.specs.Gathered.{IsGathered};
 ghost use Rattle.indri_app.specs.Shown.{Shows, ShowsFront};
 ghost use Rattle.indri_app.specs.Command.{AsksFor, HasFault, IfAsksFor, IfFault, asked, bad_query, bad_text, rank_by, usage_line};
 ghost use Rattle.indri_app.specs.QueryLine.{query_line};
 ghost use Rattle.indri_app.specs.Outcome.{Writes, WritesFault, WritesFront, WritesLine, fault_line};
-ghost use Rattle.indri_app.specs.Status.{IsQueryOutcome, IsRankingOutcome, IsReadFaultOutcome, IsRefusalOutcome, IsUsageOutcome};
+ghost use Rattle.indri_app.specs.Status.{IsGatherOutcome, IsQueryOutcome, IsRankingOutcome, IsReadFaultOutcome, IsRefusalOutcome, IsUsageOutcome};
 ghost use Rattle.indri_app.specs.Scan.{has_refusal, refusal_line, scan_text};
 
 use crate::Status;
@@ -162,6 +164,7 @@ fn scan<S: Source, K: Sink>(
 
 /// Writes the lines of the first results of the index's documents. `some_refused` says whether something was refused
 /// before.
+#[tactic(auto, using(crate::proofs::AnswerLemmas::shows_front, crate::proofs::AnswerLemmas::shows_part, crate::proofs::AnswerLemmas::shows_none))]
 fn write_ranking<K: Sink>(
     alloc: Global,
     mu: u32,
@@ -190,7 +193,47 @@ fn write_ranking<K: Sink>(
     }
 }
 
+/// Takes all documents of a source that are accepted into an index, and writes the lines of the others and of a refusal
+/// of the input. The answer is whether something was refused, or how the run ends.
+#[tactic(auto, using(crate::proofs::AnswerLemmas::stopped_front, crate::proofs::AnswerLemmas::stopped_fault, crate::proofs::AnswerLemmas::stopped_whole))]
+fn gather<S: Source, K: Sink>(
+    alloc: Global,
+    index: &mut MemIndex,
+    source: &mut S,
+    sink: &mut K,
+) -> Result<bool, Status>
+    requires fresh { index.old.documents ≡ [] }
+    requires most { index.old.most ≡ MOST_DOCUMENTS }
+    ensures gathered { IfOk result (λ noted. IsGathered (S.left source.old) (K.taken sink.old) (K.taken sink.new) index.new.documents noted) }
+    ensures front { IfErr result (λ status. status ≢ Status.ReadFault → IfSome (S.left source.old) (λ bytes.
+        WritesFront (K.taken sink.old) (K.taken sink.new) (collection [] (read bytes)).lines)) }
+    ensures fault_line { IfErr result (λ status. status ≡ Status.ReadFault → IfSome (S.left source.old) (λ bytes.
+        WritesFault (K.taken sink.old) (K.taken sink.new) (collection [] (read bytes)).lines (K.faults sink.old) (K.faults sink.new))) }
+    ensures only { IfErr result IsGatherOutcome }
+    ensures read { result ≡ Err Status.ReadFault → Rose (S.faults source.old) (S.faults source.new) }
+    ensures write { result ≡ Err Status.WriteFault → Rose (K.faults sink.old) (K.faults sink.new) }
+    ensures read_later { S.faults source.old ≤ S.faults source.new }
+    ensures write_later { K.faults sink.old ≤ K.faults sink.new }
+    ensures layers { S.layers source.new ≡ S.layers source.old }
+    ensures held { S.held source.new ≡ S.held source.old }
+{
+    match gather_documents(alloc, index, source, sink) {
+        Stop::End { some_refused } => Ok(some_refused),
+        Stop::Refused(refusal) => match write_refusal(alloc, refusal, sink) {
+            Status::SomeRefused => Ok(true),
+            Status::WriteFault => Err(Status::WriteFault),
+            Status::Memory => Err(Status::Memory),
+            Status::Done | Status::Usage | Status::QueryRefused | Status::ReadFault =>
+                unreachable!(),
+        },
+        Stop::ReadFault => Err(write_read_fault(sink)),
+        Stop::WriteFault => Err(Status::WriteFault),
+        Stop::Memory => Err(Status::Memory),
+    }
+}
+
 /// Writes what a query writes.
+#[tactic(auto, using(crate::proofs::AnswerLemmas::answered, crate::proofs::AnswerLemmas::part_answered, crate::proofs::AnswerLemmas::only_lines))]
 fn query<S: Source, K: Sink>(
     alloc: Global,
     mu: u32,
@@ -220,17 +263,9 @@ fn query<S: Source, K: Sink>(
     let Ok(mut index) = MemIndex::new(alloc, MOST_DOCUMENTS) else {
         return Status::Memory;
     };
-    match gather_documents(alloc, &mut index, source, sink) {
-        Stop::End { some_refused } => {
-            write_ranking(alloc, mu, checked, index, some_refused, sink)
-        }
-        Stop::Refused(refusal) => match write_refusal(alloc, refusal, sink) {
-            Status::SomeRefused => write_ranking(alloc, mu, checked, index, true, sink),
-            status => status,
-        },
-        Stop::ReadFault => write_read_fault(sink),
-        Stop::WriteFault => Status::WriteFault,
-        Stop::Memory => Status::Memory,
+    match gather(alloc, &mut index, source, sink) {
+        Ok(some_refused) => write_ranking(alloc, mu, checked, index, some_refused, sink),
+        Err(status) => status,
     }
 }
 

@@ -9,7 +9,6 @@ use Rattle.ranked_output.specs.Texts.{Line, lines_of, lines_text}
 use Rattle.true_order.specs.Ranked.{hit_beliefs}
 use Rattle.true_order.specs.TrueOrder.{IsTrueOrder}
 use Rattle.full_ranking.specs.Ranking.{IsRanking}
-use Rattle.indri_app.specs.declared.answer.TheConstants.{MOST_SHOWN}
 use Rattle.indri_app.specs.Collection.{collection}
 use Rattle.indri_app.specs.Command.{Command, scan_for, rank_by}
 use Rattle.indri_app.specs.Outcome.{Writes, WritesFault, WritesFront}
@@ -17,7 +16,7 @@ use Rattle.indri_app.specs.Scan.{has_refusal, scan_text}
 
 -- how many results are shown
 abbrev pub most_shown : ℕ
-most_shown = MOST_SHOWN
+most_shown = 10
 
 -- the lines of the first results of a ranking
 abbrev pub first_lines : CheckedTree → List Hit → List Line

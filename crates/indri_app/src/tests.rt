@@ -101,8 +101,12 @@ fn ran(alloc: Global, words: &ArgList) -> Result<(Status, Vec<u8>, usize), Fail>
 #[test]
 fn words_that_are_no_command(rt: HostRuntime) -> Result<(), Fail> {
     let alloc = rt.alloc();
-    let rows: [&[&str]; 5] = [
+    let rows: [&[&str]; 9] = [
         &[],
+        &[".", "query", "--mu", "0", "a"],
+        &[".", "query", "--mu", "01", "a"],
+        &[".", "query", "--mu", "1000001", "a"],
+        &[".", "query", "--nu", "1", "a"],
         &["."],
         &[".", "scan"],
         &[".", "sing", "a"],
@@ -293,6 +297,109 @@ fn scans_of_windows(rt: HostRuntime) -> Result<(), Fail> {
     assert_scans(&rt, b"<DOC><DOCNO>d1</DOCNO>b a a b</DOC>", &unordered)?;
     let lossy: [(&str, &[u8]); 1] = [("b", b"d1 1 2\n")];
     assert_scans(&rt, b"<DOC><DOCNO>d1</DOCNO>a\xffb</DOC>", &lossy)
+}
+
+/// Checks what a query with a mu of 1 writes over an input, and its status.
+fn assert_query(
+    rt: &(impl Abort + AllocGlobal),
+    input: &[u8],
+    text: &str,
+    status: Status,
+    lines: &[u8],
+) -> Result<(), Fail> {
+    let alloc = rt.alloc();
+    let words = words_of(alloc, &[".", "query", "--mu", "1", text])?;
+    let mut source = MemSource::new(input.to_vec(alloc)?, 64, Vec::new(alloc));
+    let mut sink = MemSink::new(alloc, Vec::new(alloc));
+    let answer = run(alloc, &words, &mut source, &mut sink);
+    assert_eq!(rt; sink.bytes(), lines, "at {text}");
+    assert_eq!(rt; answer, status, "at {text}");
+    Ok(())
+}
+
+#[test]
+fn queries_of_two_documents(rt: HostRuntime) -> Result<(), Fail> {
+    let rows: [(&str, &[u8]); 5] = [
+        (
+            "#combine(a)",
+            b"1 - -0.263034 d2 0 1\n2 > -0.847996 d1 0 2\n",
+        ),
+        ("#max(a b)", b"1 - -0.263034 d2 0 1\n2 > -0.847996 d1 0 2\n"),
+        ("a z", b"1 - -1.923998 d2 0 1\n2 > -2.508960 d1 0 2\n"),
+        ("b", b"1 - -1.169925 d1 0 2\n"),
+        ("z", b""),
+    ];
+    for (text, lines) in rows {
+        assert_query(&rt, TWO, text, Status::Done, lines)?;
+    }
+    assert_query(&rt, b"", "a", Status::Done, b"")
+}
+
+#[test]
+fn queries_with_marks(rt: HostRuntime) -> Result<(), Fail> {
+    assert_query(
+        &rt,
+        b"<DOC><DOCNO>d2</DOCNO>a b</DOC><DOC><DOCNO>d1</DOCNO>a b</DOC>",
+        "a",
+        Status::Done,
+        b"1 - -1.000000 d1 0 2\n2 = -1.000000 d2 0 2\n",
+    )?;
+    assert_query(
+        &rt,
+        b"<DOC><DOCNO>d1</DOCNO>a a b</DOC><DOC><DOCNO>d2</DOCNO>a b b</DOC>",
+        "a b",
+        Status::Done,
+        b"1 - -1.046554 d1 0 3\n2 ~ -1.046554 d2 0 3\n",
+    )?;
+    assert_query(
+        &rt,
+        b"<DOC><DOCNO>d1</DOCNO>a b c</DOC>",
+        "#weight(0.8 #combine(a b c) 0.1 #combine(#1(a b) #1(b c)) 0.1 #combine(#uw8(a b) #uw8(b c)))",
+        Status::Done,
+        b"1 - -1.584962 d1 0 3\n",
+    )?;
+    assert_query(
+        &rt,
+        b"<DOC><DOCNO>d1</DOCNO>a b</DOC><DOC><DOCNO>d2</DOCNO>a c</DOC>",
+        "#weight(1 a 0.0000001 #weight(1 a 0.0000001 b))",
+        Status::Done,
+        b"1 - -1.000000 d1 0 2\n2 ~ -1.000000 d2 0 2\n",
+    )
+}
+
+#[test]
+fn queries_over_refused_documents(rt: HostRuntime) -> Result<(), Fail> {
+    assert_query(
+        &rt,
+        b"<DOC><DOCNO>d1</DOCNO>a b</DOC><DOC><DOCNO>d1</DOCNO>a</DOC><DOC><DOCNO>d2</DOCNO>a</DOC>x",
+        "a",
+        Status::SomeRefused,
+        b"refused Repeated d1\nrefused NotADoc 89\n1 - -0.263034 d2 0 1\n2 > -0.847996 d1 0 2\n",
+    )
+}
+
+#[test]
+fn queries_that_are_refused(rt: HostRuntime) -> Result<(), Fail> {
+    let rows: [(&str, &[u8]); 8] = [
+        ("#weight(0 a 0 b)", b"refused Check NoWeight\n"),
+        (
+            "#weight(1.073741823 #weight(1.073741823 a 0.000000001 b) 0.000000001 c)",
+            b"refused Check ScaleTooLarge\n",
+        ),
+        (
+            "#combine(a #filreq(b c))",
+            b"refused Query FilterInside 11\n",
+        ),
+        ("#weight(1234567 a)", b"refused Query WeightTooLong 8\n"),
+        ("#prior(length)", b"refused Query NotYetBuilt 0\n"),
+        ("a.(title)", b"refused Query NotYetBuilt 0\n"),
+        ("#combine[title](a)", b"refused Query NotYetBuilt 0\n"),
+        ("#filreq(a b)", b"refused Query NotYetBuilt 0\n"),
+    ];
+    for (text, lines) in rows {
+        assert_query(&rt, TWO, text, Status::QueryRefused, lines)?;
+    }
+    Ok(())
 }
 
 /// A document with this text so many times, and behind it one of the word `a`.

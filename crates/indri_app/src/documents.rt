@@ -6,29 +6,11 @@ ghost use Rattle.extent_lists.specs.Listed.{extent_list};
 ghost use Rattle.indri_app.specs.Scan.{document_lines, extent_lines, line};
 
 use crate::lines::document_refused_line;
-use extent_lists::extents_in;
-use memory_index::{MemIndex, MemRefusal};
-use ri_base::{Doc, Extent, ExtentExpr, Extents, NoMemory, Postings, Sealed};
+use extent_lists::extents_of;
+use ri_base::{Doc, Extent, ExtentExpr, Extents, NoMemory};
 use std::alloc::{AllocError, Global};
 use tokens::{TokenRefusal, doc_of};
 use trec_reader::RawDoc;
-
-/// The index of one document.
-fn sealed(alloc: Global, doc: Doc) -> Result<Sealed, NoMemory>
-    ensures { IfOk result (λ s. s ≡ doc ∷ []) }
-{
-    let mut index = MemIndex::new(alloc, 1)?;
-    match index.add(alloc, &doc) {
-        Ok(_) => {}
-        Err(MemRefusal::IndexFull) => unreachable!(),
-        Err(MemRefusal::Memory) => return Err(AllocError),
-    }
-    drop(doc);
-    match index.seal(alloc) {
-        Ok(sealed) => Ok(sealed),
-        Err(_) => Err(AllocError),
-    }
-}
 
 fn push_line(alloc: Global, lines: &mut Vec<u8>, docno: &[u8], x: Extent) -> Result<(), NoMemory>
     ensures { OnOk result (lines.new.items ≡ lines.old.items ++ line docno.now x) }
@@ -59,9 +41,8 @@ fn extent_lines(alloc: Global, docno: &[u8], found: &Extents) -> Result<Vec<u8>,
 fn lines_of(alloc: Global, expr: &ExtentExpr, doc: Doc) -> Result<Vec<u8>, NoMemory>
     ensures { IfOk result (λ lines. lines.items ≡ extent_lines doc.docno (extent_list (expr_tree expr.now) doc)) }
 {
-    let mut index = sealed(alloc, doc)?;
-    let found = extents_in(alloc, expr, &mut index, 0)?;
-    extent_lines(alloc, index.docno(0).as_bytes(), &found)
+    let found = extents_of(alloc, expr, &doc)?;
+    extent_lines(alloc, doc.docno().as_bytes(), &found)
 }
 
 /// The lines of a document, and whether it is refused: one for each extent of the expression, or the refusal's.

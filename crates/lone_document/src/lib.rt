@@ -1,0 +1,9 @@
+//! One document alone, as a part of the collection.
+#![tactic(auto)]
+
+mod known;
+mod lone_document;
+#[cfg(test)]
+mod tests;
+
+pub use lone_document::LoneDocument;

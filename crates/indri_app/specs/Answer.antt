@@ -22,9 +22,9 @@ most_shown = 10
 abbrev pub first_lines : CheckedTree → List Hit → List Line
 first_lines q ranking = lines_of q.scale (take most_shown ranking)
 
--- the lines of refusals, and behind them those of the first results
-abbrev pub query_text : List ℕ → CheckedTree → List Hit → List ℕ
-query_text bytes q ranking = (collection [] (read bytes)).lines ++ lines_text (first_lines q ranking)
+-- what a query writes: the lines of refusals, and behind them those of the first results
+abbrev pub query_output : List ℕ → CheckedTree → List Hit → List ℕ
+query_output bytes q ranking = (collection [] (read bytes)).lines ++ lines_text (first_lines q ranking)
 
 -- a ranking of these documents, and the order of its first lines is true of the beliefs behind it
 pub record IsResult (mu : ℕ) (q : CheckedTree) (docs : List Document) (ranking : List Hit) : Type 0 where
@@ -33,11 +33,11 @@ pub record IsResult (mu : ℕ) (q : CheckedTree) (docs : List Document) (ranking
 
 -- the lines of refusals and those of the first results of the documents that are accepted are written
 abbrev pub IsAnswered : ℕ → CheckedTree → List ℕ → Option (List ℕ) → Option (List ℕ) → Type 0
-IsAnswered mu q bytes before now = (ranking : List Hit) × IsResult mu q (collection [] (read bytes)).documents ranking × Writes before now (query_text bytes q ranking)
+IsAnswered mu q bytes before now = (ranking : List Hit) × IsResult mu q (collection [] (read bytes)).documents ranking × Writes before now (query_output bytes q ranking)
 
 -- a front of them is written
 abbrev pub IsPartAnswered : ℕ → CheckedTree → List ℕ → Option (List ℕ) → Option (List ℕ) → Type 0
-IsPartAnswered mu q bytes before now = (ranking : List Hit) × IsResult mu q (collection [] (read bytes)).documents ranking × WritesFront before now (query_text bytes q ranking)
+IsPartAnswered mu q bytes before now = (ranking : List Hit) × IsResult mu q (collection [] (read bytes)).documents ranking × WritesFront before now (query_output bytes q ranking)
 
 -- the whole text of the command is written, and something was refused or not
 abbrev pub Finished : Command → Bool → List ℕ → Option (List ℕ) → Option (List ℕ) → Type 0
@@ -50,6 +50,6 @@ Begun (scan_for x) bytes before now = WritesFront before now (scan_text x bytes)
 Begun (rank_by mu q) bytes before now = WritesFront before now (collection [] (read bytes)).lines ⊎ IsPartAnswered mu q bytes before now
 
 -- so it is, and behind it the last line of a run whose source failed
-abbrev pub Failed : Command → List ℕ → Option (List ℕ) → Option (List ℕ) → ℕ → ℕ → Type 0
-Failed (scan_for x) bytes before now count_before count_now = WritesFault before now (scan_text x bytes) count_before count_now
-Failed (rank_by mu q) bytes before now count_before count_now = WritesFault before now (collection [] (read bytes)).lines count_before count_now
+abbrev pub EndsInReadFault : Command → List ℕ → Option (List ℕ) → Option (List ℕ) → ℕ → ℕ → Type 0
+EndsInReadFault (scan_for x) bytes before now count_before count_now = WritesFault before now (scan_text x bytes) count_before count_now
+EndsInReadFault (rank_by mu q) bytes before now count_before count_now = WritesFault before now (collection [] (read bytes)).lines count_before count_now

@@ -35,19 +35,19 @@ starts_with_zero [] = false
 starts_with_zero (c ∷ cs) = c == 48
 
 -- digits without a leading zero
-abbrev pub is_number : List ℕ → Bool
-is_number text = list_all is_digit text && not (starts_with_zero text)
+abbrev pub has_number_form : List ℕ → Bool
+has_number_form text = list_all is_digit text && not (starts_with_zero text)
 
 abbrev pub is_mu : ℕ → Bool
 is_mu n = nat_le 1 n && nat_le n MAX_MU
 
 abbrev pub mu_of : List ℕ → Option ℕ
-mu_of text = if is_number text && is_mu (value_from 0 text) then Some (value_from 0 text) else None
+mu_of text = if has_number_form text && is_mu (value_from 0 text) then Some (value_from 0 text) else None
 
 -- the text of a scan, where the words are one
-abbrev pub scan_text_of : List (List ℕ) → Option (List ℕ)
-scan_text_of (folder ∷ verb ∷ text ∷ []) = if bytes_eq verb (codes "scan") then Some text else None
-scan_text_of _ = None
+abbrev pub scan_words_of : List (List ℕ) → Option (List ℕ)
+scan_words_of (folder ∷ verb ∷ text ∷ []) = if bytes_eq verb (codes "scan") then Some text else None
+scan_words_of _ = None
 
 -- the mu of the words --mu N
 abbrev pub option_mu : List ℕ → List ℕ → Option ℕ
@@ -73,14 +73,14 @@ abbrev pub query_read : ℕ → Result QueryTree (QueryKind × ℕ) → Result C
 query_read mu (Ok q) = if is_plain_query q then query_checked mu (checks q []) else Err (bad_text NotYetBuilt 0)
 query_read mu (Err fault) = Err (bad_text fault.0 fault.1)
 
-abbrev pub read_words : Option (List ℕ) → Option (ℕ × List ℕ) → Option (Result Command Fault)
-read_words (Some text) query = Some (scan_read (expr_text text))
-read_words None (Some words) = Some (query_read words.0 (query_text words.1))
-read_words None None = None
+abbrev pub asked_by : Option (List ℕ) → Option (ℕ × List ℕ) → Option (Result Command Fault)
+asked_by (Some text) query = Some (scan_read (expr_text text))
+asked_by None (Some words) = Some (query_read words.0 (query_text words.1))
+asked_by None None = None
 
 -- what the words ask for: nothing, where they are no command; a command; or the fault of its text
 abbrev pub asked : List (List ℕ) → Option (Result Command Fault)
-asked words = read_words (scan_text_of words) (query_words_of words)
+asked words = asked_by (scan_words_of words) (query_words_of words)
 
 -- the words ask for a command, of which P holds
 abbrev pub AsksFor : Option (Result Command Fault) → (Command → Type 0) → Type 0

@@ -2,7 +2,7 @@
 ghost use Rattle.std.specs.Prelude.{option_map, ◌≡◌, ◌<◌, ◌≤◌, MatchOption, IfSome, Some, ℕ, List, true, false};
 ghost use Rattle.smoothing.specs.Fractions.{IsMu};
 ghost use Rattle.query_reader.specs.Parts.{value_from};
-ghost use Rattle.indri_app.specs.Command.{is_mu, is_number, mu_of, option_mu, query_words_of, scan_text_of, starts_with_zero};
+ghost use Rattle.indri_app.specs.Command.{is_mu, has_number_form, mu_of, option_mu, query_words_of, scan_words_of, starts_with_zero};
 ghost use Rattle.std.specs.List.{list_all};
 ghost use Rattle.ri_base.specs.Ascii.{is_digit};
 
@@ -14,8 +14,8 @@ use smoothing::MAX_MU;
 const DEFAULT_MU: u32 = 2500;
 
 /// The text of a scan, where the words are `FOLDER scan TEXT`.
-pub fn scan_text_of(words: &ArgList) -> Option<&str>
-    ensures { option_map (λ text. text.now) result ≡ scan_text_of words.now }
+pub fn scan_words_of(words: &ArgList) -> Option<&str>
+    ensures { option_map (λ text. text.now) result ≡ scan_words_of words.now }
 {
     if words.len() != 3 {
         return None;
@@ -26,8 +26,8 @@ pub fn scan_text_of(words: &ArgList) -> Option<&str>
 }
 
 /// Whether these are digits without a leading zero.
-fn is_number(text: &[u8]) -> bool
-    ensures { result ≡ is_number text.now }
+fn has_number_form(text: &[u8]) -> bool
+    ensures { result ≡ has_number_form text.now }
 {
     are_digits(text) && !starts_with_zero(text)
 }
@@ -66,7 +66,7 @@ fn mu_of(text: &str) -> Option<u32>
     ensures { result ≡ mu_of text.now }
 {
     let digits = text.as_bytes();
-    if is_number(digits) {
+    if has_number_form(digits) {
         mu_value(digits)
     } else {
         None

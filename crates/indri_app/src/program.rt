@@ -7,7 +7,7 @@ ghost use Rattle.smoothing.specs.Fractions.{IsMu};
 ghost use Rattle.std.specs.List.{list_all};
 ghost use Rattle.full_ranking.specs.Counts.{is_plain};
 ghost use Rattle.query_check.specs.Answers.{whole_checked};
-ghost use Rattle.indri_app.specs.Answer.{Begun, Failed, Finished};
+ghost use Rattle.indri_app.specs.Answer.{Begun, EndsInReadFault, Finished};
 ghost use Rattle.indri_app.specs.Collection.{collection};
 ghost use Rattle.indri_app.specs.Gathered.{IsGathered};
 ghost use Rattle.indri_app.specs.Shown.{Shows, ShowsFront};
@@ -20,7 +20,7 @@ ghost use Rattle.indri_app.specs.Scan.{has_refusal, refusal_line, scan_text};
 use crate::Status;
 use crate::answer::ranking_text;
 use crate::collection::{MOST_DOCUMENTS, gather_documents};
-use crate::command::{query_words_of, scan_text_of};
+use crate::command::{query_words_of, scan_words_of};
 use crate::lines::{check_line, query_line, refusal_line};
 use crate::query_text::{TextFault, read_checked};
 use crate::scan::{Stop, scan_documents};
@@ -250,7 +250,7 @@ fn query<S: Source, K: Sink>(
     ensures front { result ≢ Status.ReadFault → IfSome (S.left source.old) (λ bytes.
         Begun (rank_by mu (whole_checked checked.now)) bytes (K.taken sink.old) (K.taken sink.new)) }
     ensures fault_line { result ≡ Status.ReadFault → IfSome (S.left source.old) (λ bytes.
-        Failed (rank_by mu (whole_checked checked.now)) bytes (K.taken sink.old) (K.taken sink.new) (K.faults sink.old) (K.faults sink.new)) }
+        EndsInReadFault (rank_by mu (whole_checked checked.now)) bytes (K.taken sink.old) (K.taken sink.new) (K.faults sink.old) (K.faults sink.new)) }
 
     ensures command { (result ≢ Status.Usage) × (result ≢ Status.QueryRefused) }
     ensures read { result ≡ Status.ReadFault → Rose (S.faults source.old) (S.faults source.new) }
@@ -303,12 +303,12 @@ pub fn run<S: Source, K: Sink>(
     ensures front { result ≢ Status.ReadFault → IfAsksFor (asked words.now) (λ command. IfSome (S.left source.old) (λ bytes.
         Begun command bytes (K.taken sink.old) (K.taken sink.new))) }
     ensures fault_line { result ≡ Status.ReadFault → IfAsksFor (asked words.now) (λ command. IfSome (S.left source.old) (λ bytes.
-        Failed command bytes (K.taken sink.old) (K.taken sink.new) (K.faults sink.old) (K.faults sink.new))) }
+        EndsInReadFault command bytes (K.taken sink.old) (K.taken sink.new) (K.faults sink.old) (K.faults sink.new))) }
 
     ensures layers { S.layers source.new ≡ S.layers source.old }
     ensures held { S.held source.new ≡ S.held source.old }
 {
-    if let Some(text) = scan_text_of(words) {
+    if let Some(text) = scan_words_of(words) {
         return match read_expr(alloc, text) {
             Ok(expr) => scan(alloc, &expr, source, sink),
             Err(QueryFault::Refused { kind, place }) => {

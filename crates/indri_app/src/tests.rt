@@ -18,15 +18,16 @@ fn words_of(alloc: Global, texts: &[&str]) -> Result<ArgList, Fail> {
     Ok(words)
 }
 
-/// What a scan for `a` answers and writes, where the input comes in pieces and these calls fail.
-fn scanned(
+/// What these words answer and write, where the input comes in pieces and these calls fail.
+fn answered(
     alloc: Global,
+    texts: &[&str],
     input: &[u8],
     piece: usize,
     read_fails: &[u64],
     write_fails: &[SinkFail],
 ) -> Result<(Status, Vec<u8>), Fail> {
-    let words = words_of(alloc, &[".", "scan", "a"])?;
+    let words = words_of(alloc, texts)?;
     let mut source = MemSource::new(
         input.to_vec(alloc)?,
         piece.max(1),
@@ -36,6 +37,24 @@ fn scanned(
     let status = run(alloc, &words, &mut source, &mut sink);
     let text = sink.bytes().to_vec(alloc)?;
     Ok((status, text))
+}
+
+/// What a scan for `a` answers and writes.
+fn scanned(
+    alloc: Global,
+    input: &[u8],
+    piece: usize,
+    read_fails: &[u64],
+    write_fails: &[SinkFail],
+) -> Result<(Status, Vec<u8>), Fail> {
+    answered(
+        alloc,
+        &[".", "scan", "a"],
+        input,
+        piece,
+        read_fails,
+        write_fails,
+    )
 }
 
 #[test]
@@ -208,6 +227,31 @@ fn writes_that_fail(rt: HostRuntime) -> Result<(), Fail> {
     let third = SinkFail { call: 3, taken: 0 };
     let (status, _) = scanned(alloc, TWO, 9, &[], &[third])?;
     assert_eq!(rt; status, Status::Done);
+    Ok(())
+}
+
+#[test]
+fn queries_whose_ends_fail(rt: HostRuntime) -> Result<(), Fail> {
+    let alloc = rt.alloc();
+    let words = [".", "query", "--mu", "1", "a"];
+    let input = b"<DOC><DOCNO>d1</DOCNO>a</DOC><DOC><DOCNO>d1</DOCNO>a</DOC>";
+    let whole = b"refused Repeated d1\n1 - -0.000000 d1 0 1\n";
+    let (status, text) = answered(alloc, &words, input, 40, &[2], &[])?;
+    assert_eq!(rt; status, Status::ReadFault);
+    assert_eq!(rt; text.as_slice(), b"fault read\n".as_slice());
+    for taken in [0, 1, 99] {
+        let line = SinkFail { call: 1, taken };
+        let (status, text) = answered(alloc, &words, input, 40, &[], &[line])?;
+        assert_eq!(rt; status, Status::WriteFault);
+        assert_eq!(rt; text.as_slice(), &whole[..taken.min(20)]);
+        let ranking = SinkFail { call: 2, taken };
+        let (status, text) = answered(alloc, &words, input, 40, &[], &[ranking])?;
+        assert_eq!(rt; status, Status::WriteFault);
+        assert_eq!(rt; text.as_slice(), &whole[..20 + taken.min(21)]);
+    }
+    let (status, text) = answered(alloc, &words, input, 40, &[], &[])?;
+    assert_eq!(rt; status, Status::SomeRefused);
+    assert_eq!(rt; text.as_slice(), whole.as_slice());
     Ok(())
 }
 

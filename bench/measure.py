@@ -17,8 +17,8 @@ The inputs are made in a temporary folder, the same ones each time. Without a gr
     windows       one document of 1,000,000 tokens, half of which are words of the windows
 
 A time is the best of the rounds. Times of which a ratio is printed are taken in the same rounds, one after the other.
-Peak memory is that of the whole process, so all of the text that it holds is counted in it. It can't be seen where it is
-below some MiB, that of the small process that starts the program. A row shows its bound where there is one. The status
+Peak memory is that of the whole process, so what it holds of the text is counted in it. Below some 5 MiB it can't be
+told, since the small process that starts the program has as much. A row shows its bound where there is one. The status
 is 1 where a row is above its bound or the program ends with a status that isn't expected.
 """
 import argparse
@@ -179,9 +179,9 @@ class Table:
         self.folder = folder
         self.is_within = True
 
-    def best(self, path, *commands, statuses=(0,)):
-        """The best time of each of the commands on this input."""
-        rounds = [[seconds(command, path, statuses) for command in commands] for _ in range(self.rounds)]
+    def best(self, runs, statuses=(0,)):
+        """The best time of each of these runs, which are a command with the file of its input."""
+        rounds = [[seconds(command, path, statuses) for command, path in runs] for _ in range(self.rounds)]
         return [min(times) for times in zip(*rounds)]
 
     def at_most(self, shown, value, bound):
@@ -196,6 +196,7 @@ class Table:
 
 
 def exponent(sizes, times):
+    """The slope of log time over log size, by least squares."""
     xs, ys = [math.log(size) for size in sizes], [math.log(taken) for taken in times]
     x, y = sum(xs) / len(xs), sum(ys) / len(ys)
     return sum((a - x) * (b - y) for a, b in zip(xs, ys)) / sum((a - x) ** 2 for a in xs)
@@ -205,20 +206,18 @@ def exponent(sizes, times):
 
 
 def measure_newswire(table, command):
-    commands = [program(command, text) for text in TEXTS]
-    sizes, times = (8, 16, 32), []
-    path = table.folder / "newswire"
-    for size in sizes:
+    paths = {size: table.folder / f"newswire{size}" for size in (8, 16, 24, 32)}
+    for size, path in paths.items():
         newswire(path, size * MIB)
-        times.append(table.best(path, *commands))
-    newswire(path, 24 * MIB)
-    count, *found = table.best(path, COUNT, *commands)
-    for text, words, taken, grown in zip(TEXTS, commands, found, zip(*times)):
+    path = paths.pop(24)
+    for text in TEXTS:
+        words = program(command, text)
+        count, taken, *grown = table.best([(COUNT, path), (words, path), *((words, other) for other in paths.values())])
         table.row(
             f"{command} {text}, newswire 24 MiB",
             f"{path.stat().st_size / taken / 1e6:6.1f} MB/s",
             f"{taken / count:5.2f} times wc -w",
-            f"exponent {exponent(sizes, grown):4.2f}",
+            f"exponent {exponent(paths, grown):4.2f}",
             f"peak {peak_memory(words, path):4.0f} MiB",
         )
 
@@ -232,33 +231,28 @@ def measure_query(table):
 
 
 def measure_thin(table):
-    commands = [program(command, "rain") for command in COMMANDS]
-    path = table.folder / "thin"
-    halves = None
-    for size in (32, 64):
-        thin(path, size * MIB)
-        count, *found = table.best(path, COUNT, *commands)
-        for i, (command, taken) in enumerate(zip(COMMANDS, found)):
-            ratio = taken / count
-            cells = [f"{taken:7.3f} s", table.at_most(f"{ratio:5.2f} times wc -w", ratio, THIN_TO_COUNT)]
-            if halves:
-                grown = taken / halves[i]
-                cells.append(table.at_most(f"{grown:4.2f} times that of 32 MiB", grown, THIN_TO_HALF))
-            table.row(f"{command} rain, thin {size} MiB", *cells)
-        halves = found
+    half, whole = table.folder / "thin32", table.folder / "thin64"
+    thin(half, 32 * MIB)
+    thin(whole, 64 * MIB)
+    for command in COMMANDS:
+        words = program(command, "rain")
+        times = table.best([(COUNT, half), (words, half), (COUNT, whole), (words, whole)])
+        half_count, half_taken, whole_count, whole_taken = times
+        for size, taken, count in ((32, half_taken, half_count), (64, whole_taken, whole_count)):
+            cell = table.at_most(f"{taken / count:5.2f} times wc -w", taken / count, THIN_TO_COUNT)
+            table.row(f"{command} rain, thin {size} MiB", f"{taken:7.3f} s", cell)
+        grown = whole_taken / half_taken
+        table.row(f"{command} rain, thin 64 MiB to 32 MiB", table.at_most(f"{grown:7.2f} times", grown, THIN_TO_HALF))
 
 
 def measure_hostile(table):
-    commands = [program(command, "rain") for command in COMMANDS]
-    path = table.folder / "hostile"
-    one_document(path, repeated(PLAIN, 8 * MIB))
-    plain = table.best(path, *commands, statuses=(0, 3))
-    for command, taken in zip(COMMANDS, plain):
-        table.row(f"{command} rain, 8 MiB of text", f"{taken:7.3f} s")
+    plain, path = table.folder / "plain", table.folder / "hostile"
+    one_document(plain, repeated(PLAIN, 8 * MIB))
     for mark in (*MARKS, "<a>"):
         one_document(path, repeated(mark, 8 * MIB))
-        found = table.best(path, *commands, statuses=(0, 3))
-        for command, taken, text in zip(COMMANDS, found, plain):
+        for command in COMMANDS:
+            words = program(command, "rain")
+            text, taken = table.best([(words, plain), (words, path)], statuses=(0, 3))
             shown = f"{taken / text:5.2f} times text"
             cell = table.at_most(shown, taken / text, HOSTILE_TO_TEXT) if mark in MARKS else shown
             table.row(f"{command} rain, 8 MiB of '{mark}'", f"{taken:7.3f} s", cell)
@@ -266,11 +260,11 @@ def measure_hostile(table):
 
 def measure_fields(table):
     path = table.folder / "fields"
-    for in_order, name in ((False, "the last one first"), (True, "in the order of opening")):
+    for in_order, name in ((False, "last first"), (True, "as opened")):
         one_document(path, nested_fields(65_535, in_order))
         for command in COMMANDS:
-            (taken,) = table.best(path, program(command, "x.f9"))
-            table.row(f"{command} x.f9, fields closed {name}", f"{taken:7.3f} s")
+            (taken,) = table.best([(program(command, "x.f9"), path)])
+            table.row(f"{command} x.f9, 65,535 fields, closed {name}", f"{taken:7.3f} s")
 
 
 def measure_large(table):
@@ -295,7 +289,7 @@ def measure_many(table):
     path = table.folder / "many"
     short_documents(path, documents, words)
     query = program("query", "the rain launch")
-    scan, taken = table.best(path, program("scan", "rain"), query)
+    scan, taken = table.best([(program("scan", "rain"), path), (query, path)])
     ratio = taken / scan
     peak = peak_memory(query, path)
     token = peak * MIB / (documents * words)
@@ -313,7 +307,8 @@ def measure_windows(table):
     for words, name in ((mixed(1_000_000), "mixed"), (in_runs(1_000_000), "in runs")):
         one_document(path, in_lines(words))
         for command in COMMANDS:
-            for text, taken in zip(WINDOWS, table.best(path, *(program(command, text) for text in WINDOWS))):
+            for text in WINDOWS:
+                (taken,) = table.best([(program(command, text), path)])
                 cell = table.at_most(f"{taken:7.3f} s", taken, WINDOW_SECONDS)
                 table.row(f"{command} {text}, 1,000,000 tokens {name}", cell)
 

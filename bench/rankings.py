@@ -1,24 +1,24 @@
 #!/usr/bin/env python3
 """What `query` must print for a table of rankings, worked out apart from the program.
 
-usage: bench/rankings.py < bench/rankings.cases
+usage: bench/rankings.py
 
-bench/rankings.cases has the cases, and bench/rankings.lines what this script prints of them. No program is compared with
-them yet.
+It reads the cases in crates/ranking_table/stdin and writes their lines to crates/ranking_table/stdout. These two files
+are what the program ranking_table is run on and what it must print, so `rt ci` compares the program with them.
 
-A case is some lines of standard input, and the line `query` ends it:
+A case is some lines, and the line `query` ends it:
 
     # what the case shows
     mu 7                                              where it isn't 2500
     text <DOC><DOCNO>d1</DOCNO>a b</DOC>              TREC text, as many lines as wanted; each has a line feed behind it
     query #combine(a b)
 
-Each line is printed as it stands. Behind the line `query` stand the lines that the program must write for this text and
+Each line is written as it stands. Behind the line `query` stand the lines that the program must write for this text and
 this query, and the exit status. Text and query are read by small readers of their own, which stop at a form that no
-case needs. On standard error stands how many cases there are, and how many statements were checked of them.
+case needs. Printed is how many cases there are, and how many statements were checked of them.
 
-How the figures were computed. Everything is by the definitions, in whole numbers, and nothing was taken from the
-program or its output:
+How the figures were computed. Everything is by the definitions, in exact whole numbers. No code is shared with the
+program, and nothing was taken from it or its output:
 
 - Extents: all positions, all chains and all windows are tried. Counts are sums over all documents.
 - A leaf's fraction is p = 2 W tf + mu B over q = 2 W (len + mu), not reduced, with B = max(2 cf, 1) and
@@ -47,7 +47,9 @@ from dataclasses import dataclass, field
 from fractions import Fraction
 from functools import cache
 from math import gcd, lcm, prod
+from pathlib import Path
 
+TABLE = Path(__file__).resolve().parent.parent / "crates/ranking_table"
 LEVEL = 40
 MOST_LINES = 10
 MILLION = 10**6
@@ -585,24 +587,29 @@ def answer(case, query):
     return [*refusals, *ranking(tree, documents, case.mu), f"status {3 if refusals else 0}"]
 
 
-def main():
+def lines_of(text):
+    """The lines of all cases, each with what is to be written behind it."""
     case = Case()
-    for line in sys.stdin:
-        line = line.rstrip("\n")
-        print(line)
+    for line in text.removesuffix("\n").split("\n"):
+        yield line
         word, _, rest = line.partition(" ")
         if word == "mu":
             case.mu = int(rest)
         elif word == "text":
             case.text += rest + "\n"
         elif word == "query":
-            print("\n".join(answer(case, rest)))
+            yield from answer(case, rest)
             checked["cases"] += 1
             case = Case()
         else:
             assert word in ("", "#"), f"no line of a case: {line}"
+
+
+def main():
+    lines = list(lines_of((TABLE / "stdin").read_text()))
+    (TABLE / "stdout").write_text("\n".join(lines) + "\n")
     for statement, count in checked.items():
-        print(f"{count:6} {statement}", file=sys.stderr)
+        print(f"{count:6} {statement}")
 
 
 if __name__ == "__main__":

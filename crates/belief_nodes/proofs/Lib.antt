@@ -8,5 +8,4 @@ pub mod Sizes
 pub mod Levels
 pub mod Walks
 pub mod LeafBeliefs
-pub mod Priors
 mod Vectors

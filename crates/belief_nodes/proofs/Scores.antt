@@ -42,12 +42,12 @@ scored_upper n r k e m s h less half = elim (cases_lt (r.q ^ m) (2 ^ ((s + 2) * 
 ]
 
 module _ (t : ScaledTree) (beliefs : List Ratio) (h : All IsBelief beliefs) where
-  pub score_lower : 2 ^ (score (key_at LAST beliefs t) (scale t) * scale t) * (product beliefs t).p ^ 1000000 ≤ (product beliefs t).q ^ 1000000
+  pub score_lower : 2 ^ (score (scale t) (key_at LAST beliefs t) * scale t) * (product beliefs t).p ^ 1000000 ≤ (product beliefs t).q ^ 1000000
   score_lower =
       scored_lower (2 ^ LAST) _ _ _ 1000000 _ (pow_pos LAST) (key_encloses_lem t beliefs LAST h (omega arith))
       (div-mul-le_self (key_at LAST beliefs t * 1000000) (scale t * 2 ^ LAST))
 
-  pub score_upper : 0 < scale t → (product beliefs t).q ^ 1000000 < 2 ^ ((score (key_at LAST beliefs t) (scale t) + 2) * scale t) * (product beliefs t).p ^ 1000000
+  pub score_upper : 0 < scale t → (product beliefs t).q ^ 1000000 < 2 ^ ((score (scale t) (key_at LAST beliefs t) + 2) * scale t) * (product beliefs t).p ^ 1000000
   score_upper some =
       let z = key_at LAST beliefs t * 1000000 in
       let d = scale t * 2 ^ LAST in

@@ -35,5 +35,5 @@ unfolding greatest_of
 first_of_equal = refl
 
 -- log2(18 / 10) is 0.847996..
-sample_score : score 932382459075 1 ≡ 847996
+sample_score : score 1 932382459075 ≡ 847996
 sample_score = refl

@@ -9,6 +9,7 @@ use Rattle.query_check.specs.declared.tree.Tree.{Tree}
 use Rattle.query_check.specs.Kept.{is_below, are_below, are_weighted_below}
 use Rattle.query_check.specs.Scale.{scale, common, weighted_common, count, total, is_scaled, are_scaled, are_weighted_scaled}
 use Rattle.query_check.specs.Trees.{ScaledTree, ScaledTrees, WeightedScaledTrees, leaf, combine, weight, greatest, more, more_weighted, scaled_tree, scaled_trees, weighted_scaled_tree, weighted_scaled_trees}
+use Rattle.query_check.proofs.Combined.{parts_positive, le_times_left, le_times_right}
 use Rattle.query_check.proofs.MultipleLemmas.{lcm_left, lcm_right}
 use Rattle.query_check.proofs.Scales.{both_left, both_right, same_number}
 use Rattle.query_check.proofs.Walks.{drop_at, drop_end}
@@ -19,19 +20,6 @@ use Rattle.belief_nodes.proofs.Sizes.{share_size, sum_size, weighted_sum_size}
 pub leaf_fit : (n i : ℕ) → IsFit n (leaf i) → i < n
 unfolding is_below are_below are_weighted_below
 leaf_fit n i h = ltb-true i n h.numbered
-
-parts_positive : (a b : ℕ) → 0 < a * b → (0 < a) × (0 < b)
-parts_positive zero b h = absurd (omega (arith, h))
-parts_positive (suc a) zero h = absurd (omega (arith, h))
-parts_positive (suc a) (suc b) h = (omega arith, omega arith)
-
-le_times_left : (a b : ℕ) → 0 < a → b ≤ a * b
-le_times_left zero b h = absurd (omega arith)
-le_times_left (suc a) b h = omega arith
-
-le_times_right : (a b : ℕ) → 0 < b → a ≤ a * b
-le_times_right a zero h = absurd (omega arith)
-le_times_right a (suc b) h = omega arith
 
 -- an operator over arguments: the number before them, its quotient by the number of arguments or their weights, and
 -- what holds of the arguments

@@ -1,7 +1,8 @@
 -- The key of a query in one window: the digits of the logarithms of its leaves' beliefs, added up as the operators
--- say. The smaller the key, the greater the belief. With P / Q the product of the tree and E its scale, a key at
--- level k tells of the logarithm of (Q / P) ^ (2 ^ k) to base 2 that it is at least the key, and below the key and 2
--- * E. This is the project's own.
+-- say. With P / Q the product of the tree and E its scale, a key at level k tells of the logarithm of
+-- (Q / P) ^ (2 ^ k) to base 2 that it is at least the key, and below the key and 2 * E. So where two keys are apart by
+-- more than 2 * E, the smaller one is that of the greater belief. Keys that are nearer don't tell which belief is
+-- greater. This is the project's own.
 use Rattle.std.specs.Prelude.{ℕ, ◌*◌, ◌/◌, ◌^◌, min, List, [], ◌∷◌, map, fold, sum, slice_index}
 use Rattle.ri_base.specs.Ratio.{Ratio}
 use Rattle.log_chain.specs.Chain.{chain}
@@ -40,7 +41,7 @@ digits_at k beliefs = map (λ r. (chain r.p r.q k).digits) beliefs
 abbrev pub key_at : ℕ → List Ratio → ScaledTree → ℕ
 key_at k beliefs tree = key (digits_at k beliefs) tree
 
--- the score of a key at the last level, for a tree of scale e: the logarithm of the belief to base 2, without its
--- sign and in whole millionths
+-- the score of a key k at the last level, for a tree of scale e, in millionths. It is at most the logarithm to base 2
+-- of one over the belief, and less than two millionths below it.
 abbrev pub score : ℕ → ℕ → ℕ
-score k e = k * 1000000 / (e * 2 ^ LAST)
+score e k = k * 1000000 / (e * 2 ^ LAST)

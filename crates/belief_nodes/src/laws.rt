@@ -1,17 +1,14 @@
 //! What keys tell. A law is a function that does nothing: a caller calls it, and its proof then knows the clauses.
-ghost use Rattle.std.specs.Prelude.{◌≡◌, ℕ, ◌+◌, ◌*◌, ◌^◌, ◌<◌, ◌≤◌, true, List, [], All};
-ghost use Rattle.std.specs.List.{list_all};
-ghost use Rattle.ri_base.specs.Query.{BeliefTree};
+ghost use Rattle.std.specs.Prelude.{◌≡◌, ℕ, ◌+◌, ◌*◌, ◌^◌, ◌<◌, ◌≤◌, List, All};
 ghost use Rattle.ri_base.specs.Ratio.{Ratio, IsBelief};
 ghost use Rattle.ri_base.specs.declared.hit.LeafStats.{LeafStats};
 ghost use Rattle.smoothing.specs.Fractions.{IsMu};
 ghost use Rattle.smoothing.specs.declared.rule.RuleKind.TheVariants.{Dirichlet};
-ghost use Rattle.query_check.specs.Check.{priors, pruned, leaves_of};
 ghost use Rattle.query_check.specs.Scale.{scale};
 ghost use Rattle.query_check.specs.Trees.{ScaledTree};
 ghost use Rattle.belief_nodes.specs.Fractions.{leaf_fractions};
 ghost use Rattle.belief_nodes.specs.Keys.{key_at, score};
-ghost use Rattle.belief_nodes.specs.Leaves.{IsLeafCount, AreLeafStats, has_extents};
+ghost use Rattle.belief_nodes.specs.Leaves.{IsLeafCount, AreLeafStats};
 ghost use Rattle.belief_nodes.specs.Order.{IsGreater, IsSame, IsNear};
 ghost use Rattle.belief_nodes.specs.Products.{product};
 ghost use Rattle.belief_nodes.specs.declared.leaf_count.LeafCount.{LeafCount};
@@ -52,11 +49,11 @@ pub fn keys_of_same()
 /// `2 ^ (s * scale) ≤ (Q / P) ^ 1000000 < 2 ^ ((s + 2) * scale)`.
 pub fn key_scored()
     ensures lower { (t : ScaledTree) (beliefs : List Ratio) → All IsBelief beliefs
-        → 2 ^ (score (key_at LAST beliefs t) (scale t) * scale t) * (product beliefs t).p ^ 1000000
+        → 2 ^ (score (scale t) (key_at LAST beliefs t) * scale t) * (product beliefs t).p ^ 1000000
         ≤ (product beliefs t).q ^ 1000000 }
     ensures upper { (t : ScaledTree) (beliefs : List Ratio) → All IsBelief beliefs → 1 ≤ scale t
         → (product beliefs t).q ^ 1000000
-        < 2 ^ ((score (key_at LAST beliefs t) (scale t) + 2) * scale t) * (product beliefs t).p ^ 1000000 }
+        < 2 ^ ((score (scale t) (key_at LAST beliefs t) + 2) * scale t) * (product beliefs t).p ^ 1000000 }
 {}
 
 /// The key at one level tells between which bounds the key at each further level lies, and how large it is.
@@ -74,10 +71,4 @@ pub fn fractions_are_beliefs()
     ensures { (mu : ℕ) (counts : List LeafCount) (stats : List LeafStats) → IsMu mu
         → All IsLeafCount counts → All AreLeafStats stats
         → All IsBelief (leaf_fractions (Dirichlet mu) counts stats) }
-{}
-
-/// A query without priors has none among its leaves.
-pub fn leaves_have_extents()
-    ensures { (names : List (List ℕ)) (x : BeliefTree) → priors x ≡ []
-        → list_all has_extents (leaves_of names (pruned x)) ≡ true }
 {}

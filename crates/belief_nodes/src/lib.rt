@@ -8,7 +8,7 @@ mod network;
 
 pub use laws::{
     fractions_are_beliefs, key_encloses, key_levels, key_scored, keys_apart, keys_near,
-    keys_of_same, leaves_have_extents,
+    keys_of_same,
 };
 pub use leaf_count::LeafCount;
 pub use network::Network;

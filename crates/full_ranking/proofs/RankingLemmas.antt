@@ -1,5 +1,5 @@
 -- A sorted list of rows as the ranking that it stands for, and what each ranking keeps.
-use Rattle.std.proofs.Common.{◌≡◌, ◌<◌, ◌≤◌, ℕ, ◌+◌, Bool, true, false, not, ◌==◌, List, [], ◌∷◌, ◌++◌, length, map, filter, take, zip, Option, None, Some, get_or, unwrap_or, cond, refl, sym, ap, subst, ◌∙◌, arith}
+use Rattle.std.proofs.Common.{◌≡◌, ◌<◌, ◌≤◌, ℕ, ◌+◌, Bool, true, false, not, ◌==◌, List, [], ◌∷◌, ◌++◌, length, map, filter, take, zip, Option, None, Some, get_or, unwrap_or, cond, refl, sym, ap, subst, ◌∙◌, arith, append-nil}
 use Rattle.std.specs.List.{All, list_all}
 use Rattle.std.specs.List.Sorted.{IsPermutation, IsSortedBy}
 use Rattle.std.specs.Option.{option_map}
@@ -78,10 +78,6 @@ next_row kind leaves docs read i rows next row found h same so_far is told pushe
     ∙ sym (ap (λ cs. first_candidates kind leaves docs i ++ cs) (chosen (has_some leaves (document_at docs i)) (candidate kind leaves docs (document_at docs i)) (row_candidate row) there))
     ∙ sym (next_candidates kind leaves docs i h)
 
-append_none : {X : Type 0} (xs : List X) → xs ++ [] ≡ xs
-append_none [] = refl
-append_none (x ∷ xs) = ap (λ l. x ∷ l) (append_none xs)
-
 pub next_without : (kind : RuleKind) (leaves : List LeafTree) (docs read : List Document) (i : ℕ) (rows : List Row) (found : Option Row) → i < length docs → read ≡ docs
     → map row_candidate rows ≡ first_candidates kind leaves docs i → found ≡ None
     → option_map row_candidate found ≡ cond (has_some leaves (document_at read i)) (Some (candidate kind leaves read (document_at read i))) None
@@ -90,7 +86,7 @@ next_without kind leaves docs read i rows found h same so_far is told =
     let there : None ≡ cond (has_some leaves (document_at docs i)) (Some (candidate kind leaves docs (document_at docs i))) None =
     sym (ap (option_map row_candidate) is) ∙ told ∙ ap (λ (ds : List Document). cond (has_some leaves (document_at ds i)) (Some (candidate kind leaves ds (document_at ds i))) None) same in
     so_far
-    ∙ sym (append_none (first_candidates kind leaves docs i))
+    ∙ sym (append-nil (first_candidates kind leaves docs i))
     ∙ sym (ap (λ cs. first_candidates kind leaves docs i ++ cs) (not_chosen (has_some leaves (document_at docs i)) (candidate kind leaves docs (document_at docs i)) there))
     ∙ sym (next_candidates kind leaves docs i h)
 

@@ -106,7 +106,9 @@ fn assert_hit(rt: &impl Abort, hit: &Hit, docno: &str, end: u32, key: u128, beli
 #[test]
 fn two_documents(rt: HostRuntime) -> Result<(), Fail> {
     let texts = [("d1", "a b"), ("d2", "a")];
-    let hits = ranked(rt.alloc(), &texts, "a", 10)?.into_vec();
+    let hits = ranked(rt.alloc(), &texts, "a", 10)?
+        .clone_in(rt.alloc())?
+        .into_vec();
     assert_eq!(rt; hits.len(), 2);
     assert_hit(&rt, &hits[0], "d2", 1, 289_209_387_719, (10, 12));
     assert_hit(&rt, &hits[1], "d1", 2, 932_382_459_075, (10, 18));

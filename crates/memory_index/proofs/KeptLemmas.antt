@@ -8,6 +8,7 @@ use Rattle.std.proofs.lemmas.List.Folds.{list_any-append}
 use Rattle.ri_base.proofs.ListLemmas.{append_nil}
 use Rattle.std.proofs.lemmas.List.Sums.{sum_by-append}
 use Rattle.std.proofs.lemmas.List.Elements.{All-head, All-tail, All-append, All-weaker, All-push}
+use Rattle.std.proofs.Math.Bool.{or_comm}
 use Rattle.ri_base.specs.Collection.{field_names, names_of, token_count}
 use Rattle.ri_base.specs.Documents.{Document, IsDocument}
 use Rattle.ri_base.specs.Inversion.{AreNumbers, document_of, documents_of}
@@ -61,12 +62,6 @@ pub is_member-field_names : (docs : List Document) (d : Document) (q : List ℕ)
     → is_member bytes_eq (field_names (docs ++ d ∷ [])) q ≡ (is_member bytes_eq (field_names docs) q || is_member bytes_eq (names_of d.fields) q)
 is_member-field_names docs d q = ap (λ l. is_member bytes_eq l q) (field_names-push docs d) ∙ list_any-append (bytes_eq q) (field_names docs) (names_of d.fields)
 
-or_swap : (a b : Bool) → (a || b) ≡ (b || a)
-or_swap true true = refl
-or_swap true false = refl
-or_swap false true = refl
-or_swap false false = refl
-
 pub AreKept-more : (most held : ℕ) (old new names named : List (List ℕ)) (docs more : List Held) (doc : Document)
     → Holds old new names named docs more doc → AreKept most held old names docs → length docs < most
     → token_count (documents_of old docs) + length doc.tokens ≤ 67108864 → AreKept most (held + length doc.tokens) new named more
@@ -94,6 +89,6 @@ AreKept-more most held old new names named docs more doc h k room fits =
           (All-weaker (λ t. Occurs t D) (λ t. Occurs t (D ++ doc ∷ [])) (λ t p. Occurs-left t D (doc ∷ []) p) old k.used)
           (All-weaker (Contains doc.tokens) (λ t. Occurs t (D ++ doc ∷ [])) (λ t p. Occurs-last t D doc p) (drop (length old) new) h.tokens.used)));
       named = λ q. h.noted.together q ∙ ap (λ b. is_member bytes_eq (names_of doc.fields) q || b) (k.named q)
-          ∙ or_swap (is_member bytes_eq (names_of doc.fields) q) (is_member bytes_eq (field_names D) q)
+          ∙ or_comm (is_member bytes_eq (names_of doc.fields) q) (is_member bytes_eq (field_names D) q)
           ∙ sym (ap (λ ds. is_member bytes_eq (field_names ds) q) e ∙ is_member-field_names D doc q);
     }

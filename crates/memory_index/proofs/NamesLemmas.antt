@@ -11,6 +11,7 @@ use Rattle.std.proofs.lemmas.List.Sums.{length-filter}
 use Rattle.std.proofs.lemmas.Map.Keys.{IsDistinct-cons, IsDistinct-head, IsDistinct-tail}
 use Rattle.std.proofs.lemmas.Map.Made.{IsDistinct-from_AllPairs, is_member-Decides, is_member-filter, length-from_keys}
 use Rattle.std.proofs.lemmas.Slice.Eq.{bytes_eq-Decides}
+use Rattle.std.proofs.Math.Bool.{or_comm}
 use Rattle.std.proofs.Math.Seq.{take-length}
 use Rattle.indexmap.specs.IndexSet.{insert_key}
 use Rattle.ri_base.specs.Collection.{field_names, name_count, names_of}
@@ -126,12 +127,6 @@ AreNoted-names old new names fields h noted = record {
   together = λ q. noted.together q ∙ ap (λ b. b || is_member bytes_eq old q) (member_of_names names fields h q);
 }
 
-or_swap : (a b : Bool) → (a || b) ≡ (b || a)
-or_swap true true = refl
-or_swap true false = refl
-or_swap false true = refl
-or_swap false false = refl
-
 -- the names of the documents and the new ones of this document are as many as there are names together
 pub name_count-with : (ks ns : List (List ℕ)) (docs : List Document) (d : Document) → IsDistinct bytes_eq ks → AreNames ns d.fields
     → ((q : List ℕ) → is_member bytes_eq ks q ≡ is_member bytes_eq (field_names docs) q)
@@ -141,6 +136,6 @@ name_count-with ks ns docs d apart names named =
     let whole : length (fresh ks ns ++ ks) ≡ name_count (docs ++ d ∷ []) =
     length-from_keys nat_list_eq_equiv (fresh ks ns ++ ks) (field_names (docs ++ d ∷ [])) (distinct_together ks ns apart apart_too)
     (λ q. member_together ks ns q ∙ ap (λ b. b || is_member bytes_eq ks q) (member_of_names ns d.fields names q)
-    ∙ ap (λ b. is_member bytes_eq (names_of d.fields) q || b) (named q) ∙ or_swap (is_member bytes_eq (names_of d.fields) q) (is_member bytes_eq (field_names docs) q)
+    ∙ ap (λ b. is_member bytes_eq (names_of d.fields) q || b) (named q) ∙ or_comm (is_member bytes_eq (names_of d.fields) q) (is_member bytes_eq (field_names docs) q)
     ∙ sym (is_member-field_names docs d q)) in
     omega (arith, whole, length-append (fresh ks ns) ks, length-filter (λ n. not (is_member bytes_eq ks n)) ns)

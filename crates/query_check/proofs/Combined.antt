@@ -12,16 +12,16 @@ unfolding count
 count_is [] = refl
 count_is (x ∷ xs) = ap (λ n. 1 + n) (count_is xs) ∙ omega arith
 
-parts_positive : (a b : ℕ) → 0 < a * b → (0 < a) × (0 < b)
+pub parts_positive : (a b : ℕ) → 0 < a * b → (0 < a) × (0 < b)
 parts_positive zero b h = absurd (omega (arith, h))
 parts_positive (suc a) zero h = absurd (omega (arith, h))
 parts_positive (suc a) (suc b) h = (omega arith, omega arith)
 
-le_times : (a b : ℕ) → 0 < a → b ≤ a * b
-le_times zero b h = absurd (omega arith)
-le_times (suc a) b h = omega arith
+pub le_times_left : (a b : ℕ) → 0 < a → b ≤ a * b
+le_times_left zero b h = absurd (omega arith)
+le_times_left (suc a) b h = omega arith
 
-le_times_right : (a b : ℕ) → 0 < b → a ≤ a * b
+pub le_times_right : (a b : ℕ) → 0 < b → a ≤ a * b
 le_times_right a zero h = absurd (omega arith)
 le_times_right a (suc b) h = omega arith
 
@@ -49,7 +49,7 @@ module _ (xs : ScaledTrees) where
   combined_parts h = parts_positive (count xs) (common xs) (rw combined_scale at h)
 
   pub combined_common : 0 < scale (combined xs) → common xs ≤ scale (combined xs)
-  combined_common h = rw combined_scale (le_times (count xs) (common xs) (combined_parts h).0)
+  combined_common h = rw combined_scale (le_times_left (count xs) (common xs) (combined_parts h).0)
 
 module _ (xs : WeightedScaledTrees) where
   pub weighed_scale : scale (weighed xs) ≡ total xs * weighted_common xs
@@ -64,7 +64,7 @@ module _ (xs : WeightedScaledTrees) where
   weighed_parts h = parts_positive (total xs) (weighted_common xs) (rw weighed_scale at h)
 
   pub weighed_common : 0 < scale (weighed xs) → weighted_common xs ≤ scale (weighed xs)
-  weighed_common h = rw weighed_scale (le_times (total xs) (weighted_common xs) (weighed_parts h).0)
+  weighed_common h = rw weighed_scale (le_times_left (total xs) (weighted_common xs) (weighed_parts h).0)
 
   pub weighed_total : 0 < scale (weighed xs) → total xs ≤ scale (weighed xs)
   weighed_total h = rw weighed_scale (le_times_right (total xs) (weighted_common xs) (weighed_parts h).1)

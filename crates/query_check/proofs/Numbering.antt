@@ -18,6 +18,7 @@ use Rattle.query_check.specs.Scaling.{IsTooLarge}
 use Rattle.query_check.specs.declared.tree.Tree.{Tree}
 use Rattle.query_check.specs.declared.fault.CheckFault.{CheckFault}
 use Rattle.query_check.specs.declared.fault.CheckFault.TheVariants.{NoWeight, NoLeaf, ScaleTooLarge, UnknownPrior, Memory}
+use Rattle.query_check.proofs.Keeps.{test_same}
 use Rattle.query_check.proofs.MultipleLemmas.{lcm_parts, le_lcm_left, le_lcm_right}
 use Rattle.query_check.proofs.Walks.{drop_at, drop_end, weighted_kept, weighted_dropped}
 
@@ -163,9 +164,6 @@ total_none n (query.more_weighted w x xs) = rw (total_none (n + leaf_count x) xs
 pub divisor_positive : (d n : ℕ) (xs : WeightedTrees) → 0 < total (weighted_trees_from d n xs) → 0 < d
 divisor_positive zero n xs h = absurd (omega (arith, total_none n xs, h))
 divisor_positive (suc d) n xs h = omega arith
-
-test_same : (m n : ℕ) → m ≡ n → (m == n) ≡ true
-test_same m n e = rw e (grind (arith, nat_tests))
 
 mutual
   unfolding tree_from trees_from weighted_trees_from is_scaled are_scaled are_weighted_scaled combined weighed greatest_of

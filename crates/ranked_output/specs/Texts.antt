@@ -8,8 +8,8 @@ use Rattle.ranked_output.specs.declared.marks.Mark.{Mark}
 use Rattle.ranked_output.specs.declared.marks.Mark.TheVariants.{First, Below, Same, Near}
 use Rattle.ranked_output.specs.Marks.{mark_of}
 
--- The score of a key in millionths, cut. It is the logarithm to base 2 of one over the belief, of which the key has LAST
--- binary places, `scale` times as great.
+-- The score of a key in millionths, cut. The key has LAST binary places and is `scale` times as great. The score is at
+-- most the logarithm to base 2 of one over the belief, and less than two millionths below it.
 abbrev pub score : ℕ → ℕ → ℕ
 score scale key = key * 1000000 / (scale * 2 ^ LAST)
 

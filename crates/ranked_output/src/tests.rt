@@ -73,50 +73,56 @@ fn rankings(rt: HostRuntime) -> Result<(), Fail> {
     Ok(())
 }
 
+/// "a b" twice: the query a, and the same belief written in two ways.
+const SAME: [Found; 2] = [
+    (b"d1", 2, 1 << 40, &[(12, 24)]),
+    (b"d2", 2, 1 << 40, &[(1, 2)]),
+];
+
+/// "a a b" and "a b b": the query a b, whose beliefs change places, so that the keys are equal.
+const EXCHANGED: [Found; 2] = [
+    (b"d1", 3, 2_301_398_128_335, &[(30, 48), (18, 48)]),
+    (b"d2", 3, 2_301_398_128_335, &[(18, 48), (30, 48)]),
+];
+
+/// "a b" and "a c": the query a b, where b has so little weight that the keys are too near.
+const NEAR: [Found; 2] = [
+    (
+        b"d1",
+        2,
+        109_951_184_767_833_944_241_015_495,
+        &[(12, 24), (12, 24), (10, 24)],
+    ),
+    (
+        b"d2",
+        2,
+        109_951_184_767_836_497_227_954_683,
+        &[(12, 24), (12, 24), (2, 24)],
+    ),
+];
+
 #[test]
 fn near_rankings(rt: HostRuntime) -> Result<(), Fail> {
     let alloc = rt.alloc();
-    // "a b" twice: the query a, and the same belief written in two ways
     assert_lines(
         &rt,
         alloc,
         1,
-        [
-            (b"d1", 2, 1 << 40, &[(12, 24)]),
-            (b"d2", 2, 1 << 40, &[(1, 2)]),
-        ],
+        SAME,
         ["1 - -1.000000 d1 0 2\n", "2 = -1.000000 d2 0 2\n"],
     )?;
-    // "a a b" and "a b b": the query a b, whose beliefs change places, so that the keys are equal
     assert_lines(
         &rt,
         alloc,
         2,
-        [
-            (b"d1", 3, 2_301_398_128_335, &[(30, 48), (18, 48)]),
-            (b"d2", 3, 2_301_398_128_335, &[(18, 48), (30, 48)]),
-        ],
+        EXCHANGED,
         ["1 - -1.046554 d1 0 3\n", "2 ~ -1.046554 d2 0 3\n"],
     )?;
-    // "a b" and "a c": the query a b, where b has so little weight that the keys are too near
     assert_lines(
         &rt,
         alloc,
         100_000_020_000_001,
-        [
-            (
-                b"d1",
-                2,
-                109_951_184_767_833_944_241_015_495,
-                &[(12, 24), (12, 24), (10, 24)],
-            ),
-            (
-                b"d2",
-                2,
-                109_951_184_767_836_497_227_954_683,
-                &[(12, 24), (12, 24), (2, 24)],
-            ),
-        ],
+        NEAR,
         ["1 - -1.000000 d1 0 2\n", "2 ~ -1.000000 d2 0 2\n"],
     )
 }

@@ -13,15 +13,12 @@ use Rattle.std.specs.declared.cmp.Ordering.TheVariants.{Less}
 use Rattle.std.proofs.lemmas.List.Folds.{list_any-append}
 use Rattle.std.proofs.lemmas.List.Sorted.{list_any-IsPermutation, IsPermutation-reverse}
 use Rattle.std.proofs.lemmas.Slice.Eq.{bytes_eq-Decides}
+use Rattle.std.proofs.Math.Bool.{and-false}
 use Rattle.ri_base.specs.Documents.{Field}
 use Rattle.tokens.specs.Fields.{Opened, closed, closed_at, field_from, last_begin, without_last}
 use Rattle.tokens.specs.Open.{Keeps, begins_at, begins_of, named}
 use Rattle.tokens.specs.declared.open_fields.OpenFields.{OpenFields}
 use Rattle.tokens.proofs.SetLemmas.{has, same_field}
-
-and-false : (a : Bool) → (a && false) ≡ false
-and-false true = refl
-and-false false = refl
 
 -- the fields of one name
 more_named : (b e n r : Bool) → (((b && e) && n) || ((e && n) && r)) ≡ ((e && n) && (b || r))

@@ -12,6 +12,7 @@ use Rattle.std.proofs.lemmas.List.Elements.{All-from_recursion, All-weaker, recu
 use Rattle.std.proofs.lemmas.Map.Lookups.{btree_set_from_contains}
 use Rattle.std.proofs.lemmas.Map.Views.{All-insert_key, exact_unsigned_eq}
 use Rattle.std.proofs.lemmas.Slice.Eq.{bytes_eq-Decides}
+use Rattle.std.proofs.Math.Bool.{and-false}
 use Rattle.ri_base.specs.Documents.{Field}
 use Rattle.tokens.specs.Fields.{field_cmp, has_token, with_field, with_fields}
 
@@ -86,10 +87,6 @@ has_inserted q k (x ∷ xs) = elim (field_cmp k x) as (λ o. field_cmp k x ≡ o
   | Equal ↦ λ e. sym (or_twice (same_field q x) (has q xs)) ∙ ap (λ z. same_field q z || (same_field q x || has q xs)) (sym (exact_cmp k x e))
   | Greater ↦ λ e. ap (λ b. same_field q x || b) (has_inserted q k xs) ∙ or_swap (same_field q x) (same_field q k) (has q xs)
 ] refl
-
-and-false : (a : Bool) → (a && false) ≡ false
-and-false true = refl
-and-false false = refl
 
 -- a field that equals one with a token has a token
 token_of : (q f : Field) → (has_token q && same_field q f) ≡ (has_token f && same_field q f)

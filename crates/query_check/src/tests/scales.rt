@@ -90,60 +90,49 @@ fn weights_of_nothing(rt: HostRuntime) -> Result<(), Fail> {
     scales_to(&rt, a, large, 1, "c1(w1(1*0))")
 }
 
-#[test]
-fn nested(rt: HostRuntime) -> Result<(), Fail> {
-    let a = rt.alloc();
-    scales_to(&rt, a, "a #combine(b c)", 4, "c4(0 c2(1 2))")?;
-    scales_to(
-        &rt,
-        a,
-        "#combine(a b) #combine(c d)",
-        4,
-        "c4(c2(0 1) c2(2 3))",
-    )?;
-    scales_to(
-        &rt,
-        a,
+/// Queries with operators inside operators, their scales and their trees.
+const NESTED: [(&str, u64, &str); 9] = [
+    ("a #combine(b c)", 4, "c4(0 c2(1 2))"),
+    ("#combine(a b) #combine(c d)", 4, "c4(c2(0 1) c2(2 3))"),
+    (
         "#combine(a b c d) #combine(e f g h i j)",
         24,
         "c24(c4(0 1 2 3) c6(4 5 6 7 8 9))",
-    )?;
-    scales_to(
-        &rt,
-        a,
+    ),
+    (
         "#combine(a #combine(b c) #combine(d e f g))",
         12,
         "c12(c12(0 c2(1 2) c4(3 4 5 6)))",
-    )?;
-    scales_to(&rt, a, "#max(a #max(b c))", 1, "c1(m1(0 m1(1 2)))")?;
-    scales_to(
-        &rt,
-        a,
+    ),
+    ("#max(a #max(b c))", 1, "c1(m1(0 m1(1 2)))"),
+    (
         "#max(#combine(a b) #combine(c d e))",
         6,
         "c6(m6(c2(0 1) c3(2 3 4)))",
-    )?;
-    scales_to(
-        &rt,
-        a,
+    ),
+    (
         "#max(#max(#combine(a b)) #combine(c d e f))",
         4,
         "c4(m4(m2(c2(0 1)) c4(2 3 4 5)))",
-    )?;
-    scales_to(
-        &rt,
-        a,
+    ),
+    (
         "#weight(1 #combine(a b) 2 #combine(c d e))",
         18,
         "c18(w18(1*c2(0 1) 2*c3(2 3 4)))",
-    )?;
-    scales_to(
-        &rt,
-        a,
+    ),
+    (
         "#weight(2 #weight(3 a 6 b) 2 c)",
         6,
         "c6(w6(1*w3(1*0 2*1) 1*2))",
-    )
+    ),
+];
+
+#[test]
+fn nested(rt: HostRuntime) -> Result<(), Fail> {
+    for (text, scale, want) in NESTED {
+        scales_to(&rt, rt.alloc(), text, scale, want)?;
+    }
+    Ok(())
 }
 
 #[test]

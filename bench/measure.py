@@ -192,7 +192,7 @@ class Table:
         return f"{shown} above the bound {bound}"
 
     def row(self, name, *cells):
-        print(f"{name:<44}", "   ".join(cells), flush=True)
+        print(f"{name:<48}", "   ".join(cells), flush=True)
 
 
 def exponent(sizes, times):

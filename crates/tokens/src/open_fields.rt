@@ -35,10 +35,11 @@ impl OpenFields {
         ensures here { OnOk result (begins_at self.new name ≡ begin ∷ begins_at self.old name) }
         ensures others { OnOk result ((other : List ℕ) → bytes_eq other name ≡ false → begins_at self.new other ≡ begins_at self.old other) }
     {
-        let mut begins = match self.begins.remove(&name) {
-            Some(begins) => begins,
-            None => Vec::new(self.alloc),
-        };
+        if let Some(begins) = self.begins.get_mut(&name) {
+            begins.push(begin)?;
+            return Ok(());
+        }
+        let mut begins = Vec::new(self.alloc);
         begins.push(begin)?;
         self.begins.insert(name, begins)?;
         Ok(())

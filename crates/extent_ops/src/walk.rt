@@ -105,6 +105,7 @@ fn extent_from(from: Place, begin: u32, end: Option<u32>) -> Option<Extent>
 /// Whether an extent that begins there begins below `top`, and may end below the least end so far.
 fn may_be_less(begin: u32, top: u64, least: Option<u32>) -> bool
     ensures below { IsTrue result → begin < top }
+    ensures less { IsTrue result → (m : ℕ) → least ≡ Some m → begin < m }
     ensures not { result ≢ true → (top ≤ begin) ⊎ ((m : ℕ) × (least ≡ Some m) × (m ≤ begin)) }
 {
     if u64::from(begin) >= top {
@@ -177,6 +178,8 @@ impl Ahead {
         ensures later { IsTrue result → IsFrom self.now.from.begin self.now.from.end from.begin from.end }
         ensures none_between { IsTrue result →
             (x : Pair) → self.now.found ≡ Some x → IsFrom from.begin from.end x.begin x.end }
+        ensures all { self.now.is_asked ≡ true → IsFrom self.now.from.begin self.now.from.end from.begin from.end →
+            ((x : Pair) → self.now.found ≡ Some x → IsFrom from.begin from.end x.begin x.end) → IsTrue result }
     {
         if !self.is_asked || from.begin < self.from.begin {
             return false;
@@ -392,8 +395,9 @@ fn next_shortest(inner: &mut Box<Ahead>, from: Place) -> Option<Extent>
     None
 }
 
-/// Where both arguments are monotone they are asked for places that never fall, and so is this where its caller asks so.
-/// Then an extent of an argument is found once: lists of n and m extents take about n + m steps, each with a search.
+/// Where both arguments are monotone and this is asked for places that rise, so is each argument. Then each of its extents
+/// is found once, by one search in its list: about n + m steps for lists of n and m extents. Where the later one isn't
+/// monotone, its extents may be looked at again for each of the first one.
 #[cycle(next)]
 fn next_joined(
     n: u32,

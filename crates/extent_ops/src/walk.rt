@@ -5,7 +5,7 @@ ghost use Rattle.extent_ops.specs.Next.{EndsFrom, IsFrom, IsLeast, IsLeastBelow,
 ghost use Rattle.extent_ops.specs.Next.{earlier, least_either};
 ghost use Rattle.extent_ops.specs.Operators.{HasEach, HasEachInside, IsChain, IsInSome, IsLeastEnd, IsWindow, Joins};
 ghost use Rattle.extent_ops.specs.Plans.{each_set, set};
-ghost use Rattle.extent_ops.specs.Shapes.{AreMonotone, HasShape, plan_shape, plans_shape};
+ghost use Rattle.extent_ops.specs.Shapes.{AreMonotone, HasShape, has_one_end, plan_shape, plans_shape};
 ghost use Rattle.extent_ops.specs.Walks.{AreKept, IsAheadKept, IsKept, plan, plans};
 
 use crate::listed::Listed;
@@ -197,8 +197,10 @@ impl Ahead {
     /// begin was found and ends before the place, that is the next begin.
     fn start(&self, from: Place) -> Place
         requires { IsAheadKept self.now }
-        ensures { (found : Option Pair) → IsNext (set (plan self.now.walk)) result.begin result.end found →
+        ensures next { (found : Option Pair) → IsNext (set (plan self.now.walk)) result.begin result.end found →
             IsNext (set (plan self.now.walk)) from.begin from.end found }
+        ensures further { self.now.is_asked ≡ true → has_one_end self.now.shape ≡ true → (x : Pair) →
+            self.now.found ≡ Some x → x.begin ≡ from.begin → x.end < from.end → from.begin < result.begin }
     {
         if !self.is_asked || !self.shape.has_one_end() {
             return from;
@@ -220,6 +222,7 @@ impl Ahead {
         ensures next { IsNext (set (plan self.old.walk)) from.begin from.end result }
         ensures same { plan self.new.walk ≡ plan self.old.walk }
         ensures kept { IsAheadKept self.new }
+        ensures remembered { (self.new.is_asked ≡ true) × (self.new.found ≡ result) }
     {
         if !self.answers(from) {
             let start = self.start(from);

@@ -16,7 +16,7 @@ use Rattle.extent_ops.proofs.walk.+next.Goals.{Ahead::next-then-not-answers, Ahe
 
 pub Ahead::next-returns-clause-next : goal.Ahead::next-returns-clause-next
 Ahead::next-returns-clause-next t c = elim c.if-not-answers.branch [
-  | Ahead::next-then-not-answers w ↦ rw w.self-is (w.start-start.ensures w.next-self.result w.next-self.ensures.next)
+  | Ahead::next-then-not-answers w ↦ rw w.self-is (w.start-start.ensures.next w.next-self.result w.next-self.ensures.next)
   | Ahead::next-else-not-answers w ↦
       let yes : c.answers.result ≡ true = cc in
       rw w.self-is (IsNext-later _ _ _ _ _ _ (c.requires.1 (c.answers.ensures.asked yes)) (c.answers.ensures.later yes) (c.answers.ensures.none_between yes))

@@ -7,8 +7,8 @@ use Rattle.extent_ops.proofs.NextLemmas.{IsNext-next_begin}
 use Rattle.extent_ops.proofs.ShapeLemmas.{one_end_plan}
 use Rattle.extent_ops.proofs.walk.Ahead.start.Goals as goal
 
-pub returns-then-from : goal.returns-then-from
-returns-then-from c = λ found h.
+pub returns-then-from-clause-next : goal.returns-then-from-clause-next
+returns-then-from-clause-next c = λ found h.
     let p = plan c.args.self.now.walk in
     let one : has_one_end (plan_shape p) ≡ true = ap has_one_end (sym c.requires.2) ∙ sym c.has_one_end.ensures ∙ c.if-not-has_one_end.false in
     let last = c.requires.1 c.if-not-self.false in

@@ -12,5 +12,6 @@ pub mod NearestLemmas
 pub mod NextLemmas
 pub mod PlaceLemmas
 pub mod SameLemmas
+pub mod ShapeLemmas
 pub mod WalkLaws
 pub mod WindowLemmas

@@ -6,6 +6,7 @@ use Rattle.extent_ops.specs.Nearest.{least_with}
 use Rattle.extent_ops.specs.Next.{EndsFrom, IsFrom, IsLeast, IsLeastBelow, IsNext, LiesInSome, earlier, is_from, least_either}
 use Rattle.extent_ops.specs.Operators.{Follows, HasEach, HasEachInside, HasInside, IsInSome, IsLeastEnd, IsWindow, Joins}
 use Rattle.extent_ops.specs.Rows.{is_earlier}
+use Rattle.extent_ops.specs.Shapes.{AreMonotone, HaveOneEnd}
 use Rattle.extent_ops.proofs.WindowLemmas.{least_with-is, least_with-old, least_with-some}
 
 pub never : {X : Type 0} {x : X} → None ≡ Some x → ⊥
@@ -46,6 +47,18 @@ pub IsNext-at_begin : (R : ℕ → ℕ → Type 0) (low : ℕ) (x : Pair) → Is
 IsNext-at_begin R low x h = IsNext-later R low 0 x.begin 0 (Some x) h (IsFrom-low low x.begin 0 (IsFrom-begin low 0 x.begin x.end (h.only x refl).1)) (λ y is.
     let same : x ≡ y = same_some is in
     IsFrom-low x.begin y.begin y.end (omega (arith, ap (λ (v : Pair). v.begin) same)))
+
+-- where the one extent of a begin ends before the place, the next is that from the next begin on
+pub IsNext-next_begin : (R : ℕ → ℕ → Type 0) (begin end : ℕ) (x : Pair) (found : Option Pair) → HaveOneEnd R → R x.begin x.end → x.begin ≡ begin → x.end < end → IsNext R (x.begin + 1) 0 found → IsNext R begin end found
+IsNext-next_begin R begin end x found one r is ends h = record {
+  only = λ y same. let w = h.only y same in (w.0, inl (omega (arith, is, IsFrom-begin (x.begin + 1) 0 y.begin y.end w.1)));
+  least = λ b e s f. h.least b e s (IsFrom-low (x.begin + 1) b e (⊎_elim (λ k. omega (arith, is, k)) (λ k. passed b e s k.0 k.1) f));
+}
+  where
+    passed : (b e : ℕ) → R b e → begin ≡ b → end ≤ e → x.begin + 1 ≤ b
+    passed b e s same behind =
+        let here : R x.begin e = subst (λ (v : ℕ). R v e) (sym (is ∙ same)) s in
+        absurd (omega (arith, one x.begin x.end e r here, ends, behind))
 
 -- ---- any of two sets
 
@@ -298,6 +311,19 @@ module _ (R : ℕ → ℕ → Type 0) (some : (b e : ℕ) → R b e → b < e) (
       let is : w.0 ≡ x = same_some (sym w.1) in
       let from = IsFrom-begin x.begin x.end b e (subst (λ (v : Pair). IsFrom v.begin v.end b e) is w.2) in
       absurd (omega (arith, from, q, past)))
+
+-- where an extent that begins no earlier than another ends no earlier, the first one has the least end
+pub IsLeast-first_end : (R : ℕ → ℕ → Type 0) (low top : ℕ) (x : Pair) → AreMonotone R → IsNext R low 0 (Some x) → x.begin < top → IsLeast (EndsFrom R low top) (Some x.end)
+IsLeast-first_end R low top x up h inside =
+    let w = h.only x refl in
+    record {
+      only = λ m is. (x.begin, IsFrom-begin low 0 x.begin x.end w.1, inside, subst (λ (v : ℕ). R x.begin v) (same_some is) w.0);
+      least = λ e k.
+          let u = h.least k.0 e k.3 (IsFrom-low low k.0 e k.1) in
+          let is : u.0 ≡ x = same_some (sym u.1) in
+          let from = IsFrom-begin x.begin x.end k.0 e (subst (λ (v : Pair). IsFrom v.begin v.end k.0 e) is u.2) in
+          (x.end, refl, up x.begin x.end k.0 e w.0 k.3 from);
+    }
 
 -- ---- the least end of those that are joined
 

@@ -5,7 +5,9 @@ use Rattle.extent_ops.specs.Next.{IsNext, LiesInSome}
 use Rattle.extent_ops.specs.Operators.{HasEach, IsInSome, IsLeastEnd, IsWindow, Joins}
 use Rattle.extent_ops.specs.Plans.{Plan, Plans, listed, union_of, within, shortest, joined, window, whole, none, more, set, each_set}
 use Rattle.extent_ops.specs.Rows.{Has}
+use Rattle.extent_ops.specs.Shapes.{list_shape, of_union, of_windows, plan_shape, plans_shape, weaker}
 use Rattle.extent_ops.specs.Walks.{AreKept, IsAheadKept, IsKept, plan, plans}
+use Rattle.extent_ops.specs.declared.shape.Shape.TheVariants.{Monotone, OneToken}
 use Rattle.extent_ops.specs.declared.walk.Walk.{Walk, Listed, Union, Within, Shortest, Joined, Window, Whole}
 use Rattle.extent_ops.specs.declared.walk.Group.{Group, End, More}
 use Rattle.extent_ops.specs.declared.walk.Ahead.{Ahead}
@@ -186,6 +188,45 @@ AreKept-End = tt
 pub AreKept-More : (b : Box Ahead Global) (d : Box Group Global) → IsAheadKept b.value → AreKept d.value → AreKept (More b d)
 unfolding IsKept AreKept
 AreKept-More b d h k = (h, k)
+
+-- ---- what is known of extents
+
+module _ (w : Walk) where
+  pub shape-Listed : (xs : List Pair) → w ≡ Listed xs → plan_shape (plan w) ≡ list_shape xs
+  unfolding plan plans plan_shape plans_shape
+  shape-Listed xs e = ap (λ (v : Walk). plan_shape (plan v)) e
+
+  pub shape-Union : (b : Box Group Global) → w ≡ Union b → plan_shape (plan w) ≡ of_union (plans_shape (plans b.value))
+  unfolding plan plans plan_shape plans_shape
+  shape-Union b e = ap (λ (v : Walk). plan_shape (plan v)) e
+
+  pub shape-Within : (b : Box Ahead Global) (fields : List Pair) → w ≡ Within b fields → plan_shape (plan w) ≡ plan_shape (plan b.value.walk)
+  unfolding plan plans plan_shape plans_shape
+  shape-Within b fields e = ap (λ (v : Walk). plan_shape (plan v)) e
+
+  pub shape-Shortest : (b : Box Ahead Global) → w ≡ Shortest b → plan_shape (plan w) ≡ of_windows (plan_shape (plan b.value.walk))
+  unfolding plan plans plan_shape plans_shape
+  shape-Shortest b e = ap (λ (v : Walk). plan_shape (plan v)) e
+
+  pub shape-Joined : (n : ℕ) (b d : Box Ahead Global) → w ≡ Joined n b d → plan_shape (plan w) ≡ of_windows (weaker (plan_shape (plan b.value.walk)) (plan_shape (plan d.value.walk)))
+  unfolding plan plans plan_shape plans_shape
+  shape-Joined n b d e = ap (λ (v : Walk). plan_shape (plan v)) e
+
+  pub shape-Window : (n : ℕ) (b : Box Group Global) → w ≡ Window n b → plan_shape (plan w) ≡ of_windows (plans_shape (plans b.value))
+  unfolding plan plans plan_shape plans_shape
+  shape-Window n b e = ap (λ (v : Walk). plan_shape (plan v)) e
+
+  pub shape-Whole : (n : ℕ) (b : Box Group Global) → w ≡ Whole n b → plan_shape (plan w) ≡ Monotone
+  unfolding plan plans plan_shape plans_shape
+  shape-Whole n b e = ap (λ (v : Walk). plan_shape (plan v)) e
+
+pub shapes-End : (g : Group) → g ≡ End → plans_shape (plans g) ≡ OneToken
+unfolding plan plans plan_shape plans_shape
+shapes-End g e = ap (λ (v : Group). plans_shape (plans v)) e
+
+pub shapes-More : (g : Group) (b : Box Ahead Global) (d : Box Group Global) → g ≡ More b d → plans_shape (plans g) ≡ weaker (plan_shape (plan b.value.walk)) (plans_shape (plans d.value))
+unfolding plan plans plan_shape plans_shape
+shapes-More g b d e = ap (λ (v : Group). plans_shape (plans v)) e
 
 -- ---- the next extent
 

@@ -6,4 +6,5 @@ pub mod Next
 pub mod Operators
 pub mod Plans
 pub mod Rows
+pub mod Shapes
 pub mod Walks

@@ -1,9 +1,11 @@
--- What a walk is over, and that what it remembers is right.
+-- What a walk is over, and that what it remembers and knows is right.
 use Rattle.std.specs.Prelude.{◌≡◌, Bool, true, Option, ⊤}
 use Rattle.ri_base.specs.Pair.{Pair}
 use Rattle.extent_ops.specs.Next.{IsNext}
 use Rattle.extent_ops.specs.Plans.{Plan, Plans, listed, union_of, within, shortest, joined, window, whole, none, more, set}
+use Rattle.extent_ops.specs.Shapes.{plan_shape}
 use Rattle.extent_ops.specs.declared.place.Place.{Place}
+use Rattle.extent_ops.specs.declared.shape.Shape.{Shape}
 use Rattle.extent_ops.specs.declared.walk.Walk.{Walk, Listed, Union', Within', Shortest', Joined', Window', Whole'}
 use Rattle.extent_ops.specs.declared.walk.Group.{Group, End, More'}
 use Rattle.extent_ops.specs.declared.walk.Ahead.{Ahead}
@@ -12,35 +14,35 @@ unfoldable mutual
   pub plan : Walk → Plan
   plan (Listed xs) = listed xs
   plan (Union' p g) = union_of (plans g)
-  plan (Within' p w asked from found fields) = within (plan w) fields
-  plan (Shortest' p w asked from found) = shortest (plan w)
-  plan (Joined' n p w asked from found q v asked_too from_too found_too) = joined n (plan w) (plan v)
+  plan (Within' p w shape asked from found fields) = within (plan w) fields
+  plan (Shortest' p w shape asked from found) = shortest (plan w)
+  plan (Joined' n p w shape asked from found q v shape_too asked_too from_too found_too) = joined n (plan w) (plan v)
   plan (Window' n p g) = window n (plans g)
   plan (Whole' n p g) = whole n (plans g)
 
   pub plans : Group → Plans
   plans End = none
-  plans (More' p w asked from found q g) = more (plan w) (plans g)
+  plans (More' p w shape asked from found q g) = more (plan w) (plans g)
 
 -- what was answered last, if it was asked, is the least from there on
 abbrev pub IsAnswer : Plan → Bool → Place → Option Pair → Type 0
 IsAnswer p asked from found = asked ≡ true → IsNext (set p) from.begin from.end found
 
 unfoldable mutual
-  -- each answer that is remembered is right
+  -- each answer that is remembered is right, and what is known of extents is what their plan tells
   pub IsKept : Walk → Type 0
   IsKept (Listed xs) = ⊤
   IsKept (Union' p g) = AreKept g
-  IsKept (Within' p w asked from found fields) = IsKept w × IsAnswer (plan w) asked from found
-  IsKept (Shortest' p w asked from found) = IsKept w × IsAnswer (plan w) asked from found
-  IsKept (Joined' n p w asked from found q v asked_too from_too found_too) =
-      (IsKept w × IsAnswer (plan w) asked from found) × (IsKept v × IsAnswer (plan v) asked_too from_too found_too)
+  IsKept (Within' p w shape asked from found fields) = IsKept w × IsAnswer (plan w) asked from found × (shape ≡ plan_shape (plan w))
+  IsKept (Shortest' p w shape asked from found) = IsKept w × IsAnswer (plan w) asked from found × (shape ≡ plan_shape (plan w))
+  IsKept (Joined' n p w shape asked from found q v shape_too asked_too from_too found_too) =
+      (IsKept w × IsAnswer (plan w) asked from found × (shape ≡ plan_shape (plan w))) × (IsKept v × IsAnswer (plan v) asked_too from_too found_too × (shape_too ≡ plan_shape (plan v)))
   IsKept (Window' n p g) = AreKept g
   IsKept (Whole' n p g) = AreKept g
 
   pub AreKept : Group → Type 0
   AreKept End = ⊤
-  AreKept (More' p w asked from found q g) = (IsKept w × IsAnswer (plan w) asked from found) × AreKept g
+  AreKept (More' p w shape asked from found q g) = (IsKept w × IsAnswer (plan w) asked from found × (shape ≡ plan_shape (plan w))) × AreKept g
 
 abbrev pub IsAheadKept : Ahead → Type 0
-IsAheadKept a = IsKept a.walk × IsAnswer (plan a.walk) a.is_asked a.from a.found
+IsAheadKept a = IsKept a.walk × IsAnswer (plan a.walk) a.is_asked a.from a.found × (a.shape ≡ plan_shape (plan a.walk))

@@ -117,7 +117,7 @@ fn group_of<P: Postings>(
 /// which on they are left.
 #[derive(Drop)]
 pub struct ExtentIter {
-    walk: Walk,
+    ahead: Ahead,
     from: Place,
 }
 
@@ -131,11 +131,11 @@ impl Model for ExtentIter {
 
     ghost coded = { Prim.hlevel (codes, walks.the_row.coded) };
 
-    ghost use Rattle.extent_ops.specs.Walks.{IsKept};
+    ghost use Rattle.extent_ops.specs.Walks.{IsAheadKept};
 
-    ghost view = { λ x. (x.walk, x.from.begin, x.from.end) };
+    ghost view = { λ x. (x.ahead.walk, x.from.begin, x.from.end) };
 
-    ghost invariant = { λ x. IsKept x.walk };
+    ghost invariant = { λ x. IsAheadKept x.ahead };
 }
 
 impl ExtentIter {
@@ -156,7 +156,7 @@ impl ExtentIter {
     {
         let walk = walk_of(alloc, expr, postings, id)?;
         Ok(ExtentIter {
-            walk,
+            ahead: Ahead::new(walk),
             from: Place::at(0),
         })
     }
@@ -166,7 +166,7 @@ impl ExtentIter {
         ensures takes { IfOk result (Takes (left self.old) (left self.new)) }
         ensures never_fails { IfErr result (λ _. ⊥) }
     {
-        match self.walk.next(self.from) {
+        match self.ahead.next(self.from) {
             None => Ok(None),
             Some(x) => {
                 self.from = Place::behind(x);

@@ -11,6 +11,7 @@ mod nearest;
 mod ordered;
 mod outermost;
 mod place;
+mod shape;
 mod union;
 mod unordered;
 mod walk;

@@ -2,8 +2,10 @@
 ghost use Rattle.std.specs.Prelude.{◌≡◌, ◌<◌};
 ghost use Rattle.extent_ops.specs.Next.{IsNext};
 ghost use Rattle.extent_ops.specs.Rows.{Has, IsAscending};
+ghost use Rattle.extent_ops.specs.Shapes.{list_shape};
 
 use crate::place::Place;
+use crate::shape::Shape;
 use ri_base::Extent;
 use std::marker::Model;
 
@@ -31,6 +33,22 @@ impl Listed {
         ensures { result ≡ items.items }
     {
         Listed { items }
+    }
+
+    /// What they tell of themselves. It takes a step for each.
+    pub fn shape(&self) -> Shape
+        ensures { result ≡ list_shape self.now }
+    {
+        let mut shape = Shape::OneToken;
+        let mut next = None;
+        let mut i = self.items.len();
+        while i > 0 {
+            i -= 1;
+            let x = self.items[i];
+            shape = Shape::before(x, next).weaker(shape);
+            next = Some(x);
+        }
+        shape
     }
 
     /// The first extent from this place on.

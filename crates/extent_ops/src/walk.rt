@@ -1,15 +1,17 @@
 // What gives the extents of an expression one after the other.
-ghost use Rattle.std.specs.Prelude.{◌≡◌, ◌≢◌, ◌<◌, ◌≤◌, ◌+◌, ◌↔◌, ℕ, ◌⊎◌, Some, None, IfOk, IfSome, IsTrue, true};
+ghost use Rattle.std.specs.Prelude.{◌≡◌, ◌≢◌, ◌<◌, ◌≤◌, ◌+◌, ◌↔◌, ℕ, ◌⊎◌, Option, Some, None, IfOk, IfSome, IsTrue, true};
 ghost use Rattle.ri_base.specs.Pair.{Pair};
 ghost use Rattle.extent_ops.specs.Next.{EndsFrom, IsFrom, IsLeast, IsLeastBelow, IsNext, LiesInSome};
 ghost use Rattle.extent_ops.specs.Next.{earlier, least_either};
 ghost use Rattle.extent_ops.specs.Operators.{HasEach, HasEachInside, IsChain, IsInSome, IsLeastEnd, IsWindow, Joins};
 ghost use Rattle.extent_ops.specs.Plans.{each_set, set};
+ghost use Rattle.extent_ops.specs.Shapes.{AreMonotone, HasShape, has_one_end, plan_shape, plans_shape};
 ghost use Rattle.extent_ops.specs.Walks.{AreKept, IsAheadKept, IsKept, plan, plans};
 
 use crate::listed::Listed;
 use crate::outermost::Outermost;
 use crate::place::Place;
+use crate::shape::Shape;
 use crate::unordered::lesser;
 use ri_base::{Extent, NoMemory};
 use std::alloc::Global;
@@ -35,11 +37,12 @@ pub enum Walk {
     Whole(u32, Box<Group>),
 }
 
-/// A walk, and where it was asked last what it answered.
+/// A walk, what is known of its extents, and where it was asked last what it answered.
 #[derive(Drop)]
 #[cycle(walk)]
 pub struct Ahead {
     walk: Walk,
+    shape: Shape,
     is_asked: bool,
     from: Place,
     found: Option<Extent>,
@@ -102,6 +105,7 @@ fn extent_from(from: Place, begin: u32, end: Option<u32>) -> Option<Extent>
 /// Whether an extent that begins there begins below `top`, and may end below the least end so far.
 fn may_be_less(begin: u32, top: u64, least: Option<u32>) -> bool
     ensures below { IsTrue result → begin < top }
+    ensures less { IsTrue result → (m : ℕ) → least ≡ Some m → begin < m }
     ensures not { result ≢ true → (top ≤ begin) ⊎ ((m : ℕ) × (least ≡ Some m) × (m ≤ begin)) }
 {
     if u64::from(begin) >= top {
@@ -115,6 +119,22 @@ fn may_be_less(begin: u32, top: u64, least: Option<u32>) -> bool
 
 #[tactic(auto, using(crate::proofs::WalkLaws::walk_laws))]
 impl Walk {
+    /// What is known of its extents. It takes a step for each extent of a list and for each argument.
+    fn shape(&self) -> Shape
+        requires { IsKept self.now }
+        ensures { result ≡ plan_shape (plan self.now) }
+    {
+        match self {
+            Walk::Listed(list) => list.shape(),
+            Walk::Union(all) => all.shape().of_union(),
+            Walk::Within(inner, _) => inner.shape,
+            Walk::Shortest(inner) => inner.shape.of_windows(),
+            Walk::Joined(_, first, later) => first.shape.weaker(later.shape).of_windows(),
+            Walk::Window(_, all) => all.shape().of_windows(),
+            Walk::Whole(_, _) => Shape::Monotone,
+        }
+    }
+
     /// The first extent from this place on.
     #[cycle(next)]
     pub fn next(&mut self, from: Place) -> Option<Extent>
@@ -139,10 +159,13 @@ impl Ahead {
     pub fn new(walk: Walk) -> Ahead
         requires { IsKept walk }
         ensures walk { result.walk ≡ walk }
+        ensures shape { HasShape result.shape (set (plan result.walk)) }
         ensures kept { IsAheadKept result }
     {
+        let shape = walk.shape();
         Ahead {
             walk,
+            shape,
             is_asked: false,
             from: Place::at(0),
             found: None,
@@ -155,6 +178,8 @@ impl Ahead {
         ensures later { IsTrue result → IsFrom self.now.from.begin self.now.from.end from.begin from.end }
         ensures none_between { IsTrue result →
             (x : Pair) → self.now.found ≡ Some x → IsFrom from.begin from.end x.begin x.end }
+        ensures all { self.now.is_asked ≡ true → IsFrom self.now.from.begin self.now.from.end from.begin from.end →
+            ((x : Pair) → self.now.found ≡ Some x → IsFrom from.begin from.end x.begin x.end) → IsTrue result }
     {
         if !self.is_asked || from.begin < self.from.begin {
             return false;
@@ -168,6 +193,28 @@ impl Ahead {
         }
     }
 
+    /// A place from which on the first extent is the same. Where extents of one begin have one end, and the one of this
+    /// begin was found and ends before the place, that is the next begin.
+    fn start(&self, from: Place) -> Place
+        requires { IsAheadKept self.now }
+        ensures next { (found : Option Pair) → IsNext (set (plan self.now.walk)) result.begin result.end found →
+            IsNext (set (plan self.now.walk)) from.begin from.end found }
+        ensures further { self.now.is_asked ≡ true → has_one_end self.now.shape ≡ true → (x : Pair) →
+            self.now.found ≡ Some x → x.begin ≡ from.begin → x.end < from.end → from.begin < result.begin }
+    {
+        if !self.is_asked || !self.shape.has_one_end() {
+            return from;
+        }
+        let Some(x) = self.found else {
+            return from;
+        };
+        if x.begin() == from.begin && u64::from(x.end()) < from.end {
+            Place::at(x.begin() + 1)
+        } else {
+            from
+        }
+    }
+
     /// The first extent from this place on.
     #[cycle(next)]
     pub fn next(&mut self, from: Place) -> Option<Extent>
@@ -175,9 +222,11 @@ impl Ahead {
         ensures next { IsNext (set (plan self.old.walk)) from.begin from.end result }
         ensures same { plan self.new.walk ≡ plan self.old.walk }
         ensures kept { IsAheadKept self.new }
+        ensures remembered { (self.new.is_asked ≡ true) × (self.new.found ≡ result) }
     {
         if !self.answers(from) {
-            self.found = self.walk.next(from);
+            let start = self.start(from);
+            self.found = self.walk.next(start);
             self.from = from;
             self.is_asked = true;
         }
@@ -187,6 +236,39 @@ impl Ahead {
     /// The least end of the extents that begin at `low` or behind and below `top`.
     #[cycle(next)]
     fn least_end(&mut self, low: u32, top: u64) -> Option<u32>
+        requires { IsAheadKept self.old }
+        ensures least { IsLeast (EndsFrom (set (plan self.old.walk)) low top) result }
+        ensures same { plan self.new.walk ≡ plan self.old.walk }
+        ensures kept { IsAheadKept self.new }
+    {
+        if self.shape.is_monotone() {
+            self.first_end(low, top)
+        } else {
+            self.least_of_ends(low, top)
+        }
+    }
+
+    /// The same where an extent that begins no earlier than another ends no earlier: the first one tells it.
+    #[cycle(next)]
+    fn first_end(&mut self, low: u32, top: u64) -> Option<u32>
+        requires kept { IsAheadKept self.old }
+        requires monotone { AreMonotone (set (plan self.old.walk)) }
+        ensures least { IsLeast (EndsFrom (set (plan self.old.walk)) low top) result }
+        ensures same { plan self.new.walk ≡ plan self.old.walk }
+        ensures kept { IsAheadKept self.new }
+    {
+        let Some(x) = self.next(Place::at(low)) else {
+            return None;
+        };
+        if u64::from(x.begin()) >= top {
+            return None;
+        }
+        Some(x.end())
+    }
+
+    /// The same where a later extent may end earlier: each begin is looked at that may have a lesser end.
+    #[cycle(next)]
+    fn least_of_ends(&mut self, low: u32, top: u64) -> Option<u32>
         requires { IsAheadKept self.old }
         ensures least { IsLeast (EndsFrom (set (plan self.old.walk)) low top) result }
         ensures same { plan self.new.walk ≡ plan self.old.walk }
@@ -210,6 +292,17 @@ impl Ahead {
 
 #[tactic(auto, using(crate::proofs::WalkLaws::walk_laws))]
 impl Group {
+    /// What is known of the extents of each.
+    fn shape(&self) -> Shape
+        requires { AreKept self.now }
+        ensures { result ≡ plans_shape (plans self.now) }
+    {
+        match self {
+            Group::End => Shape::OneToken,
+            Group::More(one, others) => one.shape.weaker(others.shape()),
+        }
+    }
+
     /// The first extent of any of them from this place on.
     #[cycle(next)]
     fn next(&mut self, from: Place) -> Option<Extent>
@@ -305,6 +398,9 @@ fn next_shortest(inner: &mut Box<Ahead>, from: Place) -> Option<Extent>
     None
 }
 
+/// Where both arguments are monotone and this is asked for places that rise, so is each argument. Then each of its extents
+/// is found once, by one search in its list: about n + m steps for lists of n and m extents. Where the later one isn't
+/// monotone, its extents may be looked at again for each of the first one.
 #[cycle(next)]
 fn next_joined(
     n: u32,

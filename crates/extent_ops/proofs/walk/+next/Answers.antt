@@ -2,10 +2,12 @@ use Rattle.std.proofs.Common.{◌≡◌, ◌≢◌, ◌≤◌, ⊎_elim, Some, N
 use Rattle.extent_ops.specs.Next.{IsNext}
 use Rattle.extent_ops.specs.Operators.{IsInSome, IsWindow, Joins}
 use Rattle.extent_ops.specs.Plans.{each_set, set}
+use Rattle.extent_ops.specs.Shapes.{is_monotone, plan_shape}
 use Rattle.extent_ops.specs.Walks.{plan, plans}
 use Rattle.extent_ops.specs.declared.walk.Ahead.{Ahead}
 use Rattle.extent_ops.specs.declared.walk.Group.{Group}
-use Rattle.extent_ops.proofs.NextLemmas.{AreLow-over, IsFrom-begin, IsJoinedSoFar-more, IsLeast-at_top, IsLeast-joined_beyond, IsLeast-short, IsLeast-window, IsLeastBelow-both, IsLeastBelow-missing, IsLeastBelow-none, IsLeastBelow-others_missing, IsLeastSoFar-more, IsNext-either, IsNext-later, IsNext-least, IsNext-none, IsNext-within, IsPassed-over, IsFrom-here, IsLeast-first, place_falls, IsNext-at_begin, IsNext-no_least, has_each_end, has_each_more, has_each_none}
+use Rattle.extent_ops.proofs.NextLemmas.{AreLow-over, IsFrom-begin, IsJoinedSoFar-more, IsLeast-at_top, IsLeast-joined_beyond, IsLeast-short, IsLeast-window, IsLeastBelow-both, IsLeastBelow-missing, IsLeastBelow-none, IsLeastBelow-others_missing, IsLeastSoFar-more, IsNext-either, IsNext-later, IsNext-least, IsNext-none, IsNext-within, IsPassed-over, IsFrom-here, IsLeast-first, IsLeast-first_end, place_falls, IsNext-at_begin, IsNext-no_least, has_each_end, has_each_more, has_each_none}
+use Rattle.extent_ops.proofs.ShapeLemmas.{monotone_plan}
 use Rattle.extent_ops.proofs.WalkLaws.{AreKept-More, IsKept-Union, depth, depth-Joined, depth-Shortest, depth-Union, depth-Whole, depth-Window, depth-Within, depths, depths-More, each_set-End, each_set-More, joined_above, kept_joined, kept_more, kept_shortest, kept_union, kept_whole, kept_window, kept_within, next_of_joined, next_of_list, next_of_shortest, next_of_union, next_of_whole, next_of_window, next_of_within, same_more, same_union, set-some}
 use Rattle.extent_ops.proofs.walk.+next.Goals as goal
 use Rattle.extent_ops.proofs.walk.+next.Goals.{Ahead::next-then-not-answers, Ahead::next-else-not-answers}
@@ -14,20 +16,20 @@ use Rattle.extent_ops.proofs.walk.+next.Goals.{Ahead::next-then-not-answers, Ahe
 
 pub Ahead::next-returns-clause-next : goal.Ahead::next-returns-clause-next
 Ahead::next-returns-clause-next t c = elim c.if-not-answers.branch [
-  | Ahead::next-then-not-answers w ↦ rw w.self-is w.next-self.ensures.next
+  | Ahead::next-then-not-answers w ↦ rw w.self-is (w.start-start.ensures.next w.next-self.result w.next-self.ensures.next)
   | Ahead::next-else-not-answers w ↦
       let yes : c.answers.result ≡ true = cc in
       rw w.self-is (IsNext-later _ _ _ _ _ _ (c.requires.1 (c.answers.ensures.asked yes)) (c.answers.ensures.later yes) (c.answers.ensures.none_between yes))
 ]
 
-pub Ahead::least_end-loop-self-smaller : goal.Ahead::least_end-loop-self-smaller
-Ahead::least_end-loop-self-smaller t c =
+pub Ahead::least_of_ends-loop-self-smaller : goal.Ahead::least_of_ends-loop-self-smaller
+Ahead::least_of_ends-loop-self-smaller t c =
     let next = rw c.at.ensures at c.in-Some.ensures.next in
     let begins : c.loop-self.begin ≤ c.in-Some.x.begin = IsFrom-begin c.loop-self.begin 0 c.in-Some.x.begin c.in-Some.x.end (next.only c.in-Some.x refl).1 in
     omega (arith, begins, c.begin-begin.ensures.begin, c.begin-begin.type_inv)
 
-pub Ahead::least_end-loop-self-preserved : goal.Ahead::least_end-loop-self-preserved
-Ahead::least_end-loop-self-preserved t c =
+pub Ahead::least_of_ends-loop-self-preserved : goal.Ahead::least_of_ends-loop-self-preserved
+Ahead::least_of_ends-loop-self-preserved t c =
     let R = set (plan c.args.self.now.walk) in
     record {
       same = c.next.ensures.same ∙ c.loop-self.invariant.same;
@@ -36,8 +38,8 @@ Ahead::least_end-loop-self-preserved t c =
           (IsLeastSoFar-more R (set-some (plan c.args.self.now.walk)) c.args.low c.args.top c.loop-self.begin c.loop-self.least c.in-Some.x c.loop-self.invariant.so_far (rw (c.loop-self.invariant.same, c.at.ensures) at c.in-Some.ensures.next) (omega (arith, c.from.ensures, c.begin.ensures.begin, c.if-from-top.false)));
     }
 
-pub Ahead::least_end-returns-clause-least : goal.Ahead::least_end-returns-clause-least
-Ahead::least_end-returns-clause-least t c =
+pub Ahead::least_of_ends-returns-clause-least : goal.Ahead::least_of_ends-returns-clause-least
+Ahead::least_of_ends-returns-clause-least t c =
     let R = set (plan c.args.self.now.walk) in
     let some = set-some (plan c.args.self.now.walk) in
     let ended : c.may_be_less.result ≡ false = c.loop-self-test.false in
@@ -46,6 +48,18 @@ Ahead::least_end-returns-clause-least t c =
     (λ k. IsLeast-at_top R some c.args.low c.args.top c.loop-self.begin c.loop-self.least c.loop-self.invariant.so_far k)
     (λ k. IsLeast-short R some c.args.low c.args.top c.loop-self.begin c.loop-self.least k.0 c.loop-self.invariant.so_far k.1 k.2)
     (c.may_be_less.ensures.not no_more)
+
+pub Ahead::first_end-returns-clause-least : goal.Ahead::first_end-returns-clause-least
+Ahead::first_end-returns-clause-least t c =
+    let R = set (plan c.args.self.now.walk) in
+    let next : IsNext R c.args.low 0 (Some c.in-Some.x) = rw c.at.ensures at c.in-Some.ensures.next in
+    rw c.end.ensures.end (IsLeast-first_end R c.args.low c.args.top c.in-Some.x c.requires.monotone next (omega (arith, c.if-from-top.false, c.from.ensures, c.begin.ensures.begin)))
+
+pub Ahead::least_end-first_end-requires : goal.Ahead::least_end-first_end-requires
+Ahead::least_end-first_end-requires t c =
+    let p = plan c.args.self.now.walk in
+    let up : is_monotone (plan_shape p) ≡ true = ap is_monotone (sym c.requires.2) ∙ sym c.is_monotone.ensures ∙ c.if-is_monotone.true in
+    (omega (arith, c.decreases), (c.requires, monotone_plan p up))
 
 -- ---- the arguments
 

@@ -6,15 +6,15 @@ use Rattle.extent_ops.proofs.NextLemmas.{AreLow, IsJoinedSoFar, IsLeastSoFar, Is
 use Rattle.extent_ops.proofs.WalkLaws.{depth, depths}
 use Rattle.extent_ops.proofs.walk.+next.Given as goal
 
-abbrev pub invariant-Ahead::least_end-loop-self : goal.invariant-Ahead::least_end-loop-self
-invariant-Ahead::least_end-loop-self l = record {
+abbrev pub invariant-Ahead::least_of_ends-loop-self : goal.invariant-Ahead::least_of_ends-loop-self
+invariant-Ahead::least_of_ends-loop-self l = record {
   same : plan l.self.walk ≡ plan l.initial.self.walk;
   kept : IsAheadKept l.self;
   so_far : IsLeastSoFar (set (plan l.initial.self.walk)) l.low l.top l.begin l.least;
 }
 
-abbrev pub decreases-Ahead::least_end-loop-self : goal.decreases-Ahead::least_end-loop-self
-decreases-Ahead::least_end-loop-self l = 4294967296 - l.begin
+abbrev pub decreases-Ahead::least_of_ends-loop-self : goal.decreases-Ahead::least_of_ends-loop-self
+decreases-Ahead::least_of_ends-loop-self l = 4294967296 - l.begin
 
 abbrev pub invariant-joined_end-loop-x : goal.invariant-joined_end-loop-x
 invariant-joined_end-loop-x l = record {
@@ -77,7 +77,13 @@ abbrev pub decreases-Ahead::next : goal.decreases-Ahead::next
 decreases-Ahead::next l = 8 * depth (plan l.self.now.walk) + 1
 
 abbrev pub decreases-Ahead::least_end : goal.decreases-Ahead::least_end
-decreases-Ahead::least_end l = 8 * depth (plan l.self.now.walk) + 2
+decreases-Ahead::least_end l = 8 * depth (plan l.self.now.walk) + 3
+
+abbrev pub decreases-Ahead::first_end : goal.decreases-Ahead::first_end
+decreases-Ahead::first_end l = 8 * depth (plan l.self.now.walk) + 2
+
+abbrev pub decreases-Ahead::least_of_ends : goal.decreases-Ahead::least_of_ends
+decreases-Ahead::least_of_ends l = 8 * depth (plan l.self.now.walk) + 2
 
 abbrev pub decreases-Group::next : goal.decreases-Group::next
 decreases-Group::next l = 8 * depths (plans l.self.now) + 3

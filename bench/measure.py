@@ -36,12 +36,14 @@ COUNT = ["env", "LC_ALL=C", "wc", "-w"]
 COMMANDS = ("scan", "query")
 MIB = 1 << 20
 
-TEXTS = ("rain", "#1(the launch)", "#uw8(the launch)", "launch.head")
+# Each with the most that it may take in times of `wc -w`.
+TEXTS = {"rain": 5, "#1(the launch)": 8, "#uw8(the launch)": 8, "launch.head": 8}
 VOCABULARY = [f"w{i}" for i in range(5000)] + ["the", "of", "rain", "launch"] * 50
 PLAIN = "some plain text of a document "
 MARKS = ("<", "<!--", "&", "<a ", "</doc ", "<!")
 WINDOWS = ("a", "#uw8(a b c)", "#1(a b)")
 
+EXPONENT = 1.1
 THIN_TO_COUNT = 8
 THIN_TO_HALF = 2.2
 HOSTILE_TO_TEXT = 3
@@ -210,14 +212,15 @@ def measure_newswire(table, command):
     for size, path in paths.items():
         newswire(path, size * MIB)
     path = paths.pop(24)
-    for text in TEXTS:
+    for text, bound in TEXTS.items():
         words = program(command, text)
         count, taken, *grown = table.best([(COUNT, path), (words, path), *((words, other) for other in paths.values())])
+        slope = exponent(paths, grown)
         table.row(
             f"{command} {text}, newswire 24 MiB",
             f"{path.stat().st_size / taken / 1e6:6.1f} MB/s",
-            f"{taken / count:5.2f} times wc -w",
-            f"exponent {exponent(paths, grown):4.2f}",
+            table.at_most(f"{taken / count:5.2f} times wc -w", taken / count, bound),
+            table.at_most(f"exponent {slope:4.2f}", slope, EXPONENT),
             f"peak {peak_memory(words, path):4.0f} MiB",
         )
 

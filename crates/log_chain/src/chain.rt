@@ -5,7 +5,7 @@ use ri_base::{Fraction, Steps};
 use std::marker::Model;
 use std::sync::ledger::Ledger;
 
-/// The level at which digits are first compared.
+/// A lower level at which digits are looked at.
 pub const FIRST: u32 = 12;
 
 /// The level of the digits that decide.

@@ -1,4 +1,4 @@
--- The plain tree of an expr_tree, variant by variant.
+-- The plain tree of an expression, variant by variant.
 use Rattle.std.proofs.Common.{◌≡◌, ℕ, List, map, Vec, Box, Global, refl, ap, ◌∙◌}
 use mathlib.Core.Former.{Count}
 use Rattle.ri_base.specs.declared.expression.ExtentExpr.{ExtentExpr, Word, Any, Ordered, Unordered, Syn, Syn', Band, InField, Row_of-ExtentExpr, end_of-ExtentExpr, more_of-ExtentExpr, items-the_row-ExtentExpr, items_hidden-the_row-ExtentExpr-0}

@@ -1,4 +1,4 @@
--- ExprTrees as contracts see them: the plain tree that an expr_tree stands for, and its bounds.
+-- Expressions as contracts see them: the plain tree that an expression stands for, and its bounds.
 use Rattle.std.specs.Prelude.{ℕ, ◌+◌, ◌≤◌, ◌≡◌, max, Bool, true, false, ◌&&◌, nat_le, not, List, [], ◌∷◌}
 use Rattle.ri_base.specs.Text.{is_term, is_name}
 use Rattle.ri_base.specs.declared.expression.ExtentExpr.{ExtentExpr, Word, Any, Ordered', Unordered', Syn', Band', InField', Row_of-ExtentExpr, end_of-ExtentExpr, more_of-ExtentExpr}
@@ -98,7 +98,7 @@ unfoldable mutual
   are_sound none = true
   are_sound (more x xs) = is_sound x && are_sound xs
 
--- the bounds of every expr_tree that was read
+-- the bounds of every expression that was read
 pub record IsBounded (x : ExprTree) : Type 0 where
   pub shallow : depth x ≤ 32
   pub few : nodes x ≤ 1000

@@ -15,24 +15,28 @@ fn is_upper(byte: u8) -> bool
     65 <= byte && byte <= 90
 }
 
+/// A letter in lower case, from `a` to `z`.
 pub fn is_lower(byte: u8) -> bool
     ensures { result ≡ is_lower byte }
 {
     97 <= byte && byte <= 122
 }
 
+/// A digit, from `0` to `9`.
 pub fn is_digit(byte: u8) -> bool
     ensures { result ≡ is_digit byte }
 {
     48 <= byte && byte <= 57
 }
 
+/// A letter in either case.
 pub fn is_letter(byte: u8) -> bool
     ensures { result ≡ is_letter byte }
 {
     is_upper(byte) || is_lower(byte)
 }
 
+/// A letter in either case, or a digit.
 pub fn is_letter_or_digit(byte: u8) -> bool
     ensures { result ≡ is_letter_or_digit byte }
 {

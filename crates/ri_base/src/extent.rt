@@ -26,6 +26,7 @@ impl Model for Extent {
 }
 
 impl Extent {
+    /// The extent of the tokens from `begin` on up to `end`.
     pub fn new(begin: u32, end: u32) -> Extent
         requires { begin < end }
         ensures { result ≡ record { begin = begin; end = end } }
@@ -78,6 +79,7 @@ impl Extents {
         self.items
     }
 
+    /// No extents yet.
     pub fn new(alloc: Global) -> Extents
         ensures { result ≡ [] }
     {

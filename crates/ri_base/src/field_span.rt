@@ -26,6 +26,7 @@ impl Model for FieldSpan {
 }
 
 impl FieldSpan {
+    /// The field of this name over the tokens from `begin` on up to `end`.
     pub fn new(name: Name, begin: u32, end: u32) -> FieldSpan
         requires { begin < end }
         ensures { result ≡ record { name = name; begin = begin; end = end } }
@@ -96,6 +97,7 @@ impl Spans {
         self.items
     }
 
+    /// No fields yet.
     pub fn new(alloc: Global) -> Spans
         ensures { result ≡ [] }
     {

@@ -47,6 +47,7 @@ impl Fractions {
         self.items.len()
     }
 
+    /// Equal fractions.
     pub fn clone_in(&self, alloc: Global) -> Result<Fractions, NoMemory>
         ensures { IfOk result (λ fractions. fractions ≡ self.now) }
     {
@@ -68,6 +69,7 @@ pub struct Hit {
 }
 
 impl Hit {
+    /// An equal hit.
     pub fn clone_in(&self, alloc: Global) -> Result<Hit, NoMemory>
         ensures { IfOk result (λ hit. hit ≡ self.now) }
     {
@@ -125,6 +127,7 @@ impl Hits {
         self.items.len()
     }
 
+    /// Equal hits.
     pub fn clone_in(&self, alloc: Global) -> Result<Hits, NoMemory>
         ensures { IfOk result (λ hits. hits ≡ self.now) }
     {

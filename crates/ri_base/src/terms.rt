@@ -34,6 +34,7 @@ impl Terms {
         self.items
     }
 
+    /// No terms yet.
     pub fn new(alloc: Global) -> Terms
         ensures { result ≡ [] }
     {

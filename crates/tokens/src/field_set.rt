@@ -28,6 +28,7 @@ impl Model for FieldSet {
 }
 
 impl FieldSet {
+    /// No fields yet.
     pub fn new(alloc: Global) -> FieldSet
         ensures { result ≡ [] }
     {

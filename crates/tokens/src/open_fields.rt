@@ -21,6 +21,7 @@ pub struct OpenFields {
 }
 
 impl OpenFields {
+    /// No field is open yet.
     pub fn new(alloc: Global) -> OpenFields
         ensures { (name : List ℕ) → begins_at result name ≡ [] }
     {

@@ -1,10 +1,9 @@
 -- what is known of the extents of a walk
-use Rattle.std.proofs.Common.{◌≡◌, ℕ, ◌+◌, ◌-◌, ◌<◌, ◌≤◌, ◌&&◌, inl, inr, ⊎_elim, Bool, true, false, nat_le, nat_lt, Some, None, Option, zero, suc, List, [], ◌∷◌, length, drop, get_or, refl, sym, ap, ◌∙◌, subst, arith}
+use Rattle.std.proofs.Common.{◌≡◌, ℕ, ◌+◌, ◌-◌, ◌<◌, ◌≤◌, ◌&&◌, ⊎_elim, Bool, true, false, nat_le, Some, None, Option, List, [], ◌∷◌, length, drop, get_or, refl, sym, ap, ◌∙◌, arith}
 use Rattle.std.proofs.lemmas.Bool.Decides.{nat_tests}
 use Rattle.std.specs.Prelude.{⊤}
 use Rattle.ri_base.specs.Pair.{Pair}
-use Rattle.extent_ops.specs.Next.{IsFrom, IsNext, LiesInSome}
-use Rattle.extent_ops.specs.Operators.{HasEach, HasEachInside, IsInSome, IsLeastEnd, IsWindow, Joins}
+use Rattle.extent_ops.specs.Operators.{HasEachInside, IsInSome, IsLeastEnd, IsWindow, Joins}
 use Rattle.extent_ops.specs.Plans.{Plan, Plans, listed, union_of, within, shortest, joined, window, whole, none, more, set, each_set}
 use Rattle.extent_ops.specs.Rows.{Has}
 use Rattle.extent_ops.specs.Shapes.{AreMonotone, AreOneToken, HasShape, HaveOneEnd, first_of, has_one_end, is_monotone, list_shape, of_union, of_windows, plan_shape, plans_shape, shape_before, weaker}

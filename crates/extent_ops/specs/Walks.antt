@@ -28,21 +28,25 @@ unfoldable mutual
 abbrev pub IsAnswer : Plan → Bool → Place → Option Pair → Type 0
 IsAnswer p asked from found = asked ≡ true → IsNext (set p) from.begin from.end found
 
+-- the answer is right, and what is known of the extents is what their plan tells
+abbrev pub IsRight : Plan → Shape → Bool → Place → Option Pair → Type 0
+IsRight p shape asked from found = IsAnswer p asked from found × (shape ≡ plan_shape p)
+
 unfoldable mutual
-  -- each answer that is remembered is right, and what is known of extents is what their plan tells
+  -- what is remembered and known is right everywhere
   pub IsKept : Walk → Type 0
   IsKept (Listed xs) = ⊤
   IsKept (Union' p g) = AreKept g
-  IsKept (Within' p w shape asked from found fields) = IsKept w × IsAnswer (plan w) asked from found × (shape ≡ plan_shape (plan w))
-  IsKept (Shortest' p w shape asked from found) = IsKept w × IsAnswer (plan w) asked from found × (shape ≡ plan_shape (plan w))
+  IsKept (Within' p w shape asked from found fields) = IsKept w × IsRight (plan w) shape asked from found
+  IsKept (Shortest' p w shape asked from found) = IsKept w × IsRight (plan w) shape asked from found
   IsKept (Joined' n p w shape asked from found q v shape_too asked_too from_too found_too) =
-      (IsKept w × IsAnswer (plan w) asked from found × (shape ≡ plan_shape (plan w))) × (IsKept v × IsAnswer (plan v) asked_too from_too found_too × (shape_too ≡ plan_shape (plan v)))
+      (IsKept w × IsRight (plan w) shape asked from found) × (IsKept v × IsRight (plan v) shape_too asked_too from_too found_too)
   IsKept (Window' n p g) = AreKept g
   IsKept (Whole' n p g) = AreKept g
 
   pub AreKept : Group → Type 0
   AreKept End = ⊤
-  AreKept (More' p w shape asked from found q g) = (IsKept w × IsAnswer (plan w) asked from found × (shape ≡ plan_shape (plan w))) × AreKept g
+  AreKept (More' p w shape asked from found q g) = (IsKept w × IsRight (plan w) shape asked from found) × AreKept g
 
 abbrev pub IsAheadKept : Ahead → Type 0
-IsAheadKept a = IsKept a.walk × IsAnswer (plan a.walk) a.is_asked a.from a.found × (a.shape ≡ plan_shape (plan a.walk))
+IsAheadKept a = IsKept a.walk × IsRight (plan a.walk) a.shape a.is_asked a.from a.found

@@ -35,7 +35,7 @@ impl Listed {
         Listed { items }
     }
 
-    /// What they tell of themselves. It takes a step for each.
+    /// What is known of them, by one pass over the list.
     pub fn shape(&self) -> Shape
         ensures { result ≡ list_shape self.now }
     {

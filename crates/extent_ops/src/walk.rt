@@ -194,7 +194,7 @@ impl Ahead {
     }
 
     /// A place from which on the first extent is the same. Where extents of one begin have one end, and the one of this
-    /// begin was found and ends before the place, that is the next begin.
+    /// begin was found and ends before the place, it is the next begin, so the walk needn't go over this begin again.
     fn start(&self, from: Place) -> Place
         requires { IsAheadKept self.now }
         ensures next { (found : Option Pair) → IsNext (set (plan self.now.walk)) result.begin result.end found →

@@ -19,7 +19,7 @@ Ahead::next-returns-clause-next t c = elim c.if-not-answers.branch [
   | Ahead::next-then-not-answers w ↦ rw w.self-is (w.start-start.ensures.next w.next-self.result w.next-self.ensures.next)
   | Ahead::next-else-not-answers w ↦
       let yes : c.answers.result ≡ true = cc in
-      rw w.self-is (IsNext-later _ _ _ _ _ _ (c.requires.1 (c.answers.ensures.asked yes)) (c.answers.ensures.later yes) (c.answers.ensures.none_between yes))
+      rw w.self-is (IsNext-later _ _ _ _ _ _ (c.requires.1.0 (c.answers.ensures.asked yes)) (c.answers.ensures.later yes) (c.answers.ensures.none_between yes))
 ]
 
 pub Ahead::least_of_ends-loop-self-smaller : goal.Ahead::least_of_ends-loop-self-smaller
@@ -58,7 +58,7 @@ Ahead::first_end-returns-clause-least t c =
 pub Ahead::least_end-first_end-requires : goal.Ahead::least_end-first_end-requires
 Ahead::least_end-first_end-requires t c =
     let p = plan c.args.self.now.walk in
-    let up : is_monotone (plan_shape p) ≡ true = ap is_monotone (sym c.requires.2) ∙ sym c.is_monotone.ensures ∙ c.if-is_monotone.true in
+    let up : is_monotone (plan_shape p) ≡ true = ap is_monotone (sym c.requires.1.1) ∙ sym c.is_monotone.ensures ∙ c.if-is_monotone.true in
     (omega (arith, c.decreases), (c.requires, monotone_plan p up))
 
 -- ---- the arguments

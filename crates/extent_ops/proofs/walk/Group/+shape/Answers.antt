@@ -1,5 +1,4 @@
-use Rattle.std.proofs.Common.{◌≡◌, sym, ap, ◌∙◌, arith}
-use Rattle.extent_ops.specs.Shapes.{plans_shape, weaker}
+use Rattle.std.proofs.Common.{sym, ap, arith}
 use Rattle.extent_ops.specs.Walks.{plans}
 use Rattle.extent_ops.specs.declared.walk.Group.{Group}
 use Rattle.extent_ops.proofs.WalkLaws.{depths, depths-More, kept_more, shapes-End, shapes-More}
@@ -17,4 +16,4 @@ returns-in-End t c = sym (shapes-End c.args.self.now c.in-End.is)
 pub returns-in-More : goal.returns-in-More
 returns-in-More t c =
     let kept = (kept_more c.args.self.now c.requires c.in-More.one c.in-More.others c.in-More.is).0 in
-    rw (c.weaker.ensures, c.shape.ensures, c.deref.ensures, c.deref-in-More.ensures, kept.2) (sym (shapes-More c.args.self.now c.in-More.one c.in-More.others c.in-More.is))
+    rw (c.weaker.ensures, c.shape.ensures, c.deref.ensures, c.deref-in-More.ensures, kept.1.1) (sym (shapes-More c.args.self.now c.in-More.one c.in-More.others c.in-More.is))

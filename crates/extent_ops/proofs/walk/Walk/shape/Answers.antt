@@ -1,6 +1,4 @@
-use Rattle.std.proofs.Common.{◌≡◌, sym, ap, ◌∙◌}
-use Rattle.extent_ops.specs.Shapes.{of_union, of_windows, plan_shape, plans_shape, weaker}
-use Rattle.extent_ops.specs.Walks.{plan, plans}
+use Rattle.std.proofs.Common.{sym, ◌∙◌}
 use Rattle.extent_ops.proofs.WalkLaws.{kept_joined, kept_shortest, kept_union, kept_window, kept_within, shape-Joined, shape-Listed, shape-Shortest, shape-Union, shape-Whole, shape-Window, shape-Within}
 use Rattle.extent_ops.proofs.walk.Walk.shape.Goals as goal
 
@@ -19,17 +17,17 @@ returns-in-Union c = rw (c.of_union.ensures, c.shape-in-Union.ensures, c.deref.e
 pub returns-in-Within : goal.returns-in-Within
 returns-in-Within c =
     let kept = kept_within c.args.self.now c.requires c.in-Within.inner _ c.in-Within.is in
-    rw (c.deref-in-Within.ensures, kept.2) (sym (shape-Within c.args.self.now c.in-Within.inner _ c.in-Within.is))
+    rw (c.deref-in-Within.ensures, kept.1.1) (sym (shape-Within c.args.self.now c.in-Within.inner _ c.in-Within.is))
 
 pub returns-in-Shortest : goal.returns-in-Shortest
 returns-in-Shortest c =
     let kept = kept_shortest c.args.self.now c.requires c.in-Shortest.inner c.in-Shortest.is in
-    rw (c.of_windows.ensures, c.deref-in-Shortest.ensures, kept.2) (sym (shape-Shortest c.args.self.now c.in-Shortest.inner c.in-Shortest.is))
+    rw (c.of_windows.ensures, c.deref-in-Shortest.ensures, kept.1.1) (sym (shape-Shortest c.args.self.now c.in-Shortest.inner c.in-Shortest.is))
 
 pub returns-in-Joined : goal.returns-in-Joined
 returns-in-Joined c =
     let kept = kept_joined c.args.self.now c.requires _ c.in-Joined.first c.in-Joined.later c.in-Joined.is in
-    rw (c.of_windows-in-Joined.ensures, c.weaker.ensures, c.deref-in-Joined.ensures, c.deref-in-Joined-2.ensures, kept.0.2, kept.1.2) (sym (shape-Joined c.args.self.now _ c.in-Joined.first c.in-Joined.later c.in-Joined.is))
+    rw (c.of_windows-in-Joined.ensures, c.weaker.ensures, c.deref-in-Joined.ensures, c.deref-in-Joined-2.ensures, kept.0.1.1, kept.1.1.1) (sym (shape-Joined c.args.self.now _ c.in-Joined.first c.in-Joined.later c.in-Joined.is))
 
 pub returns-in-Window : goal.returns-in-Window
 returns-in-Window c =

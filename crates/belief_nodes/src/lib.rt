@@ -12,6 +12,3 @@ pub use laws::{
 };
 pub use leaf_count::LeafCount;
 pub use network::Network;
-
-#[cfg(test)]
-mod tests;

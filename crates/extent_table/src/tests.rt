@@ -367,3 +367,51 @@ fn random_cases(rt: HostRuntime) -> Result<()> {
     }
     Ok(())
 }
+
+fn push_words(text: &mut String, word: &str, count: u32) -> Result<()> {
+    for _ in 0..count {
+        text.push_str(word)?;
+        text.push(' ')?;
+    }
+    Ok(())
+}
+
+/// How many extents the iterator gives in a document of so many words a, then as many b, then as many c.
+fn count_of(alloc: Global, count: u32, steps: &str) -> Result<u32> {
+    let mut tokens = String::new(alloc);
+    for word in ["a", "b", "c"] {
+        push_words(&mut tokens, word, count)?;
+    }
+    let doc = document(alloc, &tokens, "")?;
+    let expr = expression(alloc, steps)?;
+    let mut part = sealed(alloc, &doc)?;
+    if part.docs() == 0 {
+        bail!("no document");
+    }
+    let Ok(mut iter) = ExtentIter::new(alloc, &expr, &mut part, 0) else {
+        bail!("not read");
+    };
+    for found in 0..=count {
+        match iter.next_extent() {
+            Ok(Some(_)) => {}
+            Ok(None) => return Ok(found),
+            Err(_) => bail!("not read"),
+        }
+    }
+    bail!("too many extents")
+}
+
+/// Each `a` begins one window, which passes all of `b`. Where the ends of all begins in reach were compared for each `a`,
+/// this would not end in the time of a test.
+#[test]
+fn windows_over_many_begins(rt: HostRuntime) -> Result<()> {
+    let alloc = rt.alloc();
+    for steps in [
+        "a b c od:100000:3",
+        "a b c uw:100000:3",
+        "a b od:100000:2 b od:100000:2 c od:100000:2",
+    ] {
+        assert_eq!(rt; count_of(alloc, 20_000, steps)?, 20_000, "at {steps}");
+    }
+    Ok(())
+}

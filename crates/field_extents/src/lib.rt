@@ -5,8 +5,6 @@
 mod begins;
 mod cover;
 mod restriction;
-#[cfg(test)]
-mod tests;
 
 pub use begins::distinct_begins;
 pub use cover::covered;

@@ -5,8 +5,6 @@ mod counts;
 mod digits;
 mod laws;
 mod ranking;
-#[cfg(test)]
-mod tests;
 
 pub use counts::are_plain;
 pub use laws::ranking_is_true;

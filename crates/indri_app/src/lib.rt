@@ -13,6 +13,3 @@ mod status;
 
 pub use program::run;
 pub use status::Status;
-
-#[cfg(test)]
-mod tests;

@@ -3,8 +3,6 @@
 
 mod chain;
 mod laws;
-#[cfg(test)]
-mod tests;
 
 pub use chain::{FIRST, LAST, LogChain, MAX_LEVEL};
 pub use laws::{digits_enclose, digits_fall, digits_lead};

@@ -3,7 +3,5 @@
 
 mod known;
 mod lone_document;
-#[cfg(test)]
-mod tests;
 
 pub use lone_document::LoneDocument;

@@ -5,7 +5,5 @@ mod inversion;
 mod mem_index;
 mod numbered;
 mod numbering;
-#[cfg(test)]
-mod tests;
 
 pub use mem_index::{MemIndex, MemRefusal};

@@ -19,6 +19,3 @@ pub use laws::{common_divisor_is_greatest, common_multiple_is_least};
 pub use leaf_kind::LeafKind;
 pub use query::check;
 pub use tree::Tree;
-
-#[cfg(test)]
-mod tests;

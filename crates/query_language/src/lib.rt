@@ -12,9 +12,6 @@ pub use query_reader::{QueryFault, QueryKind, print_expr, print_query, read_expr
 use ri_base::Bytes;
 use std::alloc::Global;
 
-#[cfg(test)]
-mod tests;
-
 /// The text that a query is printed as, which is read as the same query.
 #[tactic(auto, using(query_reader::proofs::QueryLaw::printed_query_reads))]
 pub fn canonical_query(alloc: Global, text: &str) -> Result<Bytes, QueryFault>

@@ -3,8 +3,6 @@
 
 mod marks;
 mod order;
-#[cfg(test)]
-mod tests;
 mod texts;
 
 pub use marks::Mark;

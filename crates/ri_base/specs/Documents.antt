@@ -1,9 +1,8 @@
 -- Documents as contracts see them: an identifier, terms in their places, and fields.
-use Rattle.std.specs.Prelude.{◌≡◌, ◌<◌, ◌≤◌, ℕ, ◌+◌, List, [], ◌∷◌, length, ◌⊎◌, if◌then◌else◌}
+use Rattle.std.specs.Prelude.{◌≡◌, ◌<◌, ◌≤◌, ℕ, List, length, ◌⊎◌}
 use Rattle.std.specs.Cmp.Lexicographic.{slice_cmp}
 use Rattle.std.specs.List.{All, AllPairs}
 use Rattle.std.specs.Ordering.{nat_cmp}
-use Rattle.std.specs.Str.{bytes_eq}
 use Rattle.std.specs.declared.cmp.Ordering.TheVariants.{Less}
 
 -- a field of a document: the tokens from begin on up to end, that one not among them
@@ -33,12 +32,3 @@ pub record AreFields (tokens : ℕ) (fields : List Field) : Type 0 where
 pub record IsDocument (tokens : List (List ℕ)) (fields : List Field) : Type 0 where
   pub short : length tokens ≤ 1048576
   pub sound : AreFields (length tokens) fields
-
--- where a term stands among tokens that are counted from i on
-abbrev pub places_from : ℕ → List ℕ → List (List ℕ) → List ℕ
-places_from i term [] = []
-places_from i term (t ∷ ts) = if bytes_eq t term then i ∷ places_from (i + 1) term ts else places_from (i + 1) term ts
-
--- where a term stands among the tokens of a document, in order, counted from 0
-abbrev pub places_among : List ℕ → List (List ℕ) → List ℕ
-places_among term tokens = places_from 0 term tokens

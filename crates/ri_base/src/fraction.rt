@@ -59,24 +59,3 @@ fn product(a: u64, b: u64) -> u128
 {
     u128::from(a) * u128::from(b)
 }
-
-#[cfg(test)]
-mod tests {
-    use super::*;
-
-    #[test]
-    fn beliefs(rt: HostRuntime) -> Result<(), NotABelief> {
-        let written_twice = (Fraction::new(10, 12)?, Fraction::new(5, 6)?);
-        let half = Fraction::new(1, 2)?;
-        assert!(rt; written_twice.0.same(written_twice.1) && written_twice.0 != written_twice.1);
-        assert!(rt; half.at_most(written_twice.0) && !written_twice.0.at_most(half));
-        assert!(rt; half.at_most(half) && !half.same(written_twice.1));
-        assert_eq!(rt; Fraction::new(7, 7)?.q, 7);
-        assert!(rt;
-            Fraction::new(0, 3).is_err()
-                && Fraction::new(3, 0).is_err()
-                && Fraction::new(4, 3).is_err()
-        );
-        Ok(())
-    }
-}

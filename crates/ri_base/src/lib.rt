@@ -43,6 +43,3 @@ pub use text::{DOCNO_BYTES, Docno, NAME_BYTES, Name, TERM_BYTES, Term, is_docno_
 
 /// Want of memory, where it is the only refusal.
 pub type NoMemory = std::alloc::AllocError;
-
-#[cfg(test)]
-mod tests;

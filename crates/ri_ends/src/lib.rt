@@ -20,6 +20,3 @@ pub use std_ends::{StdSink, StdSource};
 
 /// Want of memory, where it is the only refusal.
 pub type NoMemory = std::alloc::AllocError;
-
-#[cfg(test)]
-mod tests;

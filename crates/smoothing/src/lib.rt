@@ -4,8 +4,6 @@
 mod dirichlet;
 mod laws;
 mod rule;
-#[cfg(test)]
-mod tests;
 
 pub use dirichlet::dirichlet_fraction;
 pub use laws::dirichlet_sizes;

@@ -8,6 +8,3 @@ mod terms;
 
 pub use document::{TokenRefusal, doc_of};
 pub use terms::terms_of;
-
-#[cfg(test)]
-mod tests;

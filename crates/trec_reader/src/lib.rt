@@ -21,6 +21,3 @@ pub use piece::{Piece, Pieces};
 pub use reader::DocReader;
 pub use refusal::TrecRefusal;
 pub use trec_reader::TrecReader;
-
-#[cfg(test)]
-mod tests;

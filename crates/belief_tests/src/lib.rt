@@ -1,0 +1,13 @@
+//! Beliefs, logarithms, lines and rankings that were worked out by hand or computed elsewhere.
+#![tactic(auto)]
+
+#[cfg(test)]
+mod dirichlet;
+#[cfg(test)]
+mod lines;
+#[cfg(test)]
+mod logarithms;
+#[cfg(test)]
+mod networks;
+#[cfg(test)]
+mod rankings;

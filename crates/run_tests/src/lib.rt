@@ -1,0 +1,5 @@
+//! Whole runs of the program over sources and sinks in memory.
+#![tactic(auto)]
+
+#[cfg(test)]
+mod runs;

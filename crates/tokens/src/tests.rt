@@ -1,2 +1,0 @@
-mod documents;
-mod words;

@@ -1,0 +1,134 @@
+ghost use Rattle.std.specs.Prelude.{IfOk, ◌<◌};
+ghost use Rattle.ri_base.specs.Documents.{AreFields, IsDocument};
+
+use memory_index::{MemIndex, MemRefusal};
+use ri_base::{Doc, Docno, FieldSpan, Name, Postings, Sealed, Spans, Term, Terms};
+use std::alloc::Global;
+use std::test::Fail;
+
+/// One field over all tokens.
+fn whole(alloc: Global, name: Name, end: u32) -> Result<Spans, Fail>
+    requires { 0 < end }
+    ensures { IfOk result (AreFields end) }
+{
+    let mut fields = Vec::new(alloc);
+    fields.push(FieldSpan::new(name, 0, end))?;
+    Ok(Spans::of(fields))
+}
+
+fn term(alloc: Global, text: &str) -> Result<Term, Fail> {
+    Ok(Term::new(alloc, text.as_bytes())?.ok_or("no term")?)
+}
+
+/// The document of these words, with one field over them.
+fn doc(alloc: Global, words: &str, name: &str) -> Result<Doc, Fail> {
+    let docno = Docno::new(alloc, b"d")?.ok_or("no docno")?;
+    let mut tokens = Terms::new(alloc);
+    for word in words.split(' ') {
+        tokens.push(term(alloc, word)?)?;
+    }
+    let count = tokens.len();
+    if count == 0 || count > 100 {
+        return Err(Fail::from("no such document"));
+    }
+    let name = Name::new(alloc, name.as_bytes())?.ok_or("no name")?;
+    let fields = whole(alloc, name, count as u32)?;
+    Ok(Doc::new(alloc, docno, tokens, fields)?)
+}
+
+fn index_of(alloc: Global, most: u32) -> Result<MemIndex, Fail> {
+    if most < 1 || most > 10 {
+        return Err(Fail::from("no such index"));
+    }
+    Ok(MemIndex::new(alloc, most)?)
+}
+
+/// Adds a document with one field over its words. `None` is a full index.
+fn put(alloc: Global, index: &mut MemIndex, words: &str, name: &str) -> Result<Option<u32>, Fail> {
+    let doc = doc(alloc, words, name)?;
+    if index.token_count() + u64::from(doc.len()) > 67_108_864 {
+        return Err(Fail::from("too many tokens"));
+    }
+    match index.add(alloc, &doc) {
+        Ok(id) => Ok(Some(id)),
+        Err(MemRefusal::IndexFull) => Ok(None),
+        Err(MemRefusal::Memory) => Err(Fail::from("out of memory")),
+    }
+}
+
+/// An index that holds two documents, and no more.
+fn pair(alloc: Global) -> Result<MemIndex, Fail> {
+    let mut index = index_of(alloc, 2)?;
+    put(alloc, &mut index, "b a b ab", "title")?;
+    put(alloc, &mut index, "c a", "h1")?;
+    Ok(index)
+}
+
+fn sealed(alloc: Global, index: MemIndex) -> Result<Sealed, Fail> {
+    match index.seal(alloc) {
+        Ok(sealed) => Ok(sealed),
+        Err(_) => Err(Fail::from("not sealed")),
+    }
+}
+
+fn places(alloc: Global, sealed: &mut Sealed, text: &str, id: u32) -> Result<Vec<u32>, Fail> {
+    let term = term(alloc, text)?;
+    if id >= sealed.docs() {
+        return Err(Fail::from("no such document"));
+    }
+    match sealed.positions(alloc, &term, id) {
+        Ok(found) => Ok(found.into_vec()),
+        Err(_) => Err(Fail::from("not read")),
+    }
+}
+
+#[test]
+fn two_documents_fit(rt: HostRuntime) -> Result<(), Fail> {
+    let mut index = index_of(rt.alloc(), 2)?;
+    assert_eq!(rt; put(rt.alloc(), &mut index, "a", "t")?, Some(0));
+    assert_eq!(rt; put(rt.alloc(), &mut index, "a", "t")?, Some(1));
+    assert_eq!(rt; put(rt.alloc(), &mut index, "a", "t")?, None);
+    Ok(())
+}
+
+#[test]
+fn names_are_counted_once(rt: HostRuntime) -> Result<(), Fail> {
+    let index = pair(rt.alloc())?;
+    assert_eq!(rt; index.names_with(&doc(rt.alloc(), "a", "h1")?), 2);
+    assert_eq!(rt; index.names_with(&doc(rt.alloc(), "a", "h2")?), 3);
+    Ok(())
+}
+
+#[test]
+fn the_places_of_a_term(rt: HostRuntime) -> Result<(), Fail> {
+    let mut sealed = sealed(rt.alloc(), pair(rt.alloc())?)?;
+    assert_eq!(rt;
+        places(rt.alloc(), &mut sealed, "b", 0)?.as_slice(),
+        [0, 2].as_slice()
+    );
+    assert_eq!(rt;
+        places(rt.alloc(), &mut sealed, "a", 1)?.as_slice(),
+        [1].as_slice()
+    );
+    Ok(())
+}
+
+#[test]
+fn the_vocabulary_rises(rt: HostRuntime) -> Result<(), Fail> {
+    let sealed = sealed(rt.alloc(), pair(rt.alloc())?)?;
+    let terms = sealed.vocabulary().as_slice();
+    assert_eq!(rt; terms.len(), 4);
+    assert_eq!(rt; terms[1].as_bytes(), b"ab".as_slice());
+    assert_eq!(rt; terms[2].as_bytes(), b"b".as_slice());
+    Ok(())
+}
+
+#[test]
+fn a_document_comes_back(rt: HostRuntime) -> Result<(), Fail> {
+    let sealed = sealed(rt.alloc(), pair(rt.alloc())?)?;
+    assert_eq!(rt; sealed.docs(), 2);
+    let whole = sealed.doc(rt.alloc(), 1)?;
+    assert_eq!(rt; whole.len(), 2);
+    assert_eq!(rt; whole.names().len(), 1);
+    Ok(())
+}

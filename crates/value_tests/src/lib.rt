@@ -1,0 +1,13 @@
+//! The values, ends and indexes of the lowest crates, called as their users call them.
+#![tactic(auto)]
+
+#[cfg(test)]
+mod ends;
+#[cfg(test)]
+mod fields;
+#[cfg(test)]
+mod index;
+#[cfg(test)]
+mod lone;
+#[cfg(test)]
+mod values;

@@ -1,0 +1,138 @@
+// Each value is cloned, and the clone compared by its public parts.
+ghost use Rattle.std.specs.Prelude.{◌<◌, IfOk};
+ghost use Rattle.ri_base.specs.Documents.{AreFields};
+
+use ri_base::{
+    Bytes, Doc, Docno, FieldSpan, Fraction, Fractions, Hit, Hits, Name, NotABelief, Spans, Term,
+    Terms,
+};
+use std::alloc::Global;
+use std::process::Abort;
+use std::test::Fail;
+
+fn term(alloc: Global, text: &str) -> Result<Term, Fail> {
+    Ok(Term::new(alloc, text.as_bytes())?.ok_or("no term")?)
+}
+
+fn name(alloc: Global, text: &str) -> Result<Name, Fail> {
+    Ok(Name::new(alloc, text.as_bytes())?.ok_or("no name")?)
+}
+
+fn docno(alloc: Global, text: &str) -> Result<Docno, Fail> {
+    Ok(Docno::new(alloc, text.as_bytes())?.ok_or("no docno")?)
+}
+
+/// A field named h1 over all tokens.
+fn whole(alloc: Global, end: u32) -> Result<Spans, Fail>
+    requires { 0 < end }
+    ensures { IfOk result (AreFields end) }
+{
+    let mut fields = Vec::new(alloc);
+    fields.push(FieldSpan::new(name(alloc, "h1")?, 0, end))?;
+    Ok(Spans::of(fields))
+}
+
+/// The document of two words, with one field over them.
+fn doc(alloc: Global) -> Result<Doc, Fail> {
+    let mut tokens = Terms::new(alloc);
+    tokens.push(term(alloc, "a")?)?;
+    tokens.push(term(alloc, "b")?)?;
+    let fields = whole(alloc, 2)?;
+    Ok(Doc::new(alloc, docno(alloc, "d1")?, tokens, fields)?)
+}
+
+fn assert_terms(rt: &impl Abort, terms: &Terms) {
+    let terms = terms.as_slice();
+    assert_eq!(rt; terms.len(), 2);
+    assert_eq!(rt;
+        (terms[0].as_bytes(), terms[1].as_bytes()),
+        (&b"a"[..], &b"b"[..])
+    );
+}
+
+fn assert_fields(rt: &impl Abort, fields: &Spans) {
+    let fields = fields.as_slice();
+    assert_eq!(rt; fields.len(), 1);
+    assert_eq!(rt; fields[0].name().as_bytes(), &b"h1"[..]);
+    assert_eq!(rt; (fields[0].begin(), fields[0].end()), (0, 2));
+}
+
+#[test]
+fn texts(rt: HostRuntime) -> Result<(), Fail> {
+    let alloc = rt.alloc();
+    let word = term(alloc, "word")?;
+    assert_eq!(rt; word.clone_in(alloc)?, word);
+    let field = name(alloc, "Title")?;
+    assert_eq!(rt; field.clone_in(alloc)?.as_bytes(), &b"title"[..]);
+    let number = docno(alloc, "AP880212-0001")?;
+    assert_eq!(rt; number.clone_in(alloc)?, number);
+    let bytes = Bytes::copy_of(alloc, &[0, 255])?;
+    assert_eq!(rt; bytes.clone_in(alloc)?.as_slice(), &[0, 255][..]);
+    Ok(())
+}
+
+#[test]
+fn documents(rt: HostRuntime) -> Result<(), Fail> {
+    let alloc = rt.alloc();
+    let doc = doc(alloc)?.clone_in(alloc)?;
+    assert_eq!(rt; doc.docno().as_bytes(), &b"d1"[..]);
+    assert_eq!(rt; doc.names().len(), 1);
+    assert_terms(&rt, &doc.tokens().clone_in(alloc)?);
+    assert_fields(&rt, &doc.fields().clone_in(alloc)?);
+    Ok(())
+}
+
+fn two_thirds(alloc: Global) -> Result<Fractions, Fail> {
+    let mut beliefs = Vec::new(alloc);
+    beliefs.push(Fraction::new(2, 3)?)?;
+    Ok(Fractions::of(beliefs))
+}
+
+/// A hit of one belief, twice.
+fn hits(alloc: Global) -> Result<Hits, Fail> {
+    let hit = Hit {
+        docno: docno(alloc, "d1")?,
+        begin: 3,
+        end: 7,
+        key: 1 << 100,
+        fractions: two_thirds(alloc)?.clone_in(alloc)?,
+    };
+    let mut hits = Vec::new(alloc);
+    hits.push(hit.clone_in(alloc)?)?;
+    hits.push(hit)?;
+    Ok(Hits::of(hits))
+}
+
+fn assert_hit(rt: &impl Abort, hit: &Hit) {
+    assert_eq!(rt; hit.docno.as_bytes(), &b"d1"[..]);
+    assert_eq!(rt; (hit.begin, hit.end, hit.key), (3, 7, 1 << 100));
+    let fractions = hit.fractions.as_slice();
+    assert_eq!(rt; fractions.len(), 1);
+    assert_eq!(rt; (fractions[0].p, fractions[0].q), (2, 3));
+}
+
+#[test]
+fn rankings(rt: HostRuntime) -> Result<(), Fail> {
+    let hits = hits(rt.alloc())?.clone_in(rt.alloc())?;
+    assert_eq!(rt; hits.len(), 2);
+    for hit in hits.as_slice() {
+        assert_hit(&rt, hit);
+    }
+    Ok(())
+}
+
+#[test]
+fn beliefs(rt: HostRuntime) -> Result<(), NotABelief> {
+    let written_twice = (Fraction::new(10, 12)?, Fraction::new(5, 6)?);
+    let half = Fraction::new(1, 2)?;
+    assert!(rt; written_twice.0.same(written_twice.1) && written_twice.0 != written_twice.1);
+    assert!(rt; half.at_most(written_twice.0) && !written_twice.0.at_most(half));
+    assert!(rt; half.at_most(half) && !half.same(written_twice.1));
+    assert_eq!(rt; Fraction::new(7, 7)?.q, 7);
+    assert!(rt;
+        Fraction::new(0, 3).is_err()
+            && Fraction::new(3, 0).is_err()
+            && Fraction::new(4, 3).is_err()
+    );
+    Ok(())
+}

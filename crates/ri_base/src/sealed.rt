@@ -54,6 +54,18 @@ impl Sealed {
         }
     }
 
+    /// How many tokens the documents have together.
+    pub fn token_count(&self) -> u64
+        ensures count { result ≡ token_count self.now }
+        ensures most { result ≤ 67108864 }
+    {
+        let mut count = 0;
+        for held in &self.docs {
+            count += held.tokens.len() as u64;
+        }
+        count
+    }
+
     /// The distinct terms of the documents, in rising order of bytes.
     pub fn vocabulary(&self) -> &Terms
         ensures distinct { IsVocabulary result.now self.now }

@@ -130,9 +130,7 @@ fn beliefs(rt: HostRuntime) -> Result<(), NotABelief> {
     assert!(rt; half.at_most(half) && !half.same(written_twice.1));
     assert_eq!(rt; Fraction::new(7, 7)?.q, 7);
     assert!(rt;
-        Fraction::new(0, 3).is_err()
-            && Fraction::new(3, 0).is_err()
-            && Fraction::new(4, 3).is_err()
+        Fraction::new(0, 3).is_err() && Fraction::new(3, 0).is_err() && Fraction::new(4, 3).is_err()
     );
     Ok(())
 }

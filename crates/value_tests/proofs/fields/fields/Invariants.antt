@@ -1,7 +1,7 @@
 use Rattle.std.proofs.Common.{◌≡◌, ◌<◌, ◌≤◌, ◌⊎◌}
 use Rattle.std.specs.List.{All, AllPairs}
 use Rattle.ri_base.specs.Documents.{IsBefore}
-use Rattle.field_extents.proofs.tests.fields.Given as goal
+use Rattle.value_tests.proofs.fields.fields.Given as goal
 
 abbrev pub invariant-loop-letter : goal.invariant-loop-letter
 invariant-loop-letter l = record {

@@ -2,7 +2,7 @@ use Rattle.std.proofs.Common.{rules, arith, ◌≡◌, true}
 use Rattle.query_check.proofs.Walks.{drop_at, drop_end}
 use Rattle.query_check.specs.Leaves.{leaf_tree}
 use Rattle.belief_nodes.specs.Leaves.{has_extents}
-use Rattle.belief_nodes.proofs.tests.have_extents.Goals as goal
+use Rattle.belief_tests.proofs.networks.have_extents.Goals as goal
 
 pub loop-leaf-preserved : goal.loop-leaf-preserved
 loop-leaf-preserved c =

@@ -1,6 +1,6 @@
 use Rattle.std.specs.List.{All}
 use Rattle.field_extents.specs.Extents.{AreInOrder, IsNoLater}
-use Rattle.field_extents.proofs.tests.extents.Given as goal
+use Rattle.value_tests.proofs.fields.extents.Given as goal
 
 abbrev pub invariant-loop-next : goal.invariant-loop-next
 invariant-loop-next l = record {

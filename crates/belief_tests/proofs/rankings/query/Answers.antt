@@ -7,7 +7,7 @@ use Rattle.ri_base.specs.declared.belief.Belief.{Belief, Leaf}
 use Rattle.ri_base.specs.declared.expression.ExtentExpr.{Word}
 use Rattle.ri_base.specs.declared.query.Filter.{Filter}
 use Rattle.ri_base.specs.declared.query.Range.TheVariants.{Whole}
-use Rattle.full_ranking.proofs.tests.query.Goals as goal
+use Rattle.belief_tests.proofs.rankings.query.Goals as goal
 
 of_word : (t : List ℕ) → IsTrue (is_term t) → IsBoundedQuery (query_tree [] Whole (Leaf (Word t) None ∷ []))
 unfolding belief_tree expr_tree expr.depth expr.nodes expr.is_sound depth depths nodes all_nodes is_sound are_sound

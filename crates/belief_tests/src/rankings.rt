@@ -1,6 +1,5 @@
 // Rankings of small indexes that were worked out by hand. A key is that of the belief's logarithm in 40 binary places.
-ghost use Rattle.std.specs.Prelude.{◌≡◌, ◌≤◌, ◌^◌, IfOk, IsTrue};
-ghost use Rattle.ri_base.specs.Collection.{token_count};
+ghost use Rattle.std.specs.Prelude.{◌≡◌, IfOk, IsTrue};
 ghost use Rattle.ri_base.specs.Ratio.{ratio_of};
 ghost use Rattle.ri_base.specs.Text.{is_term};
 ghost use Rattle.smoothing.specs.Counts.{AreCounts};
@@ -41,9 +40,7 @@ fn doc(alloc: Global, text: Text) -> Result<Doc, Fail> {
     Ok(Doc::new(alloc, docno, tokens, Spans::of(Vec::new(alloc)))?)
 }
 
-fn sealed(alloc: Global, texts: &[Text]) -> Result<Sealed, Fail>
-    ensures { IfOk result (λ index. token_count index ≤ 2 ^ 29) }
-{
+fn sealed(alloc: Global, texts: &[Text]) -> Result<Sealed, Fail> {
     let mut index = MemIndex::new(alloc, 10)?;
     for text in texts {
         let doc = doc(alloc, *text)?;
@@ -54,7 +51,6 @@ fn sealed(alloc: Global, texts: &[Text]) -> Result<Sealed, Fail>
             return Err(Fail::from("not added"));
         }
     }
-    let _few = index.token_count();
     match index.seal(alloc) {
         Ok(sealed) => Ok(sealed),
         Err(_) => Err(Fail::from("not sealed")),

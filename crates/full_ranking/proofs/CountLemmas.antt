@@ -1,5 +1,5 @@
 -- Counts of leaves in documents and over all documents.
-use Rattle.std.proofs.Common.{◌≡◌, ◌<◌, ◌≤◌, ◌+◌, ◌-◌, ◌^◌, ℕ, zero, suc, min, max, Bool, true, false, not, ◌&&◌, ◌||◌, List, [], ◌∷◌, length, map, filter, sum_by, take, None, Some, unwrap_or, get_or, refl, sym, ap, ◌∙◌, arith}
+use Rattle.std.proofs.Common.{◌≡◌, ◌<◌, ◌≤◌, ◌+◌, ◌-◌, ℕ, zero, suc, min, max, Bool, true, false, not, ◌&&◌, ◌||◌, List, [], ◌∷◌, length, map, filter, sum_by, take, None, Some, unwrap_or, get_or, refl, sym, ap, ◌∙◌, arith}
 use Rattle.std.specs.Bool.{nat_eq, nat_lt}
 use Rattle.std.specs.List.{All, list_all}
 use Rattle.std.proofs.lemmas.Bool.Decides.{nat_tests}
@@ -66,17 +66,15 @@ none_occurs (l ∷ ls) d = first (tf l d) _ _ (none_occurs ls d)
     first zero a b e = e
     first (suc n) a b e = grind (arith, nat_tests)
 
--- the sums with one more document
-pub record AreNextSums (docs : List Document) (l : LeafTree) (i cf total : ℕ) (count : LeafCount) : Type 0 where
+-- the sum with one more document, and that it is no more than the words so far
+pub record AreNextSums (docs : List Document) (l : LeafTree) (i cf : ℕ) (count : LeafCount) : Type 0 where
   pub occurs : cf + count.tf ≡ sum_by (tf l) (take (i + 1) docs)
-  pub words : total + count.len ≡ sum_by (len l) (take (i + 1) docs)
-  pub part : cf + count.tf ≤ total + count.len
-  pub few : total + count.len ≤ 2 ^ 29
+  pub part : cf + count.tf ≤ sum_by (len l) (take (i + 1) docs)
 
-pub next_sums : (docs read : List Document) (l : LeafTree) (i cf total : ℕ) (count : LeafCount) → is_plain l ≡ true → token_count docs ≤ 2 ^ 29 → i < length docs → read ≡ docs
-    → cf ≡ sum_by (tf l) (take i docs) → total ≡ sum_by (len l) (take i docs) → cf ≤ total → count ≡ count_of (document_at read i) l → IsLeafCount count
-    → AreNextSums docs l i cf total count
-next_sums docs read l i cf total count plain few inside unchanged cf_is total_is part is range =
+pub next_sums : (docs read : List Document) (l : LeafTree) (i cf : ℕ) (count : LeafCount) → i < length docs → read ≡ docs
+    → cf ≡ sum_by (tf l) (take i docs) → cf ≤ sum_by (len l) (take i docs) → count ≡ count_of (document_at read i) l → IsLeafCount count
+    → AreNextSums docs l i cf count
+next_sums docs read l i cf count inside unchanged cf_is part is range =
     let d : Document = get_or docs i empty_document in
     let there : document_at docs i ≡ d = ap (λ o. unwrap_or o empty_document) (slice_get-get_or docs i empty_document inside) in
     let same : count ≡ count_of d l = is ∙ ap (λ (ds : List Document). count_of (document_at ds i) l) unchanged ∙ ap (λ (e : Document). count_of e l) there in
@@ -84,21 +82,24 @@ next_sums docs read l i cf total count plain few inside unchanged cf_is total_is
     let words : count.len ≡ len l d = ap (λ (c : LeafCount). c.len) same in
     let more : sum_by (tf l) (take (i + 1) docs) ≡ sum_by (tf l) (take i docs) + tf l d = sum_by_more (tf l) docs i empty_document inside in
     let more_words : sum_by (len l) (take (i + 1) docs) ≡ sum_by (len l) (take i docs) + len l d = sum_by_more (len l) docs i empty_document inside in
-    let most : sum_by (len l) (take (i + 1) docs) ≤ sum_by (len l) docs = sum_by-take-le (len l) docs (i + 1) in
-    let all : sum_by (len l) docs ≡ token_count docs = sum_of_lengths l docs plain in
     let within : count.tf ≤ count.len = range.within in
-    record {
-      occurs = sum_step cf count.tf _ _ _ cf_is occurs more;
-      words = sum_step total count.len _ _ _ total_is words more_words;
-      part = omega (arith, part, within);
-      few = below (sum_step total count.len _ _ _ total_is words more_words) most all few;
-    }
+    record { occurs = sum_step cf count.tf _ _ _ cf_is occurs more; part = part_step _ _ _ _ _ _ part within words more_words }
   where
     sum_step : (a b c d e : ℕ) → a ≡ c → b ≡ d → e ≡ c + d → a + b ≡ e
     sum_step a b c d e p q r = omega (arith, p, q, r)
 
-    below : {a b c d : ℕ} → a ≡ b → b ≤ c → c ≡ d → d ≤ 2 ^ 29 → a ≤ 2 ^ 29
-    below p q r s = omega (arith, p, q, r, s)
+    part_step : (a b c d e f : ℕ) → a ≤ c → b ≤ d → d ≡ e → f ≡ c + e → a + b ≤ f
+    part_step a b c d e f p q r t = omega (arith, p, q, r, t)
+
+-- as many words as the documents have are at most so many, and no fewer than the words of a plain leaf so far
+pub words_so_far : (docs : List Document) (l : LeafTree) (i : ℕ) → is_plain l ≡ true → sum_by (len l) (take i docs) ≤ token_count docs
+words_so_far docs l i plain =
+    let most : sum_by (len l) (take i docs) ≤ sum_by (len l) docs = sum_by-take-le (len l) docs i in
+    let all : sum_by (len l) docs ≡ token_count docs = sum_of_lengths l docs plain in
+    below most all
+  where
+    below : {a b c : ℕ} → a ≤ b → b ≡ c → a ≤ c
+    below p q = omega (arith, p, q)
 
 have_extents : (l : LeafTree) → is_plain l ≡ true → has_extents l ≡ true
 have_extents (extents x None) h = refl

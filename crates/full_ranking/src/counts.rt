@@ -1,9 +1,9 @@
 // How often the leaves of a query occur.
-ghost use Rattle.std.specs.Prelude.{◌≡◌, ◌==◌, ◌<◌, ◌≤◌, ◌^◌, true, length, map, All, IfOk};
+ghost use Rattle.std.specs.Prelude.{◌≡◌, ◌==◌, ◌<◌, ◌≤◌, true, length, map, All, IfOk};
 ghost use Rattle.std.specs.List.{list_all};
 ghost use Rattle.field_extents.specs.Extents.{AreInOrder, begin_count};
 ghost use Rattle.extent_lists.specs.Listed.{pair};
-ghost use Rattle.ri_base.specs.Collection.{document_at, token_count};
+ghost use Rattle.ri_base.specs.Collection.{document_at};
 ghost use Rattle.query_check.specs.Leaves.{leaf_tree};
 ghost use Rattle.belief_nodes.specs.Leaves.{AreLeafStats, IsLeafCount};
 ghost use Rattle.full_ranking.specs.Counts.{count_of, is_plain, len, stats_of, tf};
@@ -70,21 +70,20 @@ pub fn counts_of(
     Ok(counts)
 }
 
-/// The sums of a leaf's counts over all documents.
+/// The sums of a leaf's counts over all documents. An expression without a context counts each of their tokens.
 fn stats_of(alloc: Global, leaf: &LeafKind, index: &mut Sealed) -> Result<LeafStats, NoMemory>
-    requires plain { is_plain (leaf_tree leaf.now) ≡ true }
-    requires few { token_count index.old ≤ 2 ^ 29 }
+    requires { is_plain (leaf_tree leaf.now) ≡ true }
     ensures stats { IfOk result (λ s. s ≡ stats_of index.old (leaf_tree leaf.now)) }
     ensures range { IfOk result (λ s. AreLeafStats s) }
     ensures same { index.new ≡ index.old }
 {
-    let mut stats = LeafStats { cf: 0, total: 0 };
+    let total = index.token_count();
+    let mut cf = 0;
     for id in 0..index.docs() {
         let count = count_of(alloc, leaf, index, id)?;
-        stats.cf += u64::from(count.tf);
-        stats.total += u64::from(count.len);
+        cf += u64::from(count.tf);
     }
-    Ok(stats)
+    Ok(LeafStats { cf, total })
 }
 
 /// The sums of all leaves' counts over all documents.
@@ -93,8 +92,7 @@ pub fn all_stats(
     leaves: &[LeafKind],
     index: &mut Sealed,
 ) -> Result<Vec<LeafStats>, NoMemory>
-    requires plain { list_all is_plain (map leaf_tree leaves.now) ≡ true }
-    requires few { token_count index.old ≤ 2 ^ 29 }
+    requires { list_all is_plain (map leaf_tree leaves.now) ≡ true }
     ensures stats { IfOk result (λ v. v.items ≡ map (stats_of index.old) (map leaf_tree leaves.now)) }
     ensures range { IfOk result (λ v. All (λ s. AreLeafStats s) v.items) }
     ensures same { index.new ≡ index.old }

@@ -2,7 +2,7 @@
 ghost use Rattle.std.specs.Prelude.{◌≡◌, ◌<◌, ◌≤◌, ◌^◌, true, None, Some, length, map, take, All, List, IfOk, IfSome, if◌then◌else◌};
 ghost use Rattle.std.specs.List.{list_all};
 ghost use Rattle.std.specs.Option.{option_map};
-ghost use Rattle.ri_base.specs.Collection.{document_at, token_count};
+ghost use Rattle.ri_base.specs.Collection.{document_at};
 ghost use Rattle.ri_base.specs.Ratio.{ratio_of};
 ghost use Rattle.ri_base.specs.declared.hit.Hit.{Hit};
 ghost use Rattle.log_chain.specs.declared.chain.TheConstants.{LAST};
@@ -167,7 +167,6 @@ pub fn rank<F: Fn(u32, u32, u64, u64) -> Fraction>(
 ) -> Result<Hits, NoMemory>
     requires rule { Computes F.pre F.post rule.now.kind rule.now.f }
     requires plain { list_all is_plain (map leaf_tree checked.now.leaves.items) ≡ true }
-    requires few { token_count index.old ≤ 2 ^ 29 }
     ensures ranking { IfOk result (λ hits. (ranking : List Hit) × IsRanking rule.now.kind (map leaf_tree checked.now.leaves.items) (scaled_tree checked.now.tree) index.old ranking × (hits ≡ take most ranking)) }
     ensures few { IfOk result (λ hits. length hits ≤ most) }
     ensures leaves { IfOk result (λ hits. All (λ hit. length hit.fractions ≡ length checked.now.leaves.items) hits) }

@@ -1,5 +1,5 @@
 use Rattle.full_ranking.proofs.CountLemmas.{plain_at}
 use Rattle.full_ranking.proofs.counts.all_stats.Goals as goal
 
-pub stats_of-requires-clause-plain : goal.stats_of-requires-clause-plain
-stats_of-requires-clause-plain c = plain_at c.args.leaves.now c.loop-leaf.leaf-index c.leaf-item.result c.requires.plain c.loop-leaf-test.true c.leaf-item.is
+pub stats_of-requires : goal.stats_of-requires
+stats_of-requires c = plain_at c.args.leaves.now c.loop-leaf.leaf-index c.leaf-item.result c.requires c.loop-leaf-test.true c.leaf-item.is

@@ -6,7 +6,6 @@ use Rattle.full_ranking.proofs.counts.stats_of.Given as goal
 abbrev pub invariant-loop-id : goal.invariant-loop-id
 invariant-loop-id l = record {
   same : l.index ≡ l.fn.index;
-  cf : l.stats.cf ≡ sum_by (tf (leaf_tree l.leaf)) (take l.id l.fn.index);
-  total : l.stats.total ≡ sum_by (len (leaf_tree l.leaf)) (take l.id l.fn.index);
-  part : l.stats.cf ≤ l.stats.total;
+  cf : l.cf ≡ sum_by (tf (leaf_tree l.leaf)) (take l.id l.fn.index);
+  part : l.cf ≤ sum_by (len (leaf_tree l.leaf)) (take l.id l.fn.index);
 }

@@ -86,81 +86,87 @@ fn begins_in(alloc: Global, xs: &[(u32, u32)], window: Extent) -> Result<u32, Fa
     Ok(distinct_begins(&xs, window))
 }
 
-#[test]
-fn extents_in_fields(rt: HostRuntime) -> Result<(), Fail> {
-    let alloc = rt.alloc();
+/// Extents, fields, and which of the extents lie in a field named `t`.
+type Kept = (
+    &'static [(u32, u32)],
+    &'static [(u8, u32, u32)],
+    &'static [(u32, u32)],
+);
+
+const KEPT: [Kept; 6] = [
     // the first begins before the field, the next two fill it and lie in it, the last ends behind it
-    let kept = in_title(alloc, &[(1, 3), (2, 5), (3, 4), (4, 6)], &[(b't', 2, 5)])?;
-    assert_eq!(rt;
-        kept.as_slice(),
-        extents(alloc, &[(2, 5), (3, 4)])?.as_slice()
-    );
+    (
+        &[(1, 3), (2, 5), (3, 4), (4, 6)],
+        &[(b't', 2, 5)],
+        &[(2, 5), (3, 4)],
+    ),
     // two fields that overlap hold what lies in one of them, and not what only lies in both together
-    let kept = in_title(
-        alloc,
+    (
         &[(0, 3), (1, 5), (2, 4), (3, 6)],
         &[(b't', 0, 4), (b't', 2, 6)],
-    )?;
-    assert_eq!(rt;
-        kept.as_slice(),
-        extents(alloc, &[(0, 3), (2, 4), (3, 6)])?.as_slice()
-    );
+        &[(0, 3), (2, 4), (3, 6)],
+    ),
     // a long field still holds extents behind the begin of a short one
-    let kept = in_title(
-        alloc,
+    (
         &[(6, 7), (6, 7), (9, 11)],
         &[(b't', 0, 10), (b't', 1, 2)],
-    )?;
-    assert_eq!(rt;
-        kept.as_slice(),
-        extents(alloc, &[(6, 7), (6, 7)])?.as_slice()
-    );
+        &[(6, 7), (6, 7)],
+    ),
     // fields of other names hold nothing
-    let kept = in_title(alloc, &[(0, 1), (5, 6)], &[(b'h', 0, 9), (b't', 4, 6)])?;
-    assert_eq!(rt; kept.as_slice(), extents(alloc, &[(5, 6)])?.as_slice());
-    assert_eq!(rt; in_title(alloc, &[], &[(b't', 0, 9)])?.len(), 0);
-    assert_eq!(rt; in_title(alloc, &[(0, 1)], &[])?.len(), 0);
+    (&[(0, 1), (5, 6)], &[(b'h', 0, 9), (b't', 4, 6)], &[(5, 6)]),
+    (&[], &[(b't', 0, 9)], &[]),
+    (&[(0, 1)], &[], &[]),
+];
+
+#[test]
+fn extents_in_fields(rt: HostRuntime) -> Result<(), Fail> {
+    for (xs, spans, kept) in KEPT {
+        let found = in_title(rt.alloc(), xs, spans)?;
+        assert_eq!(rt; found.as_slice().len(), kept.len());
+        for (x, want) in found.as_slice().iter().zip(kept) {
+            assert_eq!(rt; (x.begin(), x.end()), *want);
+        }
+    }
     Ok(())
 }
 
+/// Fields, a window, and how many of its positions those named `t` cover.
+type Covered = (&'static [(u8, u32, u32)], (u32, u32), u32);
+
+const COVERED: [Covered; 7] = [
+    (&[(b't', 3, 7)], (0, 20), 4),
+    (&[(b't', 0, 4), (b't', 2, 6)], (0, 20), 6),
+    (&[(b't', 0, 9), (b't', 1, 3), (b't', 8, 10)], (0, 20), 10),
+    (&[(b't', 0, 2), (b'h', 1, 9), (b't', 8, 10)], (0, 20), 4),
+    // fields that reach over the ends of the window, and one behind it
+    (&[(b't', 0, 5), (b't', 8, 12), (b't', 9, 10)], (4, 9), 2),
+    (&[(b't', 0, 20)], (4, 9), 5),
+    (&[], (0, 20), 0),
+];
+
 #[test]
 fn positions_in_fields(rt: HostRuntime) -> Result<(), Fail> {
-    let alloc = rt.alloc();
-    let whole = Extent::new(0, 20);
-    assert_eq!(rt; title_covers(alloc, &[(b't', 3, 7)], whole)?, 4);
-    assert_eq!(rt;
-        title_covers(alloc, &[(b't', 0, 4), (b't', 2, 6)], whole)?,
-        6
-    );
-    assert_eq!(rt;
-        title_covers(alloc, &[(b't', 0, 9), (b't', 1, 3), (b't', 8, 10)], whole)?,
-        10
-    );
-    assert_eq!(rt;
-        title_covers(alloc, &[(b't', 0, 2), (b'h', 1, 9), (b't', 8, 10)], whole)?,
-        4
-    );
-    // fields that reach over the ends of the window, and one behind it
-    let part = Extent::new(4, 9);
-    assert_eq!(rt;
-        title_covers(alloc, &[(b't', 0, 5), (b't', 8, 12), (b't', 9, 10)], part)?,
-        2
-    );
-    assert_eq!(rt; title_covers(alloc, &[(b't', 0, 20)], part)?, 5);
-    assert_eq!(rt; title_covers(alloc, &[], whole)?, 0);
+    for (spans, (begin, end), count) in COVERED {
+        assert!(rt; begin < end);
+        let window = Extent::new(begin, end);
+        assert_eq!(rt;
+            title_covers(rt.alloc(), spans, window)?,
+            count,
+            "{spans:?}"
+        );
+    }
     Ok(())
 }
 
 #[test]
 fn begins_in_windows(rt: HostRuntime) -> Result<(), Fail> {
-    let alloc = rt.alloc();
     let xs = [(0, 3), (2, 3), (2, 5), (2, 5), (4, 9)];
-    assert_eq!(rt; begins_in(alloc, &xs, Extent::new(0, 9))?, 3);
-    // the last reaches over the end of the window
-    assert_eq!(rt; begins_in(alloc, &xs, Extent::new(0, 8))?, 2);
-    // of those that begin at 2 one lies in the window
-    assert_eq!(rt; begins_in(alloc, &xs, Extent::new(1, 4))?, 1);
-    assert_eq!(rt; begins_in(alloc, &xs, Extent::new(3, 9))?, 1);
-    assert_eq!(rt; begins_in(alloc, &[], Extent::new(0, 9))?, 0);
+    // the last reaches over the end of the second window; of those that begin at 2 one lies in the third
+    for (begin, end, count) in [(0, 9, 3), (0, 8, 2), (1, 4, 1), (3, 9, 1)] {
+        assert!(rt; begin < end);
+        let window = Extent::new(begin, end);
+        assert_eq!(rt; begins_in(rt.alloc(), &xs, window)?, count, "{begin} {end}");
+    }
+    assert_eq!(rt; begins_in(rt.alloc(), &[], Extent::new(0, 9))?, 0);
     Ok(())
 }

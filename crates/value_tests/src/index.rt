@@ -59,12 +59,14 @@ fn put(alloc: Global, index: &mut MemIndex, words: &str, name: &str) -> Result<O
 /// An index that holds two documents, and no more.
 fn pair(alloc: Global) -> Result<MemIndex, Fail> {
     let mut index = index_of(alloc, 2)?;
-    put(alloc, &mut index, "b a b ab", "title")?;
-    put(alloc, &mut index, "c a", "h1")?;
+    for (words, name) in [("b a b ab", "title"), ("c a", "h1")] {
+        put(alloc, &mut index, words, name)?;
+    }
     Ok(index)
 }
 
-fn sealed(alloc: Global, index: MemIndex) -> Result<Sealed, Fail> {
+fn sealed_pair(alloc: Global) -> Result<Sealed, Fail> {
+    let index = pair(alloc)?;
     match index.seal(alloc) {
         Ok(sealed) => Ok(sealed),
         Err(_) => Err(Fail::from("not sealed")),
@@ -82,53 +84,65 @@ fn places(alloc: Global, sealed: &mut Sealed, text: &str, id: u32) -> Result<Vec
     }
 }
 
+/// How many names the fields of an index of two documents and of one more have.
+fn names_with(alloc: Global, name: &str) -> Result<u64, Fail> {
+    let index = pair(alloc)?;
+    let doc = doc(alloc, "a", name)?;
+    Ok(index.names_with(&doc))
+}
+
 #[test]
 fn two_documents_fit(rt: HostRuntime) -> Result<(), Fail> {
     let mut index = index_of(rt.alloc(), 2)?;
-    assert_eq!(rt; put(rt.alloc(), &mut index, "a", "t")?, Some(0));
-    assert_eq!(rt; put(rt.alloc(), &mut index, "a", "t")?, Some(1));
-    assert_eq!(rt; put(rt.alloc(), &mut index, "a", "t")?, None);
+    for want in [Some(0), Some(1), None] {
+        assert_eq!(rt; put(rt.alloc(), &mut index, "a", "t")?, want);
+    }
     Ok(())
 }
 
 #[test]
 fn names_are_counted_once(rt: HostRuntime) -> Result<(), Fail> {
-    let index = pair(rt.alloc())?;
-    assert_eq!(rt; index.names_with(&doc(rt.alloc(), "a", "h1")?), 2);
-    assert_eq!(rt; index.names_with(&doc(rt.alloc(), "a", "h2")?), 3);
+    for (name, count) in [("h1", 2), ("h2", 3)] {
+        assert_eq!(rt; names_with(rt.alloc(), name)?, count);
+    }
     Ok(())
 }
 
 #[test]
 fn the_places_of_a_term(rt: HostRuntime) -> Result<(), Fail> {
-    let mut sealed = sealed(rt.alloc(), pair(rt.alloc())?)?;
-    assert_eq!(rt;
-        places(rt.alloc(), &mut sealed, "b", 0)?.as_slice(),
-        [0, 2].as_slice()
-    );
-    assert_eq!(rt;
-        places(rt.alloc(), &mut sealed, "a", 1)?.as_slice(),
-        [1].as_slice()
-    );
+    let mut sealed = sealed_pair(rt.alloc())?;
+    let rows: [(&str, u32, &[u32]); 2] = [("b", 0, &[0, 2]), ("a", 1, &[1])];
+    for (text, id, want) in rows {
+        let found = places(rt.alloc(), &mut sealed, text, id)?;
+        assert_eq!(rt; found.as_slice(), want);
+    }
     Ok(())
 }
 
 #[test]
-fn the_vocabulary_rises(rt: HostRuntime) -> Result<(), Fail> {
-    let sealed = sealed(rt.alloc(), pair(rt.alloc())?)?;
+fn an_index_is_counted(rt: HostRuntime) -> Result<(), Fail> {
+    let sealed = sealed_pair(rt.alloc())?;
+    assert_eq!(rt; (sealed.docs(), sealed.token_count()), (2, 6));
     let terms = sealed.vocabulary().as_slice();
     assert_eq!(rt; terms.len(), 4);
-    assert_eq!(rt; terms[1].as_bytes(), b"ab".as_slice());
-    assert_eq!(rt; terms[2].as_bytes(), b"b".as_slice());
+    for (term, want) in terms.iter().zip(["a", "ab", "b", "c"]) {
+        assert_eq!(rt; term.as_bytes(), want.as_bytes());
+    }
     Ok(())
+}
+
+/// How many tokens the document has that an index gives back, and how many names.
+fn given_back(alloc: Global) -> Result<(u32, usize), Fail> {
+    let sealed = sealed_pair(alloc)?;
+    if sealed.docs() != 2 {
+        return Err(Fail::from("not two documents"));
+    }
+    let whole = sealed.doc(alloc, 1)?;
+    Ok((whole.len(), whole.names().len()))
 }
 
 #[test]
 fn a_document_comes_back(rt: HostRuntime) -> Result<(), Fail> {
-    let sealed = sealed(rt.alloc(), pair(rt.alloc())?)?;
-    assert_eq!(rt; sealed.docs(), 2);
-    let whole = sealed.doc(rt.alloc(), 1)?;
-    assert_eq!(rt; whole.len(), 2);
-    assert_eq!(rt; whole.names().len(), 1);
+    assert_eq!(rt; given_back(rt.alloc())?, (2, 1));
     Ok(())
 }

@@ -57,28 +57,55 @@ fn assert_fields(rt: &impl Abort, fields: &Spans) {
     assert_eq!(rt; (fields[0].begin(), fields[0].end()), (0, 2));
 }
 
+fn cloned_term(alloc: Global) -> Result<Term, Fail> {
+    Ok(term(alloc, "word")?.clone_in(alloc)?)
+}
+
+fn cloned_name(alloc: Global) -> Result<Name, Fail> {
+    Ok(name(alloc, "Title")?.clone_in(alloc)?)
+}
+
+fn cloned_docno(alloc: Global) -> Result<Docno, Fail> {
+    Ok(docno(alloc, "AP880212-0001")?.clone_in(alloc)?)
+}
+
+fn cloned_bytes(alloc: Global) -> Result<Bytes, Fail> {
+    Ok(Bytes::copy_of(alloc, &[0, 255])?.clone_in(alloc)?)
+}
+
 #[test]
 fn texts(rt: HostRuntime) -> Result<(), Fail> {
-    let alloc = rt.alloc();
-    let word = term(alloc, "word")?;
-    assert_eq!(rt; word.clone_in(alloc)?, word);
-    let field = name(alloc, "Title")?;
-    assert_eq!(rt; field.clone_in(alloc)?.as_bytes(), &b"title"[..]);
-    let number = docno(alloc, "AP880212-0001")?;
-    assert_eq!(rt; number.clone_in(alloc)?, number);
-    let bytes = Bytes::copy_of(alloc, &[0, 255])?;
-    assert_eq!(rt; bytes.clone_in(alloc)?.as_slice(), &[0, 255][..]);
+    assert_eq!(rt; cloned_term(rt.alloc())?.as_bytes(), &b"word"[..]);
+    assert_eq!(rt; cloned_name(rt.alloc())?.as_bytes(), &b"title"[..]);
+    assert_eq!(rt; cloned_docno(rt.alloc())?.as_bytes(), &b"AP880212-0001"[..]);
+    assert_eq!(rt; cloned_bytes(rt.alloc())?.as_slice(), &[0, 255][..]);
     Ok(())
+}
+
+fn cloned_doc(alloc: Global) -> Result<Doc, Fail> {
+    Ok(doc(alloc)?.clone_in(alloc)?)
+}
+
+fn cloned_terms(alloc: Global) -> Result<Terms, Fail> {
+    Ok(doc(alloc)?.tokens().clone_in(alloc)?)
+}
+
+fn cloned_fields(alloc: Global) -> Result<Spans, Fail> {
+    Ok(whole(alloc, 2)?.clone_in(alloc)?)
 }
 
 #[test]
 fn documents(rt: HostRuntime) -> Result<(), Fail> {
-    let alloc = rt.alloc();
-    let doc = doc(alloc)?.clone_in(alloc)?;
+    let doc = cloned_doc(rt.alloc())?;
     assert_eq!(rt; doc.docno().as_bytes(), &b"d1"[..]);
-    assert_eq!(rt; doc.names().len(), 1);
-    assert_terms(&rt, &doc.tokens().clone_in(alloc)?);
-    assert_fields(&rt, &doc.fields().clone_in(alloc)?);
+    assert_eq!(rt; (doc.len(), doc.names().len()), (2, 1));
+    Ok(())
+}
+
+#[test]
+fn parts_of_documents(rt: HostRuntime) -> Result<(), Fail> {
+    assert_terms(&rt, &cloned_terms(rt.alloc())?);
+    assert_fields(&rt, &cloned_fields(rt.alloc())?);
     Ok(())
 }
 

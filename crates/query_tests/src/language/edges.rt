@@ -49,7 +49,7 @@ fn depth(rt: HostRuntime) -> Result<(), Fail> {
         &rt,
         a,
         times(a, 32, "#max(", "#foo(b)")?.as_str(),
-        crate::QueryKind::UnknownOperator,
+        query_language::QueryKind::UnknownOperator,
         160,
     );
     Ok(())

@@ -6,10 +6,24 @@ use anyhow::{Context, Result, bail};
 use ri_base::{Doc, Docno, FieldSpan, Name, Spans, Term, Terms};
 use std::alloc::Global;
 
+/// Appends a token as often as its word says: once, or `a*3` three times.
+fn push_word(alloc: Global, tokens: &mut Terms, word: &str) -> Result<()> {
+    let mut parts = word.split('*');
+    let text = parts.next().context("no term")?;
+    let count = match parts.next() {
+        None => 1,
+        Some(digits) => digits.parse::<u32>()?,
+    };
+    for _ in 0..count {
+        tokens.push(Term::new(alloc, text.as_bytes())?.context("no term")?)?;
+    }
+    Ok(())
+}
+
 fn tokens(alloc: Global, text: &str) -> Result<Terms> {
     let mut tokens = Terms::new(alloc);
     for word in text.split_whitespace() {
-        tokens.push(Term::new(alloc, word.as_bytes())?.context("no term")?)?;
+        push_word(alloc, &mut tokens, word)?;
     }
     Ok(tokens)
 }

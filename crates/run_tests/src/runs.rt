@@ -18,43 +18,60 @@ fn words_of(alloc: Global, texts: &[&str]) -> Result<ArgList, Fail> {
     Ok(words)
 }
 
-/// What these words answer and write, where the input comes in pieces and these calls fail.
-fn answered(
-    alloc: Global,
-    texts: &[&str],
-    input: &[u8],
+/// The words of a run, its input and the size of its pieces, and which calls of its source and its sink fail.
+#[derive(Clone, Copy)]
+struct Case<'a> {
+    texts: &'a [&'a str],
+    input: &'a [u8],
     piece: usize,
-    read_fails: &[u64],
-    write_fails: &[SinkFail],
-) -> Result<(Status, Vec<u8>), Fail> {
-    let words = words_of(alloc, texts)?;
+    read_fails: &'a [u64],
+    write_fails: &'a [SinkFail],
+}
+
+const SCAN: [&str; 3] = [".", "scan", "a"];
+
+/// A scan for `a`.
+fn scan_of<'a>(
+    input: &'a [u8],
+    piece: usize,
+    read_fails: &'a [u64],
+    write_fails: &'a [SinkFail],
+) -> Case<'a> {
+    Case {
+        texts: &SCAN,
+        input,
+        piece,
+        read_fails,
+        write_fails,
+    }
+}
+
+/// What a case answers and writes.
+fn answered(alloc: Global, case: Case<'_>) -> Result<(Status, Vec<u8>), Fail> {
+    let words = words_of(alloc, case.texts)?;
     let mut source = MemSource::new(
-        input.to_vec(alloc)?,
-        piece.max(1),
-        read_fails.to_vec(alloc)?,
+        case.input.to_vec(alloc)?,
+        case.piece.max(1),
+        case.read_fails.to_vec(alloc)?,
     );
-    let mut sink = MemSink::new(alloc, write_fails.to_vec(alloc)?);
+    let mut sink = MemSink::new(alloc, case.write_fails.to_vec(alloc)?);
     let status = run(alloc, &words, &mut source, &mut sink);
     let text = sink.bytes().to_vec(alloc)?;
     Ok((status, text))
 }
 
-/// What a scan for `a` answers and writes.
-fn scanned(
+/// The case ends with this status and has written this text.
+fn assert_ends(
+    rt: &impl Abort,
     alloc: Global,
-    input: &[u8],
-    piece: usize,
-    read_fails: &[u64],
-    write_fails: &[SinkFail],
-) -> Result<(Status, Vec<u8>), Fail> {
-    answered(
-        alloc,
-        &[".", "scan", "a"],
-        input,
-        piece,
-        read_fails,
-        write_fails,
-    )
+    case: Case<'_>,
+    status: Status,
+    text: &[u8],
+) -> Result<(), Fail> {
+    let (answer, written) = answered(alloc, case)?;
+    assert_eq!(rt; answer, status);
+    assert_eq!(rt; written.as_slice(), text);
+    Ok(())
 }
 
 #[test]
@@ -98,9 +115,7 @@ fn scans(rt: HostRuntime) -> Result<(), Fail> {
     ];
     for (input, status, text) in rows {
         for piece in [1, 2, 3, 7, 100] {
-            let (answer, written) = scanned(alloc, input, piece, &[], &[])?;
-            assert_eq!(rt; answer, status);
-            assert_eq!(rt; written.as_slice(), text);
+            assert_ends(&rt, alloc, scan_of(input, piece, &[], &[]), status, text)?;
         }
     }
     Ok(())
@@ -183,24 +198,57 @@ fn texts_of_one_word(rt: HostRuntime) -> Result<(), Fail> {
     Ok(())
 }
 
+/// The case ends with a read fault and has written a front of the text, and behind it the last line.
+fn assert_read_fault(
+    rt: &impl Abort,
+    alloc: Global,
+    case: Case<'_>,
+    whole: &[u8],
+) -> Result<(), Fail> {
+    let (status, text) = answered(alloc, case)?;
+    assert_eq!(rt; status, Status::ReadFault);
+    let front = text.strip_suffix(b"fault read\n").ok_or("no last line")?;
+    assert!(rt; whole.starts_with(front));
+    Ok(())
+}
+
 #[test]
 fn reads_that_fail(rt: HostRuntime) -> Result<(), Fail> {
     let alloc = rt.alloc();
     let whole: &[u8] = b"d1 0 1\nd2 0 1\n";
     for call in 1..12 {
-        let (status, text) = scanned(alloc, TWO, 7, &[call], &[])?;
-        assert_eq!(rt; status, Status::ReadFault, "at read {call}");
-        let front = text.strip_suffix(b"fault read\n").ok_or("no last line")?;
-        assert!(rt; whole.starts_with(front), "at read {call}");
+        assert_read_fault(&rt, alloc, scan_of(TWO, 7, &[call], &[]), whole)?;
     }
-    let (status, text) = scanned(alloc, TWO, 7, &[12], &[])?;
-    assert_eq!(rt; status, Status::Done);
-    assert_eq!(rt; text.as_slice(), whole);
+    assert_ends(&rt, alloc, scan_of(TWO, 7, &[12], &[]), Status::Done, whole)?;
     // The sink fails at the last line too.
-    let fail = SinkFail { call: 2, taken: 3 };
-    let (status, text) = scanned(alloc, TWO, 40, &[2], &[fail])?;
-    assert_eq!(rt; status, Status::ReadFault);
-    assert_eq!(rt; text.as_slice(), b"d1 0 1\nfau".as_slice());
+    let fail = [SinkFail { call: 2, taken: 3 }];
+    let case = scan_of(TWO, 40, &[2], &fail);
+    assert_ends(&rt, alloc, case, Status::ReadFault, b"d1 0 1\nfau")
+}
+
+/// A sink fails at each of its calls in turn, having taken so many bytes of that call. What is written then is a front of
+/// the text.
+fn assert_write_faults(
+    rt: &impl Abort,
+    alloc: Global,
+    case: Case<'_>,
+    lines: &[&[u8]],
+    taken: usize,
+) -> Result<(), Fail> {
+    let mut text = Vec::new(alloc);
+    let mut call = 0;
+    for line in lines {
+        call += 1;
+        let fails = [SinkFail { call, taken }];
+        let mut front = text.clone()?;
+        front.extend_from_slice(&line[..taken.min(line.len())])?;
+        let failing = Case {
+            write_fails: &fails,
+            ..case
+        };
+        assert_ends(rt, alloc, failing, Status::WriteFault, &front)?;
+        text.extend_from_slice(line)?;
+    }
     Ok(())
 }
 
@@ -208,51 +256,41 @@ fn reads_that_fail(rt: HostRuntime) -> Result<(), Fail> {
 fn writes_that_fail(rt: HostRuntime) -> Result<(), Fail> {
     let alloc = rt.alloc();
     let broken = b"<DOC><DOCNO>d1</DOCNO>a b</DOC>x";
-    for taken in [0, 1, 99] {
-        let first = SinkFail { call: 1, taken };
-        let (status, text) = scanned(alloc, TWO, 9, &[], &[first])?;
-        assert_eq!(rt; status, Status::WriteFault);
-        assert_eq!(rt; text.as_slice(), &b"d1 0 1\n"[..taken.min(7)]);
-        let second = SinkFail { call: 2, taken };
-        let (status, text) = scanned(alloc, TWO, 9, &[], &[second])?;
-        assert_eq!(rt; status, Status::WriteFault);
-        assert_eq!(rt; text.as_slice(), &b"d1 0 1\nd2 0 1\n"[..7 + taken.min(7)]);
-        let (status, text) = scanned(alloc, broken, 9, &[], &[second])?;
-        assert_eq!(rt; status, Status::WriteFault);
-        assert_eq!(rt;
-            text.as_slice(),
-            &b"d1 0 1\nrefused NotADoc 31\n"[..7 + taken.min(19)]
-        );
+    let rows: [(&[u8], [&[u8]; 2]); 2] = [
+        (TWO, [b"d1 0 1\n", b"d2 0 1\n"]),
+        (broken, [b"d1 0 1\n", b"refused NotADoc 31\n"]),
+    ];
+    for (input, lines) in rows {
+        for taken in [0, 1, 99] {
+            assert_write_faults(&rt, alloc, scan_of(input, 9, &[], &[]), &lines, taken)?;
+        }
     }
-    let third = SinkFail { call: 3, taken: 0 };
-    let (status, _) = scanned(alloc, TWO, 9, &[], &[third])?;
-    assert_eq!(rt; status, Status::Done);
-    Ok(())
+    let third = [SinkFail { call: 3, taken: 0 }];
+    let case = scan_of(TWO, 9, &[], &third);
+    assert_ends(&rt, alloc, case, Status::Done, b"d1 0 1\nd2 0 1\n")
 }
 
 #[test]
 fn queries_whose_ends_fail(rt: HostRuntime) -> Result<(), Fail> {
     let alloc = rt.alloc();
-    let words = [".", "query", "--mu", "1", "a"];
-    let input = b"<DOC><DOCNO>d1</DOCNO>a</DOC><DOC><DOCNO>d1</DOCNO>a</DOC>";
-    let whole = b"refused Repeated d1\n1 - -0.000000 d1 0 1\n";
-    let (status, text) = answered(alloc, &words, input, 40, &[2], &[])?;
-    assert_eq!(rt; status, Status::ReadFault);
-    assert_eq!(rt; text.as_slice(), b"fault read\n".as_slice());
+    let case = Case {
+        texts: &[".", "query", "--mu", "1", "a"],
+        input: b"<DOC><DOCNO>d1</DOCNO>a</DOC><DOC><DOCNO>d1</DOCNO>a</DOC>",
+        piece: 40,
+        read_fails: &[],
+        write_fails: &[],
+    };
+    let lines: [&[u8]; 2] = [b"refused Repeated d1\n", b"1 - -0.000000 d1 0 1\n"];
     for taken in [0, 1, 99] {
-        let line = SinkFail { call: 1, taken };
-        let (status, text) = answered(alloc, &words, input, 40, &[], &[line])?;
-        assert_eq!(rt; status, Status::WriteFault);
-        assert_eq!(rt; text.as_slice(), &whole[..taken.min(20)]);
-        let ranking = SinkFail { call: 2, taken };
-        let (status, text) = answered(alloc, &words, input, 40, &[], &[ranking])?;
-        assert_eq!(rt; status, Status::WriteFault);
-        assert_eq!(rt; text.as_slice(), &whole[..20 + taken.min(21)]);
+        assert_write_faults(&rt, alloc, case, &lines, taken)?;
     }
-    let (status, text) = answered(alloc, &words, input, 40, &[], &[])?;
-    assert_eq!(rt; status, Status::SomeRefused);
-    assert_eq!(rt; text.as_slice(), whole.as_slice());
-    Ok(())
+    let failing = Case {
+        read_fails: &[2],
+        ..case
+    };
+    assert_ends(&rt, alloc, failing, Status::ReadFault, b"fault read\n")?;
+    let whole = b"refused Repeated d1\n1 - -0.000000 d1 0 1\n";
+    assert_ends(&rt, alloc, case, Status::SomeRefused, whole)
 }
 
 const NEWSWIRE: &[u8] = b"<DOC>
@@ -475,9 +513,7 @@ fn documents_with_too_much(rt: HostRuntime) -> Result<(), Fail> {
     ];
     for (text, count, status, lines) in rows {
         let input = repeated(alloc, text, count)?;
-        let (answer, written) = scanned(alloc, &input, 65_536, &[], &[])?;
-        assert_eq!(rt; answer, status);
-        assert_eq!(rt; written.as_slice(), lines);
+        assert_ends(&rt, alloc, scan_of(&input, 65_536, &[], &[]), status, lines)?;
     }
     Ok(())
 }

@@ -1,5 +1,5 @@
 -- What is written of a ranking, and of a query.
-use Rattle.std.proofs.Common.{Bool, true, false, ℕ, ◌≡◌, ◌<◌, ◌≤◌, ◌⊎◌, inl, inr, ⊎_elim, List, [], ◌++◌, length, take, drop, map, Option, None, Some, Result, Ok, Err, refl, ap, sym, ◌∙◌, subst, arith, append-nil}
+use Rattle.std.proofs.Common.{Bool, true, ℕ, ◌≡◌, ◌≤◌, inl, inr, List, [], ◌++◌, take, drop, map, Option, None, Some, Result, Ok, Err, ap, sym, ◌∙◌, subst}
 use Rattle.std.specs.Prelude.{IfOk}
 use Rattle.std.specs.Option.{IfSome}
 use Rattle.std.specs.Io.KnownBytes.{append_known}
@@ -64,6 +64,11 @@ part_answered (Some bytes) before mid now mu q docs noted (some, same, written) 
     let lines = (collection [] (read bytes)).lines in
     let shown = lines_text (first_lines q ranking) in
     inr (ranking, on_docs mu q docs _ ranking same is, front_more before mid now lines shown [] (lines ++ shown) n written front (append_none (append_known mid shown) ∙ ap (λ t. append_known t shown) written ∙ sym (append_twice before lines shown)))
+
+-- where the ranking isn't begun
+pub lines_alone : (left before mid now : Option (List ℕ)) (docs : List Document) (noted : Bool) → IsGathered left before mid docs noted → now ≡ mid → IfSome left (λ bytes. WritesFront before now (collection [] (read bytes)).lines)
+lines_alone None before mid now docs noted a stays = tt
+lines_alone (Some bytes) before mid now docs noted (some, same, written) stays = front_whole before now (collection [] (read bytes)).lines (stays ∙ written)
 
 pub only_lines : (left before now : Option (List ℕ)) (mu : ℕ) (q : CheckedTree) → IfSome left (λ bytes. WritesFront before now (collection [] (read bytes)).lines) → IfSome left (λ bytes. Begun (rank_by mu q) bytes before now)
 only_lines None before now mu q h = tt

@@ -10,9 +10,9 @@ use Rattle.trec_reader.specs.Refusal.{IsRefused}
 use Rattle.trec_reader.specs.declared.document.RawDoc.{RawDoc}
 use Rattle.trec_reader.specs.declared.refusal.TrecRefusal.{TrecRefusal}
 use Rattle.indri_app.specs.Collection.{Collected, accepted, collected, collection, documents_with, line_with}
-use Rattle.indri_app.specs.Outcome.{Writes, WritesFault, WritesFront, WritesLine, fault_line}
+use Rattle.indri_app.specs.Outcome.{Writes, WritesFront}
 use Rattle.indri_app.specs.Scan.{refusal_line, refusal_text}
-use Rattle.indri_app.proofs.Scanned.{append_none, append_twice, fault_behind, front_more, or-false, or-true, or_assoc, rest_is}
+use Rattle.indri_app.proofs.Scanned.{append_none, append_twice, front_more, or-false, or-true, or_assoc, rest_is}
 
 -- what will have been written, whether anything will have been refused, and what documents will have been accepted once
 -- all bytes are read, of which so many were read before them

@@ -1,5 +1,5 @@
 -- Numbers of the command line.
-use Rattle.std.proofs.Common.{ℕ, ◌≡◌, ◌<◌, ◌≤◌, ◌+◌, ◌-◌, ◌*◌, true, false, List, [], ◌∷◌, Some, slice_get, drop, length, get_or, arith, refl, codes, option_map, bytes_eq}
+use Rattle.std.proofs.Common.{ℕ, ◌≡◌, ◌<◌, ◌+◌, ◌-◌, ◌*◌, true, false, List, [], ◌∷◌, Some, slice_get, drop, length, get_or, arith, refl, codes, option_map, bytes_eq}
 use Rattle.query_reader.specs.Parts.{value_from}
 use Rattle.query_reader.proofs.Numbers.{value_grows}
 use Rattle.indri_app.specs.Command.{is_mu, option_mu, query_words_of}

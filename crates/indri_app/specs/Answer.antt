@@ -49,7 +49,12 @@ abbrev pub Begun : Command → List ℕ → Option (List ℕ) → Option (List �
 Begun (scan_for x) bytes before now = WritesFront before now (scan_text x bytes)
 Begun (rank_by mu q) bytes before now = WritesFront before now (collection [] (read bytes)).lines ⊎ IsPartAnswered mu q bytes before now
 
--- so it is, and behind it the last line of a run whose source failed
+-- a front of what stands before a ranking is written: of a query the lines of refusals, of a scan all of its text
+abbrev pub ComesBeforeResults : Command → List ℕ → Option (List ℕ) → Option (List ℕ) → Type 0
+ComesBeforeResults (scan_for x) bytes before now = WritesFront before now (scan_text x bytes)
+ComesBeforeResults (rank_by mu q) bytes before now = WritesFront before now (collection [] (read bytes)).lines
+
+-- a front of the command's text is written, and behind it the last line of a run whose source failed
 abbrev pub EndsInReadFault : Command → List ℕ → Option (List ℕ) → Option (List ℕ) → ℕ → ℕ → Type 0
 EndsInReadFault (scan_for x) bytes before now count_before count_now = WritesFault before now (scan_text x bytes) count_before count_now
 EndsInReadFault (rank_by mu q) bytes before now count_before count_now = WritesFault before now (collection [] (read bytes)).lines count_before count_now

@@ -7,7 +7,7 @@ ghost use Rattle.smoothing.specs.Fractions.{IsMu};
 ghost use Rattle.std.specs.List.{list_all};
 ghost use Rattle.full_ranking.specs.Counts.{is_plain};
 ghost use Rattle.query_check.specs.Answers.{whole_checked};
-ghost use Rattle.indri_app.specs.Answer.{Begun, EndsInReadFault, Finished};
+ghost use Rattle.indri_app.specs.Answer.{Begun, ComesBeforeResults, EndsInReadFault, Finished};
 ghost use Rattle.indri_app.specs.Collection.{collection};
 ghost use Rattle.indri_app.specs.Gathered.{IsGathered};
 ghost use Rattle.indri_app.specs.Shown.{Shows, ShowsFront};
@@ -37,6 +37,7 @@ use trec_reader::TrecRefusal;
 fn write_usage<K: Sink>(sink: &mut K) -> Status
     ensures usage { result ≡ Status.Usage → Writes (K.taken sink.old) (K.taken sink.new) usage_line }
     ensures front { WritesFront (K.taken sink.old) (K.taken sink.new) usage_line }
+    ensures none { result ≡ Status.Memory → K.taken sink.new ≡ K.taken sink.old }
     ensures only { IsUsageOutcome result }
     ensures later { K.faults sink.old ≤ K.faults sink.new }
     ensures write { result ≡ Status.WriteFault → Rose (K.faults sink.old) (K.faults sink.new) }
@@ -54,6 +55,7 @@ fn write_usage<K: Sink>(sink: &mut K) -> Status
 fn write_refusal<K: Sink>(alloc: Global, refusal: TrecRefusal, sink: &mut K) -> Status
     ensures refused { result ≡ Status.SomeRefused → Writes (K.taken sink.old) (K.taken sink.new) (refusal_line refusal) }
     ensures front { WritesFront (K.taken sink.old) (K.taken sink.new) (refusal_line refusal) }
+    ensures none { result ≡ Status.Memory → K.taken sink.new ≡ K.taken sink.old }
     ensures only { IsRefusalOutcome result }
     ensures later { K.faults sink.old ≤ K.faults sink.new }
     ensures write { result ≡ Status.WriteFault → Rose (K.faults sink.old) (K.faults sink.new) }
@@ -78,6 +80,7 @@ fn write_query_refusal<K: Sink>(
 ) -> Status
     ensures refused { result ≡ Status.QueryRefused → Writes (K.taken sink.old) (K.taken sink.new) (query_line (bad_text kind place)) }
     ensures front { WritesFront (K.taken sink.old) (K.taken sink.new) (query_line (bad_text kind place)) }
+    ensures none { result ≡ Status.Memory → K.taken sink.new ≡ K.taken sink.old }
     ensures only { IsQueryOutcome result }
     ensures later { K.faults sink.old ≤ K.faults sink.new }
     ensures write { result ≡ Status.WriteFault → Rose (K.faults sink.old) (K.faults sink.new) }
@@ -97,6 +100,7 @@ fn write_query_refusal<K: Sink>(
 fn write_check_refusal<K: Sink>(alloc: Global, fault: &CheckFault, sink: &mut K) -> Status
     ensures refused { result ≡ Status.QueryRefused → Writes (K.taken sink.old) (K.taken sink.new) (query_line (bad_query fault.now)) }
     ensures front { WritesFront (K.taken sink.old) (K.taken sink.new) (query_line (bad_query fault.now)) }
+    ensures none { result ≡ Status.Memory → K.taken sink.new ≡ K.taken sink.old }
     ensures only { IsQueryOutcome result }
     ensures later { K.faults sink.old ≤ K.faults sink.new }
     ensures write { result ≡ Status.WriteFault → Rose (K.faults sink.old) (K.faults sink.new) }
@@ -178,6 +182,7 @@ fn write_ranking<K: Sink>(
     ensures done { result ≡ Status.Done → (some_refused ≡ false) × Shows mu (whole_checked checked.now) index.documents (K.taken sink.old) (K.taken sink.new) }
     ensures refused { result ≡ Status.SomeRefused → (some_refused ≡ true) × Shows mu (whole_checked checked.now) index.documents (K.taken sink.old) (K.taken sink.new) }
     ensures front { ShowsFront mu (whole_checked checked.now) index.documents (K.taken sink.old) (K.taken sink.new) }
+    ensures none { result ≡ Status.Memory → K.taken sink.new ≡ K.taken sink.old }
     ensures only { IsRankingOutcome result }
     ensures later { K.faults sink.old ≤ K.faults sink.new }
     ensures write { result ≡ Status.WriteFault → Rose (K.faults sink.old) (K.faults sink.new) }
@@ -252,6 +257,9 @@ fn query<S: Source, K: Sink>(
     ensures fault_line { result ≡ Status.ReadFault → IfSome (S.left source.old) (λ bytes.
         EndsInReadFault (rank_by mu (whole_checked checked.now)) bytes (K.taken sink.old) (K.taken sink.new) (K.faults sink.old) (K.faults sink.new)) }
 
+    ensures no_ranking { result ≡ Status.Memory → IfSome (S.left source.old) (λ bytes.
+        WritesFront (K.taken sink.old) (K.taken sink.new) (collection [] (read bytes)).lines) }
+
     ensures command { (result ≢ Status.Usage) × (result ≢ Status.QueryRefused) }
     ensures read { result ≡ Status.ReadFault → Rose (S.faults source.old) (S.faults source.new) }
     ensures write { result ≡ Status.WriteFault → Rose (K.faults sink.old) (K.faults sink.new) }
@@ -292,6 +300,12 @@ pub fn run<S: Source, K: Sink>(
     // QueryRefused: exactly where the text has a fault, unless the sink fails or memory is missing. The source stays.
     ensures query { result ≡ Status.QueryRefused → HasFault (asked words.now) (λ fault. Writes (K.taken sink.old) (K.taken sink.new) (query_line fault)) }
     ensures bad_query { IfFault (asked words.now) (λ fault. IsQueryOutcome result × (source.new ≡ source.old) × WritesFront (K.taken sink.old) (K.taken sink.new) (query_line fault)) }
+
+    // Memory: nothing is written of the usage line, of the fault of a text and of a ranking.
+    ensures no_usage { result ≡ Status.Memory → asked words.now ≡ None → K.taken sink.new ≡ K.taken sink.old }
+    ensures no_fault { result ≡ Status.Memory → IfFault (asked words.now) (λ _. K.taken sink.new ≡ K.taken sink.old) }
+    ensures no_ranking { result ≡ Status.Memory → IfAsksFor (asked words.now) (λ command. IfSome (S.left source.old) (λ bytes.
+        ComesBeforeResults command bytes (K.taken sink.old) (K.taken sink.new))) }
 
     // A fault has its cause in this call, and no count falls.
     ensures read { result ≡ Status.ReadFault → Rose (S.faults source.old) (S.faults source.new) }

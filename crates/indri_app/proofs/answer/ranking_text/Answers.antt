@@ -1,4 +1,4 @@
-use Rattle.std.proofs.Common.{rules, ◌≡◌, ◌<◌, ap, sym, arith}
+use Rattle.std.proofs.Common.{◌≡◌, ◌<◌, ap, arith}
 use Rattle.smoothing.specs.declared.rule.RuleKind.TheVariants.{Dirichlet}
 use Rattle.query_check.specs.Answers.{whole_checked}
 use Rattle.query_check.specs.Scale.{scale}

@@ -1,6 +1,9 @@
 //! The program: runs the command of its words over standard input and standard output.
 #![tactic(auto)]
 
+#[cfg(test)]
+mod tests;
+
 use indri_app::{Status, run};
 use ri_base::{ArgList, NoMemory};
 use ri_ends::{StdSink, StdSource};

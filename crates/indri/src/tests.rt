@@ -1,3 +1,4 @@
+// Whole runs of the program's words over sources and sinks in memory.
 use indri_app::{Status, run};
 use ri_base::ArgList;
 use ri_ends::{MemSink, MemSource, SinkFail, Source};

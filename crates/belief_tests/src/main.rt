@@ -1,4 +1,4 @@
-//! Beliefs, logarithms, lines and rankings that were worked out by hand or computed elsewhere.
+//! Tests of beliefs, logarithms, lines and rankings that were worked out by hand or computed elsewhere. The program itself does nothing.
 #![tactic(auto)]
 
 #[cfg(test)]
@@ -11,3 +11,5 @@ mod logarithms;
 mod networks;
 #[cfg(test)]
 mod rankings;
+
+fn main() {}

@@ -10,7 +10,8 @@ use Rattle.log_chain.specs.declared.chain.TheConstants.{LAST}
 use Rattle.log_chain.proofs.Powers.{lower_power, upper_power, pow-mul, pow-pow_comm, pow_order}
 use Rattle.query_check.specs.Scale.{scale}
 use Rattle.query_check.specs.Trees.{ScaledTree}
-use Rattle.belief_nodes.specs.Keys.{key_at, score}
+use Rattle.log_chain.specs.Score.{score}
+use Rattle.belief_nodes.specs.Keys.{key_at}
 use Rattle.belief_nodes.specs.Products.{product}
 use Rattle.belief_nodes.proofs.Enclosures.{key_encloses_lem}
 use Rattle.belief_nodes.proofs.Powers.{Encloses}

@@ -4,7 +4,8 @@ use Rattle.ri_base.specs.Ratio.{Ratio}
 use Rattle.query_check.specs.Multiples.{lcm, gcd, gcd_within}
 use Rattle.query_check.specs.Scale.{scale, common, weighted_common, count, total}
 use Rattle.query_check.specs.Trees.{ScaledTree, leaf, combine, weight, greatest, none, more, none_weighted, more_weighted}
-use Rattle.belief_nodes.specs.Keys.{key, shares, weighted_shares, least_of, score}
+use Rattle.log_chain.specs.Score.{score}
+use Rattle.belief_nodes.specs.Keys.{key, shares, weighted_shares, least_of}
 use Rattle.belief_nodes.specs.Products.{product, powers, weighted_powers, greatest_of}
 
 -- #weight(3 #combine(a b) 1 #max(b c)): the scales of its arguments are 2 and 1, and its own is 4 * 2

@@ -1,5 +1,5 @@
 -- What the calculation of a key asks of an operator and of its arguments, from one place of a list on.
-use Rattle.std.proofs.Common.{◌≡◌, ℕ, zero, suc, ◌+◌, ◌*◌, ◌/◌, ◌^◌, ◌<◌, ◌≤◌, List, [], ◌∷◌, map, drop, length, get_or, arith, refl, min, le_of_lt}
+use Rattle.std.proofs.Common.{◌≡◌, ℕ, ◌+◌, ◌*◌, ◌/◌, ◌^◌, ◌<◌, ◌≤◌, List, [], ◌∷◌, map, drop, length, get_or, arith, refl, min, le_of_lt}
 use Rattle.std.specs.Prelude.{All, sum, fold, ◌==◌, slice_index}
 use Rattle.std.specs.Int.{◌∣◌}
 use Rattle.std.proofs.Math.Nat.{pos_of_dvd_of_pos, le_of_dvd, div-eq_of_eq-mul_right}

@@ -3,10 +3,9 @@
 -- (Q / P) ^ (2 ^ k) to base 2 that it is at least the key, and below the key and 2 * E. So where two keys are apart by
 -- more than 2 * E, the smaller one is that of the greater belief. Keys that are nearer don't tell which belief is
 -- greater. This is the project's own.
-use Rattle.std.specs.Prelude.{ℕ, ◌*◌, ◌/◌, ◌^◌, min, List, [], ◌∷◌, map, fold, sum, slice_index}
+use Rattle.std.specs.Prelude.{ℕ, ◌*◌, ◌/◌, min, List, [], ◌∷◌, map, fold, sum, slice_index}
 use Rattle.ri_base.specs.Ratio.{Ratio}
 use Rattle.log_chain.specs.Chain.{chain}
-use Rattle.log_chain.specs.declared.chain.TheConstants.{LAST}
 use Rattle.query_check.specs.Scale.{scale, common, weighted_common}
 use Rattle.query_check.specs.Trees.{ScaledTree, ScaledTrees, WeightedScaledTrees, leaf, combine, weight, greatest, none, more, none_weighted, more_weighted}
 
@@ -40,8 +39,3 @@ digits_at k beliefs = map (λ r. (chain r.p r.q k).digits) beliefs
 -- the key at level k of a tree whose leaves have these beliefs
 abbrev pub key_at : ℕ → List Ratio → ScaledTree → ℕ
 key_at k beliefs tree = key (digits_at k beliefs) tree
-
--- the score of a key k at the last level, for a tree of scale e, in millionths. It is at most the logarithm to base 2
--- of one over the belief, and less than two millionths below it.
-abbrev pub score : ℕ → ℕ → ℕ
-score e k = k * 1000000 / (e * 2 ^ LAST)

@@ -1,17 +1,12 @@
 -- The lines of a ranking and their texts. The format is the project's own.
-use Rattle.std.specs.Prelude.{ℕ, zero, suc, ◌+◌, ◌*◌, ◌/◌, ◌%◌, ◌^◌, List, [], ◌∷◌, ◌++◌, Option, None, Some}
+use Rattle.std.specs.Prelude.{ℕ, zero, suc, ◌+◌, ◌/◌, ◌%◌, List, [], ◌∷◌, ◌++◌, Option, None, Some}
 use Rattle.std.specs.Fmt.{decimal}
-use Rattle.log_chain.specs.declared.chain.TheConstants.{LAST}
+use Rattle.log_chain.specs.Score.{score}
 use Rattle.ri_base.specs.declared.fraction.Fraction.{Fraction}
 use Rattle.ri_base.specs.declared.hit.Hit.{Hit}
 use Rattle.ranked_output.specs.declared.marks.Mark.{Mark}
 use Rattle.ranked_output.specs.declared.marks.Mark.TheVariants.{First, Below, Same, Near}
 use Rattle.ranked_output.specs.Marks.{mark_of}
-
--- The score of a key in millionths, cut. The key has LAST binary places and is `scale` times as great. The score is at
--- most the logarithm to base 2 of one over the belief, and less than two millionths below it.
-abbrev pub score : ℕ → ℕ → ℕ
-score scale key = key * 1000000 / (scale * 2 ^ LAST)
 
 -- the last decimal digits of n, so many as are asked for
 unfoldable pub last_digits : ℕ → ℕ → List ℕ

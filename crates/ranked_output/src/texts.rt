@@ -1,6 +1,7 @@
 ghost use Rattle.std.specs.Prelude.{◌≡◌, ◌*◌, ◌/◌, ◌^◌, ◌<◌, IfOk};
 ghost use Rattle.ranked_output.specs.Marks.{IsScale};
-ghost use Rattle.ranked_output.specs.Texts.{line_of, line_text, score, score_text, sign};
+ghost use Rattle.log_chain.specs.Score.{score};
+ghost use Rattle.ranked_output.specs.Texts.{line_of, line_text, score_text, sign};
 
 use crate::Mark;
 use log_chain::LAST;

@@ -16,7 +16,8 @@ use Rattle.belief_nodes.specs.Order.{IsGreater, IsNear, IsSame}
 use Rattle.belief_nodes.specs.Products.{product}
 use Rattle.ranked_output.specs.declared.marks.Mark.TheVariants.{Below, Same, Near}
 use Rattle.ranked_output.specs.Marks.{mark_of}
-use Rattle.ranked_output.specs.Texts.{Line, lines_of, score}
+use Rattle.log_chain.specs.Score.{score}
+use Rattle.ranked_output.specs.Texts.{Line, lines_of}
 use Rattle.true_order.specs.Ranked.{IsRanked, hit_beliefs}
 use Rattle.true_order.specs.TrueOrder.{IsLine, IsScore, IsTrueOrder, above, beliefs}
 use Rattle.true_order.proofs.Marks.{below_is, same_above, near_above}

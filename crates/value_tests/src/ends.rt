@@ -1,3 +1,4 @@
+// Sources and sinks in memory, and over a reader and a writer that fail.
 use ri_ends::{
     Failed, Lent, MemSink, MemSource, OutFault, Sink, SinkFail, Source, StdSink, StdSource,
 };

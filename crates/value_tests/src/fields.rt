@@ -1,3 +1,4 @@
+// What lies in fields of a name, worked out by hand.
 ghost use Rattle.std.specs.Prelude.{◌≡◌, ◌<◌, ◌≤◌, ◌⊎◌, AllPairs, IfOk, IsTrue};
 ghost use Rattle.ri_base.specs.Documents.{IsBefore};
 ghost use Rattle.field_extents.specs.Extents.{AreInOrder};

@@ -1,40 +1,9 @@
-ghost use Rattle.std.specs.Prelude.{IfOk, ◌<◌};
-ghost use Rattle.ri_base.specs.Documents.{AreFields, IsDocument};
-
+// A small index, and what it gives back when it is sealed.
+use crate::samples::{doc, term};
 use memory_index::{MemIndex, MemRefusal};
-use ri_base::{Doc, Docno, FieldSpan, Name, Postings, Sealed, Spans, Term, Terms};
+use ri_base::{Postings, Sealed};
 use std::alloc::Global;
 use std::test::Fail;
-
-/// One field over all tokens.
-fn whole(alloc: Global, name: Name, end: u32) -> Result<Spans, Fail>
-    requires { 0 < end }
-    ensures { IfOk result (AreFields end) }
-{
-    let mut fields = Vec::new(alloc);
-    fields.push(FieldSpan::new(name, 0, end))?;
-    Ok(Spans::of(fields))
-}
-
-fn term(alloc: Global, text: &str) -> Result<Term, Fail> {
-    Ok(Term::new(alloc, text.as_bytes())?.ok_or("no term")?)
-}
-
-/// The document of these words, with one field over them.
-fn doc(alloc: Global, words: &str, name: &str) -> Result<Doc, Fail> {
-    let docno = Docno::new(alloc, b"d")?.ok_or("no docno")?;
-    let mut tokens = Terms::new(alloc);
-    for word in words.split(' ') {
-        tokens.push(term(alloc, word)?)?;
-    }
-    let count = tokens.len();
-    if count == 0 || count > 100 {
-        return Err(Fail::from("no such document"));
-    }
-    let name = Name::new(alloc, name.as_bytes())?.ok_or("no name")?;
-    let fields = whole(alloc, name, count as u32)?;
-    Ok(Doc::new(alloc, docno, tokens, fields)?)
-}
 
 fn index_of(alloc: Global, most: u32) -> Result<MemIndex, Fail> {
     if most < 1 || most > 10 {

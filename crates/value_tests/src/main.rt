@@ -10,6 +10,8 @@ mod index;
 #[cfg(test)]
 mod lone;
 #[cfg(test)]
+mod samples;
+#[cfg(test)]
 mod values;
 
 fn main() {}

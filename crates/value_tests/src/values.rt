@@ -1,45 +1,11 @@
 // Each value is cloned, and the clone compared by its public parts.
-ghost use Rattle.std.specs.Prelude.{◌<◌, IfOk};
-ghost use Rattle.ri_base.specs.Documents.{AreFields};
-
+use crate::samples::{doc, docno, name, term, terms, whole};
 use ri_base::{
-    Bytes, Doc, Docno, FieldSpan, Fraction, Fractions, Hit, Hits, Name, NotABelief, Spans, Term,
-    Terms,
+    Bytes, Doc, Docno, Fraction, Fractions, Hit, Hits, Name, NotABelief, Spans, Term, Terms,
 };
 use std::alloc::Global;
 use std::process::Abort;
 use std::test::Fail;
-
-fn term(alloc: Global, text: &str) -> Result<Term, Fail> {
-    Ok(Term::new(alloc, text.as_bytes())?.ok_or("no term")?)
-}
-
-fn name(alloc: Global, text: &str) -> Result<Name, Fail> {
-    Ok(Name::new(alloc, text.as_bytes())?.ok_or("no name")?)
-}
-
-fn docno(alloc: Global, text: &str) -> Result<Docno, Fail> {
-    Ok(Docno::new(alloc, text.as_bytes())?.ok_or("no docno")?)
-}
-
-/// A field named h1 over all tokens.
-fn whole(alloc: Global, end: u32) -> Result<Spans, Fail>
-    requires { 0 < end }
-    ensures { IfOk result (AreFields end) }
-{
-    let mut fields = Vec::new(alloc);
-    fields.push(FieldSpan::new(name(alloc, "h1")?, 0, end))?;
-    Ok(Spans::of(fields))
-}
-
-/// The document of two words, with one field over them.
-fn doc(alloc: Global) -> Result<Doc, Fail> {
-    let mut tokens = Terms::new(alloc);
-    tokens.push(term(alloc, "a")?)?;
-    tokens.push(term(alloc, "b")?)?;
-    let fields = whole(alloc, 2)?;
-    Ok(Doc::new(alloc, docno(alloc, "d1")?, tokens, fields)?)
-}
 
 fn assert_terms(rt: &impl Abort, terms: &Terms) {
     let terms = terms.as_slice();
@@ -83,15 +49,15 @@ fn texts(rt: HostRuntime) -> Result<(), Fail> {
 }
 
 fn cloned_doc(alloc: Global) -> Result<Doc, Fail> {
-    Ok(doc(alloc)?.clone_in(alloc)?)
+    Ok(doc(alloc, "a b", "h1")?.clone_in(alloc)?)
 }
 
 fn cloned_terms(alloc: Global) -> Result<Terms, Fail> {
-    Ok(doc(alloc)?.tokens().clone_in(alloc)?)
+    Ok(terms(alloc, "a b")?.clone_in(alloc)?)
 }
 
 fn cloned_fields(alloc: Global) -> Result<Spans, Fail> {
-    Ok(whole(alloc, 2)?.clone_in(alloc)?)
+    Ok(whole(alloc, "h1", 2)?.clone_in(alloc)?)
 }
 
 #[test]

@@ -237,9 +237,8 @@ fn assert_write_faults(
     taken: usize,
 ) -> Result<(), Fail> {
     let mut text = Vec::new(alloc);
-    let mut call = 0;
-    for line in lines {
-        call += 1;
+    for (before, line) in lines.iter().enumerate() {
+        let call = before as u64 + 1;
         let fails = [SinkFail { call, taken }];
         let mut front = text.clone()?;
         front.extend_from_slice(&line[..taken.min(line.len())])?;

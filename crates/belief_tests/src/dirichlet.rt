@@ -6,61 +6,67 @@ ghost use Rattle.smoothing.specs.Fractions.{dirichlet};
 
 use ri_base::Fraction;
 use smoothing::{MAX_MU, Rule, RuleKind, dirichlet_fraction};
-use std::process::Abort;
 
-fn assert_belief(rt: &impl Abort, belief: Fraction, p: u64, q: u64) {
-    assert_eq!(rt; (belief.p, belief.q), (p, q));
-}
+/// What is counted of a leaf, and its belief: `mu`, `tf`, `len`, `cf`, `total`, and the fraction's two numbers.
+type Case = (u32, u32, u32, u64, u64, u64, u64);
 
-#[test]
-fn words_of_short_documents(rt: HostRuntime) {
+static CASES: [Case; 21] = [
     // "a b" and "a": the word a in each, and z, which neither has
-    assert_belief(&rt, dirichlet_fraction(1, 1, 1, 2, 3), 10, 12);
-    assert_belief(&rt, dirichlet_fraction(1, 1, 2, 2, 3), 10, 18);
-    assert_belief(&rt, dirichlet_fraction(1, 0, 1, 0, 3), 1, 12);
-    assert_belief(&rt, dirichlet_fraction(1, 0, 2, 0, 3), 1, 18);
+    (1, 1, 1, 2, 3, 10, 12),
+    (1, 1, 2, 2, 3, 10, 18),
+    (1, 0, 1, 0, 3, 1, 12),
+    (1, 0, 2, 0, 3, 1, 18),
     // "a b" and "a b", "a b" and "a c", "a b c", "a" and "a"
-    assert_belief(&rt, dirichlet_fraction(1, 1, 2, 2, 4), 12, 24);
-    assert_belief(&rt, dirichlet_fraction(1, 1, 2, 1, 4), 10, 24);
-    assert_belief(&rt, dirichlet_fraction(1, 0, 2, 1, 4), 2, 24);
-    assert_belief(&rt, dirichlet_fraction(1, 1, 3, 1, 3), 8, 24);
-    assert_belief(&rt, dirichlet_fraction(1, 1, 1, 2, 2), 8, 8);
+    (1, 1, 2, 2, 4, 12, 24),
+    (1, 1, 2, 1, 4, 10, 24),
+    (1, 0, 2, 1, 4, 2, 24),
+    (1, 1, 3, 1, 3, 8, 24),
+    (1, 1, 1, 2, 2, 8, 8),
     // "a a b" and "a b b"
-    assert_belief(&rt, dirichlet_fraction(1, 2, 3, 3, 6), 30, 48);
-    assert_belief(&rt, dirichlet_fraction(1, 1, 3, 3, 6), 18, 48);
+    (1, 2, 3, 3, 6, 30, 48),
+    (1, 1, 3, 3, 6, 18, 48),
     // "c" alone: a and c
-    assert_belief(&rt, dirichlet_fraction(1, 0, 1, 0, 1), 1, 4);
-    assert_belief(&rt, dirichlet_fraction(1, 1, 1, 1, 1), 4, 4);
-}
-
-#[test]
-fn passages_and_fields(rt: HostRuntime) {
+    (1, 0, 1, 0, 1, 1, 4),
+    (1, 1, 1, 1, 1, 4, 4),
     // the last passages of "a c a c a" beside "a b"
-    assert_belief(&rt, dirichlet_fraction(1, 1, 1, 4, 7), 22, 28);
-    assert_belief(&rt, dirichlet_fraction(1, 2, 3, 4, 7), 36, 56);
-    assert_belief(&rt, dirichlet_fraction(1, 2, 4, 4, 7), 36, 70);
+    (1, 1, 1, 4, 7, 22, 28),
+    (1, 2, 3, 4, 7, 36, 56),
+    (1, 2, 4, 4, 7, 36, 70),
     // a field that no document has
-    assert_belief(&rt, dirichlet_fraction(1, 0, 0, 0, 0), 1, 2);
+    (1, 0, 0, 0, 0, 1, 2),
     // a document of 20 words whose head has 3
-    assert_belief(&rt, dirichlet_fraction(2500, 3, 20, 3, 20), 15_120, 100_800);
-    assert_belief(&rt, dirichlet_fraction(2500, 1, 3, 1, 3), 5006, 15_018);
-}
+    (2500, 3, 20, 3, 20, 15_120, 100_800),
+    (2500, 1, 3, 1, 3, 5006, 15_018),
+    // the ends of the range
+    (
+        1_000_000,
+        1_048_576,
+        1_048_576,
+        536_870_912,
+        536_870_912,
+        2_199_641_730_842_624,
+        2_199_641_730_842_624,
+    ),
+    (
+        1_000_000,
+        0,
+        1_048_576,
+        0,
+        536_870_912,
+        1_000_000,
+        2_199_641_730_842_624,
+    ),
+];
 
 #[test]
-fn ends_of_the_range(rt: HostRuntime) {
-    let all = 2_199_641_730_842_624;
-    assert_belief(
-        &rt,
-        dirichlet_fraction(MAX_MU, 1 << 20, 1 << 20, 1 << 29, 1 << 29),
-        all,
-        all,
-    );
-    assert_belief(
-        &rt,
-        dirichlet_fraction(MAX_MU, 0, 1 << 20, 0, 1 << 29),
-        1_000_000,
-        all,
-    );
+fn beliefs(rt: HostRuntime) {
+    for (mu, tf, len, cf, total, p, q) in &CASES {
+        let (mu, tf, len, cf, total) = (*mu, *tf, *len, *cf, *total);
+        assert!(rt; mu > 0 && mu <= MAX_MU && tf <= len && len <= 1 << 20);
+        assert!(rt; cf <= total && total <= 1 << 29);
+        let belief = dirichlet_fraction(mu, tf, len, cf, total);
+        assert_eq!(rt; (belief.p, belief.q), (*p, *q));
+    }
 }
 
 #[test]
@@ -72,5 +78,6 @@ fn a_rule_over_a_closure(rt: HostRuntime) {
             ensures { ratio_of result ≡ dirichlet 1 tf len cf total }
         { dirichlet_fraction(1, tf, len, cf, total) },
     );
-    assert_belief(&rt, rule.belief(1, 2, 2, 3), 10, 18);
+    let belief = rule.belief(1, 2, 2, 3);
+    assert_eq!(rt; (belief.p, belief.q), (10, 18));
 }

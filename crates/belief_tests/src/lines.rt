@@ -26,120 +26,123 @@ fn hit_of(alloc: Global, found: Found) -> Result<Hit, Fail> {
     })
 }
 
+fn assert_line(
+    rt: &impl Abort,
+    alloc: Global,
+    rank: usize,
+    above: Option<&Hit>,
+    hit: &Hit,
+    scale: u64,
+    text: &str,
+) -> Result<(), Fail>
+    requires { IsScale scale }
+{
+    let line = line(alloc, rank, mark(above, hit, scale), hit, scale)?;
+    assert_eq!(rt; line.as_slice(), text.as_bytes());
+    Ok(())
+}
+
 fn assert_lines(
     rt: &impl Abort,
     alloc: Global,
     scale: u64,
-    found: [Found; 2],
-    lines: [&str; 2],
+    found: &[Found; 2],
+    lines: &[&str; 2],
 ) -> Result<(), Fail>
     requires { IsScale scale }
 {
     let first = hit_of(alloc, found[0])?;
     let second = hit_of(alloc, found[1])?;
     assert_eq!(rt; first.fractions.len(), second.fractions.len());
-    let top = line(alloc, 1, mark(None, &first, scale), &first, scale)?;
-    assert_eq!(rt; top.as_slice(), lines[0].as_bytes());
-    let next = line(alloc, 2, mark(Some(&first), &second, scale), &second, scale)?;
-    assert_eq!(rt; next.as_slice(), lines[1].as_bytes());
-    Ok(())
+    assert_line(rt, alloc, 1, None, &first, scale, lines[0])?;
+    assert_line(rt, alloc, 2, Some(&first), &second, scale, lines[1])
 }
 
-#[test]
-fn rankings(rt: HostRuntime) -> Result<(), Fail> {
-    let alloc = rt.alloc();
+/// The scale of a query, what is found, and its lines.
+static RANKINGS: [(u64, [Found; 2], [&str; 2]); 5] = [
     // "a" and "a b": the query a
-    assert_lines(
-        &rt,
-        alloc,
+    (
         1,
         [
             (b"d2", 1, 289_209_387_719, &[(10, 12)]),
             (b"d1", 2, 932_382_459_075, &[(10, 18)]),
         ],
         ["1 - -0.263034 d2 0 1\n", "2 > -0.847996 d1 0 2\n"],
-    )?;
+    ),
     // the query a z, of which neither has z
-    assert_lines(
-        &rt,
-        alloc,
+    (
         2,
         [
             (b"d2", 1, 4_230_917_342_402, &[(10, 12), (1, 12)]),
             (b"d1", 2, 5_517_263_485_114, &[(10, 18), (1, 18)]),
         ],
         ["1 - -1.923998 d2 0 1\n", "2 > -2.508960 d1 0 2\n"],
-    )?;
+    ),
+    // "a b" twice: the query a, and the same belief written in two ways
+    (
+        1,
+        [
+            (b"d1", 2, 1 << 40, &[(12, 24)]),
+            (b"d2", 2, 1 << 40, &[(1, 2)]),
+        ],
+        ["1 - -1.000000 d1 0 2\n", "2 = -1.000000 d2 0 2\n"],
+    ),
+    // "a a b" and "a b b": the query a b, whose beliefs change places, so that the keys are equal
+    (
+        2,
+        [
+            (b"d1", 3, 2_301_398_128_335, &[(30, 48), (18, 48)]),
+            (b"d2", 3, 2_301_398_128_335, &[(18, 48), (30, 48)]),
+        ],
+        ["1 - -1.046554 d1 0 3\n", "2 ~ -1.046554 d2 0 3\n"],
+    ),
+    // "a b" and "a c": the query a b, where b has so little weight that the keys are too near
+    (
+        100_000_020_000_001,
+        [
+            (
+                b"d1",
+                2,
+                109_951_184_767_833_944_241_015_495,
+                &[(12, 24), (12, 24), (10, 24)],
+            ),
+            (
+                b"d2",
+                2,
+                109_951_184_767_836_497_227_954_683,
+                &[(12, 24), (12, 24), (2, 24)],
+            ),
+        ],
+        ["1 - -1.000000 d1 0 2\n", "2 ~ -1.000000 d2 0 2\n"],
+    ),
+];
+
+#[test]
+fn rankings(rt: HostRuntime) -> Result<(), Fail> {
+    for (scale, found, lines) in &RANKINGS {
+        let scale = *scale;
+        assert!(rt; 0 < scale && scale < 1 << 60);
+        assert_lines(&rt, rt.alloc(), scale, found, lines)?;
+    }
     Ok(())
 }
 
-/// "a b" twice: the query a, and the same belief written in two ways.
-const SAME: [Found; 2] = [
-    (b"d1", 2, 1 << 40, &[(12, 24)]),
-    (b"d2", 2, 1 << 40, &[(1, 2)]),
+/// Keys, scales and the texts of their scores.
+static SCORES: [(u128, u64, &str); 5] = [
+    (0, 7, "0.000000"),
+    (104_561_081_947_860, 60, "1.584962"),
+    (u128::MAX, 1, "309485009821345068724781055.999999"),
+    (u128::MAX, (1 << 60) - 1, "268435456.000000"),
+    ((((1 << 60) - 1) << 40) - 1, (1 << 60) - 1, "0.999999"),
 ];
-
-/// "a a b" and "a b b": the query a b, whose beliefs change places, so that the keys are equal.
-const EXCHANGED: [Found; 2] = [
-    (b"d1", 3, 2_301_398_128_335, &[(30, 48), (18, 48)]),
-    (b"d2", 3, 2_301_398_128_335, &[(18, 48), (30, 48)]),
-];
-
-/// "a b" and "a c": the query a b, where b has so little weight that the keys are too near.
-const NEAR: [Found; 2] = [
-    (
-        b"d1",
-        2,
-        109_951_184_767_833_944_241_015_495,
-        &[(12, 24), (12, 24), (10, 24)],
-    ),
-    (
-        b"d2",
-        2,
-        109_951_184_767_836_497_227_954_683,
-        &[(12, 24), (12, 24), (2, 24)],
-    ),
-];
-
-#[test]
-fn near_rankings(rt: HostRuntime) -> Result<(), Fail> {
-    let alloc = rt.alloc();
-    assert_lines(
-        &rt,
-        alloc,
-        1,
-        SAME,
-        ["1 - -1.000000 d1 0 2\n", "2 = -1.000000 d2 0 2\n"],
-    )?;
-    assert_lines(
-        &rt,
-        alloc,
-        2,
-        EXCHANGED,
-        ["1 - -1.046554 d1 0 3\n", "2 ~ -1.046554 d2 0 3\n"],
-    )?;
-    assert_lines(
-        &rt,
-        alloc,
-        100_000_020_000_001,
-        NEAR,
-        ["1 - -1.000000 d1 0 2\n", "2 ~ -1.000000 d2 0 2\n"],
-    )
-}
 
 #[test]
 fn scores(rt: HostRuntime) -> Result<(), Fail> {
-    let alloc = rt.alloc();
-    for (key, scale, text) in [
-        (0, 7, "0.000000"),
-        (104_561_081_947_860, 60, "1.584962"),
-        (u128::MAX, 1, "309485009821345068724781055.999999"),
-        (u128::MAX, (1 << 60) - 1, "268435456.000000"),
-        ((((1 << 60) - 1) << 40) - 1, (1 << 60) - 1, "0.999999"),
-    ] {
-        let text: &str = text;
+    for (key, scale, text) in &SCORES {
+        let scale = *scale;
         assert!(rt; 0 < scale && scale < 1 << 60);
-        assert_eq!(rt; score_text(alloc, key, scale)?.as_slice(), text.as_bytes());
+        let score = score_text(rt.alloc(), *key, scale)?;
+        assert_eq!(rt; score.as_slice(), text.as_bytes());
     }
     Ok(())
 }

@@ -9,7 +9,7 @@ ghost use Rattle.smoothing.specs.Fractions.{dirichlet};
 ghost use Rattle.belief_nodes.specs.Leaves.{AreLeafStats, IsLeafCount, has_extents};
 
 use belief_nodes::{LeafCount, Network};
-use query_check::{LeafKind, check};
+use query_check::{Checked, LeafKind, check};
 use query_reader::read_query;
 use ri_base::{Docno, Fraction, LeafStats, Range};
 use smoothing::{Rule, RuleKind, dirichlet_fraction};
@@ -17,23 +17,15 @@ use std::alloc::Global;
 use std::process::Abort;
 use std::test::Fail;
 
-/// What is counted of a leaf, its fraction, and the digits of that at the last level.
-#[derive(Clone, Copy)]
-struct Leaf {
-    tf: u32,
-    len: u32,
-    cf: u64,
-    total: u64,
-    fraction: (u64, u64),
-    digits: u128,
-}
+/// What is counted of a leaf (`tf`, `len`, `cf` and `total`), its fraction, and the digits of that at the last level.
+type Leaf = (u32, u32, u64, u64, (u64, u64), u128);
 
 fn stats_of(alloc: Global, leaves: &[Leaf]) -> Result<Vec<LeafStats>, Fail>
     ensures { IfOk result (λ stats. All (λ s. AreLeafStats s) stats.items) }
 {
     let mut stats = Vec::new(alloc);
     for leaf in leaves {
-        let (cf, total) = (leaf.cf, leaf.total);
+        let (_, _, cf, total, _, _) = *leaf;
         if cf > total || total > 1 << 29 {
             return Err(Fail::from("no counts"));
         }
@@ -47,7 +39,7 @@ fn counts_of(alloc: Global, leaves: &[Leaf]) -> Result<Vec<LeafCount>, Fail>
 {
     let mut counts = Vec::new(alloc);
     for leaf in leaves {
-        let (tf, len) = (leaf.tf, leaf.len);
+        let (tf, len, ..) = *leaf;
         if tf > len || len > 1 << 20 {
             return Err(Fail::from("no counts"));
         }
@@ -61,7 +53,7 @@ fn digits_of(alloc: Global, leaves: &[Leaf]) -> Result<Vec<u128>, Fail>
 {
     let mut digits = Vec::new(alloc);
     for leaf in leaves {
-        let c = leaf.digits;
+        let (.., c) = *leaf;
         if c >= 1 << 66 {
             return Err(Fail::from("no digits"));
         }
@@ -87,9 +79,13 @@ fn have_extents(leaves: &[LeafKind]) -> bool
     true
 }
 
+/// The checked query of a text.
+pub fn checked(alloc: Global, text: &str) -> Result<Checked, Fail> {
+    Ok(check(alloc, read_query(alloc, text)?, &[])?)
+}
+
 fn network_of(alloc: Global, text: &str, leaves: &[Leaf]) -> Result<Network, Fail> {
-    let query = read_query(alloc, text)?;
-    let checked = check(alloc, query, &[])?;
+    let checked = checked(alloc, text)?;
     let stats = stats_of(alloc, leaves)?;
     if stats.len() != checked.leaves.len() {
         return Err(Fail::from("another number of leaves"));
@@ -140,86 +136,79 @@ fn assert_key(
     key: u128,
 ) -> Result<(), Fail> {
     let network = network_of(alloc, text, leaves)?;
-    let mut fractions = Vec::new(alloc);
-    for leaf in leaves {
-        fractions.push(leaf.fraction)?;
-    }
     let found = fractions_of(alloc, &network, leaves)?;
-    assert_eq!(rt; found.as_slice(), fractions.as_slice(), "{text}");
+    for (found, (.., fraction, _)) in found.iter().zip(leaves) {
+        assert_eq!(rt; *found, *fraction, "{text}");
+    }
     assert_eq!(rt; key_of(alloc, &network, leaves)?, key, "{text}");
     assert_eq!(rt; network.stats().len(), leaves.len(), "{text}");
     assert!(rt; matches!(network.range(), Range::Whole), "{text}");
     Ok(())
 }
 
-fn counted(counts: (u32, u32, u64, u64), fraction: (u64, u64), digits: u128) -> Leaf {
-    let (tf, len, cf, total) = counts;
-    Leaf {
-        tf,
-        len,
-        cf,
-        total,
-        fraction,
-        digits,
-    }
-}
+// a in "a" and in "a b", beside each other, and z, which neither has
+const A_ALONE: Leaf = (1, 1, 2, 3, (10, 12), 289_209_387_719);
 
-#[test]
-fn one_word(rt: HostRuntime) -> Result<(), Fail> {
-    // in "a b" and in "a", beside each other
-    let longer = counted((1, 2, 2, 3), (10, 18), 932_382_459_075);
-    assert_key(&rt, rt.alloc(), "a", &[longer], 932_382_459_075)?;
-    let shorter = counted((1, 1, 2, 3), (10, 12), 289_209_387_719);
-    assert_key(&rt, rt.alloc(), "#combine(a)", &[shorter], 289_209_387_719)
-}
+const Z_BESIDE_A: Leaf = (0, 1, 0, 3, (1, 12), 3_941_707_954_683);
 
-#[test]
-fn two_words(rt: HostRuntime) -> Result<(), Fail> {
-    let a = rt.alloc();
-    // z occurs nowhere
-    let shorter = counted((1, 1, 2, 3), (10, 12), 289_209_387_719);
-    let nowhere = counted((0, 1, 0, 3), (1, 12), 3_941_707_954_683);
-    assert_key(&rt, a, "a z", &[shorter, nowhere], 4_230_917_342_402)?;
-    let longer = counted((1, 2, 2, 3), (10, 18), 932_382_459_075);
-    let nowhere = counted((0, 2, 0, 3), (1, 18), 4_584_881_026_039);
-    assert_key(&rt, a, "a z", &[longer, nowhere], 5_517_263_485_114)?;
+const A_WITH_B: Leaf = (1, 2, 2, 3, (10, 18), 932_382_459_075);
 
-    // in "a a b" and in "a b b" the leaves are the other way round, and the key is the same
-    let twice = counted((2, 3, 3, 6), (30, 48), 745_547_944_139);
-    let once = counted((1, 3, 3, 6), (18, 48), 1_555_850_184_196);
-    assert_key(&rt, a, "a b", &[twice, once], 2_301_398_128_335)?;
-    assert_key(&rt, a, "a b", &[once, twice], 2_301_398_128_335)
-}
+const Z_BESIDE_AB: Leaf = (0, 2, 0, 3, (1, 18), 4_584_881_026_039);
 
-#[test]
-fn greatest(rt: HostRuntime) -> Result<(), Fail> {
-    let a = rt.alloc();
-    let x = counted((1, 2, 2, 3), (10, 18), 932_382_459_075);
-    let y = counted((1, 2, 1, 3), (8, 18), 1_286_346_142_711);
-    assert_key(&rt, a, "#max(a b)", &[x, y], 932_382_459_075)?;
-    assert_key(&rt, a, "#max(b a)", &[y, x], 932_382_459_075)?;
+const B_WITH_A: Leaf = (1, 2, 1, 3, (8, 18), 1_286_346_142_711);
+// a word of "a a b" and "a b b"
+const TWICE: Leaf = (2, 3, 3, 6, (30, 48), 745_547_944_139);
 
+const ONCE: Leaf = (1, 3, 3, 6, (18, 48), 1_555_850_184_196);
+// what occurs once in a document of three words, which is alone
+const OF_THREE: Leaf = (1, 3, 1, 3, (8, 24), 1_742_684_699_131);
+// "a b" and "a c": a in both, b in the first, and b in the second
+const IN_BOTH: Leaf = (1, 2, 2, 4, (12, 24), 1_099_511_627_776);
+
+const THERE: Leaf = (1, 2, 1, 4, (10, 24), 1_388_721_015_495);
+
+const ELSEWHERE: Leaf = (0, 2, 1, 4, (2, 24), 3_941_707_954_683);
+
+/// Queries, their leaves, and their keys.
+static CASES: [(&str, &[Leaf], u128); 12] = [
+    ("a", &[A_WITH_B], 932_382_459_075),
+    ("#combine(a)", &[A_ALONE], 289_209_387_719),
+    ("a z", &[A_ALONE, Z_BESIDE_A], 4_230_917_342_402),
+    ("a z", &[A_WITH_B, Z_BESIDE_AB], 5_517_263_485_114),
+    // the leaves are the other way round, and the key is the same
+    ("a b", &[TWICE, ONCE], 2_301_398_128_335),
+    ("a b", &[ONCE, TWICE], 2_301_398_128_335),
+    ("#max(a b)", &[A_WITH_B, B_WITH_A], 932_382_459_075),
+    ("#max(b a)", &[B_WITH_A, A_WITH_B], 932_382_459_075),
     // the scales are 2, 1 and 3, so the key of the word counts six times
-    let text = "#max(#combine(a b) a #weight(1 a 2 b))";
-    assert_key(&rt, a, text, &[x, y, x, x, y], 5_594_294_754_450)
-}
+    (
+        "#max(#combine(a b) a #weight(1 a 2 b))",
+        &[A_WITH_B, B_WITH_A, A_WITH_B, A_WITH_B, B_WITH_A],
+        5_594_294_754_450,
+    ),
+    // the scale is 60: each leaf counts 60 times its share
+    (
+        "#weight(0.8 #combine(a b c) 0.1 #combine(#1(a b) #1(b c)) 0.1 #combine(#uw8(a b) #uw8(b c)))",
+        &[OF_THREE; 7],
+        104_561_081_947_860,
+    ),
+    // the scale is 10000001 ^ 2
+    (
+        "#weight(1 a 0.0000001 #weight(1 a 0.0000001 b))",
+        &[IN_BOTH, IN_BOTH, THERE],
+        109_951_184_767_833_944_241_015_495,
+    ),
+    (
+        "#weight(1 a 0.0000001 #weight(1 a 0.0000001 b))",
+        &[IN_BOTH, IN_BOTH, ELSEWHERE],
+        109_951_184_767_836_497_227_954_683,
+    ),
+];
 
 #[test]
-fn weights_inside_weights(rt: HostRuntime) -> Result<(), Fail> {
-    let a = rt.alloc();
-    // the scale is 60: each leaf counts 60 times its share
-    let text =
-        "#weight(0.8 #combine(a b c) 0.1 #combine(#1(a b) #1(b c)) 0.1 #combine(#uw8(a b) #uw8(b c)))";
-    let x = counted((1, 3, 1, 3), (8, 24), 1_742_684_699_131);
-    assert_key(&rt, a, text, &[x; 7], 104_561_081_947_860)?;
-
-    // the scale is 10000001 ^ 2
-    let text = "#weight(1 a 0.0000001 #weight(1 a 0.0000001 b))";
-    let x = counted((1, 2, 2, 4), (12, 24), 1_099_511_627_776);
-    let there = counted((1, 2, 1, 4), (10, 24), 1_388_721_015_495);
-    let key = 109_951_184_767_833_944_241_015_495;
-    assert_key(&rt, a, text, &[x, x, there], key)?;
-    let elsewhere = counted((0, 2, 1, 4), (2, 24), 3_941_707_954_683);
-    let key = 109_951_184_767_836_497_227_954_683;
-    assert_key(&rt, a, text, &[x, x, elsewhere], key)
+fn keys(rt: HostRuntime) -> Result<(), Fail> {
+    for (text, leaves, key) in &CASES {
+        assert_key(&rt, rt.alloc(), text, leaves, *key)?;
+    }
+    Ok(())
 }

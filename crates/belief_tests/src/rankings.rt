@@ -1,16 +1,13 @@
 // Rankings of small indexes that were worked out by hand. A key is that of the belief's logarithm in 40 binary places.
-ghost use Rattle.std.specs.Prelude.{◌≡◌, IfOk, IsTrue};
+ghost use Rattle.std.specs.Prelude.{◌≡◌};
 ghost use Rattle.ri_base.specs.Ratio.{ratio_of};
-ghost use Rattle.ri_base.specs.Text.{is_term};
 ghost use Rattle.smoothing.specs.Counts.{AreCounts};
 ghost use Rattle.smoothing.specs.Fractions.{dirichlet};
 
+use crate::networks::checked;
 use full_ranking::{are_plain, rank};
 use memory_index::MemIndex;
-use query_check::{Checked, check};
-use ri_base::{
-    Belief, Doc, Docno, ExtentExpr, Fraction, Hit, Hits, Query, Range, Sealed, Spans, Term, Terms,
-};
+use ri_base::{Doc, Docno, Fraction, Hit, Hits, Sealed, Spans, Term, Terms};
 use smoothing::{Rule, RuleKind, dirichlet_fraction};
 use std::alloc::Global;
 use std::process::Abort;
@@ -19,12 +16,8 @@ use std::test::Fail;
 /// A document: its docno and its words.
 type Text = (&'static str, &'static str);
 
-fn term(alloc: Global, text: &str) -> Result<Term, Fail>
-    ensures { IfOk result (λ term. IsTrue (is_term term)) }
-{
-    let term = Term::new(alloc, text.as_bytes())?.ok_or("no term")?;
-    let _form = term.as_bytes();
-    Ok(term)
+fn term(alloc: Global, text: &str) -> Result<Term, Fail> {
+    Ok(Term::new(alloc, text.as_bytes())?.ok_or("no term")?)
 }
 
 fn doc(alloc: Global, text: Text) -> Result<Doc, Fail> {
@@ -57,26 +50,10 @@ fn sealed(alloc: Global, texts: &[Text]) -> Result<Sealed, Fail> {
     }
 }
 
-/// The query of one word.
-fn query(alloc: Global, word: &str) -> Result<Checked, Fail> {
-    let leaf = Belief::Leaf(ExtentExpr::Word(term(alloc, word)?), None);
-    let mut beliefs = Vec::new(alloc);
-    beliefs.push(leaf)?;
-    let query = Query {
-        filters: Vec::new(alloc),
-        range: Range::Whole,
-        beliefs,
-    };
-    match check(alloc, query, &[]) {
-        Ok(checked) => Ok(checked),
-        Err(_) => Err(Fail::from("a fault")),
-    }
-}
-
 /// The first hits for a word under Dirichlet smoothing with mu 1.
 fn ranked(alloc: Global, texts: &[Text], word: &str, most: usize) -> Result<Hits, Fail> {
     let mut index = sealed(alloc, texts)?;
-    let checked = query(alloc, word)?;
+    let checked = checked(alloc, word)?;
     if !are_plain(&checked.leaves) {
         return Err(Fail::from("not plain"));
     }
@@ -90,48 +67,49 @@ fn ranked(alloc: Global, texts: &[Text], word: &str, most: usize) -> Result<Hits
     Ok(rank(alloc, &checked, &rule, &mut index, most)?)
 }
 
-fn assert_hit(rt: &impl Abort, hit: &Hit, docno: &str, end: u32, key: u128, belief: (u64, u64)) {
+/// A hit of one leaf: its docno, its end, its key and its belief.
+type Found = (&'static str, u32, u128, (u64, u64));
+
+fn assert_hit(rt: &impl Abort, hit: &Hit, found: &Found) {
+    let (docno, end, key, belief) = found;
     assert_eq!(rt; hit.docno.as_bytes(), docno.as_bytes());
-    assert_eq!(rt; (hit.begin, hit.end), (0, end));
-    assert_eq!(rt; hit.key, key);
+    assert_eq!(rt; (hit.begin, hit.end, hit.key), (0, *end, *key));
     let fractions = hit.fractions.as_slice();
     assert_eq!(rt; fractions.len(), 1);
-    assert_eq!(rt; (fractions[0].p, fractions[0].q), belief);
+    assert_eq!(rt; (fractions[0].p, fractions[0].q), *belief);
 }
 
-#[test]
-fn two_documents(rt: HostRuntime) -> Result<(), Fail> {
-    let texts = [("d1", "a b"), ("d2", "a")];
-    let hits = ranked(rt.alloc(), &texts, "a", 10)?
-        .clone_in(rt.alloc())?
-        .into_vec();
-    assert_eq!(rt; hits.len(), 2);
-    assert_hit(&rt, &hits[0], "d2", 1, 289_209_387_719, (10, 12));
-    assert_hit(&rt, &hits[1], "d1", 2, 932_382_459_075, (10, 18));
-    let first = ranked(rt.alloc(), &texts, "a", 1)?.into_vec();
-    assert_eq!(rt; first.len(), 1);
-    assert_hit(&rt, &first[0], "d2", 1, 289_209_387_719, (10, 12));
-    Ok(())
-}
+const ALONE: Found = ("d2", 1, 289_209_387_719, (10, 12));
+
+const WITH_B: Found = ("d1", 2, 932_382_459_075, (10, 18));
+
+/// Documents, a word, the greatest number of hits, and the hits.
+static CASES: [(&[Text], &str, usize, &[Found]); 5] = [
+    (&[("d1", "a b"), ("d2", "a")], "a", 10, &[ALONE, WITH_B]),
+    (&[("d1", "a b"), ("d2", "a")], "a", 1, &[ALONE]),
+    (&[("d1", "a b"), ("d2", "a")], "z", 10, &[]),
+    (&[], "a", 10, &[]),
+    // equal keys stand by docno
+    (
+        &[("d2", "a b"), ("d10", "b a"), ("d1", "a c")],
+        "a",
+        10,
+        &[
+            ("d1", 2, 1_099_511_627_776, (18, 36)),
+            ("d10", 2, 1_099_511_627_776, (18, 36)),
+            ("d2", 2, 1_099_511_627_776, (18, 36)),
+        ],
+    ),
+];
 
 #[test]
-fn no_hit(rt: HostRuntime) -> Result<(), Fail> {
-    assert_eq!(rt; ranked(rt.alloc(), &[], "a", 10)?.len(), 0);
-    assert_eq!(rt;
-        ranked(rt.alloc(), &[("d1", "a b"), ("d2", "a")], "z", 10)?.len(),
-        0
-    );
-    Ok(())
-}
-
-#[test]
-fn equal_keys_by_docno(rt: HostRuntime) -> Result<(), Fail> {
-    let texts = [("d2", "a b"), ("d10", "b a"), ("d1", "a c")];
-    let hits = ranked(rt.alloc(), &texts, "a", 10)?.into_vec();
-    assert_eq!(rt; hits.len(), 3);
-    assert_eq!(rt; hits[0].docno.as_bytes(), b"d1".as_slice());
-    assert_eq!(rt; hits[1].docno.as_bytes(), b"d10".as_slice());
-    assert_eq!(rt; hits[2].docno.as_bytes(), b"d2".as_slice());
-    assert_eq!(rt; hits[0].key, hits[2].key);
+fn rankings(rt: HostRuntime) -> Result<(), Fail> {
+    for (texts, word, most, found) in &CASES {
+        let hits = ranked(rt.alloc(), texts, word, *most)?.clone_in(rt.alloc())?;
+        assert_eq!(rt; hits.len(), found.len());
+        for (hit, found) in hits.as_slice().iter().zip(*found) {
+            assert_hit(&rt, hit, found);
+        }
+    }
     Ok(())
 }

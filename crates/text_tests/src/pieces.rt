@@ -3,7 +3,7 @@ use ri_base::NoMemory;
 use ri_ends::MemSource;
 use std::alloc::Global;
 use std::test::Fail;
-use trec_reader::{Piece, Pieces, TrecReader};
+use trec_reader::{Piece, Pieces, RawDoc, TrecReader};
 
 /// Text in brackets, tags in angles, and a bar for a break.
 fn shown(alloc: Global, pieces: &Pieces) -> Result<String, NoMemory> {
@@ -24,7 +24,7 @@ fn shown(alloc: Global, pieces: &Pieces) -> Result<String, NoMemory> {
     Ok(shown)
 }
 
-const ROWS: [(&[u8], &str); 9] = [
+static ROWS: [(&[u8], &str); 9] = [
     (b"", ""),
     (b"a < b & c > d", "[a < b & c > d]"),
     (
@@ -45,20 +45,26 @@ const ROWS: [(&[u8], &str); 9] = [
     ),
 ];
 
-/// The pieces of the text in a document.
-fn shown_in_document(alloc: Global, text: &[u8]) -> Result<String, Fail> {
+/// The document with this text.
+fn input(alloc: Global, text: &[u8]) -> Result<Vec<u8>, Fail> {
     let mut input = b"<DOC><DOCNO>d</DOCNO>".to_vec(alloc)?;
     input.extend_from_slice(text)?;
     input.extend_from_slice(b"</DOC>")?;
-    let mut reader = TrecReader::new(alloc, MemSource::new(input, 100, Vec::new(alloc)))?;
-    let raw = reader.next_doc()?.ok_or("no document")?;
-    Ok(shown(alloc, &raw.pieces)?)
+    Ok(input)
+}
+
+fn read(alloc: Global, text: &[u8]) -> Result<RawDoc, Fail> {
+    let source = MemSource::new(input(alloc, text)?, 100, Vec::new(alloc));
+    let mut reader = TrecReader::new(alloc, source)?;
+    Ok(reader.next_doc()?.ok_or("no document")?)
 }
 
 #[test]
-fn rows(rt: HostRuntime) -> Result<(), Fail> {
-    for (text, wanted) in ROWS {
-        assert_eq!(rt; shown_in_document(rt.alloc(), text)?.as_str(), wanted);
+fn pieces_of_texts(rt: HostRuntime) -> Result<(), Fail> {
+    for (text, wanted) in &ROWS {
+        let raw = read(rt.alloc(), text)?;
+        let found = shown(rt.alloc(), &raw.pieces)?;
+        assert_eq!(rt; found.as_str(), *wanted);
     }
     Ok(())
 }

@@ -1,4 +1,4 @@
-use ri_ends::{Lent, MemSource};
+use ri_ends::{Lent, MemSource, Source};
 use std::alloc::Global;
 use std::process::Abort;
 use std::test::Fail;
@@ -34,68 +34,73 @@ fn assert_reads(
 ) -> Result<(), Fail> {
     for piece in [1, 2, 3, 7, 100] {
         let (read, ends) = outcome(alloc, input, piece)?;
-        assert_eq!(rt; read, count, "{input:?} in pieces of {piece}");
-        assert_eq!(rt; ends, refusal, "{input:?} in pieces of {piece}");
+        assert_eq!(rt;
+            (read, ends),
+            (count, refusal),
+            "{input:?} in pieces of {piece}"
+        );
     }
     Ok(())
 }
 
-#[test]
-fn inputs_without_a_refusal(rt: HostRuntime) -> Result<(), Fail> {
-    let alloc = rt.alloc();
-    assert_reads(&rt, alloc, b"", 0, None)?;
-    assert_reads(&rt, alloc, b" \n\t\x0c\r", 0, None)?;
-    assert_reads(&rt, alloc, TWO, 2, None)
-}
-
-#[test]
-fn refusals_of_a_doc_tag(rt: HostRuntime) -> Result<(), Fail> {
-    let alloc = rt.alloc();
-    let rows: [(&[u8], usize, u64); 6] = [
-        (b"x", 0, 0),
-        (b" <do", 0, 1),
-        (b"</doc>", 0, 0),
-        (b"<doc <doc>", 0, 0),
-        (b"<docs>", 0, 0),
-        (b" <doc>\n<docno>x</docno/>a</Doc x=/ ><DOC", 1, 36),
-    ];
-    for (input, count, at) in rows {
-        assert_reads(&rt, alloc, input, count, Some(TrecRefusal::NotADoc { at }))?;
-    }
-    Ok(())
-}
-
-#[test]
-fn refusals_of_a_docno(rt: HostRuntime) -> Result<(), Fail> {
-    let alloc = rt.alloc();
-    let rows: [(&[u8], TrecRefusal); 9] = [
-        (b"<doc/> <x>", TrecRefusal::NoDocno { at: 7 }),
-        (b"<DOC>a", TrecRefusal::NoDocno { at: 5 }),
-        (b"<DOC></DOCNO>", TrecRefusal::NoDocno { at: 5 }),
-        (b"<DOC><DOCNO> <b>", TrecRefusal::DocnoEmpty { at: 13 }),
-        (b"<DOC><DOCNO></docno>", TrecRefusal::DocnoEmpty { at: 12 }),
-        (b"<DOC><DOCNO><1", TrecRefusal::DocnoBad { at: 12 }),
-        (b"<DOC><DOCNO>d 1", TrecRefusal::DocnoBad { at: 13 }),
-        (b"<DOC><DOCNO>d\x7f", TrecRefusal::DocnoBad { at: 13 }),
-        (b"<DOC><DOCNO>d1 <b>", TrecRefusal::DocnoBad { at: 15 }),
-    ];
-    for (input, refusal) in rows {
-        assert_reads(&rt, alloc, input, 0, Some(refusal))?;
-    }
-    Ok(())
-}
-
-#[test]
-fn open_documents(rt: HostRuntime) -> Result<(), Fail> {
-    let alloc = rt.alloc();
-    let rows: [&[u8]; 4] = [
-        b"<DOC>",
-        b"<DOC><x",
-        b"<DOC><DOCNO>d ",
+/// Inputs, how many documents are read of each, and the refusal that ends them.
+static ROWS: [(&[u8], usize, Option<TrecRefusal>); 22] = [
+    (b"", 0, None),
+    (b" \n\t\x0c\r", 0, None),
+    (TWO, 2, None),
+    (b"x", 0, Some(TrecRefusal::NotADoc { at: 0 })),
+    (b" <do", 0, Some(TrecRefusal::NotADoc { at: 1 })),
+    (b"</doc>", 0, Some(TrecRefusal::NotADoc { at: 0 })),
+    (b"<doc <doc>", 0, Some(TrecRefusal::NotADoc { at: 0 })),
+    (b"<docs>", 0, Some(TrecRefusal::NotADoc { at: 0 })),
+    (
+        b" <doc>\n<docno>x</docno/>a</Doc x=/ ><DOC",
+        1,
+        Some(TrecRefusal::NotADoc { at: 36 }),
+    ),
+    (b"<doc/> <x>", 0, Some(TrecRefusal::NoDocno { at: 7 })),
+    (b"<DOC>a", 0, Some(TrecRefusal::NoDocno { at: 5 })),
+    (b"<DOC></DOCNO>", 0, Some(TrecRefusal::NoDocno { at: 5 })),
+    (
+        b"<DOC><DOCNO> <b>",
+        0,
+        Some(TrecRefusal::DocnoEmpty { at: 13 }),
+    ),
+    (
+        b"<DOC><DOCNO></docno>",
+        0,
+        Some(TrecRefusal::DocnoEmpty { at: 12 }),
+    ),
+    (b"<DOC><DOCNO><1", 0, Some(TrecRefusal::DocnoBad { at: 12 })),
+    (
+        b"<DOC><DOCNO>d 1",
+        0,
+        Some(TrecRefusal::DocnoBad { at: 13 }),
+    ),
+    (
+        b"<DOC><DOCNO>d\x7f",
+        0,
+        Some(TrecRefusal::DocnoBad { at: 13 }),
+    ),
+    (
+        b"<DOC><DOCNO>d1 <b>",
+        0,
+        Some(TrecRefusal::DocnoBad { at: 15 }),
+    ),
+    (b"<DOC>", 0, Some(TrecRefusal::DocOpen { at: 0 })),
+    (b"<DOC><x", 0, Some(TrecRefusal::DocOpen { at: 0 })),
+    (b"<DOC><DOCNO>d ", 0, Some(TrecRefusal::DocOpen { at: 0 })),
+    (
         b"<DOC><DOCNO>d1</DOCNO>a</DO",
-    ];
-    for input in rows {
-        assert_reads(&rt, alloc, input, 0, Some(TrecRefusal::DocOpen { at: 0 }))?;
+        0,
+        Some(TrecRefusal::DocOpen { at: 0 }),
+    ),
+];
+
+#[test]
+fn inputs(rt: HostRuntime) -> Result<(), Fail> {
+    for (input, count, refusal) in &ROWS {
+        assert_reads(&rt, rt.alloc(), input, *count, *refusal)?;
     }
     Ok(())
 }
@@ -118,7 +123,6 @@ fn every_front_of_two_documents(rt: HostRuntime) -> Result<(), Fail> {
     let alloc = rt.alloc();
     for length in 0..TWO.len() {
         let (read, ends) = outcome(alloc, &TWO[..length], 7)?;
-        let between = length == 0 || length == 31;
         let want = match length {
             0 | 31 => None,
             1..5 => Some(TrecRefusal::NotADoc { at: 0 }),
@@ -126,32 +130,41 @@ fn every_front_of_two_documents(rt: HostRuntime) -> Result<(), Fail> {
             32..36 => Some(TrecRefusal::NotADoc { at: 31 }),
             _ => Some(TrecRefusal::DocOpen { at: 31 }),
         };
-        assert_eq!(rt; ends, want, "of {length} bytes");
-        assert_eq!(rt; read, usize::from(length >= 31), "of {length} bytes");
-        assert_eq!(rt; ends.is_none(), between, "of {length} bytes");
+        assert_eq!(rt;
+            (read, ends),
+            (usize::from(length >= 31), want),
+            "of {length} bytes"
+        );
     }
     Ok(())
 }
 
+/// The next document has this docno, stands at this offset, and has so many pieces.
+fn assert_next(
+    rt: &impl Abort,
+    reader: &mut TrecReader<impl Source>,
+    docno: &[u8],
+    offset: u64,
+    pieces: usize,
+) -> Result<(), Fail> {
+    let raw = reader.next_doc()?.ok_or("no document")?;
+    assert_eq!(rt; raw.docno.as_bytes(), docno);
+    assert_eq!(rt; (raw.offset, raw.pieces.len()), (offset, pieces));
+    Ok(())
+}
+
+const REFUSED: &[u8] = b" <DOC><DOCNO>d1</DOCNO>a b</DOC><DOC><DOCNO>d2</DOCNO>a</DOC>x";
+
 #[test]
 fn one_reader(rt: HostRuntime) -> Result<(), Fail> {
-    let alloc = rt.alloc();
-    let mut input = b" ".to_vec(alloc)?;
-    input.extend_from_slice(TWO)?;
-    input.extend_from_slice(b"x")?;
-    let mut source = MemSource::new(input, 9, Vec::new(alloc));
-    let mut reader = TrecReader::new(alloc, Lent::new(&mut source))?;
-    let first = reader.next_doc()?.ok_or("no document")?;
-    assert_eq!(rt; first.docno.as_bytes(), b"d1".as_slice());
-    assert_eq!(rt; first.offset, 1);
-    assert_eq!(rt; first.pieces.len(), 1);
-    let second = reader.next_doc()?.ok_or("no document")?;
-    assert_eq!(rt; second.offset, 32);
-    assert_eq!(rt;
-        reader.next_doc().err(),
-        Some(TrecRefusal::NotADoc { at: 61 })
-    );
-    assert_eq!(rt; reader.next_doc().err(), Some(TrecRefusal::Ended));
+    let input = REFUSED.to_vec(rt.alloc())?;
+    let mut source = MemSource::new(input, 9, Vec::new(rt.alloc()));
+    let mut reader = TrecReader::new(rt.alloc(), Lent::new(&mut source))?;
+    assert_next(&rt, &mut reader, b"d1", 1, 1)?;
+    assert_next(&rt, &mut reader, b"d2", 32, 1)?;
+    for refusal in [TrecRefusal::NotADoc { at: 61 }, TrecRefusal::Ended] {
+        assert_eq!(rt; reader.next_doc().err(), Some(refusal));
+    }
     let _lent = reader.into_source();
     Ok(())
 }

@@ -3,7 +3,9 @@ use std::alloc::Global;
 use std::test::Fail;
 use tokens::terms_of;
 
-const APOSTROPHES_AND_NUMBERS: [(&str, &[&str]); 24] = [
+/// Texts and their terms.
+static ROWS: [(&str, &[&str]); 50] = [
+    // apostrophes, numbers and punctuation
     (
         "The quick (\"brown\") fox can't jump 32.3 feet, right?",
         &[
@@ -33,9 +35,7 @@ const APOSTROPHES_AND_NUMBERS: [(&str, &[&str]); 24] = [
     ("_a_", &["_a_"]),
     ("__", &[]),
     ("state-of-the-art", &["state", "of", "the", "art"]),
-];
-
-const MARKS_AND_BREAKS: [(&str, &[&str]); 11] = [
+    // marks and breaks
     ("a\r\nb", &["a", "b"]),
     ("a\u{a0}b", &["a", "b"]),
     ("cafe\u{301}s", &["cafe\u{301}s"]),
@@ -47,9 +47,7 @@ const MARKS_AND_BREAKS: [(&str, &[&str]); 11] = [
     ("a\u{b7}b", &["a\u{b7}b"]),
     ("a\u{1f44d}b", &["a", "b"]),
     ("\u{1f469}\u{200d}\u{1f52c} ok", &["ok"]),
-];
-
-const SCRIPTS: [(&str, &[&str]); 14] = [
+    // scripts
     // Hebrew: a double quote between two letters, a single quote behind one
     ("\u{5e6}\u{5d4}\"\u{5dc}", &["\u{5e6}\u{5d4}\"\u{5dc}"]),
     ("\u{5d2}' a\"b", &["\u{5d2}'", "a", "b"]),
@@ -76,6 +74,14 @@ const SCRIPTS: [(&str, &[&str]); 14] = [
     ("STRASSE Stra\u{df}e", &["strasse", "strasse"]),
     ("\u{130}", &["i\u{307}"]),
     ("\u{fb01}n", &["fin"]),
+    // a word of 128 bytes, and one of 129, which is left out
+    (
+        "AAAAAAAAAAAAAAAAAAAAAAAAAAAAAAAAAAAAAAAAAAAAAAAAAAAAAAAAAAAAAAAAAAAAAAAAAAAAAAAAAAAAAAAAAAAAAAAAAAAAAAAAAAAAAAAAAAAAAAAAAAAAAAAA AAAAAAAAAAAAAAAAAAAAAAAAAAAAAAAAAAAAAAAAAAAAAAAAAAAAAAAAAAAAAAAAAAAAAAAAAAAAAAAAAAAAAAAAAAAAAAAAAAAAAAAAAAAAAAAAAAAAAAAAAAAAAAAAA b",
+        &[
+            "aaaaaaaaaaaaaaaaaaaaaaaaaaaaaaaaaaaaaaaaaaaaaaaaaaaaaaaaaaaaaaaaaaaaaaaaaaaaaaaaaaaaaaaaaaaaaaaaaaaaaaaaaaaaaaaaaaaaaaaaaaaaaaaa",
+            "b",
+        ],
+    ),
 ];
 
 /// Whether these are the terms of a text.
@@ -89,37 +95,9 @@ fn are_terms(alloc: Global, text: &str, want: &[&str]) -> Result<bool, Fail> {
 }
 
 #[test]
-fn apostrophes_and_numbers(rt: HostRuntime) -> Result<(), Fail> {
-    for (text, want) in APOSTROPHES_AND_NUMBERS {
+fn terms_of_texts(rt: HostRuntime) -> Result<(), Fail> {
+    for (text, want) in &ROWS {
         assert!(rt; are_terms(rt.alloc(), text, want)?, "in {text}");
     }
-    Ok(())
-}
-
-#[test]
-fn marks_and_breaks(rt: HostRuntime) -> Result<(), Fail> {
-    for (text, want) in MARKS_AND_BREAKS {
-        assert!(rt; are_terms(rt.alloc(), text, want)?, "in {text}");
-    }
-    Ok(())
-}
-
-#[test]
-fn scripts(rt: HostRuntime) -> Result<(), Fail> {
-    for (text, want) in SCRIPTS {
-        assert!(rt; are_terms(rt.alloc(), text, want)?, "in {text}");
-    }
-    Ok(())
-}
-
-#[test]
-fn leaves_out_long_words(rt: HostRuntime) -> Result<(), Fail> {
-    let longest = "A".repeat(rt.alloc(), 128)?;
-    let too_long = "A".repeat(rt.alloc(), 129)?;
-    let text = format!(in rt.alloc(); "{longest} {too_long} b")?;
-    let terms = terms_of(rt.alloc(), text.as_str())?.into_vec();
-    assert_eq!(rt; terms.len(), 2);
-    assert_eq!(rt; terms[0].as_bytes().len(), 128);
-    assert_eq!(rt; terms[1].as_bytes(), "b".as_bytes());
     Ok(())
 }

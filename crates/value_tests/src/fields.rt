@@ -94,7 +94,7 @@ type Kept = (
     &'static [(u32, u32)],
 );
 
-const KEPT: [Kept; 6] = [
+static KEPT: [Kept; 6] = [
     // the first begins before the field, the next two fill it and lie in it, the last ends behind it
     (
         &[(1, 3), (2, 5), (3, 4), (4, 6)],
@@ -121,10 +121,10 @@ const KEPT: [Kept; 6] = [
 
 #[test]
 fn extents_in_fields(rt: HostRuntime) -> Result<(), Fail> {
-    for (xs, spans, kept) in KEPT {
+    for (xs, spans, kept) in &KEPT {
         let found = in_title(rt.alloc(), xs, spans)?;
         assert_eq!(rt; found.as_slice().len(), kept.len());
-        for (x, want) in found.as_slice().iter().zip(kept) {
+        for (x, want) in found.as_slice().iter().zip(*kept) {
             assert_eq!(rt; (x.begin(), x.end()), *want);
         }
     }
@@ -134,7 +134,7 @@ fn extents_in_fields(rt: HostRuntime) -> Result<(), Fail> {
 /// Fields, a window, and how many of its positions those named `t` cover.
 type Covered = (&'static [(u8, u32, u32)], (u32, u32), u32);
 
-const COVERED: [Covered; 7] = [
+static COVERED: [Covered; 7] = [
     (&[(b't', 3, 7)], (0, 20), 4),
     (&[(b't', 0, 4), (b't', 2, 6)], (0, 20), 6),
     (&[(b't', 0, 9), (b't', 1, 3), (b't', 8, 10)], (0, 20), 10),
@@ -147,27 +147,26 @@ const COVERED: [Covered; 7] = [
 
 #[test]
 fn positions_in_fields(rt: HostRuntime) -> Result<(), Fail> {
-    for (spans, (begin, end), count) in COVERED {
-        assert!(rt; begin < end);
-        let window = Extent::new(begin, end);
-        assert_eq!(rt;
-            title_covers(rt.alloc(), spans, window)?,
-            count,
-            "{spans:?}"
-        );
+    for (spans, (begin, end), count) in &COVERED {
+        assert!(rt; *begin < *end);
+        let window = Extent::new(*begin, *end);
+        assert_eq!(rt; title_covers(rt.alloc(), spans, window)?, *count);
     }
     Ok(())
 }
 
+/// Windows, and how many begins of `BEGINS` they hold. The last extent reaches over the end of the second window; of
+/// those that begin at 2 one lies in the third.
+static WINDOWS: [(u32, u32, u32); 4] = [(0, 9, 3), (0, 8, 2), (1, 4, 1), (3, 9, 1)];
+
+const BEGINS: [(u32, u32); 5] = [(0, 3), (2, 3), (2, 5), (2, 5), (4, 9)];
+
 #[test]
 fn begins_in_windows(rt: HostRuntime) -> Result<(), Fail> {
-    let xs = [(0, 3), (2, 3), (2, 5), (2, 5), (4, 9)];
-    // the last reaches over the end of the second window; of those that begin at 2 one lies in the third
-    for (begin, end, count) in [(0, 9, 3), (0, 8, 2), (1, 4, 1), (3, 9, 1)] {
-        assert!(rt; begin < end);
-        let window = Extent::new(begin, end);
-        assert_eq!(rt; begins_in(rt.alloc(), &xs, window)?, count, "{begin} {end}");
+    for (begin, end, count) in &WINDOWS {
+        assert!(rt; *begin < *end);
+        let window = Extent::new(*begin, *end);
+        assert_eq!(rt; begins_in(rt.alloc(), &BEGINS, window)?, *count);
     }
-    assert_eq!(rt; begins_in(rt.alloc(), &[], Extent::new(0, 9))?, 0);
     Ok(())
 }

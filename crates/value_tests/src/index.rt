@@ -1,7 +1,7 @@
 // A small index, and what it gives back when it is sealed.
-use crate::samples::{doc, term};
+use crate::samples::{assert_terms, doc, term};
 use memory_index::{MemIndex, MemRefusal};
-use ri_base::{Postings, Sealed};
+use ri_base::{Doc, Postings, Sealed};
 use std::alloc::Global;
 use std::test::Fail;
 
@@ -12,24 +12,30 @@ fn index_of(alloc: Global, most: u32) -> Result<MemIndex, Fail> {
     Ok(MemIndex::new(alloc, most)?)
 }
 
-/// Adds a document with one field over its words. `None` is a full index.
-fn put(alloc: Global, index: &mut MemIndex, words: &str, name: &str) -> Result<Option<u32>, Fail> {
-    let doc = doc(alloc, words, name)?;
+/// The id of a document that is added. `None` is a full index.
+fn put(alloc: Global, index: &mut MemIndex, doc: &Doc) -> Result<Option<u32>, Fail> {
     if index.token_count() + u64::from(doc.len()) > 67_108_864 {
         return Err(Fail::from("too many tokens"));
     }
-    match index.add(alloc, &doc) {
+    match index.add(alloc, doc) {
         Ok(id) => Ok(Some(id)),
         Err(MemRefusal::IndexFull) => Ok(None),
         Err(MemRefusal::Memory) => Err(Fail::from("out of memory")),
     }
 }
 
+/// Puts a document with one field over its words.
+fn put_words(alloc: Global, index: &mut MemIndex, words: &str, name: &str) -> Result<(), Fail> {
+    let doc = doc(alloc, words, name)?;
+    put(alloc, index, &doc)?;
+    Ok(())
+}
+
 /// An index that holds two documents, and no more.
 fn pair(alloc: Global) -> Result<MemIndex, Fail> {
     let mut index = index_of(alloc, 2)?;
     for (words, name) in [("b a b ab", "title"), ("c a", "h1")] {
-        put(alloc, &mut index, words, name)?;
+        put_words(alloc, &mut index, words, name)?;
     }
     Ok(index)
 }
@@ -53,26 +59,27 @@ fn places(alloc: Global, sealed: &mut Sealed, text: &str, id: u32) -> Result<Vec
     }
 }
 
-/// How many names the fields of an index of two documents and of one more have.
-fn names_with(alloc: Global, name: &str) -> Result<u64, Fail> {
-    let index = pair(alloc)?;
+#[test]
+fn two_documents_fit(rt: HostRuntime) -> Result<(), Fail> {
+    let doc = doc(rt.alloc(), "a", "t")?;
+    let mut index = index_of(rt.alloc(), 2)?;
+    for want in [Some(0), Some(1), None] {
+        assert_eq!(rt; put(rt.alloc(), &mut index, &doc)?, want);
+    }
+    Ok(())
+}
+
+/// How many names the fields of an index and of one more document have.
+fn names_with(alloc: Global, index: &MemIndex, name: &str) -> Result<u64, Fail> {
     let doc = doc(alloc, "a", name)?;
     Ok(index.names_with(&doc))
 }
 
 #[test]
-fn two_documents_fit(rt: HostRuntime) -> Result<(), Fail> {
-    let mut index = index_of(rt.alloc(), 2)?;
-    for want in [Some(0), Some(1), None] {
-        assert_eq!(rt; put(rt.alloc(), &mut index, "a", "t")?, want);
-    }
-    Ok(())
-}
-
-#[test]
 fn names_are_counted_once(rt: HostRuntime) -> Result<(), Fail> {
+    let index = pair(rt.alloc())?;
     for (name, count) in [("h1", 2), ("h2", 3)] {
-        assert_eq!(rt; names_with(rt.alloc(), name)?, count);
+        assert_eq!(rt; names_with(rt.alloc(), &index, name)?, count);
     }
     Ok(())
 }
@@ -92,17 +99,12 @@ fn the_places_of_a_term(rt: HostRuntime) -> Result<(), Fail> {
 fn an_index_is_counted(rt: HostRuntime) -> Result<(), Fail> {
     let sealed = sealed_pair(rt.alloc())?;
     assert_eq!(rt; (sealed.docs(), sealed.token_count()), (2, 6));
-    let terms = sealed.vocabulary().as_slice();
-    assert_eq!(rt; terms.len(), 4);
-    for (term, want) in terms.iter().zip(["a", "ab", "b", "c"]) {
-        assert_eq!(rt; term.as_bytes(), want.as_bytes());
-    }
+    assert_terms(&rt, sealed.vocabulary().as_slice(), &["a", "ab", "b", "c"]);
     Ok(())
 }
 
-/// How many tokens the document has that an index gives back, and how many names.
-fn given_back(alloc: Global) -> Result<(u32, usize), Fail> {
-    let sealed = sealed_pair(alloc)?;
+/// How many tokens the second document has that an index gives back, and how many names.
+fn given_back(alloc: Global, sealed: &Sealed) -> Result<(u32, usize), Fail> {
     if sealed.docs() != 2 {
         return Err(Fail::from("not two documents"));
     }
@@ -112,6 +114,7 @@ fn given_back(alloc: Global) -> Result<(u32, usize), Fail> {
 
 #[test]
 fn a_document_comes_back(rt: HostRuntime) -> Result<(), Fail> {
-    assert_eq!(rt; given_back(rt.alloc())?, (2, 1));
+    let sealed = sealed_pair(rt.alloc())?;
+    assert_eq!(rt; given_back(rt.alloc(), &sealed)?, (2, 1));
     Ok(())
 }

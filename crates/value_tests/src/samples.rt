@@ -4,10 +4,18 @@ ghost use Rattle.ri_base.specs.Documents.{AreFields};
 
 use ri_base::{Doc, Docno, FieldSpan, Name, Spans, Term, Terms};
 use std::alloc::Global;
+use std::process::Abort;
 use std::test::Fail;
 
 pub fn term(alloc: Global, text: &str) -> Result<Term, Fail> {
     Ok(Term::new(alloc, text.as_bytes())?.ok_or("no term")?)
+}
+
+pub fn assert_terms(rt: &impl Abort, terms: &[Term], wanted: &[&str]) {
+    assert_eq!(rt; terms.len(), wanted.len());
+    for (term, want) in terms.iter().zip(wanted) {
+        assert_eq!(rt; term.as_bytes(), want.as_bytes());
+    }
 }
 
 pub fn name(alloc: Global, text: &str) -> Result<Name, Fail> {

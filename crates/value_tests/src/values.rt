@@ -1,20 +1,9 @@
-// Each value is cloned, and the clone compared by its public parts.
-use crate::samples::{doc, docno, name, term, terms, whole};
-use ri_base::{
-    Bytes, Doc, Docno, Fraction, Fractions, Hit, Hits, Name, NotABelief, Spans, Term, Terms,
-};
+// A document and a ranking are cloned, and the clones compared by their public parts; beliefs are compared.
+use crate::samples::{assert_terms, doc, docno};
+use ri_base::{Doc, Fraction, Fractions, Hit, Hits, NotABelief, Spans};
 use std::alloc::Global;
 use std::process::Abort;
 use std::test::Fail;
-
-fn assert_terms(rt: &impl Abort, terms: &Terms) {
-    let terms = terms.as_slice();
-    assert_eq!(rt; terms.len(), 2);
-    assert_eq!(rt;
-        (terms[0].as_bytes(), terms[1].as_bytes()),
-        (&b"a"[..], &b"b"[..])
-    );
-}
 
 fn assert_fields(rt: &impl Abort, fields: &Spans) {
     let fields = fields.as_slice();
@@ -23,55 +12,17 @@ fn assert_fields(rt: &impl Abort, fields: &Spans) {
     assert_eq!(rt; (fields[0].begin(), fields[0].end()), (0, 2));
 }
 
-fn cloned_term(alloc: Global) -> Result<Term, Fail> {
-    Ok(term(alloc, "word")?.clone_in(alloc)?)
-}
-
-fn cloned_name(alloc: Global) -> Result<Name, Fail> {
-    Ok(name(alloc, "Title")?.clone_in(alloc)?)
-}
-
-fn cloned_docno(alloc: Global) -> Result<Docno, Fail> {
-    Ok(docno(alloc, "AP880212-0001")?.clone_in(alloc)?)
-}
-
-fn cloned_bytes(alloc: Global) -> Result<Bytes, Fail> {
-    Ok(Bytes::copy_of(alloc, &[0, 255])?.clone_in(alloc)?)
-}
-
-#[test]
-fn texts(rt: HostRuntime) -> Result<(), Fail> {
-    assert_eq!(rt; cloned_term(rt.alloc())?.as_bytes(), &b"word"[..]);
-    assert_eq!(rt; cloned_name(rt.alloc())?.as_bytes(), &b"title"[..]);
-    assert_eq!(rt; cloned_docno(rt.alloc())?.as_bytes(), &b"AP880212-0001"[..]);
-    assert_eq!(rt; cloned_bytes(rt.alloc())?.as_slice(), &[0, 255][..]);
-    Ok(())
-}
-
 fn cloned_doc(alloc: Global) -> Result<Doc, Fail> {
-    Ok(doc(alloc, "a b", "h1")?.clone_in(alloc)?)
-}
-
-fn cloned_terms(alloc: Global) -> Result<Terms, Fail> {
-    Ok(terms(alloc, "a b")?.clone_in(alloc)?)
-}
-
-fn cloned_fields(alloc: Global) -> Result<Spans, Fail> {
-    Ok(whole(alloc, "h1", 2)?.clone_in(alloc)?)
+    Ok(doc(alloc, "a b", "H1")?.clone_in(alloc)?)
 }
 
 #[test]
 fn documents(rt: HostRuntime) -> Result<(), Fail> {
     let doc = cloned_doc(rt.alloc())?;
     assert_eq!(rt; doc.docno().as_bytes(), &b"d1"[..]);
+    assert_terms(&rt, doc.tokens().as_slice(), &["a", "b"]);
+    assert_fields(&rt, doc.fields());
     assert_eq!(rt; (doc.len(), doc.names().len()), (2, 1));
-    Ok(())
-}
-
-#[test]
-fn parts_of_documents(rt: HostRuntime) -> Result<(), Fail> {
-    assert_terms(&rt, &cloned_terms(rt.alloc())?);
-    assert_fields(&rt, &cloned_fields(rt.alloc())?);
     Ok(())
 }
 

@@ -63,13 +63,18 @@ fn compare(iter: &mut ExtentIter, found: &Extents) -> Result<()> {
     Ok(())
 }
 
+/// The extents, which are the same in both ways.
+fn compared(alloc: Global, expr: &ExtentExpr, part: &mut Sealed) -> Result<Extents> {
+    let found = at_once(alloc, expr, part)?;
+    let mut iter = iterator_of(alloc, expr, part)?;
+    compare(&mut iter, &found)?;
+    Ok(found)
+}
+
 fn extents_of(alloc: Global, doc: &Doc, text: &str) -> Result<Extents> {
     let expr = expression(alloc, text)?;
     let mut part = sealed(alloc, doc)?;
-    let found = at_once(alloc, &expr, &mut part)?;
-    let mut iter = iterator_of(alloc, &expr, &mut part)?;
-    compare(&mut iter, &found)?;
-    Ok(found)
+    compared(alloc, &expr, &mut part)
 }
 
 /// The extents as `begin-end` with a space before each, or their number where they are many.

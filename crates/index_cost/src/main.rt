@@ -94,21 +94,35 @@ fn documents(rt: &HostRuntime, shape: Shape, count: u64) -> Result<(Vec<Doc>, Du
     Ok((docs, split))
 }
 
-fn measured(rt: &HostRuntime, docs: &[Doc], split: Duration) -> Result<Times> {
-    let alloc = rt.alloc();
+fn added_in(rt: &HostRuntime, docs: &[Doc]) -> Result<(MemIndex, Duration)> {
     let start = Instant::now(rt)?;
-    let index = indexed(alloc, docs)?;
+    let index = indexed(rt.alloc(), docs)?;
     let add = start.elapsed(rt)?;
-    let count = index.len();
-    let tokens = index.token_count();
+    Ok((index, add))
+}
+
+fn sealed_in(rt: &HostRuntime, index: MemIndex) -> Result<(Sealed, Duration)> {
     let start = Instant::now(rt)?;
-    let mut sealed = sealed(alloc, index)?;
+    let sealed = sealed(rt.alloc(), index)?;
     let seal = start.elapsed(rt)?;
+    Ok((sealed, seal))
+}
+
+fn looked_up_in(rt: &HostRuntime, sealed: &mut Sealed, docs: &[Doc]) -> Result<Duration> {
     let start = Instant::now(rt)?;
-    let found = looked_up(alloc, &mut sealed, docs)?;
+    let found = looked_up(rt.alloc(), sealed, docs)?;
     let look_up = start.elapsed(rt)?;
+    println!(rt; "{found} places found")?;
+    Ok(look_up)
+}
+
+fn measured(rt: &HostRuntime, docs: &[Doc], split: Duration) -> Result<Times> {
+    let (index, add) = added_in(rt, docs)?;
+    let (mut sealed, seal) = sealed_in(rt, index)?;
+    let (documents, tokens) = (sealed.docs(), sealed.token_count());
     let terms = sealed.vocabulary().len();
-    println!(rt; "{count} documents, {tokens} tokens, {terms} terms, {found} places found")?;
+    println!(rt; "{documents} documents, {tokens} tokens, {terms} terms")?;
+    let look_up = looked_up_in(rt, &mut sealed, docs)?;
     Ok(Times {
         split,
         add,

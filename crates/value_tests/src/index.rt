@@ -24,11 +24,15 @@ fn put(alloc: Global, index: &mut MemIndex, doc: &Doc) -> Result<Option<u32>, Fa
     }
 }
 
-/// Puts a document with one field over its words.
-fn put_words(alloc: Global, index: &mut MemIndex, words: &str, name: &str) -> Result<(), Fail> {
+/// The same for a document with one field over its words.
+fn put_words(
+    alloc: Global,
+    index: &mut MemIndex,
+    words: &str,
+    name: &str,
+) -> Result<Option<u32>, Fail> {
     let doc = doc(alloc, words, name)?;
-    put(alloc, index, &doc)?;
-    Ok(())
+    put(alloc, index, &doc)
 }
 
 /// An index that holds two documents, and no more.
@@ -61,10 +65,10 @@ fn places(alloc: Global, sealed: &mut Sealed, text: &str, id: u32) -> Result<Vec
 
 #[test]
 fn two_documents_fit(rt: HostRuntime) -> Result<(), Fail> {
-    let doc = doc(rt.alloc(), "a", "t")?;
     let mut index = index_of(rt.alloc(), 2)?;
     for want in [Some(0), Some(1), None] {
-        assert_eq!(rt; put(rt.alloc(), &mut index, &doc)?, want);
+        let found = put_words(rt.alloc(), &mut index, "a", "t")?;
+        assert_eq!(rt; found, want);
     }
     Ok(())
 }

@@ -29,7 +29,7 @@ fn hit_of(alloc: Global, found: Found) -> Result<Hit, Fail> {
 fn assert_line(
     rt: &impl Abort,
     alloc: Global,
-    rank: usize,
+    rank: u32,
     above: Option<&Hit>,
     hit: &Hit,
     scale: u64,

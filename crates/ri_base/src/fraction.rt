@@ -1,7 +1,6 @@
 ghost use Rattle.std.specs.Prelude.{◌≡◌, ◌⊎◌, ◌*◌, ◌^◌, ◌<◌, ◌≤◌, ◌↔◌, IsTrue, IsErr, IfOk};
 
-use std::error::Error;
-use std::fmt;
+use thiserror::Error;
 
 /// A belief as an exact fraction `p / q`, above 0 and at most 1. It isn't reduced: `==` compares the numbers as they
 /// stand, and [`Fraction::same`] the values.
@@ -16,16 +15,9 @@ pub struct Fraction {
 }
 
 /// Two numbers that make no fraction above 0 and at most 1.
-#[derive(Clone, Copy, Debug, PartialEq, Eq)]
+#[derive(Clone, Copy, Debug, PartialEq, Eq, Error)]
+#[error("a belief is above 0 and at most 1")]
 pub struct NotABelief;
-
-impl fmt::Display for NotABelief {
-    fn fmt<W: fmt::Write>(&self, f: &mut fmt::Formatter<W>) -> fmt::Result {
-        f.write_str("a belief is above 0 and at most 1")
-    }
-}
-
-impl Error for NotABelief {}
 
 impl Fraction {
     /// The fraction `p / q`.

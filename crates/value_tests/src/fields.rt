@@ -1,9 +1,9 @@
-// What lies in fields of a name, worked out by hand.
+// What fields of a name cover, and begins, worked out by hand. The cases of extent_table call `inside`.
 ghost use Rattle.std.specs.Prelude.{◌≡◌, ◌<◌, ◌≤◌, ◌⊎◌, AllPairs, IfOk, IsTrue};
 ghost use Rattle.ri_base.specs.Documents.{IsBefore};
 ghost use Rattle.field_extents.specs.Extents.{AreInOrder};
 
-use field_extents::{covered, distinct_begins, inside};
+use field_extents::{covered, distinct_begins};
 use ri_base::{Extent, Extents, FieldSpan, Name, Spans};
 use std::alloc::Global;
 use std::test::Fail;
@@ -67,14 +67,6 @@ fn fields(alloc: Global, ends: &[(u8, u32, u32)]) -> Result<Spans, Fail>
     Ok(Spans::of(spans))
 }
 
-/// The extents that lie in a field named `t`.
-fn in_title(alloc: Global, xs: &[(u32, u32)], spans: &[(u8, u32, u32)]) -> Result<Extents, Fail> {
-    let xs = extents(alloc, xs)?;
-    let spans = fields(alloc, spans)?;
-    let title = name(alloc, b't')?;
-    Ok(inside(alloc, &xs, spans.as_slice(), &title)?)
-}
-
 /// How many positions of the window the fields named `t` cover.
 fn title_covers(alloc: Global, spans: &[(u8, u32, u32)], window: Extent) -> Result<u32, Fail> {
     let spans = fields(alloc, spans)?;
@@ -85,50 +77,6 @@ fn title_covers(alloc: Global, spans: &[(u8, u32, u32)], window: Extent) -> Resu
 fn begins_in(alloc: Global, xs: &[(u32, u32)], window: Extent) -> Result<u32, Fail> {
     let xs = extents(alloc, xs)?;
     Ok(distinct_begins(&xs, window))
-}
-
-/// Extents, fields, and which of the extents lie in a field named `t`.
-type Kept = (
-    &'static [(u32, u32)],
-    &'static [(u8, u32, u32)],
-    &'static [(u32, u32)],
-);
-
-static KEPT: [Kept; 6] = [
-    // the first begins before the field, the next two fill it and lie in it, the last ends behind it
-    (
-        &[(1, 3), (2, 5), (3, 4), (4, 6)],
-        &[(b't', 2, 5)],
-        &[(2, 5), (3, 4)],
-    ),
-    // two fields that overlap hold what lies in one of them, and not what only lies in both together
-    (
-        &[(0, 3), (1, 5), (2, 4), (3, 6)],
-        &[(b't', 0, 4), (b't', 2, 6)],
-        &[(0, 3), (2, 4), (3, 6)],
-    ),
-    // a long field still holds extents behind the begin of a short one
-    (
-        &[(6, 7), (6, 7), (9, 11)],
-        &[(b't', 0, 10), (b't', 1, 2)],
-        &[(6, 7), (6, 7)],
-    ),
-    // fields of other names hold nothing
-    (&[(0, 1), (5, 6)], &[(b'h', 0, 9), (b't', 4, 6)], &[(5, 6)]),
-    (&[], &[(b't', 0, 9)], &[]),
-    (&[(0, 1)], &[], &[]),
-];
-
-#[test]
-fn extents_in_fields(rt: HostRuntime) -> Result<(), Fail> {
-    for (xs, spans, kept) in &KEPT {
-        let found = in_title(rt.alloc(), xs, spans)?;
-        assert_eq!(rt; found.as_slice().len(), kept.len());
-        for (x, want) in found.as_slice().iter().zip(*kept) {
-            assert_eq!(rt; (x.begin(), x.end()), *want);
-        }
-    }
-    Ok(())
 }
 
 /// Fields, a window, and how many of its positions those named `t` cover.

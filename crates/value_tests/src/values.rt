@@ -1,6 +1,6 @@
-// A document and a ranking are cloned, and the clones compared by their public parts; beliefs are compared.
-use crate::samples::{assert_terms, doc, docno};
-use ri_base::{Doc, Fraction, Fractions, Hit, Hits, NotABelief, Spans};
+// A document is cloned, and the clone compared by its public parts; beliefs are compared.
+use crate::samples::{assert_terms, doc};
+use ri_base::{Doc, Fraction, NotABelief, Spans};
 use std::alloc::Global;
 use std::process::Abort;
 use std::test::Fail;
@@ -23,45 +23,6 @@ fn documents(rt: HostRuntime) -> Result<(), Fail> {
     assert_terms(&rt, doc.tokens().as_slice(), &["a", "b"]);
     assert_fields(&rt, doc.fields());
     assert_eq!(rt; (doc.len(), doc.names().len()), (2, 1));
-    Ok(())
-}
-
-fn two_thirds(alloc: Global) -> Result<Fractions, Fail> {
-    let mut beliefs = Vec::new(alloc);
-    beliefs.push(Fraction::new(2, 3)?)?;
-    Ok(Fractions::of(beliefs))
-}
-
-/// A hit of one belief, twice.
-fn hits(alloc: Global) -> Result<Hits, Fail> {
-    let hit = Hit {
-        docno: docno(alloc, "d1")?,
-        begin: 3,
-        end: 7,
-        key: 1 << 100,
-        fractions: two_thirds(alloc)?.clone_in(alloc)?,
-    };
-    let mut hits = Vec::new(alloc);
-    hits.push(hit.clone_in(alloc)?)?;
-    hits.push(hit)?;
-    Ok(Hits::of(hits))
-}
-
-fn assert_hit(rt: &impl Abort, hit: &Hit) {
-    assert_eq!(rt; hit.docno.as_bytes(), &b"d1"[..]);
-    assert_eq!(rt; (hit.begin, hit.end, hit.key), (3, 7, 1 << 100));
-    let fractions = hit.fractions.as_slice();
-    assert_eq!(rt; fractions.len(), 1);
-    assert_eq!(rt; (fractions[0].p, fractions[0].q), (2, 3));
-}
-
-#[test]
-fn rankings(rt: HostRuntime) -> Result<(), Fail> {
-    let hits = hits(rt.alloc())?.clone_in(rt.alloc())?;
-    assert_eq!(rt; hits.len(), 2);
-    for hit in hits.as_slice() {
-        assert_hit(&rt, hit);
-    }
     Ok(())
 }
 

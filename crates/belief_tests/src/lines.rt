@@ -1,5 +1,5 @@
 // Rankings that were worked out by hand. A key is that of the beliefs' logarithms in 40 binary places.
-ghost use Rattle.std.specs.Prelude.{◌≡◌, ◌<◌};
+ghost use Rattle.std.specs.Prelude.{◌≡◌, ◌<◌, length, IfSome};
 ghost use Rattle.ranked_output.specs.Marks.{IsScale};
 
 use ranked_output::{line, mark, score_text};
@@ -35,71 +35,86 @@ fn assert_line(
     scale: u64,
     text: &str,
 ) -> Result<(), Fail>
-    requires { IsScale scale }
+    requires scale { IsScale scale }
+    requires leaves { IfSome above (λ a. length a.now.fractions ≡ length hit.now.fractions) }
 {
     let line = line(alloc, rank, mark(above, hit, scale), hit, scale)?;
     assert_eq!(rt; line.as_slice(), text.as_bytes());
     Ok(())
 }
 
+fn hits_of(alloc: Global, found: &[Found]) -> Result<Vec<Hit>, Fail> {
+    let mut hits = Vec::new(alloc);
+    for one in found {
+        hits.push(hit_of(alloc, *one)?)?;
+    }
+    Ok(hits)
+}
+
 fn assert_lines(
     rt: &impl Abort,
     alloc: Global,
     scale: u64,
-    found: &[Found; 2],
-    lines: &[&str; 2],
+    found: &[Found],
+    lines: (&str, &str),
 ) -> Result<(), Fail>
     requires { IsScale scale }
 {
-    let first = hit_of(alloc, found[0])?;
-    let second = hit_of(alloc, found[1])?;
+    let hits = hits_of(alloc, found)?;
+    let [first, second] = hits.as_slice() else {
+        return Err(Fail::from("not two hits"));
+    };
     assert_eq!(rt; first.fractions.len(), second.fractions.len());
-    assert_line(rt, alloc, 1, None, &first, scale, lines[0])?;
-    assert_line(rt, alloc, 2, Some(&first), &second, scale, lines[1])
+    assert_line(rt, alloc, 1, None, first, scale, lines.0)?;
+    assert_line(rt, alloc, 2, Some(first), second, scale, lines.1)
 }
 
 /// The scale of a query, what is found, and its lines.
-static RANKINGS: [(u64, [Found; 2], [&str; 2]); 5] = [
+static RANKINGS: [(u64, &[Found], &str, &str); 5] = [
     // "a" and "a b": the query a
     (
         1,
-        [
+        &[
             (b"d2", 1, 289_209_387_719, &[(10, 12)]),
             (b"d1", 2, 932_382_459_075, &[(10, 18)]),
         ],
-        ["1 - -0.263034 d2 0 1\n", "2 > -0.847996 d1 0 2\n"],
+        "1 - -0.263034 d2 0 1\n",
+        "2 > -0.847996 d1 0 2\n",
     ),
     // the query a z, of which neither has z
     (
         2,
-        [
+        &[
             (b"d2", 1, 4_230_917_342_402, &[(10, 12), (1, 12)]),
             (b"d1", 2, 5_517_263_485_114, &[(10, 18), (1, 18)]),
         ],
-        ["1 - -1.923998 d2 0 1\n", "2 > -2.508960 d1 0 2\n"],
+        "1 - -1.923998 d2 0 1\n",
+        "2 > -2.508960 d1 0 2\n",
     ),
     // "a b" twice: the query a, and the same belief written in two ways
     (
         1,
-        [
+        &[
             (b"d1", 2, 1 << 40, &[(12, 24)]),
             (b"d2", 2, 1 << 40, &[(1, 2)]),
         ],
-        ["1 - -1.000000 d1 0 2\n", "2 = -1.000000 d2 0 2\n"],
+        "1 - -1.000000 d1 0 2\n",
+        "2 = -1.000000 d2 0 2\n",
     ),
     // "a a b" and "a b b": the query a b, whose beliefs change places, so that the keys are equal
     (
         2,
-        [
+        &[
             (b"d1", 3, 2_301_398_128_335, &[(30, 48), (18, 48)]),
             (b"d2", 3, 2_301_398_128_335, &[(18, 48), (30, 48)]),
         ],
-        ["1 - -1.046554 d1 0 3\n", "2 ~ -1.046554 d2 0 3\n"],
+        "1 - -1.046554 d1 0 3\n",
+        "2 ~ -1.046554 d2 0 3\n",
     ),
     // "a b" and "a c": the query a b, where b has so little weight that the keys are too near
     (
         100_000_020_000_001,
-        [
+        &[
             (
                 b"d1",
                 2,
@@ -113,16 +128,17 @@ static RANKINGS: [(u64, [Found; 2], [&str; 2]); 5] = [
                 &[(12, 24), (12, 24), (2, 24)],
             ),
         ],
-        ["1 - -1.000000 d1 0 2\n", "2 ~ -1.000000 d2 0 2\n"],
+        "1 - -1.000000 d1 0 2\n",
+        "2 ~ -1.000000 d2 0 2\n",
     ),
 ];
 
 #[test]
 fn rankings(rt: HostRuntime) -> Result<(), Fail> {
-    for (scale, found, lines) in &RANKINGS {
+    for (scale, found, first, second) in &RANKINGS {
         let scale = *scale;
         assert!(rt; 0 < scale && scale < 1 << 60);
-        assert_lines(&rt, rt.alloc(), scale, found, lines)?;
+        assert_lines(&rt, rt.alloc(), scale, found, (*first, *second))?;
     }
     Ok(())
 }

@@ -127,6 +127,22 @@ fn key_of(alloc: Global, network: &Network, leaves: &[Leaf]) -> Result<u128, Fai
     Ok(network.key(&digits))
 }
 
+/// The leaves of the network have their fractions.
+fn assert_fractions(
+    rt: &impl Abort,
+    alloc: Global,
+    network: &Network,
+    leaves: &[Leaf],
+) -> Result<(), Fail> {
+    let found = fractions_of(alloc, network, leaves)?;
+    assert_eq!(rt; found.len(), leaves.len());
+    for (found, leaf) in found.iter().zip(leaves) {
+        let (.., fraction, _) = *leaf;
+        assert_eq!(rt; *found, fraction);
+    }
+    Ok(())
+}
+
 /// The query has these leaves, their fractions, and this key.
 fn assert_key(
     rt: &impl Abort,
@@ -136,14 +152,9 @@ fn assert_key(
     key: u128,
 ) -> Result<(), Fail> {
     let network = network_of(alloc, text, leaves)?;
-    let found = fractions_of(alloc, &network, leaves)?;
-    for (found, (.., fraction, _)) in found.iter().zip(leaves) {
-        assert_eq!(rt; *found, *fraction, "{text}");
-    }
-    assert_eq!(rt; key_of(alloc, &network, leaves)?, key, "{text}");
-    assert_eq!(rt; network.stats().len(), leaves.len(), "{text}");
     assert!(rt; matches!(network.range(), Range::Whole), "{text}");
-    Ok(())
+    assert_eq!(rt; key_of(alloc, &network, leaves)?, key, "{text}");
+    assert_fractions(rt, alloc, &network, leaves)
 }
 
 // a in "a" and in "a b", beside each other, and z, which neither has

@@ -33,18 +33,31 @@ fn doc(alloc: Global, text: Text) -> Result<Doc, Fail> {
     Ok(Doc::new(alloc, docno, tokens, Spans::of(Vec::new(alloc)))?)
 }
 
-fn sealed(alloc: Global, texts: &[Text]) -> Result<Sealed, Fail> {
+fn put(alloc: Global, index: &mut MemIndex, doc: &Doc) -> Result<(), Fail> {
+    if index.token_count() + u64::from(doc.len()) > 67_108_864 {
+        return Err(Fail::from("too many tokens"));
+    }
+    match index.add(alloc, doc) {
+        Ok(_) => Ok(()),
+        Err(_) => Err(Fail::from("not added")),
+    }
+}
+
+fn put_text(alloc: Global, index: &mut MemIndex, text: Text) -> Result<(), Fail> {
+    let doc = doc(alloc, text)?;
+    put(alloc, index, &doc)
+}
+
+fn index_of(alloc: Global, texts: &[Text]) -> Result<MemIndex, Fail> {
     let mut index = MemIndex::new(alloc, 10)?;
     for text in texts {
-        let doc = doc(alloc, *text)?;
-        if index.token_count() + u64::from(doc.len()) > 67_108_864 {
-            return Err(Fail::from("too many tokens"));
-        }
-        if index.add(alloc, &doc).is_err() {
-            return Err(Fail::from("not added"));
-        }
+        put_text(alloc, &mut index, *text)?;
     }
-    match index.seal(alloc) {
+    Ok(index)
+}
+
+fn sealed(alloc: Global, texts: &[Text]) -> Result<Sealed, Fail> {
+    match index_of(alloc, texts)?.seal(alloc) {
         Ok(sealed) => Ok(sealed),
         Err(_) => Err(Fail::from("not sealed")),
     }

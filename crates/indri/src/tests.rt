@@ -29,7 +29,7 @@ struct Case<'a> {
     write_fails: &'a [SinkFail],
 }
 
-fn case<'a>(texts: &'a [&'a str], input: &'a [u8], piece: usize) -> Case<'a> {
+fn case_of<'a>(texts: &'a [&'a str], input: &'a [u8], piece: usize) -> Case<'a> {
     Case {
         texts,
         input,
@@ -237,7 +237,13 @@ fn scans(rt: HostRuntime) -> Result<(), Fail> {
     for (text, input, status, lines) in &SCANS {
         for piece in [1, 2, 3, 7, 100] {
             let texts = [".", "scan", *text];
-            assert_ends(&rt, rt.alloc(), case(&texts, input, piece), *status, lines)?;
+            assert_ends(
+                &rt,
+                rt.alloc(),
+                case_of(&texts, input, piece),
+                *status,
+                lines,
+            )?;
         }
     }
     Ok(())
@@ -302,7 +308,7 @@ static QUERIES: [Row; 11] = [
 fn queries(rt: HostRuntime) -> Result<(), Fail> {
     for (text, input, status, lines) in &QUERIES {
         let texts = [".", "query", "--mu", "1", *text];
-        assert_ends(&rt, rt.alloc(), case(&texts, input, 64), *status, lines)?;
+        assert_ends(&rt, rt.alloc(), case_of(&texts, input, 64), *status, lines)?;
     }
     Ok(())
 }
@@ -448,7 +454,7 @@ static REFUSED: [(&[&str], Status, &str); 32] = [
 /// What the words answer and write, and how many bytes of the input are left.
 fn left(alloc: Global, texts: &[&str]) -> Result<(Status, Vec<u8>, usize), Fail> {
     let words = words_of(alloc, texts)?;
-    let mut source = source_of(alloc, case(texts, TWO, 100))?;
+    let mut source = source_of(alloc, case_of(texts, TWO, 100))?;
     let (status, text) = ran(alloc, &words, &mut source, &[])?;
     let mut rest = [0; 100];
     let left = source.read(&mut rest).map_err(|_| "the source failed")?;
@@ -489,14 +495,14 @@ fn reads_that_fail(rt: HostRuntime) -> Result<(), Fail> {
     for call in 1..12 {
         let failing = Case {
             read_fails: &[call],
-            ..case(&SCAN, TWO, 7)
+            ..case_of(&SCAN, TWO, 7)
         };
         assert_read_fault(&rt, rt.alloc(), failing, LINES)?;
     }
     // the twelfth isn't made
     let whole = Case {
         read_fails: &[12],
-        ..case(&SCAN, TWO, 7)
+        ..case_of(&SCAN, TWO, 7)
     };
     assert_ends(&rt, rt.alloc(), whole, Status::Done, LINES)
 }
@@ -506,7 +512,7 @@ fn a_read_and_the_last_line_that_fail(rt: HostRuntime) -> Result<(), Fail> {
     let failing = Case {
         read_fails: &[2],
         write_fails: &[SinkFail { call: 2, taken: 3 }],
-        ..case(&SCAN, TWO, 40)
+        ..case_of(&SCAN, TWO, 40)
     };
     assert_ends(&rt, rt.alloc(), failing, Status::ReadFault, b"d1 0 1\nfau")
 }
@@ -557,7 +563,7 @@ static WRITINGS: [(&[&str], &[u8], [&[u8]; 2]); 3] = [
 fn writes_that_fail(rt: HostRuntime) -> Result<(), Fail> {
     for (texts, input, lines) in &WRITINGS {
         for taken in [0, 1, 99] {
-            assert_write_faults(&rt, rt.alloc(), case(texts, input, 9), lines, taken)?;
+            assert_write_faults(&rt, rt.alloc(), case_of(texts, input, 9), lines, taken)?;
         }
     }
     Ok(())
@@ -567,7 +573,7 @@ fn writes_that_fail(rt: HostRuntime) -> Result<(), Fail> {
 fn a_write_that_is_not_made(rt: HostRuntime) -> Result<(), Fail> {
     let third = Case {
         write_fails: &[SinkFail { call: 3, taken: 0 }],
-        ..case(&SCAN, TWO, 9)
+        ..case_of(&SCAN, TWO, 9)
     };
     assert_ends(&rt, rt.alloc(), third, Status::Done, LINES)
 }
@@ -576,7 +582,7 @@ fn a_write_that_is_not_made(rt: HostRuntime) -> Result<(), Fail> {
 fn a_read_of_a_query_that_fails(rt: HostRuntime) -> Result<(), Fail> {
     let failing = Case {
         read_fails: &[2],
-        ..case(&QUERY, TWO, 40)
+        ..case_of(&QUERY, TWO, 40)
     };
     assert_ends(&rt, rt.alloc(), failing, Status::ReadFault, b"fault read\n")
 }
@@ -613,7 +619,13 @@ static LIMITS: [(&str, usize, Status, &[u8]); 4] = [
 fn documents_with_too_much(rt: HostRuntime) -> Result<(), Fail> {
     for (text, count, status, lines) in &LIMITS {
         let input = repeated(rt.alloc(), text, *count)?;
-        assert_ends(&rt, rt.alloc(), case(&SCAN, &input, 65_536), *status, lines)?;
+        assert_ends(
+            &rt,
+            rt.alloc(),
+            case_of(&SCAN, &input, 65_536),
+            *status,
+            lines,
+        )?;
     }
     Ok(())
 }

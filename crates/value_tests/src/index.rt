@@ -52,7 +52,7 @@ fn sealed_pair(alloc: Global) -> Result<Sealed, Fail> {
     }
 }
 
-fn places(alloc: Global, sealed: &mut Sealed, text: &str, id: u32) -> Result<Vec<u32>, Fail> {
+fn places_in(alloc: Global, sealed: &mut Sealed, text: &str, id: u32) -> Result<Vec<u32>, Fail> {
     let term = term(alloc, text)?;
     if id >= sealed.docs() {
         return Err(Fail::from("no such document"));
@@ -73,28 +73,31 @@ fn two_documents_fit(rt: HostRuntime) -> Result<(), Fail> {
     Ok(())
 }
 
-/// How many names the fields of an index and of one more document have.
-fn names_with(alloc: Global, index: &MemIndex, name: &str) -> Result<u64, Fail> {
+/// How many names the fields of an index of two documents and of one more have.
+fn names_with(alloc: Global, name: &str) -> Result<u64, Fail> {
+    let index = pair(alloc)?;
     let doc = doc(alloc, "a", name)?;
     Ok(index.names_with(&doc))
 }
 
 #[test]
 fn names_are_counted_once(rt: HostRuntime) -> Result<(), Fail> {
-    let index = pair(rt.alloc())?;
     for (name, count) in [("h1", 2), ("h2", 3)] {
-        assert_eq!(rt; names_with(rt.alloc(), &index, name)?, count);
+        assert_eq!(rt; names_with(rt.alloc(), name)?, count);
     }
     Ok(())
 }
 
+fn places(alloc: Global, text: &str, id: u32) -> Result<Vec<u32>, Fail> {
+    let mut sealed = sealed_pair(alloc)?;
+    places_in(alloc, &mut sealed, text, id)
+}
+
 #[test]
 fn the_places_of_a_term(rt: HostRuntime) -> Result<(), Fail> {
-    let mut sealed = sealed_pair(rt.alloc())?;
     let rows: [(&str, u32, &[u32]); 2] = [("b", 0, &[0, 2]), ("a", 1, &[1])];
     for (text, id, want) in rows {
-        let found = places(rt.alloc(), &mut sealed, text, id)?;
-        assert_eq!(rt; found.as_slice(), want);
+        assert_eq!(rt; places(rt.alloc(), text, id)?.as_slice(), want);
     }
     Ok(())
 }

@@ -18,9 +18,9 @@ UNITS = {"ns": 1e-6, "µs": 1e-3, "ms": 1.0, "s": 1e3}
 
 def times(shape):
     out = subprocess.run([PROGRAM, *shape, "times"], capture_output=True, text=True, check=True).stdout
-    counts, line = out.strip().split("\n")
+    *counts, line = out.strip().split("\n")
     steps = {name: float(n) * UNITS[unit] for name, n, unit in re.findall(r"([a-z ]+?) ([\d.]+)(ns|µs|ms|s)", line)}
-    return counts, {name.strip(): ms for name, ms in steps.items()}
+    return ", ".join(counts), {name.strip(): ms for name, ms in steps.items()}
 
 
 def main():

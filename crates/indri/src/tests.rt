@@ -95,7 +95,7 @@ const CAFE: &[u8] =
 type Row = (&'static str, &'static [u8], Status, &'static [u8]);
 
 /// Scans: first a word over various inputs, then texts that read as one word, and then expressions.
-static SCANS: [Row; 39] = [
+static SCANS: [Row; 38] = [
     ("a", TWO, Status::Done, b"d1 0 1\nd2 0 1\n"),
     ("a", b"", Status::Done, b""),
     ("a", b"x", Status::SomeRefused, b"refused NotADoc 0\n"),
@@ -136,7 +136,6 @@ static SCANS: [Row; 39] = [
         Status::Done,
         b"d1 1 2\n",
     ),
-    ("a", TWO, Status::Done, b"d1 0 1\nd2 0 1\n"),
     ("A", TWO, Status::Done, b"d1 0 1\nd2 0 1\n"),
     (" a ", TWO, Status::Done, b"d1 0 1\nd2 0 1\n"),
     ("\"a\"", TWO, Status::Done, b"d1 0 1\nd2 0 1\n"),
@@ -499,22 +498,7 @@ fn reads_that_fail(rt: HostRuntime) -> Result<(), Fail> {
         };
         assert_read_fault(&rt, rt.alloc(), failing, LINES)?;
     }
-    // the twelfth isn't made
-    let whole = Case {
-        read_fails: &[12],
-        ..case_of(&SCAN, TWO, 7)
-    };
-    assert_ends(&rt, rt.alloc(), whole, Status::Done, LINES)
-}
-
-#[test]
-fn a_read_and_the_last_line_that_fail(rt: HostRuntime) -> Result<(), Fail> {
-    let failing = Case {
-        read_fails: &[2],
-        write_fails: &[SinkFail { call: 2, taken: 3 }],
-        ..case_of(&SCAN, TWO, 40)
-    };
-    assert_ends(&rt, rt.alloc(), failing, Status::ReadFault, b"d1 0 1\nfau")
+    Ok(())
 }
 
 /// A sink fails at each of its calls in turn, having taken so many bytes of that call. What is written then is a front of
@@ -569,22 +553,64 @@ fn writes_that_fail(rt: HostRuntime) -> Result<(), Fail> {
     Ok(())
 }
 
-#[test]
-fn a_write_that_is_not_made(rt: HostRuntime) -> Result<(), Fail> {
-    let third = Case {
-        write_fails: &[SinkFail { call: 3, taken: 0 }],
-        ..case_of(&SCAN, TWO, 9)
-    };
-    assert_ends(&rt, rt.alloc(), third, Status::Done, LINES)
-}
+/// Runs whose source or sink is to fail at some calls, their status, and what they write.
+static FAILING: [(Case<'static>, Status, &[u8]); 4] = [
+    // the twelfth read and the third write aren't made
+    (
+        Case {
+            texts: &SCAN,
+            input: TWO,
+            piece: 7,
+            read_fails: &[12],
+            write_fails: &[],
+        },
+        Status::Done,
+        LINES,
+    ),
+    (
+        Case {
+            texts: &SCAN,
+            input: TWO,
+            piece: 9,
+            read_fails: &[],
+            write_fails: &[SinkFail { call: 3, taken: 0 }],
+        },
+        Status::Done,
+        LINES,
+    ),
+    // the write of the last line fails too
+    (
+        Case {
+            texts: &SCAN,
+            input: TWO,
+            piece: 40,
+            read_fails: &[2],
+            write_fails: &[SinkFail { call: 2, taken: 3 }],
+        },
+        Status::ReadFault,
+        b"d1 0 1\nfau",
+    ),
+    (
+        Case {
+            texts: &QUERY,
+            input: TWO,
+            piece: 40,
+            read_fails: &[2],
+            write_fails: &[],
+        },
+        Status::ReadFault,
+        b"fault read\n",
+    ),
+];
 
 #[test]
-fn a_read_of_a_query_that_fails(rt: HostRuntime) -> Result<(), Fail> {
-    let failing = Case {
-        read_fails: &[2],
-        ..case_of(&QUERY, TWO, 40)
-    };
-    assert_ends(&rt, rt.alloc(), failing, Status::ReadFault, b"fault read\n")
+fn calls_that_fail(rt: HostRuntime) -> Result<(), Fail> {
+    for (case, status, text) in &FAILING {
+        let (answer, written) = answered(rt.alloc(), *case)?;
+        assert_eq!(rt; answer, *status);
+        assert_eq!(rt; written.as_slice(), *text);
+    }
+    Ok(())
 }
 
 /// A document with this text so many times, and behind it one of the word `a`.

@@ -3,8 +3,8 @@
 
 usage: bench/rankings.py
 
-It reads the cases in crates/ranking_table/stdin and writes their lines to crates/ranking_table/stdout. These two files
-are what the program ranking_table is run on and what it must print, so `rt ci` compares the program with them.
+It reads the cases in bench/rankings.cases and writes their lines to bench/rankings.lines. `.ci/examples` runs the program
+on the cases and compares what it writes with these lines.
 
 A case is some lines, and the line `query` ends it:
 
@@ -49,7 +49,7 @@ from functools import cache
 from math import gcd, lcm, prod
 from pathlib import Path
 
-TABLE = Path(__file__).resolve().parent.parent / "crates/ranking_table"
+BENCH = Path(__file__).resolve().parent
 LEVEL = 40
 MOST_LINES = 10
 MILLION = 10**6
@@ -606,8 +606,8 @@ def lines_of(text):
 
 
 def main():
-    lines = list(lines_of((TABLE / "stdin").read_text()))
-    (TABLE / "stdout").write_text("\n".join(lines) + "\n")
+    lines = list(lines_of((BENCH / "rankings.cases").read_text()))
+    (BENCH / "rankings.lines").write_text("\n".join(lines) + "\n")
     for statement, count in checked.items():
         print(f"{count:6} {statement}")
 

@@ -1,9 +1,10 @@
 // The documents that a query ranks.
-ghost use Rattle.std.specs.Prelude.{◌≡◌, ◌≤◌, [], IfOk, IfSome, IsErr, IsErrOf, OnOk, Ok, is_err, is_some};
+ghost use Rattle.std.specs.Prelude.{◌≡◌, ◌≤◌, ◌++◌, ◌∷◌, [], false, true, IfOk, IfSome, IsErr, IsErrOf, OnOk, Ok, is_err, is_some};
 ghost use Rattle.ri_ends.specs.Causes.{Rose};
 ghost use Rattle.trec_reader.specs.Read.{read};
 ghost use Rattle.tokens.specs.Content.{content};
-ghost use Rattle.indri_app.specs.Collection.{accepted, collection, docnos_of, documents_with, line_with};
+ghost use Rattle.indri_app.specs.Collection.{accepted, collection, docnos_of, documents_with, is_full, line_with};
+ghost use Rattle.indri_app.specs.Scan.{document_refused_line};
 ghost use Rattle.indri_app.specs.Gathered.{GatheredAt, StoppedAt, line_in};
 ghost use Rattle.indri_app.specs.Outcome.{Writes, WritesFront};
 
@@ -23,36 +24,60 @@ pub const MOST_DOCUMENTS: u32 = 1_048_576;
 /// The most tokens of a collection.
 const MOST_TOKENS: u64 = 67_108_864;
 
+/// The line of a document that is refused.
+fn refused(alloc: Global, kind: &[u8], docno: &Docno) -> Result<Option<Vec<u8>>, NoMemory>
+    ensures line { IfOk result (λ line. line_in line ≡ document_refused_line kind.now docno.now) }
+    ensures some { IfOk result (λ line. is_some line ≡ true) }
+{
+    let line = document_refused_line(alloc, kind, docno)?;
+    Ok(Some(line))
+}
+
+/// Whether a collection has no room for one more document.
+fn is_full(index: &MemIndex, doc: &Doc) -> bool
+    ensures { result ≡ is_full index.now.documents doc.now }
+{
+    index.len() >= MOST_DOCUMENTS || index.token_count() + u64::from(doc.len()) > MOST_TOKENS
+}
+
+/// Adds a document for which there is room.
+fn add(alloc: Global, index: &mut MemIndex, doc: &Doc) -> Result<(), NoMemory>
+    requires most { index.old.most ≡ MOST_DOCUMENTS }
+    requires room { is_full index.old.documents doc.now ≡ false }
+    ensures documents { OnOk result (index.new.documents ≡ index.old.documents ++ doc.now ∷ []) }
+    ensures most { OnOk result (index.new.most ≡ MOST_DOCUMENTS) }
+{
+    match index.add(alloc, doc) {
+        Ok(_) => Ok(()),
+        Err(MemRefusal::IndexFull) => unreachable!(),
+        Err(MemRefusal::Memory) => Err(AllocError),
+    }
+}
+
 /// Takes a document behind those that are accepted. The answer is the line of its refusal, or none where it is accepted.
 fn accept(
     alloc: Global,
     index: &mut MemIndex,
     docnos: &mut IndexSet<Docno>,
-    doc: Doc,
+    doc: &Doc,
 ) -> Result<Option<Vec<u8>>, NoMemory>
     requires docnos { docnos.old.keys ≡ docnos_of index.old.documents }
     requires most { index.old.most ≡ MOST_DOCUMENTS }
-    ensures line { IfOk result (λ line. line_in line ≡ line_with (accepted index.old.documents (Ok doc))) }
-    ensures refused { IfOk result (λ line. is_some line ≡ is_err (accepted index.old.documents (Ok doc))) }
-    ensures documents { OnOk result (index.new.documents ≡ documents_with index.old.documents (accepted index.old.documents (Ok doc))) }
+    ensures line { IfOk result (λ line. line_in line ≡ line_with (accepted index.old.documents (Ok doc.now))) }
+    ensures refused { IfOk result (λ line. is_some line ≡ is_err (accepted index.old.documents (Ok doc.now))) }
+    ensures documents { OnOk result (index.new.documents ≡ documents_with index.old.documents (accepted index.old.documents (Ok doc.now))) }
     ensures docnos { OnOk result (docnos.new.keys ≡ docnos_of index.new.documents) }
     ensures most { OnOk result (index.new.most ≡ MOST_DOCUMENTS) }
 {
     if docnos.contains(doc.docno()) {
-        let line = document_refused_line(alloc, b"Repeated", doc.docno())?;
-        return Ok(Some(line));
+        return refused(alloc, b"Repeated", doc.docno());
     }
-    let tokens = index.token_count() + u64::from(doc.len());
-    if index.len() >= MOST_DOCUMENTS || tokens > MOST_TOKENS {
-        let line = document_refused_line(alloc, b"CollectionFull", doc.docno())?;
-        return Ok(Some(line));
+    if is_full(index, doc) {
+        return refused(alloc, b"CollectionFull", doc.docno());
     }
     docnos.insert(doc.docno().clone_in(alloc)?)?;
-    match index.add(alloc, &doc) {
-        Ok(_) => Ok(None),
-        Err(MemRefusal::IndexFull) => unreachable!(),
-        Err(MemRefusal::Memory) => Err(AllocError),
-    }
+    add(alloc, index, doc)?;
+    Ok(None)
 }
 
 /// Takes a document that was read, in the same way.
@@ -71,15 +96,9 @@ fn take_document(
     ensures most { OnOk result (index.new.most ≡ MOST_DOCUMENTS) }
 {
     match doc_of(alloc, document) {
-        Ok(doc) => accept(alloc, index, docnos, doc),
-        Err(TokenRefusal::TooManyTokens { docno }) => {
-            let line = document_refused_line(alloc, b"TooManyTokens", &docno)?;
-            Ok(Some(line))
-        }
-        Err(TokenRefusal::TooManyFields { docno }) => {
-            let line = document_refused_line(alloc, b"TooManyFields", &docno)?;
-            Ok(Some(line))
-        }
+        Ok(doc) => accept(alloc, index, docnos, &doc),
+        Err(TokenRefusal::TooManyTokens { docno }) => refused(alloc, b"TooManyTokens", &docno),
+        Err(TokenRefusal::TooManyFields { docno }) => refused(alloc, b"TooManyFields", &docno),
         Err(TokenRefusal::Memory) => Err(AllocError),
     }
 }

@@ -73,11 +73,15 @@ fn two_documents_fit(rt: HostRuntime) -> Result<(), Fail> {
     Ok(())
 }
 
+fn names_in(alloc: Global, index: &MemIndex, name: &str) -> Result<u64, Fail> {
+    let doc = doc(alloc, "a", name)?;
+    Ok(index.names_with(&doc))
+}
+
 /// How many names the fields of an index of two documents and of one more have.
 fn names_with(alloc: Global, name: &str) -> Result<u64, Fail> {
     let index = pair(alloc)?;
-    let doc = doc(alloc, "a", name)?;
-    Ok(index.names_with(&doc))
+    names_in(alloc, &index, name)
 }
 
 #[test]

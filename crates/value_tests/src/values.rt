@@ -16,13 +16,17 @@ fn cloned_doc(alloc: Global) -> Result<Doc, Fail> {
     Ok(doc(alloc, "a b", "H1")?.clone_in(alloc)?)
 }
 
+fn assert_doc(rt: &impl Abort, doc: &Doc) {
+    assert_eq!(rt; doc.docno().as_bytes(), &b"d1"[..]);
+    assert_terms(rt, doc.tokens().as_slice(), &["a", "b"]);
+    assert_fields(rt, doc.fields());
+    assert_eq!(rt; (doc.len(), doc.names().len()), (2, 1));
+}
+
 #[test]
 fn documents(rt: HostRuntime) -> Result<(), Fail> {
     let doc = cloned_doc(rt.alloc())?;
-    assert_eq!(rt; doc.docno().as_bytes(), &b"d1"[..]);
-    assert_terms(&rt, doc.tokens().as_slice(), &["a", "b"]);
-    assert_fields(&rt, doc.fields());
-    assert_eq!(rt; (doc.len(), doc.names().len()), (2, 1));
+    assert_doc(&rt, &doc);
     Ok(())
 }
 

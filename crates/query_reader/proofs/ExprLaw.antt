@@ -9,7 +9,7 @@ use Rattle.ri_base.specs.Expression.{ExprTree, ExprTrees, expr_trees, is_width, 
 use Rattle.query_printer.specs.Printed.{doubled, printed, printed_all, printed_more}
 use Rattle.query_reader.specs.Cursor.{At, Reading, refuse}
 use Rattle.query_reader.specs.Bytes.{begins, past}
-use Rattle.query_reader.specs.Operators.{test_operator, extent_operator, operator_of, operator_at, is_belief_operator, is_filter, is_combine}
+use Rattle.query_reader.specs.Operators.{extent_operator, operator_of, operator_at, is_belief_operator, is_filter, is_combine}
 use Rattle.query_reader.specs.Parts.{expect}
 use Rattle.query_reader.specs.Items.{hash, is_context, found, until_closing, further, following, first, arguments}
 use Rattle.query_reader.specs.Exprs.{number_then_opening, head_of, head, made, behind_argument, next_expr, operator, simple, atom, with_field, expr_by, inner, expr}
@@ -27,15 +27,15 @@ trees-list tree.none = refl
 trees-list (tree.more x xs) = ap (tree.more x) (trees-list xs)
 
 head-any : (r n : ℕ) (f rest : List ℕ) → IsName f → Ends rest → n + 1 ≤ 1000 → head (suc r) (here (codes "#any:" ++ f ++ rest) n) ≡ Ok (AnyOf f, here rest (n + 1))
-unfolding head head_of hash test_operator extent_operator operator_of expect
+unfolding head head_of hash extent_operator operator_of expect
 head-any r n f rest ok ends h = rw (entered-reads r n _ h, field-reads f rest (n + 1) ok ends) refl
 
 head-syn : (r n : ℕ) (rest : List ℕ) → n + 1 ≤ 1000 → head (suc r) (here (codes "#syn(" ++ rest) n) ≡ Ok (SynOf, here rest (n + 1))
-unfolding head head_of hash test_operator extent_operator operator_of expect
+unfolding head head_of hash extent_operator operator_of expect
 head-syn r n rest h = rw (entered-reads r n _ h) refl
 
 head-band : (r n : ℕ) (rest : List ℕ) → n + 1 ≤ 1000 → head (suc r) (here (codes "#band(" ++ rest) n) ≡ Ok (BandOf, here rest (n + 1))
-unfolding head head_of hash test_operator extent_operator operator_of expect
+unfolding head head_of hash extent_operator operator_of expect
 head-band r n rest h = rw (entered-reads r n _ h) refl
 
 head-ordered : (r n width : ℕ) (rest : List ℕ) → is_width width ≡ true → n + 1 ≤ 1000 → head (suc r) (here (35 ∷ (decimal width ++ 40 ∷ rest)) n) ≡ Ok (OrderedBy width, here rest (n + 1))
@@ -104,7 +104,7 @@ any-atom f rest zero n deep ok h ends = absurd (omega arith)
 any-atom f rest (suc r) n deep ok h ends = rw (head-any r n f rest ok ends h) refl
 
 any-law : (f : List ℕ) → Law (tree.any f)
-unfolding test_operator extent_operator operator_of printed printed_all printed_more nodes all_nodes depth depths is_sound are_sound are_arguments
+unfolding extent_operator operator_of printed printed_all printed_more nodes all_nodes depth depths is_sound are_sound are_arguments
 any-law f = record {
   some = omega arith;
   item = λ rest. record { space = refl; close = refl; dot = refl; some = omega arith };
@@ -158,7 +158,7 @@ unordered-plain width rest n ok =
     record { belief = rw (run, name) refl; filter = rw (run, name) refl; combine = rw (run, name) refl }
 
 syn-law : (xs : ExprTrees) → Laws xs → Law (tree.syn xs)
-unfolding test_operator extent_operator operator_of printed printed_all printed_more nodes all_nodes depth depths is_sound are_sound are_arguments
+unfolding extent_operator operator_of printed printed_all printed_more nodes all_nodes depth depths is_sound are_sound are_arguments
 syn-law xs laws = record {
   some = omega arith;
   item = λ rest. record { space = refl; close = refl; dot = refl; some = omega arith };
@@ -168,7 +168,7 @@ syn-law xs laws = record {
 }
 
 band-law : (xs : ExprTrees) → Laws xs → Law (tree.band xs)
-unfolding test_operator extent_operator operator_of printed printed_all printed_more nodes all_nodes depth depths is_sound are_sound are_arguments
+unfolding extent_operator operator_of printed printed_all printed_more nodes all_nodes depth depths is_sound are_sound are_arguments
 band-law xs laws = record {
   some = omega arith;
   item = λ rest. record { space = refl; close = refl; dot = refl; some = omega arith };

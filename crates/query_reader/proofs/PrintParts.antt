@@ -12,7 +12,7 @@ use Rattle.ri_base.specs.Expression.{is_width}
 use Rattle.query_printer.specs.Printed.{doubled}
 use Rattle.query_reader.specs.Cursor.{At}
 use Rattle.query_reader.specs.Bytes.{begins, skip, spaced}
-use Rattle.query_reader.specs.Operators.{test_operator, extent_operator, operator_of, is_number}
+use Rattle.query_reader.specs.Operators.{extent_operator, operator_of, is_number}
 use Rattle.query_reader.specs.Parts.{value_from, number, field, unquoted, with_front}
 use Rattle.query_reader.specs.Items.{numbered, entered, is_context}
 use Rattle.query_reader.specs.Exprs.{quoted, quoted_of}
@@ -242,7 +242,7 @@ no_a : (b c : ℕ) → is_digit b ≡ true → nat_lt 57 c ≡ true → (b == c)
 no_a b c h k = grind arith
 
 pub operator-number : (ds : List ℕ) → 0 < length ds → prefix_len is_digit ds ≡ length ds → operator_of ds ≡ Ordered
-unfolding test_operator extent_operator operator_of
+unfolding extent_operator operator_of
 operator-number [] h k = absurd (omega arith)
 operator-number (b ∷ ds) h k = elim (which (is_digit b)) [
   | inl is ↦ rw (no_a b 102 is refl, no_a b 99 is refl, no_a b 109 is refl, no_a b 119 is refl, no_a b 112 is refl, no_a b 97 is refl, no_a b 98 is refl, no_a b 115 is refl, number-is (b ∷ ds) h k) refl
@@ -253,7 +253,7 @@ not_number : (ds : List ℕ) → is_number (117 ∷ 119 ∷ ds) ≡ false
 not_number ds = grind arith
 
 pub operator-uw : (ds : List ℕ) → 0 < length ds → prefix_len is_digit ds ≡ length ds → operator_of (117 ∷ 119 ∷ ds) ≡ Unordered
-unfolding test_operator extent_operator operator_of
+unfolding extent_operator operator_of
 operator-uw ds h k = rw (not_number ds, number-is ds h k) refl
 
 width-below : (n : ℕ) → is_width n ≡ true → n < 2 ^ 64

@@ -1,6 +1,4 @@
 // Scores that were worked out by hand. A key is that of the beliefs' logarithms in 40 binary places.
-ghost use Rattle.std.specs.Prelude.{◌<◌};
-
 use ranked_output::score_text;
 use std::test::Fail;
 

@@ -12,6 +12,7 @@ mod field_span;
 mod fraction;
 mod held;
 mod hit;
+pub mod limits;
 mod places;
 mod postings;
 mod query;

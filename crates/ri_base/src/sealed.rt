@@ -7,6 +7,7 @@ ghost use Rattle.ri_base.specs.Documents.{IsDocument};
 ghost use Rattle.ri_base.specs.Inversion.{IsInversion, by_number, document_of, documents_of};
 ghost use Rattle.ri_base.specs.Places.{places, places_at, postings_of};
 ghost use Rattle.ri_base.specs.Vocabulary.{IsVocabulary, vocabulary_of};
+ghost use Rattle.ri_base.specs.declared.limits.TheConstants.{MAX_HELD_TOKENS};
 
 use crate::{
     Doc, Docno, FieldSpan, Held, NoMemory, Place, Places, Positions, Postings, SegFault, Term,
@@ -57,7 +58,7 @@ impl Sealed {
     /// How many tokens the documents have together.
     pub fn token_count(&self) -> u64
         ensures count { result ≡ token_count self.now }
-        ensures most { result ≤ 67108864 }
+        ensures most { result ≤ MAX_HELD_TOKENS }
     {
         let mut count = 0;
         for held in &self.docs {

@@ -123,10 +123,7 @@ fn places_in(alloc: Global, postings: &[Place], id: u32) -> Result<Positions, No
 fn positions_of(alloc: Global, postings: &[Place]) -> Result<Positions, NoMemory>
     ensures { IfOk result (λ ps. ps ≡ map (λ p. p.at) postings.now) }
 {
-    let mut places = Vec::with_capacity(alloc, postings.len())?;
-    for p in postings {
-        places.push(p.at)?;
-    }
+    let places = postings.iter().map(|p| p.at).collect(alloc)?;
     Ok(Positions::of(places))
 }
 

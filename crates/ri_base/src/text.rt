@@ -42,7 +42,7 @@ impl Model for Docno {
 pub fn is_docno_byte(byte: u8) -> bool
     ensures { result ≡ is_docno_byte byte }
 {
-    33 <= byte && byte <= 126 && byte != b'<'
+    byte.is_ascii_graphic() && byte != b'<'
 }
 
 fn are_docno_bytes(bytes: &[u8]) -> bool
@@ -148,11 +148,7 @@ impl Model for Name {
 fn lowered(alloc: Global, bytes: &[u8]) -> Result<Vec<u8>, NoMemory>
     ensures { IfOk result (λ lowered. lowered.items ≡ map lower bytes.now) }
 {
-    let mut lowered = Vec::new(alloc);
-    for byte in bytes {
-        lowered.push(lower(*byte))?;
-    }
-    Ok(lowered)
+    bytes.iter().map(|byte| lower(*byte)).collect(alloc)
 }
 
 fn are_name_bytes(bytes: &[u8]) -> bool

@@ -2,8 +2,8 @@ use Rattle.std.proofs.Common.{rules, ◌≡◌, Ok, sym, ◌∙◌}
 use Rattle.ri_base.specs.Queries.{whole_tree}
 use Rattle.query_printer.specs.Printed.{query_printed}
 use Rattle.query_reader.specs.QueryText.{query_text}
-use Rattle.query_reader.proofs.QueryLaw.{printed_query_reads}
-use Rattle.query_language.proofs.canonical_query.Goals as goal
+use Rattle.query_language.proofs.QueryLaw.{printed_query_reads}
+use Rattle.query_language.proofs.canonical.canonical_query.Goals as goal
 
 pub returns-in-Ok-clause-same : goal.returns-in-Ok-clause-same
 returns-in-Ok-clause-same c =

@@ -15,26 +15,26 @@ use Rattle.query_reader.specs.Items.{hash, is_context, found, until_closing, fur
 use Rattle.query_reader.specs.Exprs.{number_then_opening, head_of, head, made, behind_argument, next_expr, operator, simple, atom, with_field, expr_by, inner, expr}
 use Rattle.query_reader.specs.declared.fault.QueryKind.TheVariants.{ContextInside, EmptyOperator}
 use Rattle.query_reader.specs.declared.operator.Head.TheVariants.{AnyOf, BandOf, SynOf, OrderedBy, UnorderedBy}
-use Rattle.query_reader.proofs.PrintParts.{here, left_true, right_true, entered-reads, quoted-reads, front-taken, IsName, name_begins, Ends, Stops, field-reads, Item, spaced-none, spaced-one, writes-width, digits-letters, digits-no-letter, operator-number, operator-uw, number-reads}
+use Rattle.query_language.proofs.PrintParts.{here, left_true, right_true, entered-reads, quoted-reads, front-taken, IsName, name_begins, Ends, Stops, field-reads, Item, spaced-none, spaced-one, writes-width, digits-letters, digits-no-letter, operator-number, operator-uw, number-reads}
 
 -- the trees of a list of arguments
 abbrev pub list : ExprTrees → List ExprTree
 list tree.none = []
 list (tree.more x xs) = x ∷ list xs
 
-trees-list : (xs : ExprTrees) → expr_trees (list xs) ≡ xs
+pub trees-list : (xs : ExprTrees) → expr_trees (list xs) ≡ xs
 trees-list tree.none = refl
 trees-list (tree.more x xs) = ap (tree.more x) (trees-list xs)
 
-head-any : (r n : ℕ) (f rest : List ℕ) → IsName f → Ends rest → n + 1 ≤ 1000 → head (suc r) (here (codes "#any:" ++ f ++ rest) n) ≡ Ok (AnyOf f, here rest (n + 1))
+pub head-any : (r n : ℕ) (f rest : List ℕ) → IsName f → Ends rest → n + 1 ≤ 1000 → head (suc r) (here (codes "#any:" ++ f ++ rest) n) ≡ Ok (AnyOf f, here rest (n + 1))
 unfolding head head_of hash extent_operator operator_of expect
 head-any r n f rest ok ends h = rw (entered-reads r n _ h, field-reads f rest (n + 1) ok ends) refl
 
-head-syn : (r n : ℕ) (rest : List ℕ) → n + 1 ≤ 1000 → head (suc r) (here (codes "#syn(" ++ rest) n) ≡ Ok (SynOf, here rest (n + 1))
+pub head-syn : (r n : ℕ) (rest : List ℕ) → n + 1 ≤ 1000 → head (suc r) (here (codes "#syn(" ++ rest) n) ≡ Ok (SynOf, here rest (n + 1))
 unfolding head head_of hash extent_operator operator_of expect
 head-syn r n rest h = rw (entered-reads r n _ h) refl
 
-head-band : (r n : ℕ) (rest : List ℕ) → n + 1 ≤ 1000 → head (suc r) (here (codes "#band(" ++ rest) n) ≡ Ok (BandOf, here rest (n + 1))
+pub head-band : (r n : ℕ) (rest : List ℕ) → n + 1 ≤ 1000 → head (suc r) (here (codes "#band(" ++ rest) n) ≡ Ok (BandOf, here rest (n + 1))
 unfolding head head_of hash extent_operator operator_of expect
 head-band r n rest h = rw (entered-reads r n _ h) refl
 
@@ -115,7 +115,7 @@ any-law f = record {
 
 -- operators
 
-inner-suc : (r : ℕ) → inner (suc r) ≡ expr r
+pub inner-suc : (r : ℕ) → inner (suc r) ≡ expr r
 unfolding inner
 inner-suc r = refl
 

@@ -11,7 +11,7 @@ use Rattle.ri_base.specs.Collection.{document_at, empty_document, token_count}
 use Rattle.ri_base.specs.Documents.{Document}
 use Rattle.ri_base.specs.Pair.{Pair}
 use Rattle.field_extents.specs.Extents.{begin_count, is_inside}
-use Rattle.extent_lists.specs.Listed.{pair}
+use Rattle.extent_lists.specs.Pairs.{pair}
 use Rattle.query_check.specs.Leaves.{LeafTree, extents, leaf_tree, prior}
 use Rattle.query_check.specs.declared.leaf_kind.LeafKind.{LeafKind}
 use Rattle.belief_nodes.specs.Leaves.{IsLeafCount, has_extents}

@@ -8,7 +8,8 @@ use Rattle.ri_base.specs.Ratio.{Ratio}
 use Rattle.ri_base.specs.declared.hit.LeafStats.{LeafStats}
 use Rattle.field_extents.specs.Extents.{begin_count}
 use Rattle.field_extents.specs.Fields.{covered_count, lies_in_some}
-use Rattle.extent_lists.specs.Listed.{extent_list, pair}
+use Rattle.extent_ops.specs.Listed.{extent_list}
+use Rattle.extent_lists.specs.Pairs.{pair}
 use Rattle.smoothing.specs.declared.rule.RuleKind.{RuleKind}
 use Rattle.query_check.specs.Leaves.{LeafTree, extents, prior}
 use Rattle.belief_nodes.specs.Fractions.{leaf_fractions}

@@ -2,14 +2,14 @@
 ghost use Rattle.std.specs.Prelude.{◌≡◌, ◌==◌, ◌<◌, ◌≤◌, true, length, map, All, IfOk};
 ghost use Rattle.std.specs.List.{list_all};
 ghost use Rattle.field_extents.specs.Extents.{AreInOrder, begin_count};
-ghost use Rattle.extent_lists.specs.Listed.{pair};
+ghost use Rattle.extent_lists.specs.Pairs.{pair};
 ghost use Rattle.ri_base.specs.Collection.{document_at};
 ghost use Rattle.query_check.specs.Leaves.{leaf_tree};
 ghost use Rattle.belief_nodes.specs.Leaves.{AreLeafStats, IsLeafCount};
 ghost use Rattle.full_ranking.specs.Counts.{count_of, is_plain, len, stats_of, tf};
 
 use belief_nodes::LeafCount;
-use extent_lists::extents_in;
+use extent_ops::extents_in;
 use field_extents::distinct_begins;
 use query_check::LeafKind;
 use ri_base::{Extent, Extents, LeafStats, NoMemory, Postings, Sealed};

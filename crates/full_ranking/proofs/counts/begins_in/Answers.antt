@@ -1,5 +1,5 @@
 use Rattle.std.proofs.Common.{rules, ◌≡◌, min, max}
-use Rattle.extent_lists.specs.Listed.{pair}
+use Rattle.extent_lists.specs.Pairs.{pair}
 use Rattle.full_ranking.proofs.CountLemmas.{begin_count_within}
 use Rattle.full_ranking.proofs.counts.begins_in.Goals as goal
 

@@ -17,4 +17,4 @@ pub windows-preserved : goal.windows-preserved
 windows-preserved g c =
     let same : c.if-ended.ahead ≡ c.windows.ahead = search rules in
     let steps = steps_then g.S.Source.left g.S.Source.layers g.S.Source.held g.S.Source.faults g.S.Source.can_give _ _ _ _ _ _ c.windows.invariant.3 (subst (λ a. Steps g.S.Source.left g.S.Source.layers g.S.Source.held g.S.Source.faults g.S.Source.can_give a c.fill.new.self c.windows.source c.fill.new.source) same c.fill.ensures.steps) in
-    (search rules, search rules, search rules, steps, search rules, search rules)
+    (search rules, search rules, search rules, steps, search rules, search rules, search rules, search rules)

@@ -5,10 +5,11 @@ use Rattle.std.specs.List.{list_all, prefix_len}
 use Rattle.std.proofs.Math.Seq.{drop-append_seam, take-append-add}
 use Rattle.std.proofs.lemmas.List.{take-append-drop}
 use Rattle.ri_base.specs.Ascii.{is_space}
+use Rattle.ri_base.specs.declared.limits.TheConstants.{MAX_DOC_BYTES}
 use Rattle.trec_reader.specs.Documents.{Reading}
 use Rattle.trec_reader.specs.Pieces.{pieces}
 use Rattle.trec_reader.specs.Form.{IsDocumentText, IsEntry}
-use Rattle.trec_reader.specs.Read.{behind_space, bounded_document, document_at, document_bytes, document_read, entry}
+use Rattle.trec_reader.specs.Read.{behind_space, bounded_document, document_at, document_read, entry}
 use Rattle.trec_reader.specs.declared.document.RawDoc.{RawDoc}
 use Rattle.trec_reader.specs.declared.piece.Piece.{Piece}
 use Rattle.trec_reader.specs.declared.refusal.TrecRefusal.{TrecRefusal}
@@ -21,12 +22,12 @@ pair {A = A} {B = B} a c b d e = let same : ◌≡◌ {A = Option A × B} (Some 
 entry_from : (offset : ℕ) (bytes rest : List ℕ) (d : RawDoc) (front : Front (λ xs. IsTrue (list_all is_space xs)) bytes (prefix_len is_space bytes)) → (r : Reading (List ℕ × List Piece)) → bounded_document (behind_space bytes) ≡ r → document_read (offset + prefix_len is_space bytes) (behind_space bytes) r ≡ Ok (Some d, rest) → IsEntry offset bytes d rest
 unfolding bounded_document
 entry_from offset bytes rest d front (Ok ((name, found), n)) is e =
-    let form = document_is (take document_bytes (behind_space bytes)) name found n is in
+    let form = document_is (take MAX_DOC_BYTES (behind_space bytes)) name found n is in
     let s = form.1 in
     let same = pair (record { docno = name; offset = offset + prefix_len is_space bytes; pieces = found }) d (drop n (behind_space bytes)) rest e in
-    let behind : behind_space bytes ≡ s.whole ++ (s.rest ++ drop document_bytes (behind_space bytes)) =
-    sym (take-append-drop document_bytes (behind_space bytes)) ∙ ap (λ xs. xs ++ drop document_bytes (behind_space bytes)) s.parts ∙ append_assoc s.whole s.rest _ in
-    let tail : s.rest ++ drop document_bytes (behind_space bytes) ≡ rest = sym (drop-append_seam s.whole _) ∙ ap (λ xs. drop (length s.whole) xs) (sym behind) ∙ ap (λ k. drop k (behind_space bytes)) s.long ∙ same.1 in
+    let behind : behind_space bytes ≡ s.whole ++ (s.rest ++ drop MAX_DOC_BYTES (behind_space bytes)) =
+    sym (take-append-drop MAX_DOC_BYTES (behind_space bytes)) ∙ ap (λ xs. xs ++ drop MAX_DOC_BYTES (behind_space bytes)) s.parts ∙ append_assoc s.whole s.rest _ in
+    let tail : s.rest ++ drop MAX_DOC_BYTES (behind_space bytes) ≡ rest = sym (drop-append_seam s.whole _) ∙ ap (λ xs. drop (length s.whole) xs) (sym behind) ∙ ap (λ k. drop k (behind_space bytes)) s.long ∙ same.1 in
     let spaced : bytes ≡ front.front ++ behind_space bytes = front.parts ∙ ap (λ xs. front.front ++ xs) (sym (front_rest bytes (prefix_len is_space bytes) front)) in
     record {
       space = front.front;
@@ -35,7 +36,7 @@ entry_from offset bytes rest d front (Ok ((name, found), n)) is e =
       parts = spaced ∙ ap (λ xs. front.front ++ xs) behind ∙ ap (λ xs. front.front ++ (s.whole ++ xs)) tail ∙ sym (append_assoc front.front s.whole rest);
       spaces = front.is;
       is_document = subst (λ x. IsDocumentText x form.0 s.whole) (ap (λ x. x.docno) same.0) s.is_document;
-      short = omega (arith, ap length s.parts, length-append s.whole s.rest, length-take document_bytes (behind_space bytes));
+      short = omega (arith, ap length s.parts, length-append s.whole s.rest, length-take MAX_DOC_BYTES (behind_space bytes));
       offset_is = sym (ap (λ x. x.offset) same.0) ∙ ap (λ k. offset + k) (sym front.long);
       pieces_are = sym (ap (λ x. x.pieces) same.0) ∙ form.2;
     }
@@ -62,9 +63,9 @@ entry_reads offset bytes rest d h =
     let parts : bytes ≡ h.space ++ (h.whole ++ rest) = h.parts ∙ append_assoc h.space h.whole rest in
     let run : prefix_len is_space bytes ≡ length h.space = ap (prefix_len is_space) parts ∙ run_exact is_space h.space (h.whole ++ rest) h.spaces (ap (prefix_len is_space) opens) in
     let behind : behind_space bytes ≡ h.whole ++ rest = ap (λ k. drop k bytes) run ∙ ap (drop (length h.space)) parts ∙ drop-append_seam h.space (h.whole ++ rest) in
-    let sum : document_bytes ≡ length h.whole + (document_bytes - length h.whole) = omega (arith, h.short) in
-    let cut : take document_bytes (h.whole ++ rest) ≡ h.whole ++ take (document_bytes - length h.whole) rest = ap (λ k. take k (h.whole ++ rest)) sum ∙ take-append-add h.whole rest (document_bytes - length h.whole) in
-    let read : bounded_document (h.whole ++ rest) ≡ Ok ((d.docno, pieces h.text), length h.whole) = document_reads _ d.docno h.text (length h.whole) (record { whole = h.whole; rest = take (document_bytes - length h.whole) rest; parts = cut; long = refl; is_document = doc }) in
+    let sum : MAX_DOC_BYTES ≡ length h.whole + (MAX_DOC_BYTES - length h.whole) = omega (arith, h.short) in
+    let cut : take MAX_DOC_BYTES (h.whole ++ rest) ≡ h.whole ++ take (MAX_DOC_BYTES - length h.whole) rest = ap (λ k. take k (h.whole ++ rest)) sum ∙ take-append-add h.whole rest (MAX_DOC_BYTES - length h.whole) in
+    let read : bounded_document (h.whole ++ rest) ≡ Ok ((d.docno, pieces h.text), length h.whole) = document_reads _ d.docno h.text (length h.whole) (record { whole = h.whole; rest = take (MAX_DOC_BYTES - length h.whole) rest; parts = cut; long = refl; is_document = doc }) in
     ap (document_at (offset + prefix_len is_space bytes)) behind ∙ some_at _ (length h.whole) 60 _ (h.whole ++ rest) (d.docno, pieces h.text) opens read
     ∙ ap (λ xs. Ok (Some (record { docno = d.docno; offset = offset + prefix_len is_space bytes; pieces = pieces h.text }), xs)) (drop-append_seam h.whole rest)
     ∙ ap (λ k. Ok (Some (record { docno = d.docno; offset = k; pieces = pieces h.text }), rest)) (ap (λ k. offset + k) run ∙ sym h.offset_is)

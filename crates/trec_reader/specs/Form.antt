@@ -3,6 +3,7 @@ use Rattle.std.specs.Prelude.{◌≡◌, ◌≤◌, ◌+◌, ℕ, Bool, true, fa
 use Rattle.std.specs.List.{list_all, position_or_len}
 use Rattle.ri_base.specs.Ascii.{is_letter, is_space, lower}
 use Rattle.ri_base.specs.Text.{is_docno}
+use Rattle.ri_base.specs.declared.limits.TheConstants.{MAX_DOC_BYTES}
 use Rattle.trec_reader.specs.Marks.{ends_name, is_angle}
 use Rattle.trec_reader.specs.Pieces.{pieces}
 use Rattle.trec_reader.specs.declared.document.RawDoc.{RawDoc}
@@ -60,7 +61,7 @@ pub record StartsWithDocument (docno text : List ℕ) (n : ℕ) (bytes : List �
   pub long : length whole ≡ n
   pub is_document : IsDocumentText docno text whole
 
--- White space, this document of at most 16,777,216 bytes, and the rest. So many bytes stood before these.
+-- White space, this document of at most as many bytes as a document may have, and the rest. So many bytes stood before these.
 pub record IsEntry (offset : ℕ) (bytes : List ℕ) (d : RawDoc) (rest : List ℕ) : Type 0 where
   pub space : List ℕ
   pub whole : List ℕ
@@ -68,6 +69,6 @@ pub record IsEntry (offset : ℕ) (bytes : List ℕ) (d : RawDoc) (rest : List �
   pub parts : bytes ≡ space ++ whole ++ rest
   pub spaces : AreSpaces space
   pub is_document : IsDocumentText d.docno text whole
-  pub short : length whole ≤ 16777216
+  pub short : length whole ≤ MAX_DOC_BYTES
   pub offset_is : d.offset ≡ offset + length space
   pub pieces_are : d.pieces ≡ pieces text

@@ -9,7 +9,6 @@ use ri_base::Bytes;
 use std::alloc::Global;
 
 /// The text that is printed of the query that a text is read as. It is read as the same query.
-#[tactic(auto, using(crate::proofs::QueryLaw::printed_query_reads))]
 pub fn canonical_query(alloc: Global, text: &str) -> Result<Bytes, QueryFault>
     ensures exact { Answers (λ printed. printed) result (canonical text.now) }
     ensures same { IfOk result (λ printed. query_text printed ≡ query_text text.now) }

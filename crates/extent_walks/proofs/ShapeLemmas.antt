@@ -1,5 +1,6 @@
 -- what is known of the extents of a walk
 use Rattle.std.proofs.Common.{◌≡◌, ℕ, ◌+◌, ◌-◌, ◌<◌, ◌≤◌, ◌&&◌, ⊎_elim, Bool, true, false, nat_le, Some, None, Option, List, [], ◌∷◌, length, drop, get_or, refl, sym, ap, ◌∙◌, arith}
+use Rattle.std.proofs.lemmas.Bool.{true≢false}
 use Rattle.std.proofs.lemmas.Bool.Decides.{nat_tests}
 use Rattle.std.specs.Prelude.{⊤}
 use Rattle.ri_base.specs.Pair.{Pair}
@@ -19,54 +20,40 @@ is_one_token Monotone = false
 is_one_token OneEnd = false
 is_one_token Any = false
 
-both : (v w : Bool) → v && w ≡ true → (v ≡ true) × (w ≡ true)
-both true w h = (refl, h)
-both false w h = let no : ⊥ = cc in absurd no
+-- a test that passes where one passes that says less
+module _ (test : Shape → Bool) (any : test Any ≡ true → test OneEnd ≡ true) (one_end : test OneEnd ≡ true → test Monotone ≡ true) (monotone : test Monotone ≡ true → test OneToken ≡ true) where
+  passes_first : (s : Shape) → test s ≡ true → test OneToken ≡ true
+  passes_first OneToken h = h
+  passes_first Monotone h = monotone h
+  passes_first OneEnd h = monotone (one_end h)
+  passes_first Any h = monotone (one_end (any h))
 
-weaker_one_token : (s t : Shape) → is_one_token (weaker s t) ≡ is_one_token s && is_one_token t
-weaker_one_token OneToken t = refl
-weaker_one_token Monotone OneToken = refl
-weaker_one_token Monotone Monotone = refl
-weaker_one_token Monotone OneEnd = refl
-weaker_one_token Monotone Any = refl
-weaker_one_token OneEnd OneToken = refl
-weaker_one_token OneEnd Monotone = refl
-weaker_one_token OneEnd OneEnd = refl
-weaker_one_token OneEnd Any = refl
-weaker_one_token Any t = refl
+  passes_all : (s : Shape) → test Any ≡ true → test s ≡ true
+  passes_all OneToken h = monotone (one_end (any h))
+  passes_all Monotone h = one_end (any h)
+  passes_all OneEnd h = any h
+  passes_all Any h = h
+
+  passes_both : (s t : Shape) → test (weaker s t) ≡ true → (test s ≡ true) × (test t ≡ true)
+  passes_both OneToken t h = (passes_first t h, h)
+  passes_both Monotone OneToken h = (h, monotone h)
+  passes_both Monotone Monotone h = (h, h)
+  passes_both Monotone OneEnd h = (one_end h, h)
+  passes_both Monotone Any h = (one_end (any h), h)
+  passes_both OneEnd OneToken h = (h, monotone (one_end h))
+  passes_both OneEnd Monotone h = (h, one_end h)
+  passes_both OneEnd OneEnd h = (h, h)
+  passes_both OneEnd Any h = (any h, h)
+  passes_both Any t h = (h, passes_all t h)
 
 both_one_token : (s t : Shape) → is_one_token (weaker s t) ≡ true → (is_one_token s ≡ true) × (is_one_token t ≡ true)
-both_one_token s t h = both (is_one_token s) (is_one_token t) (sym (weaker_one_token s t) ∙ h)
-
-weaker_monotone : (s t : Shape) → is_monotone (weaker s t) ≡ is_monotone s && is_monotone t
-weaker_monotone OneToken t = refl
-weaker_monotone Monotone OneToken = refl
-weaker_monotone Monotone Monotone = refl
-weaker_monotone Monotone OneEnd = refl
-weaker_monotone Monotone Any = refl
-weaker_monotone OneEnd OneToken = refl
-weaker_monotone OneEnd Monotone = refl
-weaker_monotone OneEnd OneEnd = refl
-weaker_monotone OneEnd Any = refl
-weaker_monotone Any t = refl
+both_one_token s t h = passes_both is_one_token (λ e. e) (λ e. absurd (true≢false (sym e))) (λ e. refl) s t h
 
 both_monotone : (s t : Shape) → is_monotone (weaker s t) ≡ true → (is_monotone s ≡ true) × (is_monotone t ≡ true)
-both_monotone s t h = both (is_monotone s) (is_monotone t) (sym (weaker_monotone s t) ∙ h)
-
-weaker_one_end : (s t : Shape) → has_one_end (weaker s t) ≡ has_one_end s && has_one_end t
-weaker_one_end OneToken t = refl
-weaker_one_end Monotone OneToken = refl
-weaker_one_end Monotone Monotone = refl
-weaker_one_end Monotone OneEnd = refl
-weaker_one_end Monotone Any = refl
-weaker_one_end OneEnd OneToken = refl
-weaker_one_end OneEnd Monotone = refl
-weaker_one_end OneEnd OneEnd = refl
-weaker_one_end OneEnd Any = refl
-weaker_one_end Any t = refl
+both_monotone s t h = passes_both is_monotone (λ e. e) (λ e. refl) (λ e. refl) s t h
 
 both_one_end : (s t : Shape) → has_one_end (weaker s t) ≡ true → (has_one_end s ≡ true) × (has_one_end t ≡ true)
-both_one_end s t h = both (has_one_end s) (has_one_end t) (sym (weaker_one_end s t) ∙ h)
+both_one_end s t h = passes_both has_one_end (λ e. refl) (λ e. refl) (λ e. refl) s t h
 
 one_token_is_monotone : (s : Shape) → is_one_token s ≡ true → is_monotone s ≡ true
 one_token_is_monotone OneToken h = refl

@@ -10,13 +10,13 @@ use crate::short_bytes::ShortBytes;
 use std::alloc::Global;
 use std::marker::Model;
 
-/// The most bytes of a docno.
+/// The most bytes of a docno, so that a byte holds their number.
 pub const DOCNO_BYTES: usize = 255;
 
-/// The most bytes of a term.
+/// The most bytes of a term. What is longer in a text is seldom a word, and a byte holds the number.
 pub const TERM_BYTES: usize = 128;
 
-/// The most bytes of a name.
+/// The most bytes of a name, more than the names of fields in test collections have.
 pub const NAME_BYTES: usize = 32;
 
 /// A document's identifier: 1 to 255 visible bytes of ASCII, none of them `<`.

@@ -5,6 +5,7 @@ ghost use Rattle.ri_base.specs.Collection.{document_at};
 ghost use Rattle.ri_base.specs.Expression.{expr_tree};
 ghost use Rattle.ri_base.specs.Faults.{IsOutside};
 ghost use Rattle.ri_base.specs.Keeps.{Keeps, Rose};
+ghost use Rattle.field_extents.specs.Extents.{AreInOrder};
 ghost use Rattle.extent_lists.specs.Extents.{Ext};
 ghost use Rattle.extent_lists.specs.Listing.{IsListing};
 ghost use Rattle.extent_lists.specs.Rows.{IsAscending, Lists};
@@ -29,6 +30,7 @@ pub fn extents<P: Postings>(
     ensures keeps { Keeps P.documents P.faults P.sound P.quiet postings.old postings.new }
     ensures exact { P.sound postings.old → IfOk result
         (IsListing (Ext (expr_tree expr.now) (document_at (P.documents postings.old) id))) }
+    ensures order { IfOk result AreInOrder }
     ensures honest { P.sound postings.old → IfErr result IsOutside }
     ensures store { result ≡ Err SegFault.Store → Rose (P.faults postings.old) (P.faults postings.new) }
 {

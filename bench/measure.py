@@ -1,56 +1,103 @@
 #!/usr/bin/env python3
 """Measures the time and the memory of `scan` and `query`, as LLVM builds the program. It stands apart from the gate.
 
-usage: bench/measure.py [--rounds N] [GROUP..]        with the program built (./indri builds it)
+usage: bench/measure.py [--rounds N] [--program FILE] [GROUP..]        with the program built (./indri builds it)
 
 The inputs are made in a temporary folder, the same ones each time. Without a group all of these are measured:
 
-    scan, query   text in the usual newswire form, 24 MiB, for a word, two windows and a word in a field: MB (1,000,000
-                  bytes) a second, the ratio to `LC_ALL=C wc -w` on the same file, and peak memory; the exponent of the
-                  cost from 8, 16 and 32 MiB, which is the slope of the logarithm of the time over that of the size, by
+    newswire      text in the usual newswire form, 24 MiB, for a word, two windows and a word in a field; the exponent of
+                  the cost from 8, 16 and 32 MiB, which is the slope of the logarithm of the time over that of the size, by
                   least squares
     thin          documents of 300 words and no field, 32 and 64 MiB
-    hostile       one document of 8 MiB that is one mark again and again, against as much plain text
-    fields        65,535 fields of distinct names, one inside the other
-    large         one document of 16 MiB: peak memory
-    many          30,000 documents of 25 words: a query of three words, against a scan of one
+    hostile       one document of 8 MiB that is plain text, or one mark again and again
+    pieces        one document that comes through a pipe, in pieces of 64 KiB at most
+    large         one document of 16 MiB: with no word, with as many words as it may have, with more, and with words that
+                  are all different
+    many          30,000 documents of 25 words: a query of three words, against a scan of one; and the same query with
+                  little address space, for room that is reserved and never used
     windows       one document of 1,000,000 tokens, half of which are words of the windows
+    fields        65,535 fields of distinct names, one inside the other; as many of one name, one inside the other and one
+                  behind the other, for what lies in them and for windows over them
+    instructions  machine instructions a byte, counted by cachegrind of valgrind, which must be installed, on 1/4 MiB of
+                  newswire and of thin text; and one document of twice the size. They are the same in each run
 
-A time is the best of the rounds. Times of which a ratio is printed are taken in the same rounds, one after the other.
-Peak memory is that of the whole process, so what it holds of the text is counted in it. Below some 5 MiB it can't be
-told, since the small process that starts the program has as much. A row shows its bound where there is one. The status
-is 1 where a row is above its bound or the program ends with a status that isn't expected.
+A row has the processor time, its ratio to that of `LC_ALL=C wc -w` on the same file, and the peak of memory, with the
+bounds of these two; rows of many and of instructions have what is named above. A time is the best of the
+rounds, and times of which a ratio is printed are taken in the same rounds, one after the other. The peak is that of the
+whole process, so what it holds of the text is counted in it. Below some 5 MiB it can't be told, since the small process
+that starts the program has as much. The status is 1 where a row is above a bound or the program ends with a status that
+isn't expected. Another program than that of ./indri is measured by --program.
+
+No command takes the extents of an expression one by one. The program extent_table does, and compares them with the list
+that these commands take; what they cost isn't measured here.
 """
 import argparse
 import math
 import os
 import random
+import re
+import shutil
 import subprocess
 import sys
 import tempfile
-import time
+from collections.abc import Callable
+from dataclasses import dataclass
 from pathlib import Path
 
 PROGRAM = Path(__file__).resolve().parent.parent / "crates/indri/out/indri"
-COUNT = ["env", "LC_ALL=C", "wc", "-w"]
+COUNT = ["wc", "-w"]
 COMMANDS = ("scan", "query")
 MIB = 1 << 20
 
-# Each with the most that it may take in times of `wc -w`.
-TEXTS = {"rain": 5, "#1(the launch)": 8, "#uw8(the launch)": 8, "launch.head": 8}
 VOCABULARY = [f"w{i}" for i in range(5000)] + ["the", "of", "rain", "launch"] * 50
-PLAIN = "some plain text of a document "
-MARKS = ("<", "<!--", "&", "<a ", "</doc ", "<!")
-WINDOWS = ("a", "#uw8(a b c)", "#1(a b)")
+PLAIN = "several documents contain considerable sentences "
+MOST_FIELDS = 65_535
 
+
+@dataclass(frozen=True)
+class Bound:
+    """The most times of `wc -w` and the most MiB of a row."""
+
+    times: float
+    peak: float
+
+
+TEXTS = ("rain", "#1(the launch)", "#uw8(the launch)", "launch.head")
+NEWSWIRE = {"scan": Bound(5, 12), "query": Bound(6.5, 80)}
 EXPONENT = 1.1
-THIN_TO_COUNT = 8
+
+THIN = {"scan": Bound(5, 12), "query": Bound(6, 200)}
 THIN_TO_HALF = 2.2
-HOSTILE_TO_TEXT = 3
-LARGE_MEMORY = 64
+
+MARKS = {
+    PLAIN: Bound(12, 64),
+    "<": Bound(12, 32),
+    "<!--": Bound(12, 32),
+    "&": Bound(12, 32),
+    "<a ": Bound(12, 64),
+    "</doc ": Bound(12, 64),
+    "<!": Bound(12, 32),
+    "<a>": Bound(12, 180),
+}
+PIECES = {PLAIN: Bound(12, 64), "</doc ": Bound(12, 64)}
+
+LARGE = {"scan": Bound(8, 64), "query": Bound(8, 64)}
+DISTINCT = {"scan": Bound(8, 64), "query": Bound(30, 300)}
+
 QUERY_TO_SCAN = 3
 BYTES_A_TOKEN = 40
-WINDOW_SECONDS = 3
+MANY_SPACE = 32
+
+WINDOWS = ("a", "#uw8(a b c)", "#1(a b)")
+WINDOW = Bound(40, 160)
+
+DISTINCT_NAMES = ("x.f9",)
+ONE_NAME = ("x.f", "#any:f", "#uw200000(#any:f y)", "#od200000(#any:f y)", "#od200000(#any:f #any:f)")
+FIELDS = Bound(40, 64)
+
+# Those of `scan` and those of `query`.
+INSTRUCTIONS = {"newswire": (400, 450), "thin": (400, 450)}
+INSTRUCTIONS_TO_HALF = 2.1
 
 
 # Inputs.
@@ -102,11 +149,21 @@ def repeated(piece, size):
     return (piece * (size // len(piece) + 1))[:size]
 
 
-def nested_fields(count, in_order):
+def distinct_fields(in_order):
     """Fields, each opened inside the one before, with a word in each; and as many end tags."""
-    names = [f"f{i}" for i in range(count)]
+    names = [f"f{i}" for i in range(MOST_FIELDS)]
     ends = names if in_order else reversed(names)
     return "".join(f"<{name}>x " for name in names) + "".join(f"</{name}>" for name in ends)
+
+
+def nested_fields():
+    """Fields of one name, each opened inside the one before; a word behind each start tag and each end tag."""
+    return "<f>x " * MOST_FIELDS + "</f> y" * MOST_FIELDS
+
+
+def flat_fields():
+    """Fields of one name, one behind the other; a word in each and between them."""
+    return "<f>x</f> x y" * MOST_FIELDS
 
 
 def mixed(tokens):
@@ -130,61 +187,96 @@ def in_lines(words):
 
 # One run.
 
-# The greatest memory of a process counts from before it took up its program, so a small process starts it.
+# The greatest memory of a process counts from before it took up its program, so a small process starts it. Its first
+# argument is the most address space of the program, in bytes; 0 is no limit.
 LAUNCHER = """
-import os, sys
+import os, resource, sys
+space = int(sys.argv[1])
 child = os.fork()
 if child == 0:
     os.dup2(os.open(os.devnull, os.O_WRONLY), 1)
-    os.execv(sys.argv[1], sys.argv[1:])
+    if space:
+        resource.setrlimit(resource.RLIMIT_AS, (space, space))
+    os.execvp(sys.argv[2], sys.argv[2:])
 _, status, usage = os.wait4(child, 0)
-print(os.waitstatus_to_exitcode(status), usage.ru_maxrss)
+print(os.waitstatus_to_exitcode(status), usage.ru_utime + usage.ru_stime, usage.ru_maxrss)
 """
 
 
-def program(command, text):
-    return [str(PROGRAM), ".", command, text]
+@dataclass(frozen=True)
+class Run:
+    """How a run ended, its processor time, and its peak in MiB."""
+
+    status: int
+    seconds: float
+    peak: float
 
 
-def expect(status, statuses, command):
-    if status not in statuses:
-        sys.exit(f"{' '.join(command)} ended with status {status}")
+def launched(command, source, space=0):
+    """A run on this open file, with so many MiB of address space; 0 is no limit."""
+    launcher = [sys.executable, "-I", "-S", "-c", LAUNCHER, str(space * MIB)]
+    environment = {**os.environ, "LC_ALL": "C"}
+    done = subprocess.run([*launcher, *command], stdin=source, stdout=subprocess.PIPE, check=True, env=environment)
+    status, seconds, peak = done.stdout.split()
+    return Run(int(status), float(seconds), int(peak) / 1024)
 
 
-def seconds(command, path, statuses):
+def run_file(command, path, space=0):
     with open(path, "rb") as source:
-        start = time.perf_counter()
-        done = subprocess.run(command, stdin=source, stdout=subprocess.DEVNULL, check=False)
-        taken = time.perf_counter() - start
-    expect(done.returncode, statuses, command)
-    return taken
+        return launched(command, source, space)
 
 
-def peak_memory(command, path, status=0):
-    """In MiB."""
-    launcher = [sys.executable, "-I", "-S", "-c", LAUNCHER]
+def run_pipe(command, path):
+    with subprocess.Popen(["cat", path], stdout=subprocess.PIPE) as feeder:
+        return launched(command, feeder.stdout)
+
+
+@dataclass(frozen=True)
+class Job:
+    """What is run on which file, how the file gets there, and the statuses with which that may end."""
+
+    command: list
+    path: Path
+    way: Callable = run_file
+    statuses: tuple = (0,)
+
+    def run(self):
+        run = self.way(self.command, self.path)
+        if run.status not in self.statuses:
+            sys.exit(f"{' '.join(self.command)} ended with status {run.status}")
+        return run
+
+
+def instructions(command, path):
+    """How many instructions of the machine a run takes."""
+    counted = ["valgrind", "--tool=cachegrind", "--cache-sim=no", "--cachegrind-out-file=/dev/null", *command]
     with open(path, "rb") as source:
-        done = subprocess.run([*launcher, *command], stdin=source, stdout=subprocess.PIPE, check=True)
-    ended, peak = done.stdout.split()
-    expect(int(ended), (status,), command)
-    return int(peak) / 1024
+        done = subprocess.run(counted, stdin=source, stdout=subprocess.DEVNULL, stderr=subprocess.PIPE, text=True)
+    found = re.search(r"I +refs: +([\d,]+)", done.stderr)
+    if done.returncode or not found:
+        sys.exit(f"{' '.join(counted)} ended with status {done.returncode}")
+    return int(found[1].replace(",", ""))
 
 
 # Rows.
 
 
 class Table:
-    """Measures by so many rounds, in this folder, and prints rows."""
+    """Measures this program by so many rounds, in this folder, and prints rows."""
 
-    def __init__(self, rounds, folder):
+    def __init__(self, program, rounds, folder):
+        self.program = program
         self.rounds = rounds
         self.folder = folder
         self.is_within = True
 
-    def best(self, runs, statuses=(0,)):
-        """The best time of each of these runs, which are a command with the file of its input."""
-        rounds = [[seconds(command, path, statuses) for command, path in runs] for _ in range(self.rounds)]
-        return [min(times) for times in zip(*rounds)]
+    def command(self, name, text):
+        return [str(self.program), ".", name, text]
+
+    def best(self, *jobs):
+        """The least time of each of these jobs and its greatest peak."""
+        rounds = [[job.run() for job in jobs] for _ in range(self.rounds)]
+        return [(min(run.seconds for run in same), max(run.peak for run in same)) for same in zip(*rounds)]
 
     def at_most(self, shown, value, bound):
         """What is shown of a value, with its bound."""
@@ -194,7 +286,17 @@ class Table:
         return f"{shown} above the bound {bound}"
 
     def row(self, name, *cells):
-        print(f"{name:<48}", "   ".join(cells), flush=True)
+        print(f"{name:<56}", "   ".join(cells), flush=True)
+
+    def measure(self, job, bound):
+        """The time of a job, and the cells of that time, of its ratio to the time of `wc -w`, and of its peak."""
+        (count, _), (taken, peak) = self.best(Job(COUNT, job.path), job)
+        times = taken / count
+        return taken, (
+            f"{taken:7.3f} s",
+            self.at_most(f"{times:6.2f} times wc -w", times, bound.times),
+            self.at_most(f"peak {peak:4.0f} MiB", peak, bound.peak),
+        )
 
 
 def exponent(sizes, times):
@@ -207,130 +309,161 @@ def exponent(sizes, times):
 # Groups.
 
 
-def measure_newswire(table, command):
+def measure_newswire(table):
     paths = {size: table.folder / f"newswire{size}" for size in (8, 16, 24, 32)}
     for size, path in paths.items():
         newswire(path, size * MIB)
     path = paths.pop(24)
-    for text, bound in TEXTS.items():
-        words = program(command, text)
-        count, taken, *grown = table.best([(COUNT, path), (words, path), *((words, other) for other in paths.values())])
-        slope = exponent(paths, grown)
-        table.row(
-            f"{command} {text}, newswire 24 MiB",
-            f"{path.stat().st_size / taken / 1e6:6.1f} MB/s",
-            table.at_most(f"{taken / count:5.2f} times wc -w", taken / count, bound),
-            table.at_most(f"exponent {slope:4.2f}", slope, EXPONENT),
-            f"peak {peak_memory(words, path):4.0f} MiB",
-        )
-
-
-def measure_scan(table):
-    measure_newswire(table, "scan")
-
-
-def measure_query(table):
-    measure_newswire(table, "query")
+    for name in COMMANDS:
+        for text in TEXTS:
+            command = table.command(name, text)
+            _, cells = table.measure(Job(command, path), NEWSWIRE[name])
+            grown = table.best(*(Job(command, other) for other in paths.values()))
+            slope = exponent(paths, [taken for taken, _ in grown])
+            cell = table.at_most(f"exponent {slope:4.2f}", slope, EXPONENT)
+            table.row(f"{name} {text}, newswire 24 MiB", *cells, cell)
 
 
 def measure_thin(table):
     half, whole = table.folder / "thin32", table.folder / "thin64"
     thin(half, 32 * MIB)
     thin(whole, 64 * MIB)
-    for command in COMMANDS:
-        words = program(command, "rain")
-        times = table.best([(COUNT, half), (words, half), (COUNT, whole), (words, whole)])
-        half_count, half_taken, whole_count, whole_taken = times
-        for size, taken, count in ((32, half_taken, half_count), (64, whole_taken, whole_count)):
-            cell = table.at_most(f"{taken / count:5.2f} times wc -w", taken / count, THIN_TO_COUNT)
-            table.row(f"{command} rain, thin {size} MiB", f"{taken:7.3f} s", cell)
-        grown = whole_taken / half_taken
-        table.row(f"{command} rain, thin 64 MiB to 32 MiB", table.at_most(f"{grown:7.2f} times", grown, THIN_TO_HALF))
+    for name in COMMANDS:
+        command = table.command(name, "rain")
+        of_half, cells = table.measure(Job(command, half), THIN[name])
+        table.row(f"{name} rain, thin 32 MiB", *cells)
+        of_whole, cells = table.measure(Job(command, whole), THIN[name])
+        grown = of_whole / of_half
+        cell = table.at_most(f"{grown:4.2f} times 32 MiB", grown, THIN_TO_HALF)
+        table.row(f"{name} rain, thin 64 MiB", *cells, cell)
+
+
+def measure_marks(table, marks, way, in_pieces):
+    path = table.folder / "marks"
+    for mark, bound in marks.items():
+        one_document(path, repeated(mark, 8 * MIB))
+        shown = "plain text" if mark == PLAIN else f"'{mark}'"
+        for name in COMMANDS:
+            job = Job(table.command(name, "rain"), path, way, (0, 3))
+            _, cells = table.measure(job, bound)
+            table.row(f"{name} rain, 8 MiB of {shown}{in_pieces}", *cells)
 
 
 def measure_hostile(table):
-    plain, path = table.folder / "plain", table.folder / "hostile"
-    one_document(plain, repeated(PLAIN, 8 * MIB))
-    for mark in (*MARKS, "<a>"):
-        one_document(path, repeated(mark, 8 * MIB))
-        for command in COMMANDS:
-            words = program(command, "rain")
-            text, taken = table.best([(words, plain), (words, path)], statuses=(0, 3))
-            shown = f"{taken / text:5.2f} times text"
-            cell = table.at_most(shown, taken / text, HOSTILE_TO_TEXT) if mark in MARKS else shown
-            table.row(f"{command} rain, 8 MiB of '{mark}'", f"{taken:7.3f} s", cell)
+    measure_marks(table, MARKS, run_file, "")
 
 
-def measure_fields(table):
-    path = table.folder / "fields"
-    for in_order, name in ((False, "last first"), (True, "as opened")):
-        one_document(path, nested_fields(65_535, in_order))
-        for command in COMMANDS:
-            (taken,) = table.best([(program(command, "x.f9"), path)])
-            table.row(f"{command} x.f9, 65,535 fields, closed {name}", f"{taken:7.3f} s")
+def measure_pieces(table):
+    measure_marks(table, PIECES, run_pipe, " in pieces")
 
 
 def measure_large(table):
     size = 16 * MIB - 40
     path = table.folder / "large"
     documents = (
-        ("no word", repeated(". ", size), 0, LARGE_MEMORY),
-        ("1,048,574 words", repeated("a" * 15 + " ", size), 0, LARGE_MEMORY),
-        ("too many words", repeated("a ", size), 3, LARGE_MEMORY),
-        ("1,048,573 distinct words", "".join(f"w{i:014} " for i in range(size // 16)), 0, None),
+        ("no word", repeated(". ", size), 0, LARGE),
+        ("1,048,574 words", repeated("a" * 15 + " ", size), 0, LARGE),
+        ("too many words", repeated("a ", size), 3, LARGE),
+        ("1,048,573 distinct words", "".join(f"w{i:014} " for i in range(size // 16)), 0, DISTINCT),
     )
-    for name, text, status, bound in documents:
+    for shown, text, status, bounds in documents:
         one_document(path, text)
-        for command in COMMANDS:
-            peak = peak_memory(program(command, "rain"), path, status)
-            shown = f"peak {peak:4.0f} MiB"
-            table.row(f"{command} rain, 16 MiB with {name}", table.at_most(shown, peak, bound) if bound else shown)
+        for name in COMMANDS:
+            job = Job(table.command(name, "rain"), path, statuses=(status,))
+            _, cells = table.measure(job, bounds[name])
+            table.row(f"{name} rain, 16 MiB with {shown}", *cells)
 
 
 def measure_many(table):
     documents, words = 30_000, 25
     path = table.folder / "many"
     short_documents(path, documents, words)
-    query = program("query", "the rain launch")
-    scan, taken = table.best([(program("scan", "rain"), path), (query, path)])
+    query = table.command("query", "the rain launch")
+    (scan, _), (taken, peak) = table.best(Job(table.command("scan", "rain"), path), Job(query, path))
     ratio = taken / scan
-    peak = peak_memory(query, path)
     token = peak * MIB / (documents * words)
+    status = run_file(query, path, MANY_SPACE).status
     table.row(
         "query the rain launch, 30,000 documents",
         f"{taken:7.3f} s",
         table.at_most(f"{ratio:5.2f} times scan rain", ratio, QUERY_TO_SCAN),
         f"peak {peak:4.0f} MiB",
         table.at_most(f"{token:4.1f} bytes a token", token, BYTES_A_TOKEN),
+        table.at_most(f"status {status} in {MANY_SPACE} MiB of address space", status, 0),
     )
+
+
+def measure_texts(table, texts, path, bound, shown):
+    """A row for each of these texts, of both commands, on one file."""
+    for name in COMMANDS:
+        for text in texts:
+            _, cells = table.measure(Job(table.command(name, text), path), bound)
+            table.row(f"{name} {text}, {shown}", *cells)
 
 
 def measure_windows(table):
     path = table.folder / "windows"
-    for words, name in ((mixed(1_000_000), "mixed"), (in_runs(1_000_000), "in runs")):
+    for words, shown in ((mixed(1_000_000), "mixed"), (in_runs(1_000_000), "in runs")):
         one_document(path, in_lines(words))
-        for command in COMMANDS:
-            for text in WINDOWS:
-                (taken,) = table.best([(program(command, text), path)])
-                cell = table.at_most(f"{taken:7.3f} s", taken, WINDOW_SECONDS)
-                table.row(f"{command} {text}, 1,000,000 tokens {name}", cell)
+        measure_texts(table, WINDOWS, path, WINDOW, f"1,000,000 tokens {shown}")
+
+
+def measure_fields(table):
+    path = table.folder / "fields"
+    documents = (
+        (distinct_fields(in_order=False), DISTINCT_NAMES, "65,535 names, closed last first"),
+        (distinct_fields(in_order=True), DISTINCT_NAMES, "65,535 names, closed as opened"),
+        (nested_fields(), ONE_NAME, "65,535 fields nested"),
+        (flat_fields(), ONE_NAME, "65,535 fields in a row"),
+    )
+    for document, texts, shown in documents:
+        one_document(path, document)
+        measure_texts(table, texts, path, FIELDS, shown)
+
+
+def measure_instructions(table):
+    if not shutil.which("valgrind"):
+        sys.exit("valgrind isn't installed, and the group instructions needs it")
+    size = MIB // 4
+    paths = {name: table.folder / name for name in INSTRUCTIONS}
+    newswire(paths["newswire"], size)
+    thin(paths["thin"], size)
+    for shown, path in paths.items():
+        for name, most in zip(COMMANDS, INSTRUCTIONS[shown]):
+            each = instructions(table.command(name, "rain"), path) / path.stat().st_size
+            cell = table.at_most(f"{each:7.1f} instructions a byte", each, most)
+            table.row(f"{name} rain, {shown} 1/4 MiB", cell)
+    measure_growth(table)
+
+
+def measure_growth(table):
+    half, whole = table.folder / "half", table.folder / "whole"
+    one_document(half, repeated(PLAIN, MIB // 4))
+    one_document(whole, repeated(PLAIN, MIB // 2))
+    for name in COMMANDS:
+        command = table.command(name, "documents")
+        grown = instructions(command, whole) / instructions(command, half)
+        cell = table.at_most(f"{grown:4.2f} times those of 1/4 MiB", grown, INSTRUCTIONS_TO_HALF)
+        table.row(f"{name} documents, one document of 1/2 MiB", cell)
 
 
 GROUPS = {
-    "scan": measure_scan,
-    "query": measure_query,
+    "newswire": measure_newswire,
     "thin": measure_thin,
     "hostile": measure_hostile,
-    "fields": measure_fields,
+    "pieces": measure_pieces,
     "large": measure_large,
     "many": measure_many,
     "windows": measure_windows,
+    "fields": measure_fields,
+    "instructions": measure_instructions,
 }
 
 
 def options():
     parser = argparse.ArgumentParser(description="Measures the time and the memory of scan and query.")
     parser.add_argument("--rounds", type=int, default=3, help="a time is the best of so many (3)")
+    parser.add_argument("--program", type=Path, default=PROGRAM, help="the program that is measured (that of ./indri)")
     parser.add_argument("groups", nargs="*", metavar="GROUP", help=", ".join(GROUPS))
     chosen = parser.parse_args()
     unknown = [group for group in chosen.groups if group not in GROUPS]
@@ -341,10 +474,10 @@ def options():
 
 def main():
     chosen = options()
-    if not os.access(PROGRAM, os.X_OK):
+    if not os.access(chosen.program, os.X_OK):
         sys.exit("the program isn't built: run ./indri once")
     with tempfile.TemporaryDirectory() as folder:
-        table = Table(chosen.rounds, Path(folder))
+        table = Table(chosen.program.resolve(), chosen.rounds, Path(folder))
         for group in chosen.groups or GROUPS:
             GROUPS[group](table)
     sys.exit(0 if table.is_within else 1)

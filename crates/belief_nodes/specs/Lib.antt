@@ -5,4 +5,5 @@ pub mod Keys
 pub mod Leaves
 pub mod Network
 pub mod Order
+pub mod Priors
 pub mod Products

@@ -1,1 +1,9 @@
+pub mod FilterLemmas
+pub mod KeepsLemmas
+pub mod LeafLemmas
 pub mod ListLemmas
+pub mod ListingLemmas
+pub mod PlanTests
+pub mod RowLemmas
+pub mod SameLemmas
+pub mod Tested

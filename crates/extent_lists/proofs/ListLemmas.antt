@@ -1,19 +1,15 @@
--- The list of the extents of an expression lists its set, and no other list does.
-use Rattle.std.proofs.Common.{◌≡◌, ℕ, zero, suc, ◌+◌, ◌<◌, ◌≤◌, ◌⊎◌, inl, inr, ⊎_elim, List, [], ◌∷◌, ◌++◌, map, flat_map, refl, sym, ap, ◌∙◌, subst, arith}
+-- A set of extents that can be tested has a list, and no set has two.
+use Rattle.std.proofs.Common.{◌≡◌, ℕ, zero, suc, ◌+◌, ◌<◌, ◌≤◌, ◌⊎◌, inl, inr, ⊎_elim, List, [], ◌∷◌, ◌++◌, map, filter, flat_map, refl, sym, ap, ◌∙◌, subst, arith}
 use Rattle.std.specs.List.{All, AllPairs, Contains, range_with_len}
-use Rattle.ri_base.specs.Documents.{Document}
-use Rattle.ri_base.specs.Expression.{ExprTree}
 use Rattle.ri_base.specs.Pair.{Pair}
-use Rattle.extent_ops.specs.Extents.{Ext}
-use Rattle.extent_ops.specs.Listing.{IsBefore, IsListing}
-use Rattle.extent_ops.specs.Rows.{Has, IsAscending, IsBeforeAll, Lists}
+use Rattle.extent_lists.specs.Pairs.{pair, pairs}
+use Rattle.extent_lists.proofs.Tested.{Tested}
+use Rattle.extent_lists.specs.Listing.{IsBefore, IsListing}
+use Rattle.extent_lists.specs.Rows.{Has, IsAscending, IsBeforeAll, Lists}
 use Rattle.std.proofs.lemmas.List.Elements.{All-head, All-tail}
-use Rattle.extent_ops.proofs.LeafLemmas.{AllPairs-head, AllPairs-tail}
-use Rattle.extent_ops.proofs.FilterLemmas.{IsFiltered-filter}
-use Rattle.extent_ops.proofs.ListingLemmas.{AreInOrder-ascending, IsListing-lists}
-use Rattle.field_extents.specs.Extents.{AreInOrder}
-use Rattle.extent_lists.specs.Listed.{extent_list, has_extent, pair, pairs}
-use Rattle.extent_lists.specs.Tested.{bound, ext_tested}
+use Rattle.extent_lists.proofs.LeafLemmas.{AllPairs-head, AllPairs-tail}
+use Rattle.extent_lists.proofs.FilterLemmas.{IsFiltered-filter}
+use Rattle.extent_lists.proofs.ListingLemmas.{IsListing-lists}
 
 -- ---- all pairs
 
@@ -84,20 +80,22 @@ rows_have m from (suc n) b e low high short = ⊎_elim
     first_or : (a c : ℕ) → a ≤ c → (a ≡ c) ⊎ (a + 1 ≤ c)
     first_or a c h = grind (arith, h)
 
--- ---- the list
+-- ---- the list of a set that can be tested
 
-pub Lists_extent_list : (x : ExprTree) (d : Document) → Lists (Ext x d) (extent_list x d)
-unfolding extent_list has_extent row rows
-Lists_extent_list x d =
-    let t = ext_tested x d in
-    let f = IsFiltered-filter (has_extent x d) (pairs (bound d)) in
+abbrev pub tested_list : (n : ℕ) (R : ℕ → ℕ → Type 0) → Tested n R → List Pair
+tested_list n R t = filter (λ p. (t.test p.begin p.end).0) (pairs n)
+
+pub Lists-tested : (n : ℕ) (R : ℕ → ℕ → Type 0) (t : Tested n R) → Lists R (tested_list n R t)
+unfolding row rows
+Lists-tested n R t =
+    let f = IsFiltered-filter (λ p. (t.test p.begin p.end).0) (pairs n) in
     record {
-      ascending = f.ascending (rows_ascend (bound d) 0 (bound d));
+      ascending = f.ascending (rows_ascend n 0 n);
       only = λ b e h. (t.test b e).1.0 (f.only b e h).1;
       all = λ b e h.
           let first = t.begins b e h in
           let last = t.ends b e h in
-          f.all b e (rows_have (bound d) 0 (bound d) b e (omega arith) (omega (arith, first)) (omega (arith, last))) ((t.test b e).1.1 h);
+          f.all b e (rows_have n 0 n b e (omega arith) (omega (arith, first)) (omega (arith, last))) ((t.test b e).1.1 h);
     }
 
 -- ---- no other list
@@ -142,7 +140,7 @@ same_lists (x ∷ xs) (y ∷ ys) h k sub sup =
     let rest : xs ≡ ys = same_lists xs ys h.1 k.1 (tail_has x y xs ys same h.0 sub) (tail_has y x ys xs (sym same) k.0 sup) in
     ap (λ (z : Pair). z ∷ xs) same ∙ ap (λ zs. y ∷ zs) rest
 
-ascending_from : (xs : List Pair) → AllPairs IsBefore xs → IsAscending xs
+pub ascending_from : (xs : List Pair) → AllPairs IsBefore xs → IsAscending xs
 ascending_from [] h = tt
 ascending_from (x ∷ xs) h = (before_all xs (AllPairs-head IsBefore x xs h), ascending_from xs (AllPairs-tail IsBefore x xs h))
   where
@@ -162,15 +160,13 @@ all_from R (x ∷ xs) h b e found = ⊎_elim
     (all_from R xs (All-tail (λ (z : Pair). R z.begin z.end) x xs h) b e)
     found
 
-pub listing_is : (x : ExprTree) (d : Document) (xs : List Pair) → IsListing (Ext x d) xs → xs ≡ extent_list x d
-listing_is x d xs h =
-    let l = Lists_extent_list x d in
-    same_lists xs (extent_list x d) (ascending_from xs h.ascending) l.ascending
-    (λ b e u. l.all b e (all_from (Ext x d) xs h.only b e u))
-    (λ b e u. has_from xs b e (h.all b e (l.only b e u)))
+-- the lists of one set are the same
+pub same_list : (R : ℕ → ℕ → Type 0) (xs ys : List Pair) → Lists R xs → Lists R ys → xs ≡ ys
+same_list R xs ys l m = same_lists xs ys l.ascending m.ascending (λ b e u. m.all b e (l.only b e u)) (λ b e u. l.all b e (m.only b e u))
 
-pub listing : (x : ExprTree) (d : Document) → IsListing (Ext x d) (extent_list x d)
-listing x d = IsListing-lists (Ext x d) (extent_list x d) (Lists_extent_list x d)
-
-pub order_from : (xs : List Pair) → AllPairs IsBefore xs → AreInOrder xs
-order_from xs h = AreInOrder-ascending xs (ascending_from xs h)
+pub Lists-listing : (R : ℕ → ℕ → Type 0) (xs : List Pair) → IsListing R xs → Lists R xs
+Lists-listing R xs h = record {
+  ascending = ascending_from xs h.ascending;
+  only = all_from R xs h.only;
+  all = λ b e u. has_from xs b e (h.all b e u);
+}

@@ -1,2 +1,6 @@
-pub mod Listed
-pub mod Tested
+pub mod Extents
+pub mod Listing
+pub mod Operators
+pub mod Pairs
+pub mod Plans
+pub mod Rows

@@ -1,10 +1,8 @@
-//! The extents of an expression in a document, as one list.
+//! What the extents of an expression in a document are, and the lists of those of a term and of the fields of a name.
 #![tactic(auto)]
 
-mod alone;
-mod index;
-mod laws;
+mod least;
+mod leaves;
 
-pub use alone::extents_of;
-pub use index::extents_in;
-pub use laws::extents_have_one_list;
+pub use least::lesser;
+pub use leaves::{of_fields, of_term};

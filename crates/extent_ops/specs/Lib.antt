@@ -1,10 +1,1 @@
-pub mod Extents
-pub mod Left
-pub mod Listing
-pub mod Nearest
-pub mod Next
-pub mod Operators
-pub mod Plans
-pub mod Rows
-pub mod Shapes
-pub mod Walks
+pub mod Listed

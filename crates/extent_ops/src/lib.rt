@@ -1,20 +1,12 @@
-//! The extents of an expression in a document.
+//! The extents of an expression in a document, all at once, one after the other, and as its one list.
 #![tactic(auto)]
 
-mod band;
-mod ends;
-mod evaluation;
-mod iterator;
-mod leaves;
-mod listed;
-mod nearest;
-mod ordered;
-mod outermost;
-mod place;
-mod shape;
-mod union;
-mod unordered;
-mod walk;
+mod alone;
+mod index;
+mod laws;
 
-pub use evaluation::extents;
-pub use iterator::ExtentIter;
+pub use alone::extents_of;
+pub use extent_evaluation::extents;
+pub use extent_walks::ExtentIter;
+pub use index::extents_in;
+pub use laws::extents_have_one_list;

@@ -1,3 +1,1 @@
-pub mod Counts
 pub mod Ranking
-pub mod Rows

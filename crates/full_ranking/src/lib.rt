@@ -1,9 +1,9 @@
-//! The ranking of all documents of an index, each scored as a whole.
+//! The ranking of all documents of an index in memory, by one sort of all candidates.
 #![tactic(auto)]
 
 mod counts;
-mod digits;
 mod laws;
+mod memory;
 mod ranking;
 
 pub use counts::are_plain;

@@ -28,10 +28,10 @@ ok_then (Ok x) h f = f x h
 ok_then (Err e) h f = tt
 
 -- the first hits of a ranking and their lines
-pub result_lines : (mu : ℕ) (q : CheckedTree) (docs : List Document) (ranking hits : List Hit) (text : List ℕ) → q.scale ≡ scale q.tree → IsRanking (Dirichlet mu) q.leaves q.tree docs ranking
+pub result_lines : (mu : ℕ) (q : CheckedTree) (docs : List Document) (ranking hits : List Hit) (text : List ℕ) → q.scale ≡ scale q.tree → IsRanking (Dirichlet mu) [] q docs ranking
     → IsTrueOrder q.tree (lines_of (scale q.tree) (take most_shown ranking)) (map hit_beliefs (drop most_shown ranking))
     → hits ≡ take most_shown ranking → text ≡ lines_text (lines_of q.scale hits)
-    → (x : List Hit) × IsResult mu q docs x × (text ≡ lines_text (first_lines q x))
+    → (x : List Hit) × IsResult most_shown mu q docs x × (text ≡ lines_text (first_lines most_shown q x))
 result_lines mu q docs ranking hits text whole ranked order first is =
     let sorted : IsTrueOrder q.tree (lines_of q.scale (take most_shown ranking)) (map hit_beliefs (drop most_shown ranking)) = subst (λ (e : ℕ). IsTrueOrder q.tree (lines_of e (take most_shown ranking)) (map hit_beliefs (drop most_shown ranking))) (sym whole) order in
     (ranking, record { ranked = ranked; order = sorted }, is ∙ ap (λ hs. lines_text (lines_of q.scale hs)) first)
@@ -39,9 +39,9 @@ result_lines mu q docs ranking hits text whole ranked order first is =
 -- ---- a ranking that is written
 
 pub shows_front : (mu : ℕ) (q : CheckedTree) (docs : List Document) (before now : Option (List ℕ)) → Shows mu q docs before now → ShowsFront mu q docs before now
-shows_front mu q docs before now (ranking, is, written) = inr (ranking, is, front_whole before now (lines_text (first_lines q ranking)) written)
+shows_front mu q docs before now (ranking, is, written) = inr (ranking, is, front_whole before now (lines_text (first_lines most_shown q ranking)) written)
 
-pub shows_part : (mu : ℕ) (q : CheckedTree) (docs : List Document) (before now : Option (List ℕ)) (text : List ℕ) → ((x : List Hit) × IsResult mu q docs x × (text ≡ lines_text (first_lines q x))) → WritesFront before now text → ShowsFront mu q docs before now
+pub shows_part : (mu : ℕ) (q : CheckedTree) (docs : List Document) (before now : Option (List ℕ)) (text : List ℕ) → ((x : List Hit) × IsResult most_shown mu q docs x × (text ≡ lines_text (first_lines most_shown q x))) → WritesFront before now text → ShowsFront mu q docs before now
 shows_part mu q docs before now text (ranking, is, same) front = inr (ranking, is, subst (λ (t : List ℕ). WritesFront before now t) same front)
 
 pub shows_none : (mu : ℕ) (q : CheckedTree) (docs : List Document) (before now : Option (List ℕ)) → now ≡ before → ShowsFront mu q docs before now
@@ -49,20 +49,20 @@ shows_none mu q docs before now same = inl same
 
 -- ---- what a query writes
 
-on_docs : (mu : ℕ) (q : CheckedTree) (docs others : List Document) (ranking : List Hit) → others ≡ docs → IsResult mu q docs ranking → IsResult mu q others ranking
-on_docs mu q docs others ranking same is = subst (λ (ds : List Document). IsResult mu q ds ranking) (sym same) is
+on_docs : (mu : ℕ) (q : CheckedTree) (docs others : List Document) (ranking : List Hit) → others ≡ docs → IsResult most_shown mu q docs ranking → IsResult most_shown mu q others ranking
+on_docs mu q docs others ranking same is = subst (λ (ds : List Document). IsResult most_shown mu q ds ranking) (sym same) is
 
 pub answered : (left before mid now : Option (List ℕ)) (mu : ℕ) (q : CheckedTree) (docs : List Document) (noted : Bool) → IsGathered left before mid docs noted → Shows mu q docs mid now → IfSome left (λ bytes. Finished (rank_by mu q) noted bytes before now)
 answered None before mid now mu q docs noted a b = tt
 answered (Some bytes) before mid now mu q docs noted (some, same, written) (ranking, is, lines) =
-    (some, (ranking, on_docs mu q docs _ ranking same is, lines ∙ ap (λ t. append_known t (lines_text (first_lines q ranking))) written ∙ sym (append_twice before (collection [] (read bytes)).lines (lines_text (first_lines q ranking)))))
+    (some, (ranking, on_docs mu q docs _ ranking same is, lines ∙ ap (λ t. append_known t (lines_text (first_lines most_shown q ranking))) written ∙ sym (append_twice before (collection [] (read bytes)).lines (lines_text (first_lines most_shown q ranking)))))
 
 pub part_answered : (left before mid now : Option (List ℕ)) (mu : ℕ) (q : CheckedTree) (docs : List Document) (noted : Bool) → IsGathered left before mid docs noted → ShowsFront mu q docs mid now → IfSome left (λ bytes. Begun (rank_by mu q) bytes before now)
 part_answered None before mid now mu q docs noted a b = tt
 part_answered (Some bytes) before mid now mu q docs noted (some, same, written) (inl stays) = inl (front_whole before now (collection [] (read bytes)).lines (stays ∙ written))
 part_answered (Some bytes) before mid now mu q docs noted (some, same, written) (inr (ranking, is, (n, front))) =
     let lines = (collection [] (read bytes)).lines in
-    let shown = lines_text (first_lines q ranking) in
+    let shown = lines_text (first_lines most_shown q ranking) in
     inr (ranking, on_docs mu q docs _ ranking same is, front_more before mid now lines shown [] (lines ++ shown) n written front (append_none (append_known mid shown) ∙ ap (λ t. append_known t shown) written ∙ sym (append_twice before lines shown)))
 
 -- where the ranking isn't begun

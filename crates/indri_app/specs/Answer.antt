@@ -18,26 +18,26 @@ use Rattle.indri_app.specs.Scan.{has_refusal, scan_text}
 abbrev pub most_shown : ℕ
 most_shown = 10
 
--- the lines of the first results of a ranking
-abbrev pub first_lines : CheckedTree → List Hit → List Line
-first_lines q ranking = lines_of q.scale (take most_shown ranking)
+-- the lines of the first k results of a ranking
+abbrev pub first_lines : ℕ → CheckedTree → List Hit → List Line
+first_lines k q ranking = lines_of q.scale (take k ranking)
 
--- what a query writes: the lines of refusals, and behind them those of the first results
-abbrev pub query_output : List ℕ → CheckedTree → List Hit → List ℕ
-query_output bytes q ranking = (collection [] (read bytes)).lines ++ lines_text (first_lines q ranking)
+-- what a query writes: the lines of refusals, and behind them those of the first k results
+abbrev pub query_output : ℕ → List ℕ → CheckedTree → List Hit → List ℕ
+query_output k bytes q ranking = (collection [] (read bytes)).lines ++ lines_text (first_lines k q ranking)
 
--- a ranking of these documents, and the order of its first lines is true of the beliefs behind it
-pub record IsResult (mu : ℕ) (q : CheckedTree) (docs : List Document) (ranking : List Hit) : Type 0 where
-  pub ranked : IsRanking (Dirichlet mu) q.leaves q.tree docs ranking
-  pub order : IsTrueOrder q.tree (first_lines q ranking) (map hit_beliefs (drop most_shown ranking))
+-- a ranking of these documents, and the order of its first k lines is true of the beliefs behind it
+pub record IsResult (k mu : ℕ) (q : CheckedTree) (docs : List Document) (ranking : List Hit) : Type 0 where
+  pub ranked : IsRanking (Dirichlet mu) [] q docs ranking
+  pub order : IsTrueOrder q.tree (first_lines k q ranking) (map hit_beliefs (drop k ranking))
 
 -- the lines of refusals and those of the first results of the documents that are accepted are written
 abbrev pub IsAnswered : ℕ → CheckedTree → List ℕ → Option (List ℕ) → Option (List ℕ) → Type 0
-IsAnswered mu q bytes before now = (ranking : List Hit) × IsResult mu q (collection [] (read bytes)).documents ranking × Writes before now (query_output bytes q ranking)
+IsAnswered mu q bytes before now = (ranking : List Hit) × IsResult most_shown mu q (collection [] (read bytes)).documents ranking × Writes before now (query_output most_shown bytes q ranking)
 
 -- a front of them is written
 abbrev pub IsPartAnswered : ℕ → CheckedTree → List ℕ → Option (List ℕ) → Option (List ℕ) → Type 0
-IsPartAnswered mu q bytes before now = (ranking : List Hit) × IsResult mu q (collection [] (read bytes)).documents ranking × WritesFront before now (query_output bytes q ranking)
+IsPartAnswered mu q bytes before now = (ranking : List Hit) × IsResult most_shown mu q (collection [] (read bytes)).documents ranking × WritesFront before now (query_output most_shown bytes q ranking)
 
 -- the whole text of the command is written, and something was refused or not
 abbrev pub Finished : Command → Bool → List ℕ → Option (List ℕ) → Option (List ℕ) → Type 0

@@ -6,7 +6,7 @@ use Rattle.std.specs.Fmt.{decimal}
 use Rattle.ri_base.specs.Documents.{Document}
 use Rattle.ri_base.specs.Expression.{ExprTree}
 use Rattle.ri_base.specs.Pair.{Pair}
-use Rattle.extent_lists.specs.Listed.{extent_list}
+use Rattle.extent_ops.specs.Listed.{extent_list}
 use Rattle.tokens.specs.Content.{content}
 use Rattle.tokens.specs.declared.document.TokenRefusal.{TokenRefusal}
 use Rattle.tokens.specs.declared.document.TokenRefusal.TheVariants.{TooManyTokens, TooManyFields, Memory as NoMemory}

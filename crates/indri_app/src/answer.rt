@@ -1,15 +1,13 @@
 // The lines of a ranking.
 ghost use Rattle.std.specs.Prelude.{◌≡◌, ◌≤◌, List, true, length, map, take, All, IfOk};
-ghost use Rattle.std.specs.List.{list_all};
 ghost use Rattle.ri_base.specs.declared.hit.Hit.{Hit};
 ghost use Rattle.smoothing.specs.Counts.{AreCounts};
 ghost use Rattle.smoothing.specs.Fractions.{IsMu, dirichlet};
 ghost use Rattle.ri_base.specs.Ratio.{ratio_of};
 ghost use Rattle.query_check.specs.Answers.{whole_checked};
-ghost use Rattle.query_check.specs.Leaves.{leaf_tree};
-ghost use Rattle.full_ranking.specs.Counts.{is_plain};
+ghost use Rattle.plain_query.specs.Checked.{is_plain_checked};
 ghost use Rattle.ranked_output.specs.Texts.{lines_of, lines_text};
-ghost use Rattle.indri_app.specs.Answer.{IsResult, first_lines};
+ghost use Rattle.indri_app.specs.Answer.{IsResult, first_lines, most_shown};
 
 use full_ranking::{rank, ranking_is_true};
 use memory_index::MemIndex;
@@ -49,9 +47,9 @@ pub fn ranking_text(
     index: MemIndex,
 ) -> Result<Vec<u8>, NoMemory>
     requires mu { IsMu mu }
-    requires plain { list_all is_plain (whole_checked checked.now).leaves ≡ true }
-    ensures { IfOk result (λ text. (ranking : List Hit) × IsResult mu (whole_checked checked.now) index.documents ranking
-        × (text.items ≡ lines_text (first_lines (whole_checked checked.now) ranking))) }
+    requires plain { is_plain_checked (whole_checked checked.now) ≡ true }
+    ensures { IfOk result (λ text. (ranking : List Hit) × IsResult most_shown mu (whole_checked checked.now) index.documents ranking
+        × (text.items ≡ lines_text (first_lines most_shown (whole_checked checked.now) ranking))) }
 {
     let rule = Rule::new(
         RuleKind::Dirichlet { mu },

@@ -2,11 +2,11 @@
 ghost use Rattle.std.specs.Prelude.{◌≡◌, ◌++◌, ◌∷◌, [], is_err, IfOk, OnOk};
 ghost use Rattle.ri_base.specs.Expression.{expr_tree};
 ghost use Rattle.tokens.specs.Content.{content};
-ghost use Rattle.extent_lists.specs.Listed.{extent_list};
+ghost use Rattle.extent_ops.specs.Listed.{extent_list};
 ghost use Rattle.indri_app.specs.Scan.{document_lines, extent_lines, line};
 
 use crate::lines::document_refused_line;
-use extent_lists::extents_of;
+use extent_ops::extents_of;
 use ri_base::{Doc, Extent, ExtentExpr, Extents, NoMemory};
 use std::alloc::{AllocError, Global};
 use tokens::{TokenRefusal, doc_of};

@@ -4,8 +4,7 @@ ghost use Rattle.ri_base.specs.Expression.{expr_tree};
 ghost use Rattle.ri_ends.specs.Causes.{Rose};
 ghost use Rattle.trec_reader.specs.Read.{read};
 ghost use Rattle.smoothing.specs.Fractions.{IsMu};
-ghost use Rattle.std.specs.List.{list_all};
-ghost use Rattle.full_ranking.specs.Counts.{is_plain};
+ghost use Rattle.plain_query.specs.Checked.{is_plain_checked};
 ghost use Rattle.query_check.specs.Answers.{whole_checked};
 ghost use Rattle.indri_app.specs.Answer.{Begun, ComesBeforeResults, EndsInReadFault, Finished};
 ghost use Rattle.indri_app.specs.Collection.{collection};
@@ -178,7 +177,7 @@ fn write_ranking<K: Sink>(
     sink: &mut K,
 ) -> Status
     requires mu { IsMu mu }
-    requires plain { list_all is_plain (whole_checked checked.now).leaves ≡ true }
+    requires plain { is_plain_checked (whole_checked checked.now) ≡ true }
     ensures done { result ≡ Status.Done → (some_refused ≡ false) × Shows mu (whole_checked checked.now) index.documents (K.taken sink.old) (K.taken sink.new) }
     ensures refused { result ≡ Status.SomeRefused → (some_refused ≡ true) × Shows mu (whole_checked checked.now) index.documents (K.taken sink.old) (K.taken sink.new) }
     ensures front { ShowsFront mu (whole_checked checked.now) index.documents (K.taken sink.old) (K.taken sink.new) }
@@ -247,7 +246,7 @@ fn query<S: Source, K: Sink>(
     sink: &mut K,
 ) -> Status
     requires mu { IsMu mu }
-    requires plain { list_all is_plain (whole_checked checked.now).leaves ≡ true }
+    requires plain { is_plain_checked (whole_checked checked.now) ≡ true }
     ensures done { result ≡ Status.Done → IfSome (S.left source.old) (λ bytes.
         Finished (rank_by mu (whole_checked checked.now)) false bytes (K.taken sink.old) (K.taken sink.new)) }
     ensures refused { result ≡ Status.SomeRefused → IfSome (S.left source.old) (λ bytes.

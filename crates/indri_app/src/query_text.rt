@@ -1,13 +1,12 @@
 // The text of a query.
 ghost use Rattle.std.specs.Prelude.{◌≡◌, Ok, Err, Result, true, IfOk};
-ghost use Rattle.std.specs.List.{list_all};
-ghost use Rattle.full_ranking.specs.Counts.{is_plain};
+ghost use Rattle.plain_query.specs.Checked.{is_plain_checked};
 ghost use Rattle.query_check.specs.Answers.{whole_checked};
 ghost use Rattle.query_reader.specs.QueryText.{query_text};
 ghost use Rattle.indri_app.specs.Command.{query_read};
 ghost use Rattle.indri_app.specs.TextFaults.{Reads};
 
-use plain_query::{is_plain, leaves_are_plain};
+use plain_query::{checked_is_plain, is_plain};
 use query_check::{CheckFault, Checked, check};
 use query_reader::{QueryFault, QueryKind, read_query};
 use std::alloc::Global;
@@ -23,7 +22,7 @@ pub enum TextFault {
 /// The checked query of a text, where it is of a form that is ranked today.
 pub fn read_checked(alloc: Global, text: &str) -> Result<Checked, TextFault>
     ensures read { Reads result (query_text text.now) }
-    ensures plain { IfOk result (λ c. list_all is_plain (whole_checked c).leaves ≡ true) }
+    ensures plain { IfOk result (λ c. is_plain_checked (whole_checked c) ≡ true) }
 {
     let query = match read_query(alloc, text) {
         Ok(query) => query,
@@ -36,7 +35,7 @@ pub fn read_checked(alloc: Global, text: &str) -> Result<Checked, TextFault>
             place: 0,
         });
     }
-    leaves_are_plain();
+    checked_is_plain();
     match check(alloc, query, &[]) {
         Ok(checked) => Ok(checked),
         Err(CheckFault::Memory) => Err(TextFault::Memory),

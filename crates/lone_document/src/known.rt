@@ -1,6 +1,7 @@
 // The places of the terms that an expression has.
 ghost use Rattle.std.specs.Prelude.{◌≡◌, ◌≤◌, ℕ, List, [], ◌∷◌, ◌++◌, length, option_map, IfOk, OnOk};
 ghost use Rattle.lone_document.specs.Known.{AreKnown, places_known};
+ghost use Rattle.ri_base.specs.declared.limits.TheConstants.{MAX_DOC_TOKENS};
 
 use ri_base::{ExtentExpr, NoMemory, Term};
 use std::alloc::Global;
@@ -15,7 +16,7 @@ pub struct Known {
 impl Known {
     /// The places of the expression's terms among these tokens.
     pub fn of(alloc: Global, expr: &ExtentExpr, tokens: &[Term]) -> Result<Known, NoMemory>
-        requires { length tokens.now ≤ 1048576 }
+        requires { length tokens.now ≤ MAX_DOC_TOKENS }
         ensures { IfOk result (λ known. AreKnown known tokens.now) }
     {
         let mut known = Known {

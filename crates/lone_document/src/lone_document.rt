@@ -2,6 +2,7 @@
 ghost use Rattle.std.specs.Prelude.{◌≡◌, ◌≤◌, ◌<◌, ℕ, [], ◌∷◌, ◌++◌, length, if◌then◌else◌, IfOk, OnOk};
 ghost use Rattle.ri_base.specs.Collection.{document_at};
 ghost use Rattle.ri_base.specs.Places.{places, places_from};
+ghost use Rattle.ri_base.specs.declared.limits.TheConstants.{MAX_DOC_TOKENS};
 
 use crate::known::Known;
 use ri_base::{Doc, Docno, ExtentExpr, FieldSpan, NoMemory, Positions, Postings, SegFault, Term};
@@ -54,7 +55,7 @@ impl<'a> LoneDocument<'a> {
 
 /// The places of a term among these tokens.
 fn places_among(alloc: Global, term: &Term, tokens: &[Term]) -> Result<Positions, NoMemory>
-    requires { length tokens.now ≤ 1048576 }
+    requires { length tokens.now ≤ MAX_DOC_TOKENS }
     ensures { IfOk result (λ ps. ps ≡ places_from 0 term.now tokens.now) }
 {
     let mut places = Vec::new(alloc);

@@ -23,6 +23,7 @@ use Rattle.memory_index.specs.Inverts.{AreAllSpread, AreRising, AreSorted, Inver
 use Rattle.memory_index.specs.Kept.{AreKept}
 use Rattle.memory_index.proofs.SortLemmas.{sorted_all, sorted_only}
 use Rattle.memory_index.specs.declared.numbered.Numbered.{Numbered}
+use Rattle.ri_base.specs.declared.limits.TheConstants.{MAX_HELD_TOKENS, MAX_PART_DOCS}
 
 differ : (v : List (List ℕ)) → AreRising v → (x y : ℕ) → x < y → y < length v → get_or v x [] ≢ get_or v y []
 differ v up x y lower inside e =
@@ -141,7 +142,7 @@ pub IsInversion-made : (most held : ℕ) (terms names : List (List ℕ)) (docs :
     → AreKept most held terms names docs → Inverts terms docs v ranks postings → IsInversion v ranks docs postings
 IsInversion-made most held terms names docs v ranks postings k h =
     let named = h.named in
-    let few : length docs ≤ 1048576 = omega (arith, k.within, k.most_small) in
+    let few : length docs ≤ MAX_PART_DOCS = omega (arith, k.within, k.most_small) in
     let rlen : length ranks ≡ length terms = sym (length-map ranks (λ r. get_or v r [])) ∙ ap length named in
     let D = documents_of terms docs in
     let voc : IsVocabulary v D = record {
@@ -152,7 +153,7 @@ IsInversion-made most held terms names docs v ranks postings k h =
     record {
       few = few;
       documents = subst (λ ts. StandForDocuments ts docs) (sym named) (stand_for terms docs k.documents);
-      fits = subst (λ ts. token_count (documents_of ts docs) ≤ 67108864) (sym named) k.fits;
+      fits = subst (λ ts. token_count (documents_of ts docs) ≤ MAX_HELD_TOKENS) (sym named) k.fits;
       terms = subst (λ ts. IsVocabulary v (documents_of ts docs)) (sym named) voc;
       numbers = subst (λ n. AreNumbers n docs) (sym rlen) k.numbers;
       ranked = h.ranked;

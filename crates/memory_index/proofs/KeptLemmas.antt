@@ -17,6 +17,7 @@ use Rattle.ri_base.specs.declared.held.Held.{Held}
 use Rattle.memory_index.specs.Kept.{AreKept}
 use Rattle.memory_index.specs.Numbering.{Holds}
 use Rattle.memory_index.proofs.NumberingLemmas.{told_longer}
+use Rattle.ri_base.specs.declared.limits.TheConstants.{MAX_HELD_TOKENS}
 
 -- terms at the end leave the documents
 pub documents_of-longer : (ks ext : List (List ℕ)) (hs : List Held) → AreNumbers (length ks) hs → documents_of (ks ++ ext) hs ≡ documents_of ks hs
@@ -64,7 +65,7 @@ is_member-field_names docs d q = ap (λ l. is_member bytes_eq l q) (field_names-
 
 pub AreKept-more : (most held : ℕ) (old new names named : List (List ℕ)) (docs more : List Held) (doc : Document)
     → Holds old new names named docs more doc → AreKept most held old names docs → length docs < most
-    → token_count (documents_of old docs) + length doc.tokens ≤ 67108864 → AreKept most (held + length doc.tokens) new named more
+    → token_count (documents_of old docs) + length doc.tokens ≤ MAX_HELD_TOKENS → AreKept most (held + length doc.tokens) new named more
 AreKept-more most held old new names named docs more doc h k room fits =
     let D = documents_of old docs in
     let e : documents_of new more ≡ D ++ doc ∷ [] = documents_of-more old new names named docs more doc h k.numbers in

@@ -4,6 +4,7 @@ ghost use Rattle.std.specs.List.{All, IsDistinct};
 ghost use Rattle.std.specs.Str.{bytes_eq};
 ghost use Rattle.ri_base.specs.Inversion.{AreNumbers, by_number};
 ghost use Rattle.memory_index.specs.Inverts.{AreAllSpread, AreSorted, AreSpread, Inverts, ranks_at, terms_of};
+ghost use Rattle.ri_base.specs.declared.limits.TheConstants.{MAX_HELD_TOKENS, MAX_PART_DOCS};
 
 use crate::numbered::Numbered;
 use ri_base::{Held, NoMemory, Place, Places, Term, Terms};
@@ -20,10 +21,10 @@ pub struct Inverted {
 /// The inversion of documents.
 pub fn invert(alloc: Global, terms: &[Term], docs: &[Held]) -> Result<Inverted, NoMemory>
     requires few_terms { length terms.now < 2 ^ 31 }
-    requires few_docs { length docs.now ≤ 1048576 }
+    requires few_docs { length docs.now ≤ MAX_PART_DOCS }
     requires apart { IsDistinct bytes_eq terms.now }
     requires numbers { AreNumbers (length terms.now) docs.now }
-    requires short { All (λ h. length h.tokens.items ≤ 67108864) docs.now }
+    requires short { All (λ h. length h.tokens.items ≤ MAX_HELD_TOKENS) docs.now }
     ensures { IfOk result (λ r. Inverts terms.now docs.now r.vocabulary r.ranks.items r.postings.items) }
 {
     let sorted = sorted(alloc, terms)?;
@@ -117,11 +118,11 @@ fn empty_places(alloc: Global, counts: &[u32]) -> Result<Vec<Places>, NoMemory>
 
 /// Puts each token's place into its rank's list.
 fn spread(postings: &mut Vec<Places>, ranks: &[u32], docs: &[Held]) -> Result<(), NoMemory>
-    requires few { length docs.now ≤ 1048576 }
+    requires few { length docs.now ≤ MAX_PART_DOCS }
     requires empty { postings.old.items ≡ replicate (length postings.old.items) [] }
     requires numbers { AreNumbers (length ranks.now) docs.now }
     requires ranked { All (λ r. r < length postings.old.items) ranks.now }
-    requires short { All (λ h. length h.tokens.items ≤ 67108864) docs.now }
+    requires short { All (λ h. length h.tokens.items ≤ MAX_HELD_TOKENS) docs.now }
     ensures { OnOk result (AreAllSpread postings.new.items (length postings.old.items) ranks.now docs.now) }
 {
     let mut id = 0u32;
@@ -140,7 +141,7 @@ fn spread_one(
 ) -> Result<(), NoMemory>
     requires numbers { All (λ n. n < length ranks.now) tokens.now }
     requires ranked { All (λ r. r < length postings.old.items) ranks.now }
-    requires short { length tokens.now ≤ 67108864 }
+    requires short { length tokens.now ≤ MAX_HELD_TOKENS }
     ensures { OnOk result (AreSpread postings.old.items postings.new.items id (ranks_at ranks.now tokens.now)) }
 {
     let mut at = 0u32;

@@ -2,6 +2,7 @@
 ghost use Rattle.std.specs.Prelude.{◌≡◌, ◌<◌, ◌≤◌, ◌↔◌, ℕ, ◌+◌, ◌^◌, ◌++◌, [], ◌∷◌, Err, length, IfOk, MatchResult, OnErr, OnOk, take};
 ghost use Rattle.ri_base.specs.Collection.{name_count, token_count};
 ghost use Rattle.memory_index.specs.Numbering.{Holds};
+ghost use Rattle.ri_base.specs.declared.limits.TheConstants.{MAX_HELD_TOKENS, MAX_PART_DOCS};
 
 use crate::inversion::{Inverted, invert};
 use crate::numbering::{count_new, note_names, numbered};
@@ -50,7 +51,7 @@ impl MemIndex {
     /// An index of no documents, for at most so many.
     pub fn new(alloc: Global, most: u32) -> Result<MemIndex, NoMemory>
         requires some { 1 ≤ most }
-        requires small { most ≤ 1048576 }
+        requires small { most ≤ MAX_PART_DOCS }
         ensures { IfOk result (λ m. m ≡ record { most = most; documents = [] }) }
     {
         Ok(MemIndex {
@@ -73,7 +74,7 @@ impl MemIndex {
     /// How many tokens its documents have together.
     pub fn token_count(&self) -> u64
         ensures exact { result ≡ token_count self.now.documents }
-        ensures most { result ≤ 67108864 }
+        ensures most { result ≤ MAX_HELD_TOKENS }
     {
         self.held
     }
@@ -87,7 +88,7 @@ impl MemIndex {
 
     /// Adds a document, and answers its id. `token_count` tells whether there is room for its tokens.
     pub fn add(&mut self, alloc: Global, doc: &Doc) -> Result<u32, MemRefusal>
-        requires room { token_count self.old.documents + length doc.now.tokens ≤ 67108864 }
+        requires room { token_count self.old.documents + length doc.now.tokens ≤ MAX_HELD_TOKENS }
         ensures id { IfOk result (λ id. id ≡ length self.old.documents) }
         ensures added { OnOk result (self.new ≡ record { most = self.old.most; documents = self.old.documents ++ doc.now ∷ [] }) }
         ensures kept { OnErr result (self.new ≡ self.old) }

@@ -9,7 +9,7 @@ use Rattle.query_check.specs.Check.{CheckedTree, checked_or, checked_tree, check
 use Rattle.query_check.specs.Leaves.{LeafTree}
 use Rattle.query_check.specs.declared.fault.CheckFault.{CheckFault}
 use Rattle.query_check.proofs.Walks.{drop_at, drop_end}
-use Rattle.full_ranking.specs.Counts.{is_plain as is_plain_leaf}
+use Rattle.plain_query.specs.Checked.{is_plain_checked, is_plain_leaf}
 use Rattle.plain_query.specs.Plain.{are_plain, are_weighted_plain, has_none, is_plain, is_plain_query, is_whole}
 
 module _ (xs : List Belief) (i : ℕ) where
@@ -88,8 +88,9 @@ whole_plain : (q : QueryTree) (names : List (List ℕ)) → are_plain (belief_tr
 unfolding is_plain are_plain are_weighted_plain
 whole_plain q names beliefs = leaves_plain names (whole q) beliefs
 
-pub plain_leaves : (q : QueryTree) (names : List (List ℕ)) (c : CheckedTree) → is_plain_query q ≡ true → checks q names ≡ Ok c → list_all is_plain_leaf c.leaves ≡ true
-plain_leaves q names c plain h =
+pub plain_checked : (q : QueryTree) (names : List (List ℕ)) (c : CheckedTree) → is_plain_query q ≡ true → checks q names ≡ Ok c → is_plain_checked c ≡ true
+plain_checked q names c plain h =
+    let outside : (has_none q.filters && is_whole q.range) ≡ true = left_of (has_none q.filters && is_whole q.range) (are_plain (belief_trees q.beliefs)) plain in
     let beliefs : are_plain (belief_trees q.beliefs) ≡ true = right_of (has_none q.filters && is_whole q.range) (are_plain (belief_trees q.beliefs)) plain in
     let same : checked_tree q names ≡ c = checked_is (first_fault names (whole q)) (checked_tree q names) c h in
-    ap (λ (x : CheckedTree). list_all is_plain_leaf x.leaves) (sym same) ∙ whole_plain q names beliefs
+    ap is_plain_checked (sym same) ∙ and_from _ _ outside (whole_plain q names beliefs)

@@ -4,5 +4,5 @@
 mod laws;
 mod plain;
 
-pub use laws::leaves_are_plain;
+pub use laws::checked_is_plain;
 pub use plain::is_plain;

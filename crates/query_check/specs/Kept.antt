@@ -1,5 +1,6 @@
 -- What every checked query keeps.
 use Rattle.std.specs.Prelude.{◌≡◌, ◌≤◌, ◌<◌, ◌+◌, ◌^◌, ℕ, max, Bool, true, false, ◌&&◌, nat_lt, nat_le, ◌==◌, List, length}
+use Rattle.ri_base.specs.declared.limits.TheConstants.{MAX_QUERY_DEPTH, MAX_QUERY_NODES}
 use Rattle.ri_base.specs.declared.query.Range.{Range}
 use Rattle.ri_base.specs.Query.{FilterTree, depth_in_filters, nodes_in_filters, are_filters, window_count, is_range}
 use Rattle.query_check.specs.Leaves.{LeafTree, leaf_depths, all_leaf_nodes, are_sound_leaves}
@@ -81,15 +82,16 @@ unfoldable mutual
 
 -- the bounds of a query, of its filters, its range and the leaves that are left
 pub record IsWithinBounds (filters : List FilterTree) (range : Range) (leaves : List LeafTree) : Type 0 where
-  pub shallow : depth_in_filters filters (window_count range + leaf_depths leaves) ≤ 32
-  pub few : nodes_in_filters filters + (window_count range + all_leaf_nodes leaves) ≤ 1000
+  pub shallow : depth_in_filters filters (window_count range + leaf_depths leaves) ≤ MAX_QUERY_DEPTH
+  pub few : nodes_in_filters filters + (window_count range + all_leaf_nodes leaves) ≤ MAX_QUERY_NODES
   pub sound_filters : are_filters filters ≡ true
   pub sound_range : is_range range ≡ true
   pub sound_leaves : are_sound_leaves leaves ≡ true
 
 pub record IsChecked (filters : List FilterTree) (range : Range) (leaves : List LeafTree) (tree : ScaledTree) (e : ℕ) : Type 0 where
   pub within : IsWithinBounds filters range leaves
-  pub shallow : depth tree ≤ 33
+  -- one more operator stands round all beliefs
+  pub shallow : depth tree ≤ MAX_QUERY_DEPTH + 1
   pub arguments : has_arguments tree ≡ true
   pub numbered : is_below (length leaves) tree ≡ true
   pub reduced : is_reduced tree ≡ true

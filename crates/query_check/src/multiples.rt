@@ -3,7 +3,7 @@ ghost use Rattle.std.specs.Prelude.{◌≡◌, ◌<◌, ◌+◌, ◌*◌, ◌^�
 ghost use Rattle.query_check.specs.Multiples.{gcd, lcm};
 ghost use Rattle.query_check.specs.Limit.{below_limit};
 
-/// Scales are below this number.
+/// Scales are below this number. A key is a scale times digits of at most 62 bits, and so it fits 128 bits.
 const LIMIT: u64 = 1 << 60;
 
 /// The greatest common divisor, by Euclid's algorithm.

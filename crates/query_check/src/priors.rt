@@ -8,7 +8,7 @@ ghost use Rattle.query_check.specs.Check.{prior_number, is_unknown, is_length, p
 use ri_base::{Belief, Name, NoMemory};
 use std::alloc::Global;
 
-/// The number of the prior `length`.
+/// The number of the prior `length`, behind those of the eight names that there may be.
 const LENGTH: u8 = 8;
 
 fn is_length(name: &Name) -> bool

@@ -1,6 +1,7 @@
 // The check of a query.
-ghost use Rattle.std.specs.Prelude.{◌≡◌, ◌≤◌, length, map, true};
+ghost use Rattle.std.specs.Prelude.{◌≡◌, ◌≤◌, ◌+◌, length, map, true};
 ghost use Rattle.ri_base.specs.Queries.{whole_tree};
+ghost use Rattle.ri_base.specs.declared.limits.TheConstants.{MAX_QUERY_NODES};
 ghost use Rattle.ri_base.specs.Query.{belief_tree, belief_trees, combine, is_sound, nodes};
 ghost use Rattle.query_check.specs.Answers.{Answers};
 ghost use Rattle.query_check.specs.Check.{checks, first_fault, pruned, tree_from};
@@ -36,7 +37,7 @@ pub fn check(alloc: Global, query: Query, priors: &[Name]) -> Result<Checked, Ch
 /// The scaled tree of beliefs without a fault.
 fn accepted(alloc: Global, beliefs: &[Belief], priors: &[Name]) -> Result<Tree, CheckFault>
     requires sound { is_sound (combine (belief_trees (map belief_tree beliefs.now))) ≡ true }
-    requires few { nodes (combine (belief_trees (map belief_tree beliefs.now))) ≤ 1001 }
+    requires few { nodes (combine (belief_trees (map belief_tree beliefs.now))) ≤ MAX_QUERY_NODES + 1 }
     ensures { Accepts result (first_fault priors.now (combine (belief_trees (map belief_tree beliefs.now)))) (tree_from 0 (pruned (combine (belief_trees (map belief_tree beliefs.now))))) }
 {
     if !have_weights(beliefs) {

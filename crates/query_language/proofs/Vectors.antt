@@ -6,7 +6,7 @@ use Rattle.ri_base.specs.Query as q
 use Rattle.ri_base.specs.declared.query.Range.TheVariants.{Whole, Field, Passages}
 use Rattle.query_reader.specs.QueryText.{query_text, expr_text}
 use Rattle.query_reader.specs.declared.fault.QueryKind.TheVariants.{Expected, UnknownOperator, BadNumber, EmptyTerm, EmptyOperator, FilterInside, WindowInside, ContextInside, BadField, WeightTooLong, NotYetBuilt}
-use Rattle.query_reader.proofs.Computing.{reading}
+use Rattle.query_language.proofs.Computing.{reading}
 
 q1 : query_text (codes "#1(a") ≡ Err (Expected, 4)
 unfolding reading
@@ -127,3 +127,11 @@ weighted = refl
 filtered : query_text (codes "#filrej(a #combine[passage8:4](b))") ≡ Ok (record { filters = record { keep = false; expr = x.word (codes "a") } ∷ []; range = Passages 8 4; beliefs = q.leaf (x.word (codes "b")) None ∷ [] })
 unfolding reading
 filtered = refl
+
+nested : expr_text (codes "#uw5(a-b #any:T).x ") ≡ Ok (x.in_field (x.unordered 5 (x.more (x.ordered 1 (x.more (x.word (codes "a")) (x.more (x.word (codes "b")) x.none))) (x.more (x.any (codes "t")) x.none))) (codes "x"))
+unfolding reading
+nested = refl
+
+no_weight : query_text (codes "#weight(#foo(a))") ≡ Err (BadNumber, 8)
+unfolding reading
+no_weight = refl

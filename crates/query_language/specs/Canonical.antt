@@ -1,12 +1,10 @@
--- What a canonical text answers where a text is refused.
-use Rattle.std.specs.Prelude.{ℕ, ◌≡◌, List, Result, Ok, Err}
-use Rattle.ri_base.specs.Query.{QueryTree}
+-- The canonical text of a query's text.
+use Rattle.std.specs.Prelude.{ℕ, List, Result}
+use Rattle.std.specs.Result.{result_map_both}
+use Rattle.query_printer.specs.Printed.{query_printed}
+use Rattle.query_reader.specs.QueryText.{query_text}
 use Rattle.query_reader.specs.declared.fault.QueryKind.{QueryKind}
-use Rattle.query_reader.specs.declared.fault.QueryFault.{QueryFault}
-use Rattle.query_reader.specs.declared.fault.QueryFault.TheVariants as fault
 
--- A refusal is the reading's kind and place. Want of memory may be answered at any text.
-abbrev pub RefusesAs : Result (List ℕ) QueryFault → Result QueryTree (QueryKind × ℕ) → Type 0
-RefusesAs (Ok text) read = Unit {0}
-RefusesAs (Err (fault.Refused kind place)) read = read ≡ Err (kind, place)
-RefusesAs (Err fault.Memory) read = Unit {0}
+-- what is printed of the tree that the text is read as, or the text's one kind of fault and place
+abbrev pub canonical : List ℕ → Result (List ℕ) (QueryKind × ℕ)
+canonical bytes = result_map_both query_printed (λ fault. fault) (query_text bytes)

@@ -1,1 +1,4 @@
 pub mod Canonical
+pub mod Grammar
+pub mod BeliefGrammar
+pub mod QueryGrammar

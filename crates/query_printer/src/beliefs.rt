@@ -7,7 +7,11 @@ use crate::exprs::{push_bytes, push_expr, push_number};
 use ri_base::{Belief, Name, NoMemory};
 use std::alloc::Global;
 
+/// A weight is kept in billionths, so that each of its decimals is exact.
 const BILLION: u64 = 1_000_000_000;
+
+/// The decimals of a billionth.
+const DECIMALS: u32 = 9;
 
 /// Appends the decimals of a number of billionths, without trailing zeros.
 #[tactic(auto, using(crate::proofs::Decimals::unit_pos, crate::proofs::Decimals::nothing_left, crate::proofs::Decimals::some_left, crate::proofs::Decimals::digit_small, crate::proofs::Decimals::rest_small, crate::proofs::Decimals::next_decimal))]
@@ -16,7 +20,7 @@ fn push_decimals(out: &mut Vec<u8>, part: u64) -> Result<(), NoMemory>
     ensures { OnOk result (out.new.items ≡ out.old.items ++ decimals_of 9 part) }
 {
     let mut rest = part;
-    let mut left: u32 = 9;
+    let mut left = DECIMALS;
     while rest > 0 {
         left -= 1;
         let unit = 10_u64.pow(left);

@@ -45,6 +45,7 @@ fn push_top(alloc: Global, out: &mut Vec<u8>, all: &[Belief]) -> Result<(), NoMe
     }
 }
 
+/// What begins a range of passages, before its first number.
 const PASSAGE: &[u8] = b"passage";
 
 /// Whether `passage` and a digit stand at the front, which begin a passage range.

@@ -1,5 +1,3 @@
-pub mod Computing
-pub mod Vectors
 pub mod Fronts
 pub mod Quotes
 pub mod Numbers
@@ -12,8 +10,3 @@ pub mod Places
 pub mod ReadFits
 pub mod BeliefFits
 pub mod QueryFits
-pub mod PrintParts
-pub mod ExprLaw
-pub mod WeightLaw
-pub mod BeliefLaw
-pub mod QueryLaw

@@ -13,5 +13,6 @@ mod quoted;
 mod weights;
 
 pub use fault::{QueryFault, QueryKind};
+pub use operator::{Head, Operator};
 pub use query::{read_expr, read_query};
 pub use query_printer::{print_expr, print_query};

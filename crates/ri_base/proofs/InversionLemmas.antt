@@ -10,6 +10,7 @@ use Rattle.ri_base.specs.Vocabulary.{IsVocabulary, vocabulary_of}
 use Rattle.ri_base.specs.declared.held.Held.{Held}
 use Rattle.ri_base.specs.declared.places.Place.{Place}
 use Rattle.ri_base.proofs.VocabularyLemmas.{IsVocabulary-same}
+use Rattle.ri_base.specs.declared.limits.TheConstants.{MAX_HELD_TOKENS}
 
 -- how many tokens one of the documents has
 abbrev pub held_tokens : Held → ℕ
@@ -47,7 +48,7 @@ module _ (v : List (List ℕ)) (ranks : List ℕ) (held : List Held) (ps : List 
   pub counted : sum_by held_tokens held ≡ token_count docs
   counted = tokens_of_all (by_number v ranks) held ∙ ap token_count is
 
-  pub fits_in_part : sum_by held_tokens held ≤ 67108864
+  pub fits_in_part : sum_by held_tokens held ≤ MAX_HELD_TOKENS
   fits_in_part =
       let here = tokens_of_all (by_number v ranks) held in
       let fits = inverts.fits in

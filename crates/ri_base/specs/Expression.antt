@@ -2,6 +2,7 @@
 use Rattle.std.specs.Prelude.{ℕ, ◌+◌, ◌≤◌, ◌≡◌, max, Bool, true, false, ◌&&◌, nat_le, not, List, [], ◌∷◌}
 use Rattle.ri_base.specs.Text.{is_term, is_name}
 use Rattle.ri_base.specs.declared.expression.ExtentExpr.{ExtentExpr, Word, Any, Ordered', Unordered', Syn', Band', InField', Row_of-ExtentExpr, end_of-ExtentExpr, more_of-ExtentExpr}
+use Rattle.ri_base.specs.declared.limits.TheConstants.{MAX_QUERY_DEPTH, MAX_QUERY_NODES, MAX_WIDTH}
 
 mutual
   pub data ExprTree : Type 0 where
@@ -68,7 +69,7 @@ unfoldable mutual
 
 -- the numbers of windows and passages
 abbrev pub is_width : ℕ → Bool
-is_width n = nat_le 1 n && nat_le n 1048576
+is_width n = nat_le 1 n && nat_le n MAX_WIDTH
 
 abbrev pub is_in_field : ExprTree → Bool
 is_in_field (in_field x f) = true
@@ -100,6 +101,6 @@ unfoldable mutual
 
 -- the bounds of every expression that was read
 pub record IsBounded (x : ExprTree) : Type 0 where
-  pub shallow : depth x ≤ 32
-  pub few : nodes x ≤ 1000
+  pub shallow : depth x ≤ MAX_QUERY_DEPTH
+  pub few : nodes x ≤ MAX_QUERY_NODES
   pub sound : is_sound x ≡ true

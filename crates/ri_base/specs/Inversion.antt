@@ -7,6 +7,7 @@ use Rattle.ri_base.specs.Places.{postings_of}
 use Rattle.ri_base.specs.Vocabulary.{IsVocabulary}
 use Rattle.ri_base.specs.declared.held.Held.{Held}
 use Rattle.ri_base.specs.declared.places.Place.{Place}
+use Rattle.ri_base.specs.declared.limits.TheConstants.{MAX_HELD_TOKENS, MAX_PART_DOCS}
 
 -- the document for which this stands, where number n stands for the term at n
 abbrev pub document_of : List (List ℕ) → Held → Document
@@ -30,9 +31,9 @@ by_number vocabulary ranks = map (λ r. slice_index_or vocabulary r []) ranks
 
 -- the postings, by the rank of their term, are the inversion of the documents, within the bounds of one part
 pub record IsInversion (vocabulary : List (List ℕ)) (ranks : List ℕ) (docs : List Held) (postings : List (List Place)) : Type 0 where
-  pub few : length docs ≤ 1048576
+  pub few : length docs ≤ MAX_PART_DOCS
   pub documents : StandForDocuments (by_number vocabulary ranks) docs
-  pub fits : token_count (documents_of (by_number vocabulary ranks) docs) ≤ 67108864
+  pub fits : token_count (documents_of (by_number vocabulary ranks) docs) ≤ MAX_HELD_TOKENS
   pub terms : IsVocabulary vocabulary (documents_of (by_number vocabulary ranks) docs)
   pub numbers : AreNumbers (length ranks) docs
   pub ranked : All (λ r. r < length vocabulary) ranks

@@ -7,6 +7,7 @@ use Rattle.ri_base.specs.declared.belief.Belief.{Belief, Combine', Weight', Max'
 use Rattle.ri_base.specs.declared.query.Filter.{Filter}
 use Rattle.ri_base.specs.declared.query.Range.{Range}
 use Rattle.ri_base.specs.declared.query.Range.TheVariants as range
+use Rattle.ri_base.specs.declared.limits.TheConstants.{MAX_QUERY_DEPTH, MAX_QUERY_NODES}
 
 mutual
   pub data BeliefTree : Type 0 where
@@ -183,6 +184,6 @@ is_sound_query q =
 
 -- the bounds of every query
 pub record IsBoundedQuery (q : QueryTree) : Type 0 where
-  pub shallow : query_depth q ≤ 32
-  pub few : query_nodes q ≤ 1000
+  pub shallow : query_depth q ≤ MAX_QUERY_DEPTH
+  pub few : query_nodes q ≤ MAX_QUERY_NODES
   pub sound : is_sound_query q ≡ true

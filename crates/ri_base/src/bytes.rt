@@ -5,52 +5,18 @@ ghost use Rattle.std.specs.Bool.{nat_eq};
 ghost use Rattle.std.specs.Cmp.Lexicographic.{pointwise};
 ghost use Rattle.std.specs.Cmp.Rules.{comparing};
 
-use crate::NoMemory;
+use crate::{List, NoMemory};
 use std::alloc::Global;
-use std::marker::Model;
 
 /// Bytes, seen as their list.
-#[derive(Debug, Drop)]
-pub struct Bytes {
-    items: Vec<u8>,
-}
-
-impl Model for Bytes {
-    ghost use Rattle.std.specs.Prelude.{ℕ, List};
-
-    ghost Value = { List ℕ };
-
-    ghost view = { λ b. b.items.items };
-}
+pub type Bytes = List<u8>;
 
 impl Bytes {
-    /// The bytes of a vector, which it keeps.
-    pub fn of(items: Vec<u8>) -> Bytes
-        ensures { result ≡ items.items }
-    {
-        Bytes { items }
-    }
-
     /// A copy of these bytes.
     pub fn copy_of(alloc: Global, bytes: &[u8]) -> Result<Bytes, NoMemory>
         ensures { IfOk result (λ b. b ≡ bytes.now) }
     {
-        Ok(Bytes {
-            items: bytes.to_vec(alloc)?,
-        })
-    }
-
-    pub fn as_slice(&self) -> &[u8]
-        ensures { result.now ≡ self.now }
-    {
-        self.items.as_slice()
-    }
-
-    /// The vector of these bytes.
-    pub fn into_vec(self) -> Vec<u8>
-        ensures { result.items ≡ self }
-    {
-        self.items
+        Ok(Bytes::of(bytes.to_vec(alloc)?))
     }
 
     /// Equal bytes.
@@ -67,7 +33,7 @@ impl PartialEq for Bytes {
     ghost laws = { Prim.search (comparing, rules) };
 
     fn eq(&self, other: &Bytes) -> bool {
-        self.items == other.items
+        self.as_slice() == other.as_slice()
     }
 }
 

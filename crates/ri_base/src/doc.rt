@@ -3,6 +3,7 @@ ghost use Rattle.std.specs.Prelude.{◌≡◌, ◌≤◌, length, IfOk};
 ghost use Rattle.ri_base.specs.Collection.{names_of};
 ghost use Rattle.ri_base.specs.Documents.{IsDocument};
 ghost use Rattle.ri_base.specs.Names.{AreNames};
+ghost use Rattle.ri_base.specs.declared.limits.TheConstants.{MAX_DOC_TOKENS};
 
 use crate::{Docno, FieldSpan, Name, NoMemory, Spans, Terms};
 use std::alloc::Global;
@@ -75,7 +76,7 @@ impl Doc {
     /// How many tokens it has.
     pub fn len(&self) -> u32
         ensures exact { result ≡ length self.now.tokens }
-        ensures most { result ≤ 1048576 }
+        ensures most { result ≤ MAX_DOC_TOKENS }
     {
         self.tokens.len() as u32
     }

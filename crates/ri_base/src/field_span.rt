@@ -1,7 +1,7 @@
 // Fields of a document, and lists of them.
-ghost use Rattle.std.specs.Prelude.{◌≡◌, ◌<◌, ◌↔◌, [], ◌∷◌, ◌++◌, length, IsTrue, IfOk, OnOk, OnErr};
+ghost use Rattle.std.specs.Prelude.{◌≡◌, ◌<◌, IfOk};
 
-use crate::{Name, NoMemory};
+use crate::{List, Name, NoMemory};
 use std::alloc::Global;
 use std::marker::Model;
 
@@ -68,70 +68,17 @@ impl FieldSpan {
 }
 
 /// Fields, seen as their list.
-#[derive(Debug, Drop)]
-pub struct Spans {
-    items: Vec<FieldSpan>,
-}
-
-impl Model for Spans {
-    ghost use Rattle.std.specs.Prelude.{List};
-    ghost use Rattle.ri_base.specs.Documents.{Field};
-
-    ghost Value = { List Field };
-
-    ghost view = { λ s. s.items.items };
-}
+pub type Spans = List<FieldSpan>;
 
 impl Spans {
-    /// The fields of a vector, which it keeps.
-    pub fn of(items: Vec<FieldSpan>) -> Spans
-        ensures { result ≡ items.items }
-    {
-        Spans { items }
-    }
-
-    /// The vector of these fields.
-    pub fn into_vec(self) -> Vec<FieldSpan>
-        ensures { result.items ≡ self }
-    {
-        self.items
-    }
-
-    /// No fields yet.
-    pub fn new(alloc: Global) -> Spans
-        ensures { result ≡ [] }
-    {
-        Spans {
-            items: Vec::new(alloc),
-        }
-    }
-
-    pub fn len(&self) -> usize
-        ensures { result ≡ length self.now }
-    {
-        self.items.len()
-    }
-
-    pub fn is_empty(&self) -> bool
-        ensures { IsTrue result ↔ (self.now ≡ []) }
-    {
-        self.items.is_empty()
-    }
-
-    pub fn as_slice(&self) -> &[FieldSpan]
-        ensures { result.now ≡ self.now }
-    {
-        self.items.as_slice()
-    }
-
     /// Equal fields.
     pub fn clone_in(&self, alloc: Global) -> Result<Spans, NoMemory>
         ensures { IfOk result (λ spans. spans ≡ self.now) }
     {
-        let mut items = Vec::new(alloc);
+        let mut spans = Spans::new(alloc);
         for span in self.as_slice() {
-            items.push(span.clone_in(alloc)?)?;
+            spans.push(span.clone_in(alloc)?)?;
         }
-        Ok(Spans { items })
+        Ok(spans)
     }
 }

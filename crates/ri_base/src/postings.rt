@@ -6,6 +6,7 @@ ghost use Rattle.ri_base.specs.Documents.{Document, IsDocument};
 ghost use Rattle.ri_base.specs.Faults.{IsOutside};
 ghost use Rattle.ri_base.specs.Keeps.{Keeps, Rose};
 ghost use Rattle.ri_base.specs.Places.{places};
+ghost use Rattle.ri_base.specs.declared.limits.TheConstants.{MAX_DOC_TOKENS};
 
 use crate::{Docno, FieldSpan, Positions, SegFault, Term};
 use std::alloc::Global;
@@ -36,7 +37,7 @@ pub trait Postings {
     fn length(&self, id: u32) -> u32
         requires { id < length (documents self.now) }
         ensures exact { result ≡ length (document_at (documents self.now) id).tokens }
-        ensures most { result ≤ 1048576 };
+        ensures most { result ≤ MAX_DOC_TOKENS };
 
     /// The fields of the document, by begin, end and name.
     fn spans(&self, id: u32) -> &[FieldSpan]

@@ -7,6 +7,7 @@ ghost use Rattle.ri_base.specs.Documents.{IsDocument};
 ghost use Rattle.ri_base.specs.Inversion.{IsInversion, by_number, document_of, documents_of};
 ghost use Rattle.ri_base.specs.Places.{places, places_at, postings_of};
 ghost use Rattle.ri_base.specs.Vocabulary.{IsVocabulary, vocabulary_of};
+ghost use Rattle.ri_base.specs.declared.limits.TheConstants.{MAX_HELD_TOKENS};
 
 use crate::{
     Doc, Docno, FieldSpan, Held, NoMemory, Place, Places, Positions, Postings, SegFault, Term,
@@ -57,7 +58,7 @@ impl Sealed {
     /// How many tokens the documents have together.
     pub fn token_count(&self) -> u64
         ensures count { result ≡ token_count self.now }
-        ensures most { result ≤ 67108864 }
+        ensures most { result ≤ MAX_HELD_TOKENS }
     {
         let mut count = 0;
         for held in &self.docs {
@@ -122,10 +123,7 @@ fn places_in(alloc: Global, postings: &[Place], id: u32) -> Result<Positions, No
 fn positions_of(alloc: Global, postings: &[Place]) -> Result<Positions, NoMemory>
     ensures { IfOk result (λ ps. ps ≡ map (λ p. p.at) postings.now) }
 {
-    let mut places = Vec::with_capacity(alloc, postings.len())?;
-    for p in postings {
-        places.push(p.at)?;
-    }
+    let places = postings.iter().map(|p| p.at).collect(alloc)?;
     Ok(Positions::of(places))
 }
 

@@ -10,13 +10,13 @@ use crate::short_bytes::ShortBytes;
 use std::alloc::Global;
 use std::marker::Model;
 
-/// The most bytes of a docno.
+/// The most bytes of a docno, so that a byte holds their number.
 pub const DOCNO_BYTES: usize = 255;
 
-/// The most bytes of a term.
+/// The most bytes of a term. What is longer in a text is seldom a word, and a byte holds the number.
 pub const TERM_BYTES: usize = 128;
 
-/// The most bytes of a name.
+/// The most bytes of a name, more than the names of fields in test collections have.
 pub const NAME_BYTES: usize = 32;
 
 /// A document's identifier: 1 to 255 visible bytes of ASCII, none of them `<`.
@@ -42,7 +42,7 @@ impl Model for Docno {
 pub fn is_docno_byte(byte: u8) -> bool
     ensures { result ≡ is_docno_byte byte }
 {
-    33 <= byte && byte <= 126 && byte != b'<'
+    byte.is_ascii_graphic() && byte != b'<'
 }
 
 fn are_docno_bytes(bytes: &[u8]) -> bool
@@ -148,11 +148,7 @@ impl Model for Name {
 fn lowered(alloc: Global, bytes: &[u8]) -> Result<Vec<u8>, NoMemory>
     ensures { IfOk result (λ lowered. lowered.items ≡ map lower bytes.now) }
 {
-    let mut lowered = Vec::new(alloc);
-    for byte in bytes {
-        lowered.push(lower(*byte))?;
-    }
-    Ok(lowered)
+    bytes.iter().map(|byte| lower(*byte)).collect(alloc)
 }
 
 fn are_name_bytes(bytes: &[u8]) -> bool

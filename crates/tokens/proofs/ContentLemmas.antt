@@ -23,6 +23,7 @@ use Rattle.tokens.specs.Open.{Keeps, closings}
 use Rattle.tokens.specs.declared.open_fields.OpenFields.{OpenFields}
 use Rattle.tokens.proofs.ClosingLemmas.{same_closings}
 use Rattle.tokens.proofs.SetLemmas.{in_order_with_fields, no_field_in_order, same_set}
+use Rattle.ri_base.specs.declared.limits.TheConstants.{MAX_DOC_FIELDS, MAX_DOC_TOKENS}
 
 -- ---- what each field keeps
 
@@ -89,7 +90,7 @@ is_before a b e = by (nat_cmp a.begin b.begin) refl (nat_cmp a.end b.end) refl (
 in_order : (fields : List Field) → IsStrictlySortedBy field_cmp fields → AllPairs IsBefore fields
 in_order fields h i j d lower inside = is_before (get_or fields i d) (get_or fields j d) (Less-from_sorted field_cmp fields i j d h lower inside)
 
-pub is_document : (pieces : List Piece) → length (document_terms pieces) ≤ 1048576 → length (document_fields pieces) ≤ 65535 → IsDocument (document_terms pieces) (document_fields pieces)
+pub is_document : (pieces : List Piece) → length (document_terms pieces) ≤ MAX_DOC_TOKENS → length (document_fields pieces) ≤ MAX_DOC_FIELDS → IsDocument (document_terms pieces) (document_fields pieces)
 unfolding document_fields
 is_document pieces short few = record {
   short = short;
@@ -101,8 +102,8 @@ is_document pieces short few = record {
   };
 }
 
-pub is_document_of : (pieces : List Piece) (tokens : List (List ℕ)) (fields : List Field) → tokens ≡ document_terms pieces → fields ≡ document_fields pieces → length tokens ≤ 1048576 → length fields ≤ 65535 → IsDocument tokens fields
-is_document_of pieces tokens fields t f short few = rw (t, f) (is_document pieces (subst (λ xs. length xs ≤ 1048576) t short) (subst (λ xs. length xs ≤ 65535) f few))
+pub is_document_of : (pieces : List Piece) (tokens : List (List ℕ)) (fields : List Field) → tokens ≡ document_terms pieces → fields ≡ document_fields pieces → length tokens ≤ MAX_DOC_TOKENS → length fields ≤ MAX_DOC_FIELDS → IsDocument tokens fields
+is_document_of pieces tokens fields t f short few = rw (t, f) (is_document pieces (subst (λ xs. length xs ≤ MAX_DOC_TOKENS) t short) (subst (λ xs. length xs ≤ MAX_DOC_FIELDS) f few))
 
 -- no piece is left
 pub at_end : (fields total : List Field) (at end : ℕ) (list : List Opened) (rest : List Piece) → length rest ≡ 0 → end ≡ at → with_fields fields (fields_from at list rest) ≡ total → with_fields fields (map (closed_at end) list) ≡ total

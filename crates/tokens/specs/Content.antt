@@ -9,6 +9,7 @@ use Rattle.tokens.specs.Fields.{document_fields}
 use Rattle.tokens.specs.Words.{byte_terms}
 use Rattle.tokens.specs.declared.document.TokenRefusal.{TokenRefusal}
 use Rattle.tokens.specs.declared.document.TokenRefusal.TheVariants.{TooManyTokens, TooManyFields, Memory}
+use Rattle.ri_base.specs.declared.limits.TheConstants.{MAX_DOC_FIELDS, MAX_DOC_TOKENS}
 
 -- only text has terms, and words don't run across a piece
 abbrev pub piece_terms : Piece → List (List ℕ)
@@ -21,18 +22,11 @@ piece_terms Break = []
 unfoldable pub document_terms : List Piece → List (List ℕ)
 document_terms pieces = flat_map piece_terms pieces
 
--- the most tokens and the most fields of a document
-abbrev pub most_tokens : ℕ
-most_tokens = 1048576
-
-abbrev pub most_fields : ℕ
-most_fields = 65535
-
 -- the document, or its refusal: too many tokens, else too many fields
 unfoldable pub content : RawDoc → Result Document TokenRefusal
 content d =
-    if nat_le (length (document_terms d.pieces)) most_tokens
-    then (if nat_le (length (document_fields d.pieces)) most_fields
+    if nat_le (length (document_terms d.pieces)) MAX_DOC_TOKENS
+    then (if nat_le (length (document_fields d.pieces)) MAX_DOC_FIELDS
     then Ok (record { docno = d.docno; tokens = document_terms d.pieces; fields = document_fields d.pieces })
     else Err (TooManyFields d.docno))
     else Err (TooManyTokens d.docno)

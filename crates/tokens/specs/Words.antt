@@ -13,7 +13,7 @@ folded word = encode_utf8_all (default_case_fold (chars word))
 abbrev pub terms_among : List (List ℕ) → List (List ℕ)
 terms_among pieces = filter is_term (map folded pieces)
 
--- the terms of a text: its words by the word boundaries of UAX #29, folded, where they have 1 to 128 bytes
+-- the terms of a text: its words by the word boundaries of UAX #29, folded, where these may be terms
 abbrev pub text_terms : List ℕ → List (List ℕ)
 text_terms text = terms_among (words text)
 

@@ -5,17 +5,16 @@ ghost use Rattle.tokens.specs.Content.{Answers, content, document_terms, piece_t
 ghost use Rattle.std.specs.List.Sorted.{IsStrictlySortedBy};
 ghost use Rattle.tokens.specs.Fields.{Opened, closed, document_fields, field_cmp, with_fields, without_last};
 ghost use Rattle.tokens.specs.Open.{Keeps, ReadsBehind};
+ghost use Rattle.ri_base.specs.declared.limits.TheConstants.{MAX_DOC_TOKENS};
 
 use crate::field_set::FieldSet;
 use crate::open_fields::OpenFields;
 use crate::terms::{Stop, push_byte_terms};
+use ri_base::limits::MAX_DOC_FIELDS;
 use ri_base::{Doc, Docno, Name, NoMemory, Spans, Terms};
 use std::alloc::{AllocError, Global};
 use thiserror::Error;
 use trec_reader::{Piece, Pieces, RawDoc};
-
-/// The most fields of a document.
-const MOST_FIELDS: usize = 65_535;
 
 /// Why a raw document isn't read as a document.
 #[derive(Debug, Drop, Error)]
@@ -62,10 +61,10 @@ fn read_piece(
     opened: &mut OpenFields,
     fields: &mut FieldSet,
 ) -> Result<(), Stop>
-    requires { length tokens.old ≤ 1048576 }
+    requires { length tokens.old ≤ MAX_DOC_TOKENS }
     ensures tokens { OnOk result (tokens.new ≡ tokens.old ++ piece_terms piece) }
-    ensures few { OnOk result (length tokens.new ≤ 1048576) }
-    ensures many { result ≡ Err Stop.TooMany → 1048576 < length (tokens.old ++ piece_terms piece) }
+    ensures few { OnOk result (length tokens.new ≤ MAX_DOC_TOKENS) }
+    ensures many { result ≡ Err Stop.TooMany → MAX_DOC_TOKENS < length (tokens.old ++ piece_terms piece) }
     ensures fields { OnOk result ((list : List Opened) → Keeps opened.old list → ReadsBehind piece (length tokens.old) list fields.old (length tokens.new) opened.new fields.new) }
     ensures in_order { OnOk result (IsStrictlySortedBy field_cmp fields.old → IsStrictlySortedBy field_cmp fields.new) }
 {
@@ -83,8 +82,8 @@ fn read_piece(
 fn read_pieces(alloc: Global, pieces: Pieces) -> Result<(Terms, FieldSet), Stop>
     ensures tokens { IfOk result (λ x. x.0 ≡ document_terms pieces) }
     ensures fields { IfOk result (λ x. x.1 ≡ document_fields pieces) }
-    ensures few { IfOk result (λ x. length x.0 ≤ 1048576) }
-    ensures many { result ≡ Err Stop.TooMany → 1048576 < length (document_terms pieces) }
+    ensures few { IfOk result (λ x. length x.0 ≤ MAX_DOC_TOKENS) }
+    ensures many { result ≡ Err Stop.TooMany → MAX_DOC_TOKENS < length (document_terms pieces) }
 {
     let mut tokens = Terms::new(alloc);
     let mut opened = OpenFields::new(alloc);
@@ -107,7 +106,7 @@ pub fn doc_of(alloc: Global, raw: RawDoc) -> Result<Doc, TokenRefusal>
         Err(Stop::TooMany) => return Err(TokenRefusal::TooManyTokens { docno }),
         Err(Stop::Memory) => return Err(TokenRefusal::Memory),
     };
-    if fields.len() > MOST_FIELDS {
+    if fields.len() > MAX_DOC_FIELDS {
         return Err(TokenRefusal::TooManyFields { docno });
     }
     let spans = fields.into_spans(alloc)?;

@@ -1,15 +1,14 @@
 // The terms of texts.
 ghost use Rattle.std.specs.Prelude.{◌≡◌, ◌<◌, ◌≤◌, ◌++◌, ◌∷◌, [], length, IfOk, OnOk, Err};
 ghost use Rattle.tokens.specs.Words.{byte_terms, folded, terms_among, text_terms};
+ghost use Rattle.ri_base.specs.declared.limits.TheConstants.{MAX_DOC_TOKENS};
 
 use bstr::ByteSlice;
 use caseless::default_case_fold_str;
+use ri_base::limits::MAX_DOC_TOKENS;
 use ri_base::{NoMemory, Term, Terms};
 use std::alloc::{AllocError, Global};
 use unicode_segmentation::UnicodeSegmentation;
-
-/// The most tokens of a document.
-pub const MOST_TOKENS: usize = 1_048_576;
 
 /// Why terms aren't counted further.
 #[derive(Clone, Copy, Debug, PartialEq, Eq)]
@@ -53,14 +52,14 @@ pub fn terms_of(alloc: Global, text: &str) -> Result<Terms, NoMemory>
 
 /// Appends the terms of a text, as long as there are no more than a document may have.
 fn push_terms(alloc: Global, text: &str, terms: &mut Terms) -> Result<(), Stop>
-    requires { length terms.old ≤ 1048576 }
+    requires { length terms.old ≤ MAX_DOC_TOKENS }
     ensures ok { OnOk result (terms.new ≡ terms.old ++ text_terms text.now) }
-    ensures few { OnOk result (length terms.new ≤ 1048576) }
-    ensures many { result ≡ Err Stop.TooMany → 1048576 < length (terms.old ++ text_terms text.now) }
+    ensures few { OnOk result (length terms.new ≤ MAX_DOC_TOKENS) }
+    ensures many { result ≡ Err Stop.TooMany → MAX_DOC_TOKENS < length (terms.old ++ text_terms text.now) }
 {
     for word in text.unicode_words() {
         push_word(alloc, word, terms)?;
-        if terms.len() > MOST_TOKENS {
+        if terms.len() > MAX_DOC_TOKENS {
             return Err(Stop::TooMany);
         }
     }
@@ -70,10 +69,10 @@ fn push_terms(alloc: Global, text: &str, terms: &mut Terms) -> Result<(), Stop>
 /// Appends the terms of bytes, as long as there are no more than a document may have.
 #[tactic(auto, unfolding(crate::specs::Words::byte_terms))]
 pub fn push_byte_terms(alloc: Global, bytes: &[u8], terms: &mut Terms) -> Result<(), Stop>
-    requires { length terms.old ≤ 1048576 }
+    requires { length terms.old ≤ MAX_DOC_TOKENS }
     ensures ok { OnOk result (terms.new ≡ terms.old ++ byte_terms bytes.now) }
-    ensures few { OnOk result (length terms.new ≤ 1048576) }
-    ensures many { result ≡ Err Stop.TooMany → 1048576 < length (terms.old ++ byte_terms bytes.now) }
+    ensures few { OnOk result (length terms.new ≤ MAX_DOC_TOKENS) }
+    ensures many { result ≡ Err Stop.TooMany → MAX_DOC_TOKENS < length (terms.old ++ byte_terms bytes.now) }
 {
     let text = bytes.to_str_lossy(alloc)?;
     push_terms(alloc, text.as_str(), terms)

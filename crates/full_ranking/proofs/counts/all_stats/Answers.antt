@@ -1,4 +1,4 @@
-use Rattle.full_ranking.proofs.CountLemmas.{plain_at}
+use Rattle.document_scoring.proofs.CountLemmas.{plain_at}
 use Rattle.full_ranking.proofs.counts.all_stats.Goals as goal
 
 pub stats_of-requires : goal.stats_of-requires

@@ -1,7 +1,7 @@
 use Rattle.std.proofs.Common.{◌≡◌, take, map, All}
 use Rattle.query_check.specs.Leaves.{leaf_tree}
 use Rattle.belief_nodes.specs.Leaves.{AreLeafStats}
-use Rattle.full_ranking.specs.Counts.{stats_of}
+use Rattle.document_scoring.specs.Counts.{stats_of}
 use Rattle.full_ranking.proofs.counts.all_stats.Given as goal
 
 abbrev pub invariant-loop-leaf : goal.invariant-loop-leaf

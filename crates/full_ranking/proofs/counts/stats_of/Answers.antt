@@ -1,7 +1,7 @@
 use Rattle.std.proofs.Common.{arith, ◌≡◌, ◌<◌, ◌≤◌, ◌+◌, ◌∙◌, ap, length, sum_by, sym, subst}
 use Rattle.std.proofs.lemmas.List.{take_all}
 use Rattle.query_check.specs.Leaves.{leaf_tree}
-use Rattle.full_ranking.specs.Counts.{len, tf}
+use Rattle.document_scoring.specs.Counts.{whole_len, whole_tf}
 use Rattle.full_ranking.proofs.CountLemmas.{AreNextSums, next_sums, sum_of_lengths, words_so_far}
 use Rattle.full_ranking.proofs.counts.stats_of.Goals as goal
 use Rattle.full_ranking.proofs.counts.stats_of.Goals.{After-from-cf}
@@ -34,11 +34,11 @@ returns c =
     let docs = c.args.index.now in
     let leaf = leaf_tree c.args.leaf.now in
     let read = take_all c.loop-id.id docs (omega (arith, c.loop-id-test.false, c.docs-id-end.ensures)) in
-    let cf : c.loop-id.cf ≡ sum_by (tf leaf) docs = c.loop-id.invariant.cf ∙ ap (sum_by (tf leaf)) read in
-    let total : c.token_count-total.result ≡ sum_by (len leaf) docs = c.token_count-total.ensures.count ∙ sym (sum_of_lengths leaf docs c.requires) in
-    let part : c.loop-id.cf ≤ sum_by (len leaf) docs = subst (λ ds. c.loop-id.cf ≤ sum_by (len leaf) ds) read c.loop-id.invariant.part in
+    let cf : c.loop-id.cf ≡ sum_by (whole_tf leaf) docs = c.loop-id.invariant.cf ∙ ap (sum_by (whole_tf leaf)) read in
+    let total : c.token_count-total.result ≡ sum_by (whole_len leaf) docs = c.token_count-total.ensures.count ∙ sym (sum_of_lengths leaf docs c.requires) in
+    let part : c.loop-id.cf ≤ sum_by (whole_len leaf) docs = subst (λ ds. c.loop-id.cf ≤ sum_by (whole_len leaf) ds) read c.loop-id.invariant.part in
     record {
-      stats = ap (λ n. record { cf = n; total = c.token_count-total.result }) cf ∙ ap (λ n. record { cf = sum_by (tf leaf) docs; total = n }) total;
+      stats = ap (λ n. record { cf = n; total = c.token_count-total.result }) cf ∙ ap (λ n. record { cf = sum_by (whole_tf leaf) docs; total = n }) total;
       range = record { part = omega (arith, part, total); few = omega (arith, c.token_count-total.ensures.most) };
       same = c.loop-id.invariant.same;
     }

@@ -1,5 +1,5 @@
 use Rattle.std.proofs.Common.{◌≡◌, map}
-use Rattle.full_ranking.specs.Rows.{row_hit}
+use Rattle.document_scoring.specs.Rows.{row_hit}
 use Rattle.full_ranking.proofs.ranking.hits_of.Given as goal
 
 abbrev pub invariant-loop-row : goal.invariant-loop-row

@@ -1,4 +1,4 @@
-use Rattle.std.proofs.Common.{◌≡◌, ◌<◌, ap, arith}
+use Rattle.std.proofs.Common.{[], ◌≡◌, ◌<◌, ap, arith}
 use Rattle.smoothing.specs.declared.rule.RuleKind.TheVariants.{Dirichlet}
 use Rattle.query_check.specs.Answers.{whole_checked}
 use Rattle.query_check.specs.Scale.{scale}
@@ -16,5 +16,5 @@ returns c =
     let docs : c.in-Ok.sealed ≡ c.args.index.documents = c.in-Ok.ensures in
     let ranked = rw (kind, docs) at found.1 in
     let some : 0 < scale (scaled_tree checked.tree) = let least = checked.kept.positive in let whole = checked.kept.whole in omega (arith, least, whole) in
-    let order = c.ranking_is_true.ensures (Dirichlet c.args.mu) q.leaves q.tree c.args.index.documents found.0 most_shown ranked some in
+    let order = c.ranking_is_true.ensures (Dirichlet c.args.mu) [] q c.args.index.documents found.0 most_shown ranked some in
     ok_then c.lines_text.result c.lines_text.ensures (λ text is. result_lines c.args.mu q c.args.index.documents found.0 c.in_ok-hits.hits text.items checked.kept.whole ranked order found.2 is)

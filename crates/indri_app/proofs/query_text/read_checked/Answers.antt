@@ -7,4 +7,4 @@ use Rattle.indri_app.proofs.query_text.read_checked.Goals as goal
 pub returns-in-Ok-check-clause-plain : goal.returns-in-Ok-check-clause-plain
 returns-in-Ok-check-clause-plain c =
     let plain : is_plain_query (whole_tree c.in-Ok.query) ≡ true = search rules in
-    c.leaves_are_plain.ensures (whole_tree c.in-Ok.query) [] (whole_checked c.in-Ok-check.checked) plain c.in-Ok-check.ensures.exact
+    c.checked_is_plain.ensures (whole_tree c.in-Ok.query) [] (whole_checked c.in-Ok-check.checked) plain c.in-Ok-check.ensures.exact

@@ -4,11 +4,12 @@ use Rattle.ri_base.specs.declared.held.Held.{Held}
 use Rattle.memory_index.specs.Inverts.{Inverts}
 use Rattle.memory_index.proofs.InvertLemmas.{IsInversion-made, short_from_count}
 use Rattle.memory_index.proofs.mem_index.MemIndex.seal.Goals as goal
+use Rattle.ri_base.specs.declared.limits.TheConstants.{MAX_HELD_TOKENS}
 
 pub invert-requires-clause-short : goal.invert-requires-clause-short
 invert-requires-clause-short c =
-    subst (λ (l : List Held). All (λ h. length h.tokens.items ≤ 67108864) l) (sym c.deref.ensures.value)
-    (short_from_count c.self.inside.terms.keys c.self.inside.docs.items 67108864 c.self.invariant.fits)
+    subst (λ (l : List Held). All (λ h. length h.tokens.items ≤ MAX_HELD_TOKENS) l) (sym c.deref.ensures.value)
+    (short_from_count c.self.inside.terms.keys c.self.inside.docs.items MAX_HELD_TOKENS c.self.invariant.fits)
 
 pub of-requires : goal.of-requires
 of-requires c =

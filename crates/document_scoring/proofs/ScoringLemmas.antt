@@ -1,0 +1,147 @@
+-- A document as a whole as the candidate that it is.
+use Rattle.std.proofs.Common.{◌≡◌, ◌<◌, ℕ, ◌+◌, ◌-◌, Bool, true, false, not, ◌&&◌, ◌==◌, if◌then◌else◌, Option, None, Some, List, [], ◌∷◌, ◌++◌, length, map, filter, zip, refl, sym, ap, ◌∙◌, arith, append-nil}
+use Rattle.std.specs.Bool.{nat_eq, nat_lt}
+use Rattle.std.specs.List.{All, list_all, list_any}
+use Rattle.std.proofs.lemmas.Bool.Decides.{nat_tests}
+use Rattle.std.proofs.lemmas.List.{length-map}
+use Rattle.std.proofs.lemmas.List.Elements.{All-cons, All-nil}
+use Rattle.log_chain.specs.Chain.{chain}
+use Rattle.log_chain.specs.declared.chain.TheConstants.{LAST}
+use Rattle.ri_base.specs.Collection.{document_at}
+use Rattle.ri_base.specs.Documents.{Document}
+use Rattle.ri_base.specs.Pair.{Pair}
+use Rattle.ri_base.specs.Ratio.{Ratio, ratio_of}
+use Rattle.ri_base.specs.declared.fraction.Fraction.{Fraction}
+use Rattle.ri_base.specs.declared.hit.LeafStats.{LeafStats}
+use Rattle.ri_base.specs.declared.query.Range.{Range}
+use Rattle.ri_base.specs.declared.query.Range.TheVariants.{Whole}
+use Rattle.smoothing.specs.declared.rule.RuleKind.{RuleKind}
+use Rattle.query_check.specs.Leaves.{LeafTree, extents, prior}
+use Rattle.plain_query.specs.Checked.{is_plain_leaf}
+use Rattle.belief_nodes.specs.Fractions.{leaf_fraction, leaf_fractions}
+use Rattle.belief_nodes.specs.Keys.{digits_at}
+use Rattle.belief_nodes.specs.Network.{NetworkTree}
+use Rattle.belief_nodes.specs.Priors.{Prior}
+use Rattle.belief_nodes.specs.declared.leaf_count.LeafCount.{LeafCount}
+use Rattle.document_scoring.specs.Candidates.{Candidate, beliefs, candidate, found_windows, occurs}
+use Rattle.document_scoring.specs.Counts.{count_in, count_of, whole}
+use Rattle.document_scoring.specs.Rows.{Adds, IsKeyed, row_candidate}
+use Rattle.document_scoring.specs.declared.scoring.Row.{Row}
+use Rattle.document_scoring.proofs.CountLemmas.{none_occurs}
+
+-- ---- as many fractions as leaves
+
+pub joined_length : {X Y : Type 0} (f : X → Y → Ratio) (xs : List X) (ys : List Y) → length xs ≡ length ys → length (map (λ leaf. f leaf.0 leaf.1) (zip xs ys)) ≡ length xs
+joined_length f [] [] h = refl
+joined_length f [] (y ∷ ys) h = absurd (omega (arith, h))
+joined_length f (x ∷ xs) [] h = absurd (omega (arith, h))
+joined_length f (x ∷ xs) (y ∷ ys) h = let rest = joined_length f xs ys (omega (arith, h)) in omega (arith, rest)
+
+fractions_length : (kind : RuleKind) (counts : List LeafCount) (stats : List LeafStats) → length counts ≡ length stats → length (leaf_fractions kind counts stats) ≡ length counts
+unfolding leaf_fractions
+fractions_length kind counts stats h = joined_length (leaf_fraction kind) counts stats h
+
+pub digits_length : (kind : RuleKind) (counts : List LeafCount) (stats : List LeafStats) (leaves : List LeafTree) (fractions : List Fraction) (digits : List ℕ)
+    → length stats ≡ length leaves → length counts ≡ length leaves → map ratio_of fractions ≡ leaf_fractions kind counts stats
+    → digits ≡ digits_at LAST (map ratio_of fractions) → length digits ≡ length leaves
+digits_length kind counts stats leaves fractions digits summed counted is digits_are =
+    ap length digits_are ∙ length-map (map ratio_of fractions) (λ (r : Ratio). (chain r.p r.q LAST).digits) ∙ ap length is
+    ∙ fractions_length kind counts stats (counted ∙ sym summed) ∙ counted
+
+-- ---- beliefs
+
+-- the beliefs of leaves that are no priors are those of their counts
+told : (kind : RuleKind) (priors : List Prior) (d : Document) (w : Pair) (leaves : List LeafTree) (stats : List LeafStats) → list_all is_plain_leaf leaves ≡ true
+    → map (λ leaf. leaf_fraction kind leaf.0 leaf.1) (zip (map (count_in d w) leaves) stats) ≡ beliefs kind priors leaves stats d w
+told kind priors d w [] [] h = refl
+told kind priors d w [] (s ∷ ss) h = refl
+told kind priors d w (l ∷ ls) [] h = refl
+told kind priors d w (extents x None ∷ ls) (s ∷ ss) h =
+    ap (λ rs. leaf_fraction kind (count_in d w (extents x None)) s ∷ rs) (told kind priors d w ls ss h)
+told kind priors d w (extents x (Some c) ∷ ls) (s ∷ ss) h = cc
+told kind priors d w (prior n ∷ ls) (s ∷ ss) h = cc
+
+pub fractions_are : (kind : RuleKind) (priors : List Prior) (d : Document) (w : Pair) (leaves : List LeafTree) (counts : List LeafCount) (stats : List LeafStats) → list_all is_plain_leaf leaves ≡ true
+    → counts ≡ map (count_in d w) leaves → leaf_fractions kind counts stats ≡ beliefs kind priors leaves stats d w
+unfolding leaf_fractions
+fractions_are kind priors d w leaves counts stats plain is =
+    ap (λ (ns : List LeafCount). map (λ leaf. leaf_fraction kind leaf.0 leaf.1) (zip ns stats)) is ∙ told kind priors d w leaves stats plain
+
+-- ---- the window of a document as a whole
+
+none_left : (b : Bool) (p : Pair → Bool) (w : Pair) → p w ≡ false → filter p (if b then w ∷ [] else []) ≡ []
+none_left true p w h = rw h refl
+none_left false p w h = refl
+
+one_left : (b : Bool) (p : Pair → Bool) (w : Pair) → b ≡ true → p w ≡ true → filter p (if b then w ∷ [] else []) ≡ w ∷ []
+one_left true p w e h = rw h refl
+one_left false p w e h = cc
+
+none_begun : (b : Bool) (p : Pair → Bool) (w : Pair) → b ≡ false → filter p (if b then w ∷ [] else []) ≡ []
+none_begun true p w e = cc
+none_begun false p w e = refl
+
+no_window : (leaves : List LeafTree) (d : Document) → length d.tokens ≡ 0 → found_windows leaves Whole d ≡ []
+no_window leaves d none =
+    none_begun (nat_lt 0 (length d.tokens)) (λ w. list_any (occurs d w) leaves) (whole d) (grind (arith, nat_tests))
+
+no_leaf : (leaves : List LeafTree) (d : Document) → list_any (occurs d (whole d)) leaves ≡ false → found_windows leaves Whole d ≡ []
+no_leaf leaves d h = none_left (nat_lt 0 (length d.tokens)) (λ w. list_any (occurs d w) leaves) (whole d) h
+
+some_leaf : (leaves : List LeafTree) (d : Document) → (length d.tokens == 0) ≡ false → list_any (occurs d (whole d)) leaves ≡ true → found_windows leaves Whole d ≡ whole d ∷ []
+some_leaf leaves d long h =
+    one_left (nat_lt 0 (length d.tokens)) (λ w. list_any (occurs d w) leaves) (whole d) (grind (arith, nat_tests)) h
+
+-- ---- rows
+
+adds_none : (kind : RuleKind) (network : NetworkTree) (d : Document) (rows : List Row) → network.range ≡ Whole → found_windows network.leaves Whole d ≡ []
+    → Adds kind [] network d rows rows
+adds_none kind network d rows range none = record {
+  more = [];
+  behind = sym (append-nil rows);
+  candidates = sym (ap (map (candidate kind [] network d)) (ap (λ (r : Range). found_windows network.leaves r d) range ∙ none));
+  keyed = All-nil (IsKeyed network.tree);
+}
+
+pub without_tokens : (kind : RuleKind) (network : NetworkTree) (d : Document) (end : ℕ) (rows : List Row) → network.range ≡ Whole → end ≡ length d.tokens → end ≡ 0
+    → Adds kind [] network d rows rows
+without_tokens kind network d end rows range long none = adds_none kind network d rows range (no_window network.leaves d (sym long ∙ none))
+
+negated : (a b : Bool) → a ≡ not b → a ≡ true → b ≡ false
+negated a true e h = cc
+negated a false e h = refl
+
+affirmed : (a b : Bool) → a ≡ not b → a ≡ false → b ≡ true
+affirmed a true e h = refl
+affirmed a false e h = cc
+
+pub without_leaves : (kind : RuleKind) (network : NetworkTree) (d : Document) (counts : List LeafCount) (rows : List Row) → network.range ≡ Whole → counts ≡ map (count_of d) network.leaves
+    → list_all (λ count. count.tf == 0) counts ≡ true → Adds kind [] network d rows rows
+without_leaves kind network d counts rows range is none =
+    let tested : list_all (λ (count : LeafCount). count.tf == 0) counts ≡ not (list_any (occurs d (whole d)) network.leaves) =
+    ap (list_all (λ (count : LeafCount). count.tf == 0)) is ∙ none_occurs network.leaves d in
+    adds_none kind network d rows range (no_leaf network.leaves d (negated _ _ tested none))
+
+pub with_leaves : (kind : RuleKind) (network : NetworkTree) (docs read : List Document) (i : ℕ) (counts : List LeafCount) (docno : List ℕ) (end : ℕ) (rows next : List Row) (row : Row)
+    → read ≡ docs → network.range ≡ Whole → list_all is_plain_leaf network.leaves ≡ true → counts ≡ map (count_of (document_at docs i)) network.leaves
+    → list_all (λ count. count.tf == 0) counts ≡ false → docno ≡ (document_at read i).docno → end ≡ length (document_at docs i).tokens → (end == 0) ≡ false
+    → row_candidate row ≡ record { docno = docno; begin = 0; end = end; beliefs = leaf_fractions kind counts network.stats } → IsKeyed network.tree row → next ≡ rows ++ row ∷ []
+    → Adds kind [] network (document_at docs i) rows next
+with_leaves kind network docs read i counts docno end rows next row same range plain counted some named long begun is keyed pushed =
+    let d : Document = document_at docs i in
+    let tested : list_all (λ (count : LeafCount). count.tf == 0) counts ≡ not (list_any (occurs d (whole d)) network.leaves) =
+    ap (list_all (λ (count : LeafCount). count.tf == 0)) counted ∙ none_occurs network.leaves d in
+    let name : docno ≡ d.docno = named ∙ ap (λ (ds : List Document). (document_at ds i).docno) same in
+    let tokens : (length d.tokens == 0) ≡ false = ap (λ n. n == 0) (sym long) ∙ begun in
+    let window = ap (λ (r : Range). found_windows network.leaves r d) range ∙ some_leaf network.leaves d tokens (affirmed _ _ tested some) in
+    let told_by : row_candidate row ≡ candidate kind [] network d (whole d) =
+    is
+    ∙ ap (λ n. record { docno = n; begin = 0; end = end; beliefs = leaf_fractions kind counts network.stats }) name
+    ∙ ap (λ n. record { docno = d.docno; begin = 0; end = n; beliefs = leaf_fractions kind counts network.stats }) long
+    ∙ ap (λ rs. record { docno = d.docno; begin = 0; end = length d.tokens; beliefs = rs }) (fractions_are kind [] d (whole d) network.leaves counts network.stats plain counted) in
+    record {
+      more = row ∷ [];
+      behind = pushed;
+      candidates = ap (λ (c : Candidate). c ∷ []) told_by ∙ sym (ap (map (candidate kind [] network d)) window);
+      keyed = All-cons (IsKeyed network.tree) row [] keyed (All-nil (IsKeyed network.tree));
+    }

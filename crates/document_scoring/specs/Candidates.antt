@@ -1,0 +1,66 @@
+-- The windows of documents that may be shown for a query, with the beliefs of its leaves in them.
+use Rattle.std.specs.Prelude.{ℕ, Bool, true, false, not, nat_lt, if◌then◌else◌, List, [], ◌∷◌, filter, flat_map, length, map, zip}
+use Rattle.std.specs.List.{list_all, list_any}
+use Rattle.ri_base.specs.Documents.{Document}
+use Rattle.ri_base.specs.Pair.{Pair}
+use Rattle.ri_base.specs.Query.{FilterTree}
+use Rattle.ri_base.specs.Ratio.{Ratio}
+use Rattle.ri_base.specs.declared.hit.LeafStats.{LeafStats}
+use Rattle.ri_base.specs.declared.query.Range.{Range}
+use Rattle.extent_ops.specs.Listed.{extent_list}
+use Rattle.smoothing.specs.declared.rule.RuleKind.{RuleKind}
+use Rattle.query_check.specs.Leaves.{LeafTree, extents, prior}
+use Rattle.belief_nodes.specs.Fractions.{leaf_fraction}
+use Rattle.belief_nodes.specs.Network.{NetworkTree}
+use Rattle.belief_nodes.specs.Priors.{Prior, prior_at, prior_fraction}
+use Rattle.document_scoring.specs.Counts.{count_in}
+use Rattle.document_scoring.specs.Windows.{windows}
+
+pub record Candidate : Type 0 where
+  pub docno : List ℕ
+  pub begin : ℕ
+  pub end : ℕ
+  pub beliefs : List Ratio
+
+-- a leaf occurs in the window; a prior doesn't
+abbrev pub occurs : Document → Pair → LeafTree → Bool
+occurs d w l = nat_lt 0 (count_in d w l).tf
+
+-- the belief of a leaf in the window, by what the collection has of it; that of a prior is the same in each window
+abbrev pub leaf_belief : RuleKind → List Prior → Document → Pair → LeafTree → LeafStats → Ratio
+leaf_belief kind priors d w (extents x c) stats = leaf_fraction kind (count_in d w (extents x c)) stats
+leaf_belief kind priors d w (prior n) stats = prior_fraction (prior_at priors n) d.docno (length d.tokens)
+
+-- the beliefs of all leaves, in order of their numbers
+abbrev pub beliefs : RuleKind → List Prior → List LeafTree → List LeafStats → Document → Pair → List Ratio
+beliefs kind priors leaves stats d w = map (λ leaf. leaf_belief kind priors d w leaf.0 leaf.1) (zip leaves stats)
+
+abbrev pub candidate : RuleKind → List Prior → NetworkTree → Document → Pair → Candidate
+candidate kind priors network d w = record {
+  docno = d.docno;
+  begin = w.begin;
+  end = w.end;
+  beliefs = beliefs kind priors network.leaves network.stats d w;
+}
+
+-- of the windows of a range those in which some leaf occurs
+abbrev pub found_windows : List LeafTree → Range → Document → List Pair
+found_windows leaves range d = filter (λ w. list_any (occurs d w) leaves) (windows range d)
+
+-- the candidates of a document that passes the query's filters
+abbrev pub document_candidates : RuleKind → List Prior → NetworkTree → Document → List Candidate
+document_candidates kind priors network d =
+    map (candidate kind priors network d) (found_windows network.leaves network.range d)
+
+-- a document passes a filter that keeps where the expression has an extent, and one that rejects where it has none
+abbrev pub has_some : List Pair → Bool
+has_some [] = false
+has_some (x ∷ xs) = true
+
+abbrev pub passes : Document → FilterTree → Bool
+passes d f = if f.keep then has_some (extent_list f.expr d) else not (has_some (extent_list f.expr d))
+
+-- all candidates of a list of documents
+abbrev pub candidates : RuleKind → List Prior → List FilterTree → NetworkTree → List Document → List Candidate
+candidates kind priors filters network docs =
+    flat_map (document_candidates kind priors network) (filter (λ d. list_all (passes d) filters) docs)

@@ -1,0 +1,67 @@
+use Rattle.std.proofs.Common.{rules, [], ◌∷◌, ◌++◌, ◌≡◌, ◌∙◌, List, length, ap}
+use Rattle.std.proofs.lemmas.List.Elements.{All-push}
+use Rattle.ri_base.specs.Collection.{document_at}
+use Rattle.ri_base.specs.Documents.{Document}
+use Rattle.ri_base.specs.declared.expression.ExtentExpr.{the_lemmas}
+use Rattle.ri_base.proofs.ExpressionLemmas.{expr_tree-Word}
+use Rattle.extent_lists.specs.Rows.{IsAscending}
+use Rattle.extent_evaluation.proofs.EvaluationLemmas.{AreListed-more, Lists-of_any, Lists-of_band, Lists-of_in_field, Lists-of_ordered, Lists-of_syn, Lists-of_unordered}
+use Rattle.extent_evaluation.proofs.InsideLemmas.{IsAscending-inside}
+use Rattle.extent_lists.proofs.KeepsLemmas.{Keeps-then}
+use Rattle.extent_evaluation.proofs.InsideLemmas.{AreInOrder-ascending}
+use Rattle.extent_evaluation.proofs.evaluation.+evaluation.Goals as goal
+
+pub all_evaluated-evaluated-requires : goal.all_evaluated-evaluated-requires
+all_evaluated-evaluated-requires g t c κs within = search (rules, the_lemmas)
+
+pub all_evaluated-loop-x-preserved : goal.all_evaluated-loop-x-preserved
+all_evaluated-loop-x-preserved g t c =
+    let pushed : c.push.new.self.items ≡ c.loop-x.lists.items ++ c.in_ok-found.found ∷ [] = search rules in
+    record {
+      keeps = Keeps-then _ _ _ _ g.met.P.Postings.quiet_then _ _ _ c.loop-x.invariant.keeps c.evaluated.ensures.keeps;
+      listed = λ sound.
+          let listed = rw c.loop-x.invariant.keeps.documents_stay at (c.in_ok-found.ensures.exact (c.loop-x.invariant.keeps.sound_stays.0 sound)) in
+          rw pushed (AreListed-more _ _ _ _ _ _ c.loop-x-test.true c.x-item.is (c.loop-x.invariant.listed sound) listed);
+      ascending = rw pushed (All-push IsAscending c.loop-x.lists.items c.in_ok-found.found c.loop-x.invariant.ascending c.in_ok-found.ensures.ascending);
+    }
+
+pub evaluated-inside-requires-clause-extents : goal.evaluated-inside-requires-clause-extents
+evaluated-inside-requires-clause-extents g t c = AreInOrder-ascending _ c.in_ok-found-in-InField.ensures.ascending
+
+pub evaluated-returns-in-Word-clause-exact : goal.evaluated-returns-in-Word-clause-exact
+evaluated-returns-in-Word-clause-exact g t c = λ sound. rw (c.in-Word.is, expr_tree-Word) (c.of_term.ensures.exact sound)
+
+pub evaluated-returns-in_ok-chains-in-Ordered-clause-exact : goal.evaluated-returns-in_ok-chains-in-Ordered-clause-exact
+evaluated-returns-in_ok-chains-in-Ordered-clause-exact g t c = λ sound.
+    rw c.of.ensures (Lists-of_ordered c.args.expr.now _ c.in-Ordered.n c.in-Ordered.all c.in_ok-lists-in-Ordered.lists.items _ c.in-Ordered.is
+    (rw c.deref.ensures.value at (c.in_ok-lists-in-Ordered.ensures.exact sound)) (rw c.deref-in-Ordered.ensures.value at c.in_ok-chains-in-Ordered.ensures))
+
+pub evaluated-returns-in_ok-windows-in-Unordered-clause-exact : goal.evaluated-returns-in_ok-windows-in-Unordered-clause-exact
+evaluated-returns-in_ok-windows-in-Unordered-clause-exact g t c = λ sound.
+    rw c.of-in-Unordered.ensures (Lists-of_unordered c.args.expr.now _ c.in-Unordered.n c.in-Unordered.all c.in_ok-lists-in-Unordered.lists.items _ c.in-Unordered.is
+    (rw c.deref-in-Unordered.ensures.value at (c.in_ok-lists-in-Unordered.ensures.exact sound)) (rw c.deref-in-Unordered-2.ensures.value at c.in_ok-windows-in-Unordered.ensures))
+
+pub evaluated-returns-in_ok-union_of-in-Syn-clause-exact : goal.evaluated-returns-in_ok-union_of-in-Syn-clause-exact
+evaluated-returns-in_ok-union_of-in-Syn-clause-exact g t c = λ sound.
+    rw c.of-in-Syn.ensures (Lists-of_syn c.args.expr.now _ c.in-Syn.all c.in_ok-lists-in-Syn.lists.items _ c.in-Syn.is
+    (rw c.deref-in-Syn.ensures.value at (c.in_ok-lists-in-Syn.ensures.exact sound)) (rw c.deref-in-Syn-2.ensures.value at c.in_ok-union_of-in-Syn.ensures))
+
+pub evaluated-returns-in_ok-of_fields-in-Any-clause-exact : goal.evaluated-returns-in_ok-of_fields-in-Any-clause-exact
+evaluated-returns-in_ok-of_fields-in-Any-clause-exact g t c = λ sound.
+    rw c.of-in-Any.ensures (Lists-of_any c.args.expr.now _ c.in-Any.name c.spans.result.now _ c.in-Any.is c.spans.ensures.exact c.in_ok-of_fields-in-Any.ensures)
+
+pub evaluated-returns-in_ok-whole_if_each-in-Band-clause-exact : goal.evaluated-returns-in_ok-whole_if_each-in-Band-clause-exact
+evaluated-returns-in_ok-whole_if_each-in-Band-clause-exact g t c = λ sound.
+    let tokens = c.length-length.ensures.exact ∙ ap (λ (ds : List Document). length (document_at ds c.args.id).tokens) c.in_ok-lists-in-Band.ensures.keeps.documents_stay in
+    rw c.of-in-Band.ensures (Lists-of_band c.args.expr.now _ c.in-Band.all c.in_ok-lists-in-Band.lists.items c.length-length.result _ c.in-Band.is
+    (rw c.deref-in-Band.ensures.value at (c.in_ok-lists-in-Band.ensures.exact sound)) tokens (rw c.deref-in-Band-2.ensures.value at c.in_ok-whole_if_each-in-Band.ensures))
+
+pub evaluated-returns-in_ok-inside-in-InField-clause-exact : goal.evaluated-returns-in_ok-inside-in-InField-clause-exact
+evaluated-returns-in_ok-inside-in-InField-clause-exact g t c = λ sound.
+    let fields = c.spans-in-InField.ensures.exact ∙ ap (λ (ds : List Document). (document_at ds c.args.id).fields) c.in_ok-found-in-InField.ensures.keeps.documents_stay in
+    Lists-of_in_field c.args.expr.now _ c.in-InField.x c.in-InField.name c.spans-in-InField.result.now c.in_ok-found-in-InField.found _ c.in-InField.is fields
+    (rw c.deref-in-InField.ensures at (c.in_ok-found-in-InField.ensures.exact sound)) c.in_ok-inside-in-InField.ensures
+
+pub evaluated-returns-in_ok-inside-in-InField-clause-ascending : goal.evaluated-returns-in_ok-inside-in-InField-clause-ascending
+evaluated-returns-in_ok-inside-in-InField-clause-ascending g t c =
+    IsAscending-inside c.spans-in-InField.result.now c.in-InField.name c.in_ok-found-in-InField.found _ c.in_ok-found-in-InField.ensures.ascending c.in_ok-inside-in-InField.ensures

@@ -1,0 +1,104 @@
+// The extents of an expression.
+ghost use Rattle.std.specs.Prelude.{◌≡◌, ◌<◌, length, map, All, IfOk, IfErr, Err};
+ghost use Rattle.std.specs.List.{AllZip};
+ghost use Rattle.ri_base.specs.Collection.{document_at};
+ghost use Rattle.ri_base.specs.Expression.{expr_tree};
+ghost use Rattle.ri_base.specs.Faults.{IsOutside};
+ghost use Rattle.ri_base.specs.Keeps.{Keeps, Rose};
+ghost use Rattle.field_extents.specs.Extents.{AreInOrder};
+ghost use Rattle.extent_lists.specs.Extents.{Ext};
+ghost use Rattle.extent_lists.specs.Listing.{IsListing};
+ghost use Rattle.extent_lists.specs.Rows.{IsAscending, Lists};
+
+use crate::band::whole_if_each;
+use crate::ordered::chains;
+use crate::union::union_of;
+use crate::unordered::windows;
+use extent_lists::{of_fields, of_term};
+use field_extents::inside;
+use ri_base::{ExtentExpr, Extents, Postings, SegFault};
+use std::alloc::{AllocError, Global};
+
+/// The extents of the expression in the document, by begin and then end, each once.
+pub fn extents<P: Postings>(
+    alloc: Global,
+    expr: &ExtentExpr,
+    postings: &mut P,
+    id: u32,
+) -> Result<Extents, SegFault>
+    requires { id < length (P.documents postings.old) }
+    ensures keeps { Keeps P.documents P.faults P.sound P.quiet postings.old postings.new }
+    ensures exact { P.sound postings.old → IfOk result
+        (IsListing (Ext (expr_tree expr.now) (document_at (P.documents postings.old) id))) }
+    ensures order { IfOk result AreInOrder }
+    ensures honest { P.sound postings.old → IfErr result IsOutside }
+    ensures store { result ≡ Err SegFault.Store → Rose (P.faults postings.old) (P.faults postings.new) }
+{
+    evaluated(alloc, expr, postings, id)
+}
+
+#[cycle(evaluation)]
+fn evaluated<P: Postings>(
+    alloc: Global,
+    expr: &ExtentExpr,
+    postings: &mut P,
+    id: u32,
+) -> Result<Extents, SegFault>
+    requires { id < length (P.documents postings.old) }
+    ensures keeps { Keeps P.documents P.faults P.sound P.quiet postings.old postings.new }
+    ensures exact { P.sound postings.old → IfOk result
+        (Lists (Ext (expr_tree expr.now) (document_at (P.documents postings.old) id))) }
+    ensures ascending { IfOk result IsAscending }
+    ensures honest { P.sound postings.old → IfErr result IsOutside }
+    ensures store { result ≡ Err SegFault.Store → Rose (P.faults postings.old) (P.faults postings.new) }
+{
+    match expr {
+        ExtentExpr::Word(term) => of_term(alloc, term, postings, id),
+        ExtentExpr::Ordered(n, all) => {
+            let lists = all_evaluated(alloc, all, postings, id)?;
+            Ok(Extents::of(chains(alloc, *n, &lists)?))
+        }
+        ExtentExpr::Unordered(n, all) => {
+            let lists = all_evaluated(alloc, all, postings, id)?;
+            Ok(Extents::of(windows(alloc, *n, &lists)?))
+        }
+        ExtentExpr::Syn(all) => {
+            let lists = all_evaluated(alloc, all, postings, id)?;
+            Ok(Extents::of(union_of(alloc, &lists)?))
+        }
+        ExtentExpr::Any(name) => Ok(Extents::of(of_fields(alloc, postings.spans(id), name)?)),
+        ExtentExpr::Band(all) => {
+            let lists = all_evaluated(alloc, all, postings, id)?;
+            let length = postings.length(id);
+            Ok(Extents::of(whole_if_each(alloc, &lists, length)?))
+        }
+        ExtentExpr::InField(x, name) => {
+            let found = evaluated(alloc, x, postings, id)?;
+            Ok(inside(alloc, &found, postings.spans(id), name)?)
+        }
+    }
+}
+
+/// The extents of each expression.
+#[cycle(evaluation)]
+fn all_evaluated<P: Postings>(
+    alloc: Global,
+    all: &[ExtentExpr],
+    postings: &mut P,
+    id: u32,
+) -> Result<Vec<Extents>, SegFault>
+    requires { id < length (P.documents postings.old) }
+    ensures keeps { Keeps P.documents P.faults P.sound P.quiet postings.old postings.new }
+    ensures exact { P.sound postings.old → IfOk result
+        (λ v. AllZip (λ x xs. Lists (Ext x (document_at (P.documents postings.old) id)) xs) (map expr_tree all.now) v.items) }
+    ensures ascending { IfOk result (λ v. All IsAscending v.items) }
+    ensures honest { P.sound postings.old → IfErr result IsOutside }
+    ensures store { result ≡ Err SegFault.Store → Rose (P.faults postings.old) (P.faults postings.new) }
+{
+    let mut lists = Vec::new(alloc);
+    for x in all {
+        let found = evaluated(alloc, x, postings, id)?;
+        lists.push(found).map_err(AllocError::from)?;
+    }
+    Ok(lists)
+}

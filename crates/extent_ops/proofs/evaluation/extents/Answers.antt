@@ -1,6 +1,0 @@
-use Rattle.std.proofs.lemmas.Result.{IfOk-weaker}
-use Rattle.extent_ops.proofs.ListingLemmas.{IsListing-lists}
-use Rattle.extent_ops.proofs.evaluation.extents.Goals as goal
-
-pub returns-clause-exact : goal.returns-clause-exact
-returns-clause-exact g c = λ sound. IfOk-weaker _ _ _ (λ v l. IsListing-lists _ v l) (c.evaluated.ensures.exact sound)

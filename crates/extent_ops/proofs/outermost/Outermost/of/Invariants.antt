@@ -1,6 +1,0 @@
-use Rattle.std.proofs.Common.{take}
-use Rattle.extent_ops.proofs.PlaceLemmas.{AreOutermost}
-use Rattle.extent_ops.proofs.outermost.Outermost.of.Given as goal
-
-abbrev pub invariant-loop-x : goal.invariant-loop-x
-invariant-loop-x l = AreOutermost (take l.x-index l.xs) l.items.items l.reach

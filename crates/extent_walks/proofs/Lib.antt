@@ -1,0 +1,6 @@
+pub mod BuildLemmas
+pub mod LeftLemmas
+pub mod NextLemmas
+pub mod PlaceLemmas
+pub mod ShapeLemmas
+pub mod WalkLaws

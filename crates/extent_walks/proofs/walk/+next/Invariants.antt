@@ -1,0 +1,116 @@
+use Rattle.std.proofs.Common.{◌≡◌, ◌+◌, ◌-◌, ◌*◌, max}
+use Rattle.extent_lists.specs.Operators.{IsWindow, Joins}
+use Rattle.extent_lists.specs.Plans.{each_set, set}
+use Rattle.extent_walks.specs.Walks.{AreKept, IsAheadKept, plan, plans}
+use Rattle.extent_walks.proofs.NextLemmas.{AreLow, IsJoinedSoFar, IsLeastSoFar, IsPassed}
+use Rattle.extent_walks.proofs.WalkLaws.{depth, depths}
+use Rattle.extent_walks.proofs.walk.+next.Given as goal
+
+abbrev pub invariant-Ahead::least_of_ends-loop-self : goal.invariant-Ahead::least_of_ends-loop-self
+invariant-Ahead::least_of_ends-loop-self l = record {
+  same : plan l.self.walk ≡ plan l.initial.self.walk;
+  kept : IsAheadKept l.self;
+  so_far : IsLeastSoFar (set (plan l.initial.self.walk)) l.low l.top l.begin l.least;
+}
+
+abbrev pub decreases-Ahead::least_of_ends-loop-self : goal.decreases-Ahead::least_of_ends-loop-self
+decreases-Ahead::least_of_ends-loop-self l = 4294967296 - l.begin
+
+abbrev pub invariant-joined_end-loop-x : goal.invariant-joined_end-loop-x
+invariant-joined_end-loop-x l = record {
+  same_first : plan l.first.value.walk ≡ plan l.initial.first.value.walk;
+  same_later : plan l.later.value.walk ≡ plan l.initial.later.value.walk;
+  kept_first : IsAheadKept l.first.value;
+  kept_later : IsAheadKept l.later.value;
+  so_far : IsJoinedSoFar l.n (set (plan l.initial.first.value.walk)) (set (plan l.initial.later.value.walk)) l.begin l.end l.least;
+}
+
+abbrev pub decreases-joined_end-loop-x : goal.decreases-joined_end-loop-x
+decreases-joined_end-loop-x l = 18446744073709551616 - l.end
+
+abbrev pub invariant-next_joined-loop-x : goal.invariant-next_joined-loop-x
+invariant-next_joined-loop-x l = record {
+  same_first : plan l.first.value.walk ≡ plan l.initial.first.value.walk;
+  same_later : plan l.later.value.walk ≡ plan l.initial.later.value.walk;
+  kept_first : IsAheadKept l.first.value;
+  kept_later : IsAheadKept l.later.value;
+  low : AreLow (Joins l.n (set (plan l.initial.first.value.walk)) (set (plan l.initial.later.value.walk))) l.from.begin l.from.end l.low;
+}
+
+abbrev pub decreases-next_joined-loop-x : goal.decreases-next_joined-loop-x
+decreases-next_joined-loop-x l = 4294967296 - l.low
+
+abbrev pub invariant-next_shortest-loop-x : goal.invariant-next_shortest-loop-x
+invariant-next_shortest-loop-x l = record {
+  same : plan l.inner.value.walk ≡ plan l.initial.inner.value.walk;
+  kept : IsAheadKept l.inner.value;
+  low : AreLow (set (plan l.initial.inner.value.walk)) l.from.begin l.from.end l.low;
+}
+
+abbrev pub decreases-next_shortest-loop-x : goal.decreases-next_shortest-loop-x
+decreases-next_shortest-loop-x l = 4294967296 - l.low
+
+abbrev pub invariant-next_window-loop-x : goal.invariant-next_window-loop-x
+invariant-next_window-loop-x l = record {
+  same : plans l.all.value ≡ plans l.initial.all.value;
+  kept : AreKept l.all.value;
+  low : AreLow (IsWindow l.n (each_set (plans l.initial.all.value))) l.from.begin l.from.end l.low;
+}
+
+abbrev pub decreases-next_window-loop-x : goal.decreases-next_window-loop-x
+decreases-next_window-loop-x l = 4294967296 - l.low
+
+abbrev pub invariant-next_within-loop-x : goal.invariant-next_within-loop-x
+invariant-next_within-loop-x l = record {
+  same : plan l.inner.value.walk ≡ plan l.initial.inner.value.walk;
+  kept : IsAheadKept l.inner.value;
+  passed : IsPassed (set (plan l.initial.inner.value.walk)) l.fields l.fn.from.begin l.fn.from.end l.begin l.end;
+}
+
+abbrev pub decreases-next_within-loop-x : goal.decreases-next_within-loop-x
+decreases-next_within-loop-x l = (4294967296 - l.begin) * 18446744073709551616 + (18446744073709551616 - l.end)
+
+abbrev pub decreases-Walk::next : goal.decreases-Walk::next
+decreases-Walk::next l = 8 * depth (plan l.self.now)
+
+abbrev pub decreases-Ahead::next : goal.decreases-Ahead::next
+decreases-Ahead::next l = 8 * depth (plan l.self.now.walk) + 1
+
+abbrev pub decreases-Ahead::least_end : goal.decreases-Ahead::least_end
+decreases-Ahead::least_end l = 8 * depth (plan l.self.now.walk) + 3
+
+abbrev pub decreases-Ahead::first_end : goal.decreases-Ahead::first_end
+decreases-Ahead::first_end l = 8 * depth (plan l.self.now.walk) + 2
+
+abbrev pub decreases-Ahead::least_of_ends : goal.decreases-Ahead::least_of_ends
+decreases-Ahead::least_of_ends l = 8 * depth (plan l.self.now.walk) + 2
+
+abbrev pub decreases-Group::next : goal.decreases-Group::next
+decreases-Group::next l = 8 * depths (plans l.self.now) + 3
+
+abbrev pub decreases-Group::enclosing_end : goal.decreases-Group::enclosing_end
+decreases-Group::enclosing_end l = 8 * depths (plans l.self.now) + 3
+
+abbrev pub decreases-Group::has_each : goal.decreases-Group::has_each
+decreases-Group::has_each l = 8 * depths (plans l.self.now) + 3
+
+abbrev pub decreases-next_within : goal.decreases-next_within
+decreases-next_within l = 8 * depth (plan l.inner.now.value.walk) + 5
+
+abbrev pub decreases-next_shortest : goal.decreases-next_shortest
+decreases-next_shortest l = 8 * depth (plan l.inner.now.value.walk) + 5
+
+abbrev pub decreases-next_joined : goal.decreases-next_joined
+decreases-next_joined l = 8 * max (depth (plan l.first.now.value.walk)) (depth (plan l.later.now.value.walk)) + 5
+
+abbrev pub decreases-joined_end : goal.decreases-joined_end
+decreases-joined_end l = 8 * max (depth (plan l.first.now.value.walk)) (depth (plan l.later.now.value.walk)) + 4
+
+abbrev pub decreases-next_window : goal.decreases-next_window
+decreases-next_window l = 8 * depths (plans l.all.now.value) + 5
+
+abbrev pub decreases-window_end : goal.decreases-window_end
+decreases-window_end l = 8 * depths (plans l.all.now.value) + 4
+
+abbrev pub decreases-next_whole : goal.decreases-next_whole
+decreases-next_whole l = 8 * depths (plans l.all.now.value) + 5

@@ -1,0 +1,65 @@
+// The scoring of documents of an index in memory, which has no file and no store to fail.
+ghost use Rattle.std.specs.Prelude.{◌≡◌, ◌<◌, true, length, map, [], IfOk, OnOk};
+ghost use Rattle.std.specs.List.{list_all};
+ghost use Rattle.ri_base.specs.Collection.{document_at};
+ghost use Rattle.ri_base.specs.declared.query.Range.TheVariants.{Whole};
+ghost use Rattle.smoothing.specs.Fractions.{Computes};
+ghost use Rattle.query_check.specs.Leaves.{leaf_tree};
+ghost use Rattle.plain_query.specs.Checked.{is_plain_leaf};
+ghost use Rattle.belief_nodes.specs.Leaves.{IsLeafCount};
+ghost use Rattle.belief_nodes.specs.Network.{network_tree};
+ghost use Rattle.document_scoring.specs.Counts.{count_of};
+ghost use Rattle.document_scoring.specs.Rows.{Adds};
+
+use belief_nodes::{LeafCount, Network};
+use document_scoring::{Row, count_of, score_document};
+use query_check::LeafKind;
+use ri_base::{Fraction, NoMemory, Sealed, SegFault};
+use smoothing::Rule;
+use std::alloc::{AllocError, Global};
+
+/// The counts of a leaf in a document of the index.
+pub fn count_in_index(
+    alloc: Global,
+    leaf: &LeafKind,
+    index: &mut Sealed,
+    id: u32,
+) -> Result<LeafCount, NoMemory>
+    requires id { id < length index.old }
+    requires plain { is_plain_leaf (leaf_tree leaf.now) ≡ true }
+    ensures count { IfOk result (λ n. n ≡ count_of (document_at index.old id) (leaf_tree leaf.now)) }
+    ensures range { IfOk result (λ n. IsLeafCount n) }
+    ensures same { index.new ≡ index.old }
+{
+    match count_of(alloc, leaf, index, id) {
+        Ok(count) => Ok(count),
+        Err(SegFault::Memory) => Err(AllocError),
+        Err(SegFault::Malformed { .. } | SegFault::Missing { .. } | SegFault::Store) =>
+            unreachable!(),
+    }
+}
+
+/// Adds the candidates of a document of the index.
+pub fn score_in_index<F: Fn(u32, u32, u64, u64) -> Fraction>(
+    alloc: Global,
+    network: &Network,
+    rule: &Rule<F>,
+    index: &mut Sealed,
+    id: u32,
+    rows: &mut Vec<Row>,
+) -> Result<(), NoMemory>
+    requires rule { Computes F.pre F.post rule.now.kind rule.now.f }
+    requires id { id < length index.old }
+    requires whole { (network_tree network.now).range ≡ Whole }
+    requires plain { list_all is_plain_leaf (network_tree network.now).leaves ≡ true }
+    ensures adds { OnOk result
+        (Adds rule.now.kind [] (network_tree network.now) (document_at index.old id) rows.old.items rows.new.items) }
+    ensures same { index.new ≡ index.old }
+{
+    match score_document(alloc, network, rule, index, id, rows) {
+        Ok(()) => Ok(()),
+        Err(SegFault::Memory) => Err(AllocError),
+        Err(SegFault::Malformed { .. } | SegFault::Missing { .. } | SegFault::Store) =>
+            unreachable!(),
+    }
+}

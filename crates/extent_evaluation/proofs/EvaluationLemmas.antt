@@ -3,17 +3,15 @@ use Rattle.std.proofs.Common.{◌≡◌, ℕ, zero, suc, ◌+◌, ◌<◌, List,
 use Rattle.std.specs.List.{AllZip}
 use Rattle.field_extents.specs.Fields.{lies_in_some}
 use Rattle.ri_base.specs.Documents.{Document, Field}
-use Rattle.ri_base.specs.Expression.{ExprTree, expr_tree, expr_trees, any, band, in_field, ordered, syn, unordered, word}
+use Rattle.ri_base.specs.Expression.{ExprTree, expr_tree, expr_trees, any, band, in_field, ordered, syn, unordered}
 use Rattle.ri_base.specs.Pair.{Pair}
-use Rattle.ri_base.specs.Places.{places}
 use Rattle.ri_base.specs.declared.expression.ExtentExpr.{ExtentExpr, Any, Ordered, Unordered, Syn, Band, InField}
 use Rattle.ri_base.proofs.ExpressionLemmas.{expr_tree-Any, expr_tree-Ordered, expr_tree-Unordered, expr_tree-Syn, expr_tree-Band, expr_tree-InField}
 use Rattle.extent_lists.specs.Extents.{Ext, Exts, IsField}
 use Rattle.extent_lists.specs.Operators.{HasEach, IsChain, IsInSome, IsLeastEnd, IsWindow}
-use Rattle.extent_lists.specs.Rows.{Lists, extent_at, sets}
+use Rattle.extent_lists.specs.Rows.{Lists, sets}
 use Rattle.extent_evaluation.proofs.BandLemmas.{IsWhole}
 use Rattle.extent_evaluation.proofs.InsideLemmas.{Lists-inside}
-use Rattle.extent_lists.proofs.LeafLemmas.{Lists-word}
 use Rattle.extent_lists.proofs.SameLemmas.{AreWithin, HasEach-within, IsInSome-within, Lists-chain_same, Lists-same, Lists-window_same}
 
 -- each tree with the list of its extents

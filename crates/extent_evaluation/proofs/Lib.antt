@@ -5,4 +5,5 @@ pub mod EvaluationLemmas
 pub mod InsideLemmas
 pub mod MergeLemmas
 pub mod NearestLemmas
+pub mod SortLemmas
 pub mod WindowLemmas

@@ -1,5 +1,5 @@
 // Chains of extents: ordered windows.
-ghost use Rattle.std.specs.Prelude.{IfOk, IsTrue, map};
+ghost use Rattle.std.specs.Prelude.{IfOk, map};
 ghost use Rattle.std.specs.List.{All};
 ghost use Rattle.std.specs.List.Sorted.{IsNonDecreasingBy, IsPermutation};
 ghost use Rattle.extent_lists.specs.Operators.{IsChain, IsLeastEnd, Joins};
@@ -42,7 +42,8 @@ fn joined(alloc: Global, n: u32, xs: &[Extent], later: &[Extent]) -> Result<Vec<
 /// The same extents by their ends, so that the search of what follows them goes one way. Ends rise already unless
 /// extents lie inside others.
 fn by_end(alloc: Global, xs: &[Extent]) -> Result<Vec<Extent>, NoMemory>
-    ensures { IfOk result (λ v. IsPermutation xs.now v.items) }
+    ensures same { IfOk result (λ v. IsPermutation xs.now v.items) }
+    ensures sorted { IfOk result (λ v. IsNonDecreasingBy (λ x. x.end) v.items) }
 {
     let mut out = Vec::new(alloc);
     out.extend_from_slice(xs)?;
@@ -85,19 +86,7 @@ fn sort_by_begin(xs: &mut Vec<Extent>)
     ensures same { IsPermutation xs.old.items xs.new.items }
     ensures sorted { IsNonDecreasingBy (λ x. x.begin) xs.new.items }
 {
-    if !begins_rise(xs) {
+    if !xs.is_sorted_by_key(|x| x.begin()) {
         xs.sort_unstable_by_key(|x| x.begin());
     }
-}
-
-/// Whether no extent begins before the one in front of it.
-fn begins_rise(xs: &[Extent]) -> bool
-    ensures { IsTrue result → IsNonDecreasingBy (λ x. x.begin) xs.now }
-{
-    for i in 1..xs.len() {
-        if xs[i].begin() < xs[i - 1].begin() {
-            return false;
-        }
-    }
-    true
 }

@@ -2,11 +2,9 @@
 #![tactic(auto)]
 
 mod alone;
-mod index;
 mod laws;
 
 pub use alone::extents_of;
 pub use extent_evaluation::extents;
 pub use extent_walks::ExtentIter;
-pub use index::extents_in;
 pub use laws::extents_have_one_list;

@@ -7,6 +7,7 @@ use Rattle.std.proofs.lemmas.List.{take-append-drop, drop-drop}
 use Rattle.std.proofs.lemmas.List.Folds.{length-prefix_len}
 use Rattle.ri_base.specs.Ascii.{is_space}
 use Rattle.ri_base.specs.Text.{is_docno, is_docno_byte}
+use Rattle.ri_base.specs.declared.text.TheConstants.{DOCNO_BYTES}
 use Rattle.trec_reader.specs.Marks.{end_tag, is_named, tag}
 use Rattle.trec_reader.specs.Pieces.{pieces}
 use Rattle.trec_reader.specs.Documents.{Reading, after, continued, ◌>>=◌, space, start_tag, start_tag_of, doc_tag, docno_tag, docno, docno_behind, docno_of, docno_tagged, spaced_docno, docno_element, spaced_element, header, text, text_of, to_end, to_end_at, named, document}
@@ -209,7 +210,7 @@ record DocnoPart (name bytes : List ℕ) : Type 0 where
 record Behind (front : List ℕ) (at : ℕ) (bytes : List ℕ) (found : List ℕ) (n : ℕ) : Type 0 where
   pub same : front ≡ found
   pub some : 0 < length front
-  pub short : nat_lt 255 (length front) ≡ false
+  pub short : nat_lt DOCNO_BYTES (length front) ≡ false
   pub long : ℕ
   pub all : at + long ≡ n
   pub close : Front (IsTag true (codes "docno")) bytes long
@@ -222,9 +223,9 @@ behind front at [] found n e = absurd cc
 behind front at (b ∷ bytes) found n e = by (b == 60) e
   where
     tagged : (m : Mark) → tag (b ∷ bytes) ≡ m → docno_tagged front at (b ∷ bytes) m ≡ Ok (found, n) → Behind front at (b ∷ bytes) found n
-    tagged (Is t) is e = chosen (length front == 0) (t.is_end && is_named (codes "docno") (b ∷ bytes) t) (nat_lt 255 (length front)) refl refl refl e
+    tagged (Is t) is e = chosen (length front == 0) (t.is_end && is_named (codes "docno") (b ∷ bytes) t) (nat_lt DOCNO_BYTES (length front)) refl refl refl e
       where
-        chosen : (u v w : Bool) → (length front == 0) ≡ u → (t.is_end && is_named (codes "docno") (b ∷ bytes) t) ≡ v → nat_lt 255 (length front) ≡ w → choices u v w at front (at + (t.close + 1)) ≡ Ok (found, n) → Behind front at (b ∷ bytes) found n
+        chosen : (u v w : Bool) → (length front == 0) ≡ u → (t.is_end && is_named (codes "docno") (b ∷ bytes) t) ≡ v → nat_lt DOCNO_BYTES (length front) ≡ w → choices u v w at front (at + (t.close + 1)) ≡ Ok (found, n) → Behind front at (b ∷ bytes) found n
         chosen true v w eu ev ew e = absurd cc
         chosen false false w eu ev ew e = absurd cc
         chosen false true true eu ev ew e = absurd cc
@@ -323,10 +324,10 @@ docno_sound bytes name n e =
     let whole = both_front bytes (prefix_len is_docno_byte bytes) _ n run inner (omega (arith, b.all)) in
     as_front bytes n whole (docno_part name)
 
-docno_front_good : (name : List ℕ) → is_docno name ≡ true → (list_all is_docno_byte name ≡ true) × ((length name == 0) ≡ false) × (nat_lt 255 (length name) ≡ false)
+docno_front_good : (name : List ℕ) → is_docno name ≡ true → (list_all is_docno_byte name ≡ true) × ((length name == 0) ≡ false) × (nat_lt DOCNO_BYTES (length name) ≡ false)
 docno_front_good name h =
-    let both = both_true (nat_le 1 (length name) && nat_le (length name) 255) (list_all is_docno_byte name) h in
-    let bounds = both_true (nat_le 1 (length name)) (nat_le (length name) 255) both.0 in
+    let both = both_true (nat_le 1 (length name) && nat_le (length name) DOCNO_BYTES) (list_all is_docno_byte name) h in
+    let bounds = both_true (nat_le 1 (length name)) (nat_le (length name) DOCNO_BYTES) both.0 in
     (both.1, grind (arith, bounds.0), grind (arith, bounds.1))
 
 behind_reads : (name : List ℕ) (at : ℕ) (close rest : List ℕ) → is_docno name ≡ true → IsTag true (codes "docno") close → docno_behind name at (close ++ rest) ≡ Ok (name, at + length close)

@@ -3,7 +3,7 @@ use Rattle.std.proofs.Common.{◌≡◌, ℕ, inl, inr, ⊎_elim, Bool, true, fa
 use Rattle.std.proofs.lemmas.Bool.{true≢false}
 use Rattle.ri_base.specs.Pair.{Pair}
 use Rattle.extent_lists.specs.Pairs.{pair}
-use Rattle.extent_lists.specs.Rows.{BeginsAfter, Has, IsAscending, IsBeforeAll, IsRising, Lists}
+use Rattle.extent_lists.specs.Rows.{BeginsAfter, Has, IsAscending, IsBeforeAll, IsRising}
 
 same_pair : (x : Pair) (b e : ℕ) → (x.begin ≡ b) × (x.end ≡ e) → x ≡ pair b e
 same_pair x b e h =

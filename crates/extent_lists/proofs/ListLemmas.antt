@@ -9,7 +9,6 @@ use Rattle.extent_lists.specs.Rows.{Has, IsAscending, IsBeforeAll, Lists}
 use Rattle.std.proofs.lemmas.List.Elements.{All-head, All-tail}
 use Rattle.extent_lists.proofs.LeafLemmas.{AllPairs-head, AllPairs-tail}
 use Rattle.extent_lists.proofs.FilterLemmas.{IsFiltered-filter}
-use Rattle.extent_lists.proofs.ListingLemmas.{IsListing-lists}
 
 -- ---- all pairs
 

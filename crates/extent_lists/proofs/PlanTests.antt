@@ -1,8 +1,8 @@
 -- Whether a plan has an extent can be tested.
 use Rattle.std.specs.Prelude.{Decides}
-use Rattle.std.proofs.Common.{◌≡◌, ℕ, ◌+◌, ◌<◌, ◌≤◌, ⊎_elim, Bool, List, [], ◌∷◌, arith}
+use Rattle.std.proofs.Common.{ℕ, ◌+◌, ◌<◌, ◌≤◌, ⊎_elim, Bool, List, [], ◌∷◌, arith}
 use Rattle.ri_base.specs.Pair.{Pair}
-use Rattle.extent_lists.specs.Operators.{IsLeastEnd, Joins}
+use Rattle.extent_lists.specs.Operators.{Joins}
 use Rattle.extent_lists.specs.Plans.{Plan, Plans, listed, union_of, within, shortest, joined, window, whole, none, more, set, each_set, list_bound, plan_bound, plans_bound}
 use Rattle.extent_lists.specs.Rows.{Has}
 use Rattle.extent_lists.proofs.Tested.{AllTested, Test, Tested, both, either, has_around, is_below, is_number, joins_tested, least_tested, least_window, never, some_tested, whole_tested}

@@ -63,40 +63,40 @@ class Bound:
 
 
 TEXTS = ("rain", "#1(the launch)", "#uw8(the launch)", "launch.head")
-NEWSWIRE = {"scan": Bound(5, 12), "query": Bound(6.5, 80)}
+NEWSWIRE = {"scan": Bound(4.5, 12), "query": Bound(6, 80)}
 EXPONENT = 1.1
 
-THIN = {"scan": Bound(5, 12), "query": Bound(6, 200)}
+THIN = {"scan": Bound(4.5, 12), "query": Bound(5.5, 200)}
 THIN_TO_HALF = 2.2
 
 MARKS = {
-    PLAIN: Bound(12, 64),
-    "<": Bound(12, 32),
-    "<!--": Bound(12, 32),
-    "&": Bound(12, 32),
-    "<a ": Bound(12, 64),
-    "</doc ": Bound(12, 64),
-    "<!": Bound(12, 32),
-    "<a>": Bound(12, 180),
+    PLAIN: Bound(5, 56),
+    "<": Bound(3.5, 32),
+    "<!--": Bound(3.5, 32),
+    "&": Bound(4, 32),
+    "<a ": Bound(6, 64),
+    "</doc ": Bound(6.5, 64),
+    "<!": Bound(4, 32),
+    "<a>": Bound(10, 180),
 }
-PIECES = {PLAIN: Bound(12, 64), "</doc ": Bound(12, 64)}
+PIECES = {PLAIN: Bound(5, 56), "</doc ": Bound(6.5, 64)}
 
-LARGE = {"scan": Bound(8, 64), "query": Bound(8, 64)}
-DISTINCT = {"scan": Bound(8, 64), "query": Bound(30, 300)}
+LARGE = {"scan": Bound(4, 64), "query": Bound(4, 64)}
+DISTINCT = {"scan": Bound(4.5, 64), "query": Bound(10, 300)}
 
 QUERY_TO_SCAN = 3
 BYTES_A_TOKEN = 40
 MANY_SPACE = 32
 
 WINDOWS = ("a", "#uw8(a b c)", "#1(a b)")
-WINDOW = Bound(40, 160)
+WINDOW = Bound(12, 80)
 
 DISTINCT_NAMES = ("x.f9",)
 ONE_NAME = ("x.f", "#any:f", "#uw200000(#any:f y)", "#od200000(#any:f y)", "#od200000(#any:f #any:f)")
-FIELDS = Bound(40, 64)
+FIELDS = Bound(18, 48)
 
 # Those of `scan` and those of `query`.
-INSTRUCTIONS = {"newswire": (400, 450), "thin": (400, 450)}
+INSTRUCTIONS = {"newswire": (240, 300), "thin": (245, 265)}
 INSTRUCTIONS_TO_HALF = 2.1
 
 

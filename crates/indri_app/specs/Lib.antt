@@ -1,11 +1,11 @@
 pub mod Answer
 pub mod Collection
 pub mod Command
-pub mod Gathered
-pub mod Outcome
-pub mod QueryLine
+pub mod CommandPieces
+pub mod Faults
+pub mod Pieces
+pub mod Runs
 pub mod Scan
-pub mod Shown
 pub mod Status
-pub mod Stopped
-pub mod TextFaults
+pub mod Told
+pub mod Work

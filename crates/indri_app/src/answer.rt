@@ -5,9 +5,12 @@ ghost use Rattle.smoothing.specs.Counts.{AreCounts};
 ghost use Rattle.smoothing.specs.Fractions.{IsMu, dirichlet};
 ghost use Rattle.ri_base.specs.Ratio.{ratio_of};
 ghost use Rattle.query_check.specs.Answers.{whole_checked};
+ghost use Rattle.query_check.specs.Leaves.{leaf_tree};
 ghost use Rattle.plain_query.specs.Checked.{is_plain_checked};
 ghost use Rattle.ranked_output.specs.Texts.{lines_of, lines_text};
-ghost use Rattle.indri_app.specs.Answer.{IsResult, first_lines, most_shown};
+ghost use Rattle.indri_app.specs.Answer.{IsResult, first_lines};
+ghost use Rattle.indri_app.specs.Command.{IsRule};
+ghost use Rattle.indri_app.specs.declared.words.TheConstants.{MOST_SHOWN};
 
 use full_ranking::{rank, ranking_is_true};
 use memory_index::MemIndex;
@@ -17,13 +20,10 @@ use ri_base::{Fraction, Hits, NoMemory};
 use smoothing::{Rule, RuleKind, dirichlet_fraction};
 use std::alloc::{AllocError, Global};
 
-/// How many results are shown.
-pub const MOST_SHOWN: usize = 10;
-
 /// The lines of results.
 fn lines_text(alloc: Global, checked: &Checked, hits: &Hits) -> Result<Vec<u8>, NoMemory>
-    requires leaves { All (λ hit. length hit.fractions ≡ length checked.now.leaves.items) hits.now }
     requires few { length hits.now ≤ MOST_SHOWN }
+    requires leaves { All (λ hit. length hit.fractions ≡ length checked.now.leaves.items) hits.now }
     ensures { IfOk result (λ text. text.items ≡ lines_text (lines_of checked.now.scale hits.now)) }
 {
     let mut text = Vec::new(alloc);
@@ -39,20 +39,23 @@ fn lines_text(alloc: Global, checked: &Checked, hits: &Hits) -> Result<Vec<u8>, 
     Ok(text)
 }
 
-/// The lines of the first results of a ranking of the index's documents.
+/// The lines of the first results of a ranking of the index's documents, as many as are shown.
 pub fn ranking_text(
     alloc: Global,
-    mu: u32,
+    kind: RuleKind,
+    shown: usize,
     checked: &Checked,
     index: MemIndex,
 ) -> Result<Vec<u8>, NoMemory>
-    requires mu { IsMu mu }
+    requires rule { IsRule kind }
+    requires shown { shown ≤ MOST_SHOWN }
     requires plain { is_plain_checked (whole_checked checked.now) ≡ true }
-    ensures { IfOk result (λ text. (ranking : List Hit) × IsResult most_shown mu (whole_checked checked.now) index.documents ranking
-        × (text.items ≡ lines_text (first_lines most_shown (whole_checked checked.now) ranking))) }
+    ensures { IfOk result (λ text. (ranking : List Hit) × IsResult kind shown (whole_checked checked.now) index.documents ranking
+        × (text.items ≡ lines_text (first_lines shown (whole_checked checked.now) ranking))) }
 {
+    let RuleKind::Dirichlet { mu } = kind;
     let rule = Rule::new(
-        RuleKind::Dirichlet { mu },
+        kind,
         |tf, len, cf, total| -> Fraction
             requires mu { IsMu mu }
             requires counts { AreCounts tf len cf total }
@@ -63,6 +66,6 @@ pub fn ranking_text(
         return Err(AllocError);
     };
     ranking_is_true();
-    let hits = rank(alloc, checked, &rule, &mut sealed, MOST_SHOWN)?;
+    let hits = rank(alloc, checked, &rule, &mut sealed, shown)?;
     lines_text(alloc, checked, &hits)
 }

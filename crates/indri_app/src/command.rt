@@ -1,113 +1,91 @@
-// What the words of the command line ask for.
-ghost use Rattle.std.specs.Prelude.{option_map, ◌≡◌, ◌<◌, ◌≤◌, MatchOption, IfSome, Some, ℕ, List, true, false};
-ghost use Rattle.smoothing.specs.Fractions.{IsMu};
-ghost use Rattle.query_reader.specs.Parts.{value_from};
-ghost use Rattle.indri_app.specs.Command.{is_mu, has_number_form, mu_of, option_mu, query_words_of, scan_words_of, starts_with_zero};
-ghost use Rattle.std.specs.List.{list_all};
-ghost use Rattle.ri_base.specs.Ascii.{is_digit};
+// The command of a text.
+ghost use Rattle.std.specs.Prelude.{◌≡◌, ◌≤◌, Ok, Err, Result, true, IfOk};
+ghost use Rattle.plain_query.specs.Checked.{is_plain_checked};
+ghost use Rattle.query_check.specs.Answers.{whole_checked};
+ghost use Rattle.query_reader.specs.QueryText.{query_text};
+ghost use Rattle.indri_app.specs.Command.{IsRule, IsVerb, command_of, query_read};
+ghost use Rattle.indri_app.specs.declared.words.TheConstants.{MOST_SHOWN};
+ghost use Rattle.indri_app.specs.Told.{CanRun, Reads, text_fault, told};
 
-use ri_base::ArgList;
-use ri_base::ascii::is_digit;
-use smoothing::MAX_MU;
+use crate::words::Verb;
+use plain_query::{checked_is_plain, is_plain};
+use query_check::{CheckFault, Checked, check};
+use query_reader::{QueryFault, QueryKind, read_expr, read_query};
+use refusals::Refusal;
+use ri_base::ExtentExpr;
+use smoothing::RuleKind;
+use std::alloc::Global;
 
-/// The mu of a query whose words name none.
-const DEFAULT_MU: u32 = 2500;
-
-/// The text of a scan, where the words are `FOLDER scan TEXT`.
-pub fn scan_words_of(words: &ArgList) -> Option<&str>
-    ensures { option_map (λ text. text.now) result ≡ scan_words_of words.now }
-{
-    if words.len() != 3 {
-        return None;
-    }
-    let verb = words.get(1)?;
-    let text = words.get(2)?;
-    if verb == "scan" { Some(text) } else { None }
+/// A command whose text has no fault.
+#[derive(Drop)]
+pub enum Command {
+    /// The extents of an expression in each document of the input.
+    Scan(ExtentExpr),
+    /// The first results of a query over the documents of the input.
+    Query {
+        rule: RuleKind,
+        shown: usize,
+        query: Checked,
+    },
 }
 
-/// Whether these are digits without a leading zero.
-fn has_number_form(text: &[u8]) -> bool
-    ensures { result ≡ has_number_form text.now }
-{
-    are_digits(text) && !starts_with_zero(text)
+/// Why there is no command of a text.
+#[derive(Debug, Drop)]
+pub enum TextFault {
+    Refused(Refusal),
+    Memory,
 }
 
-fn are_digits(text: &[u8]) -> bool
-    ensures { result ≡ list_all is_digit text.now }
+fn text_fault(fault: QueryFault) -> TextFault
+    ensures { result ≡ text_fault fault }
 {
-    text.iter().all(|byte| is_digit(*byte))
-}
-
-fn starts_with_zero(text: &[u8]) -> bool
-    ensures { result ≡ starts_with_zero text.now }
-{
-    match text {
-        [b'0', ..] => true,
-        _ => false,
+    match fault {
+        QueryFault::Refused { kind, place } => TextFault::Refused(Refusal::Text { kind, place }),
+        QueryFault::Memory => TextFault::Memory,
     }
 }
 
-/// The value of digits, where it is in the range of mu.
-#[tactic(auto, using(crate::proofs::NumberLemmas::mu_out_of_range))]
-fn mu_value(digits: &[u8]) -> Option<u32>
-    ensures { MatchOption result (is_mu (value_from 0 digits.now) ≡ false) (λ n. (n ≡ value_from 0 digits.now) × (is_mu n ≡ true)) }
+/// The command of a query, where it is of a form that is ranked today.
+fn read_ranked(
+    alloc: Global,
+    rule: RuleKind,
+    shown: usize,
+    text: &str,
+) -> Result<Command, TextFault>
+    requires rule { IsRule rule }
+    requires shown { shown ≤ MOST_SHOWN }
+    ensures read { Reads result (query_read rule shown (query_text text.now)) }
+    ensures can { IfOk result (λ command. CanRun (told command)) }
 {
-    let mut n: u32 = 0;
-    for digit in digits {
-        n = n * 10 + u32::from(digit.saturating_sub(b'0'));
-        if n > MAX_MU {
-            return None;
-        }
+    let query = match read_query(alloc, text) {
+        Ok(query) => query,
+        Err(fault) => return Err(text_fault(fault)),
+    };
+    if !is_plain(&query) {
+        return Err(TextFault::Refused(Refusal::Text {
+            kind: QueryKind::NotYetBuilt,
+            place: 0,
+        }));
     }
-    if n == 0 { None } else { Some(n) }
-}
-
-fn mu_of(text: &str) -> Option<u32>
-    ensures { result ≡ mu_of text.now }
-{
-    let digits = text.as_bytes();
-    if has_number_form(digits) {
-        mu_value(digits)
-    } else {
-        None
-    }
-}
-
-/// The mu of the words `--mu N`.
-fn option_mu(option: &str, number: &str) -> Option<u32>
-    ensures { result ≡ option_mu option.now number.now }
-{
-    if option == "--mu" {
-        mu_of(number)
-    } else {
-        None
+    checked_is_plain();
+    match check(alloc, query, &[]) {
+        Ok(query) => Ok(Command::Query { rule, shown, query }),
+        Err(CheckFault::Memory) => Err(TextFault::Memory),
+        Err(fault) => Err(TextFault::Refused(Refusal::Check(fault))),
     }
 }
 
-/// A mu with a text.
-fn with_mu(mu: Option<u32>, text: &str) -> Option<(u32, &str)>
-    ensures words { option_map (λ x. (x.0, x.1.now)) result ≡ option_map {U = ℕ × List ℕ} (λ n. (n, text.now)) mu }
-    ensures mu { IfSome result (λ x. mu ≡ Some x.0) }
+/// The command of a text.
+pub fn read_command(alloc: Global, verb: Verb, text: &str) -> Result<Command, TextFault>
+    requires verb { IsVerb verb }
+    ensures read { Reads result (command_of verb text.now) }
+    ensures can { IfOk result (λ command. CanRun (told command)) }
 {
-    mu.map(|mu| (mu, text))
-}
-
-/// Mu and the text of a query, where the words are `FOLDER query TEXT` or `FOLDER query --mu N TEXT`.
-pub fn query_words_of(words: &ArgList) -> Option<(u32, &str)>
-    ensures words { option_map (λ x. (x.0, x.1.now)) result ≡ query_words_of words.now }
-    ensures mu { IfSome result (λ x. IsMu x.0) }
-{
-    let verb = words.get(1)?;
-    if verb != "query" {
-        return None;
-    }
-    match words.len() {
-        3 => Some((DEFAULT_MU, words.get(2)?)),
-        5 => {
-            let mu = option_mu(words.get(2)?, words.get(3)?);
-            let text = words.get(4)?;
-            with_mu(mu, text)
-        }
-        _ => None,
+    match verb {
+        Verb::Scan => match read_expr(alloc, text) {
+            Ok(expr) => Ok(Command::Scan(expr)),
+            Err(fault) => Err(text_fault(fault)),
+        },
+        Verb::Query { rule, shown } => read_ranked(alloc, rule, shown, text),
     }
 }

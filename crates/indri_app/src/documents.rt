@@ -1,70 +1,105 @@
-// The lines of a document.
-ghost use Rattle.std.specs.Prelude.{◌≡◌, ◌++◌, ◌∷◌, [], is_err, IfOk, OnOk};
-ghost use Rattle.ri_base.specs.Expression.{expr_tree};
-ghost use Rattle.tokens.specs.Content.{content};
-ghost use Rattle.extent_ops.specs.Listed.{extent_list};
-ghost use Rattle.indri_app.specs.Scan.{document_lines, extent_lines, line};
+// The documents of a source, one behind the other.
+ghost use Rattle.std.specs.Prelude.{◌≡◌, ◌≤◌, IfErr, IfOk, IfSome, IsErrOf, OnOk};
+ghost use Rattle.refusals.specs.declared.refusal.Refusal.TheVariants.{Input};
+ghost use Rattle.ri_ends.specs.Causes.{Rose};
+ghost use Rattle.trec_reader.specs.Read.{read};
+ghost use Rattle.indri_app.specs.Faults.{IsBroken};
+ghost use Rattle.indri_app.specs.Pieces.{Finished, some_refused};
+ghost use Rattle.indri_app.specs.Work.{behind, behind_all, input_pieces, refusal_piece, replies};
+ghost use Rattle.std.specs.Prelude.{◌∷◌, []};
 
-use crate::lines::document_refused_line;
-use extent_ops::extents_of;
-use ri_base::{Doc, Extent, ExtentExpr, Extents, NoMemory};
-use std::alloc::{AllocError, Global};
-use tokens::{TokenRefusal, doc_of};
-use trec_reader::RawDoc;
+use crate::fault::Fault;
+use crate::handler::Handler;
+use crate::reply::Reply;
+use refusals::Refusal;
+use ri_ends::{Sink, Source};
+use std::alloc::Global;
+use trec_reader::{DocReader, RawDoc, TrecRefusal};
 
-fn push_line(alloc: Global, lines: &mut Vec<u8>, docno: &[u8], x: Extent) -> Result<(), NoMemory>
-    ensures { OnOk result (lines.new.items ≡ lines.old.items ++ line docno.now x) }
-{
-    let begin = x.begin().to_string(alloc)?;
-    let end = x.end().to_string(alloc)?;
-    lines.extend_from_slice(docno)?;
-    lines.push(b' ')?;
-    lines.extend_from_slice(begin.as_bytes())?;
-    lines.push(b' ')?;
-    lines.extend_from_slice(end.as_bytes())?;
-    lines.push(b'\n')?;
-    Ok(())
-}
-
-/// A line for each extent.
-fn extent_lines(alloc: Global, docno: &[u8], found: &Extents) -> Result<Vec<u8>, NoMemory>
-    ensures { IfOk result (λ lines. lines.items ≡ extent_lines docno.now found.now) }
-{
-    let mut lines = Vec::new(alloc);
-    for x in found.as_slice() {
-        push_line(alloc, &mut lines, docno, *x)?;
-    }
-    Ok(lines)
-}
-
-/// A line for each extent of the expression in the document.
-fn lines_of(alloc: Global, expr: &ExtentExpr, doc: Doc) -> Result<Vec<u8>, NoMemory>
-    ensures { IfOk result (λ lines. lines.items ≡ extent_lines doc.docno (extent_list (expr_tree expr.now) doc)) }
-{
-    let found = extents_of(alloc, expr, &doc)?;
-    extent_lines(alloc, doc.docno().as_bytes(), &found)
-}
-
-/// The lines of a document, and whether it is refused: one for each extent of the expression, or the refusal's.
-#[tactic(auto, unfolding(crate::specs::Scan::document_lines))]
-pub fn document_lines(
+/// Hands a document to a handler, and writes its piece. The answer is whether it is refused.
+fn take_document<H: Handler, K: Sink>(
     alloc: Global,
-    expr: &ExtentExpr,
+    handler: &mut H,
     document: RawDoc,
-) -> Result<(Vec<u8>, bool), NoMemory>
-    ensures lines { IfOk result (λ x. x.0.items ≡ document_lines (expr_tree expr.now) document) }
-    ensures refused { IfOk result (λ x. x.1 ≡ is_err (content document)) }
+    sink: &mut K,
+) -> Result<bool, Fault>
+    requires whole { H.is_whole handler.old }
+    ensures refused { IfOk result (λ refused. refused ≡ some_refused (replies (H.work handler.old) document)) }
+    ensures behind { OnOk result (H.work handler.new ≡ behind (H.work handler.old) document) }
+    ensures whole { OnOk result (H.is_whole handler.new) }
+    ensures finished { OnOk result (Finished (replies (H.work handler.old) document) (K.taken sink.old) (K.taken sink.new)) }
+    ensures broken { IfErr result (λ fault. IsBroken fault (replies (H.work handler.old) document) (K.taken sink.old) (K.taken sink.new)) }
+    ensures no_read { IsErrOf result Fault.Read → ⊥ }
+    ensures later { K.faults sink.old ≤ K.faults sink.new }
+    ensures cause { IsErrOf result Fault.Write → Rose (K.faults sink.old) (K.faults sink.new) }
 {
-    match doc_of(alloc, document) {
-        Ok(doc) => Ok((lines_of(alloc, expr, doc)?, false)),
-        Err(TokenRefusal::TooManyTokens { docno }) => {
-            let line = document_refused_line(alloc, b"TooManyTokens", &docno)?;
-            Ok((line, true))
+    let Ok(reply) = handler.take(alloc, document) else {
+        return Err(Fault::Memory);
+    };
+    let Some(reply) = reply else {
+        return Ok(false);
+    };
+    match reply.write(sink) {
+        Ok(()) => Ok(reply.is_refusal()),
+        Err(fault) => Err(fault),
+    }
+}
+
+/// Writes the line of the refusal at which an input ends.
+fn write_refusal<K: Sink>(alloc: Global, refusal: TrecRefusal, sink: &mut K) -> Result<(), Fault>
+    ensures finished { OnOk result (Finished (refusal_piece (Input refusal) ∷ []) (K.taken sink.old) (K.taken sink.new)) }
+    ensures broken { IfErr result (λ fault. IsBroken fault (refusal_piece (Input refusal) ∷ []) (K.taken sink.old) (K.taken sink.new)) }
+    ensures no_read { IsErrOf result Fault.Read → ⊥ }
+    ensures later { K.faults sink.old ≤ K.faults sink.new }
+    ensures cause { IsErrOf result Fault.Write → Rose (K.faults sink.old) (K.faults sink.new) }
+{
+    match Reply::refused(alloc, &Refusal::Input(refusal)) {
+        Ok(reply) => reply.write(sink),
+        Err(_) => Err(Fault::Memory),
+    }
+}
+
+/// Hands all documents of a source to a handler, and writes what it answers, and last the refusal of the input. The
+/// answer is whether something is refused.
+pub fn take_documents<H: Handler, S: Source, K: Sink>(
+    alloc: Global,
+    handler: &mut H,
+    source: &mut S,
+    sink: &mut K,
+) -> Result<bool, Fault>
+    requires whole { H.is_whole handler.old }
+
+    ensures refused { IfOk result (λ refused. IfSome (S.left source.old) (λ bytes. refused ≡ some_refused (input_pieces (H.work handler.old) (read bytes)))) }
+    ensures behind { OnOk result (IfSome (S.left source.old) (λ bytes. H.work handler.new ≡ behind_all (H.work handler.old) (read bytes).0)) }
+    ensures whole { OnOk result (H.is_whole handler.new) }
+    ensures finished { OnOk result (IfSome (S.left source.old) (λ bytes. Finished (input_pieces (H.work handler.old) (read bytes)) (K.taken sink.old) (K.taken sink.new))) }
+    ensures broken { IfErr result (λ fault. IfSome (S.left source.old) (λ bytes. IsBroken fault (input_pieces (H.work handler.old) (read bytes)) (K.taken sink.old) (K.taken sink.new))) }
+
+    ensures read { IsErrOf result Fault.Read → Rose (S.faults source.old) (S.faults source.new) }
+    ensures write { IsErrOf result Fault.Write → Rose (K.faults sink.old) (K.faults sink.new) }
+    ensures read_later { S.faults source.old ≤ S.faults source.new }
+    ensures write_later { K.faults sink.old ≤ K.faults sink.new }
+    ensures layers { S.layers source.new ≡ S.layers source.old }
+    ensures held { S.held source.new ≡ S.held source.old }
+{
+    let Ok(mut reader) = DocReader::new(alloc) else {
+        return Err(Fault::Memory);
+    };
+    let mut some_refused = false;
+    'documents: loop {
+        let document = match reader.next_doc(source) {
+            Ok(Some(document)) => document,
+            Ok(None) => return Ok(some_refused),
+            Err(TrecRefusal::Read) => return Err(Fault::Read),
+            Err(TrecRefusal::Memory) => return Err(Fault::Memory),
+            Err(refusal) => match write_refusal(alloc, refusal, sink) {
+                Ok(()) => return Ok(true),
+                Err(fault) => return Err(fault),
+            },
+        };
+        match take_document(alloc, handler, document, sink) {
+            Ok(refused) => some_refused |= refused,
+            Err(fault) => return Err(fault),
         }
-        Err(TokenRefusal::TooManyFields { docno }) => {
-            let line = document_refused_line(alloc, b"TooManyFields", &docno)?;
-            Ok((line, true))
-        }
-        Err(TokenRefusal::Memory) => Err(AllocError),
     }
 }

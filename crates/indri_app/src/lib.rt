@@ -5,11 +5,13 @@ mod answer;
 mod collection;
 mod command;
 mod documents;
-mod lines;
+mod fault;
+mod handler;
 mod program;
-mod query_text;
+mod reply;
 mod scan;
 mod status;
+mod words;
 
 pub use program::run;
 pub use status::Status;

@@ -1,86 +1,83 @@
-// A scan of all documents of a source for an expression.
-ghost use Rattle.std.specs.Prelude.{◌≡◌, ◌≤◌, ℕ, IfOk, IfSome, OnOk, IsErrOf, IsErr, is_err, take};
-ghost use Rattle.std.specs.Io.KnownBytes.{append_known};
+// The scan of documents for an expression.
+ghost use Rattle.std.specs.Prelude.{◌≡◌, ◌++◌, ◌∷◌, [], ⊤, IfOk, OnOk};
 ghost use Rattle.ri_base.specs.Expression.{expr_tree};
-ghost use Rattle.ri_ends.specs.Causes.{Rose};
-ghost use Rattle.trec_reader.specs.Read.{read};
-ghost use Rattle.tokens.specs.Content.{content};
-ghost use Rattle.indri_app.specs.Outcome.{Writes, WritesFront, WritesFault, fault_line};
-ghost use Rattle.indri_app.specs.Scan.{document_lines, refusal_line, scan_text};
-ghost use Rattle.indri_app.specs.Stopped.{DoneAt, RefusedAt};
+ghost use Rattle.indri_app.specs.Scan.{document_lines, extent_lines, line};
+ghost use Rattle.indri_app.specs.Work.{behind, pieces_in, replies, scanning};
 
-use crate::Status;
-use crate::documents::document_lines;
-use ri_base::ExtentExpr;
-use ri_ends::{OutFault, Sink, Source};
-use std::alloc::Global;
-use trec_reader::{DocReader, RawDoc, TrecRefusal};
+use crate::handler::Handler;
+use crate::reply::Reply;
+use extent_ops::extents_of;
+use refusals::Refusal;
+use ri_base::{Doc, Extent, ExtentExpr, Extents, NoMemory};
+use std::alloc::{AllocError, Global};
+use tokens::{TokenRefusal, doc_of};
+use trec_reader::RawDoc;
 
-/// Why the lines of documents come to an end.
-#[derive(Clone, Copy, Debug, PartialEq, Eq)]
-pub enum Stop {
-    /// The input ended between documents.
-    End { some_refused: bool },
-    Refused(TrecRefusal),
-    ReadFault,
-    WriteFault,
-    Memory,
+fn push_line(alloc: Global, lines: &mut Vec<u8>, docno: &[u8], x: Extent) -> Result<(), NoMemory>
+    ensures { OnOk result (lines.new.items ≡ lines.old.items ++ line docno.now x) }
+{
+    let begin = x.begin().to_string(alloc)?;
+    let end = x.end().to_string(alloc)?;
+    lines.extend_from_slice(docno)?;
+    lines.push(b' ')?;
+    lines.extend_from_slice(begin.as_bytes())?;
+    lines.push(b' ')?;
+    lines.extend_from_slice(end.as_bytes())?;
+    lines.push(b'\n')?;
+    Ok(())
 }
 
-/// Writes the lines of a document, and answers whether it is refused.
-fn write_document<K: Sink>(
-    alloc: Global,
-    expr: &ExtentExpr,
-    document: RawDoc,
-    sink: &mut K,
-) -> Result<bool, OutFault>
-    ensures whole { OnOk result (Writes (K.taken sink.old) (K.taken sink.new) (document_lines (expr_tree expr.now) document)) }
-    ensures refused { IfOk result (λ refused. refused ≡ is_err (content document)) }
-    ensures front { IsErr result → WritesFront (K.taken sink.old) (K.taken sink.new) (document_lines (expr_tree expr.now) document) }
-    ensures later { K.faults sink.old ≤ K.faults sink.new }
-    ensures cause { IsErrOf result OutFault.Failed → Rose (K.faults sink.old) (K.faults sink.new) }
+/// A line for each extent.
+fn extent_lines(alloc: Global, docno: &[u8], found: &Extents) -> Result<Vec<u8>, NoMemory>
+    ensures { IfOk result (λ lines. lines.items ≡ extent_lines docno.now found.now) }
 {
-    let (lines, refused) = document_lines(alloc, expr, document)?;
-    sink.write_all(&lines)?;
-    Ok(refused)
+    let mut lines = Vec::new(alloc);
+    for x in found.as_slice() {
+        push_line(alloc, &mut lines, docno, *x)?;
+    }
+    Ok(lines)
 }
 
-/// Writes the lines of all documents.
-pub fn scan_documents<S: Source, K: Sink>(
-    alloc: Global,
-    expr: &ExtentExpr,
-    source: &mut S,
-    sink: &mut K,
-) -> Stop
-    // At the end all of the text is written, and at a refusal all of it but the line of the refusal.
-    ensures done { DoneAt result (S.left source.old) (K.taken sink.old) (K.taken sink.new) (expr_tree expr.now) }
-    ensures refused { RefusedAt result (S.left source.old) (K.taken sink.old) (K.taken sink.new) (expr_tree expr.now) }
-    ensures front { IfSome (S.left source.old) (λ bytes. WritesFront (K.taken sink.old) (K.taken sink.new) (scan_text (expr_tree expr.now) bytes)) }
-
-    ensures read { result ≡ Stop.ReadFault → Rose (S.faults source.old) (S.faults source.new) }
-    ensures write { result ≡ Stop.WriteFault → Rose (K.faults sink.old) (K.faults sink.new) }
-    ensures read_later { S.faults source.old ≤ S.faults source.new }
-    ensures write_later { K.faults sink.old ≤ K.faults sink.new }
-    ensures layers { S.layers source.new ≡ S.layers source.old }
-    ensures held { S.held source.new ≡ S.held source.old }
+/// A line for each extent of the expression in the document.
+fn document_lines(alloc: Global, expr: &ExtentExpr, doc: Doc) -> Result<Vec<u8>, NoMemory>
+    ensures { IfOk result (λ lines. lines.items ≡ document_lines (expr_tree expr.now) doc) }
 {
-    let Ok(mut reader) = DocReader::new(alloc) else {
-        return Stop::Memory;
-    };
-    let mut some_refused = false;
-    'documents: loop {
-        let document = match reader.next_doc(source) {
-            Ok(Some(document)) => document,
-            Ok(None) => return Stop::End { some_refused },
-            Err(TrecRefusal::Read) => return Stop::ReadFault,
-            Err(TrecRefusal::Memory) => return Stop::Memory,
-            Err(TrecRefusal::Ended) => unreachable!(),
-            Err(refusal) => return Stop::Refused(refusal),
-        };
-        match write_document(alloc, expr, document, sink) {
-            Ok(refused) => some_refused |= refused,
-            Err(OutFault::Failed) => return Stop::WriteFault,
-            Err(OutFault::Memory) => return Stop::Memory,
+    let found = extents_of(alloc, expr, &doc)?;
+    extent_lines(alloc, doc.docno().as_bytes(), &found)
+}
+
+/// Answers the lines of each document.
+#[derive(Drop)]
+pub struct Scanner {
+    expr: ExtentExpr,
+}
+
+impl Scanner {
+    pub fn new(expr: ExtentExpr) -> Scanner
+        ensures work { ⟦<Scanner as Handler>⟧.work result ≡ scanning (expr_tree expr) }
+        ensures whole { ⟦<Scanner as Handler>⟧.is_whole result }
+    {
+        Scanner { expr }
+    }
+}
+
+impl Handler for Scanner {
+    ghost work = { λ s. scanning (expr_tree s.expr) };
+
+    ghost is_whole = { λ _. ⊤ };
+
+    #[tactic(auto, unfolding(crate::specs::Work::behind, crate::specs::Work::replies))]
+    fn take(&mut self, alloc: Global, document: RawDoc) -> Result<Option<Reply>, NoMemory> {
+        match doc_of(alloc, document) {
+            Ok(doc) => {
+                let text = document_lines(alloc, &self.expr, doc)?;
+                Ok(Some(Reply::told(text)))
+            }
+            Err(TokenRefusal::Memory) => Err(AllocError),
+            Err(refusal) => {
+                let reply = Reply::refused(alloc, &Refusal::Document(refusal))?;
+                Ok(Some(reply))
+            }
         }
     }
 }

@@ -1,20 +1,22 @@
-use Rattle.std.proofs.Common.{true, false}
-use Rattle.query_check.specs.Answers.{whole_checked}
-use Rattle.indri_app.proofs.AnswerLemmas.{answered, lines_alone, part_answered}
+use Rattle.std.proofs.Common.{Err, ap}
+use Rattle.indri_app.proofs.Ending.{query-broken, query-broken-last, query-done}
 use Rattle.indri_app.proofs.program.query.Goals as goal
 
-pub returns-in-Ok-gather-clause-done : goal.returns-in-Ok-gather-clause-done
-returns-in-Ok-gather-clause-done g c = λ is.
-    let shown = c.write_ranking.ensures.done is in
-    answered _ _ _ _ c.args.mu (whole_checked c.args.checked.now) c.gather.new.index.documents false (rw shown.0 at c.in-Ok-gather.ensures.gathered) shown.1
+pub returns-in-Ok-write_results-clause-done : goal.returns-in-Ok-write_results-clause-done
+returns-in-Ok-write_results-clause-done g c =
+    let refused = rw c.in-Ok.ensures.work at c.in-Ok-take_documents.ensures.refused in
+    let behind = rw c.in-Ok.ensures.work at c.in-Ok-take_documents.ensures.behind in
+    let finished = rw c.in-Ok.ensures.work at c.in-Ok-take_documents.ensures.finished in
+    query-done _ _ _ _ _ _ _ _ _ _ refused behind c.into_index.ensures finished c.in-Ok-write_results.ensures.shown
 
-pub returns-in-Ok-gather-clause-refused : goal.returns-in-Ok-gather-clause-refused
-returns-in-Ok-gather-clause-refused g c = λ is.
-    let shown = c.write_ranking.ensures.refused is in
-    answered _ _ _ _ c.args.mu (whole_checked c.args.checked.now) c.gather.new.index.documents true (rw shown.0 at c.in-Ok-gather.ensures.gathered) shown.1
+pub returns-in-Err-write_results-clause-broken : goal.returns-in-Err-write_results-clause-broken
+returns-in-Err-write_results-clause-broken g c =
+    let behind = rw c.in-Ok.ensures.work at c.in-Ok-take_documents.ensures.behind in
+    let finished = rw c.in-Ok.ensures.work at c.in-Ok-take_documents.ensures.finished in
+    let results = c.in-Err-write_results.ensures in
+    query-broken-last c.in-Err-write_results.fault _ _ _ _ _ _ _ _ _ behind c.into_index.ensures finished (λ same. results.no_read (ap Err same)) (λ same. results.front (ap Err same)) (λ same. results.none (ap Err same))
 
-pub returns-in-Ok-gather-clause-front : goal.returns-in-Ok-gather-clause-front
-returns-in-Ok-gather-clause-front g c = λ _. part_answered _ _ _ _ c.args.mu (whole_checked c.args.checked.now) c.gather.new.index.documents c.in-Ok-gather.some_refused c.in-Ok-gather.ensures.gathered c.write_ranking.ensures.front
-
-pub returns-in-Ok-gather-clause-no_ranking : goal.returns-in-Ok-gather-clause-no_ranking
-returns-in-Ok-gather-clause-no_ranking g c = λ is. lines_alone _ _ _ _ c.gather.new.index.documents c.in-Ok-gather.some_refused c.in-Ok-gather.ensures.gathered (c.write_ranking.ensures.none is)
+pub returns-in-Err-clause-broken : goal.returns-in-Err-clause-broken
+returns-in-Err-clause-broken g c =
+    let broken = rw c.in-Ok.ensures.work at c.in-Err.ensures.broken in
+    query-broken _ _ _ _ _ _ _ broken

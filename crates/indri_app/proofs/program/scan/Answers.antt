@@ -1,5 +1,8 @@
-use Rattle.indri_app.proofs.Scanned.{refused_front}
+use Rattle.indri_app.proofs.Ending.{scan_broken, scan_done}
 use Rattle.indri_app.proofs.program.scan.Goals as goal
 
-pub returns-in-Refused-clause-front : goal.returns-in-Refused-clause-front
-returns-in-Refused-clause-front g c = λ _. refused_front _ _ _ _ _ c.in-Refused.refusal c.in-Refused.ensures.front c.in-Refused.ensures.refused c.write_refusal.ensures.front
+pub returns-clause-done : goal.returns-clause-done
+returns-clause-done g c = scan_done _ _ _ _ _ _ c.new-scanner.ensures.work c.take_documents.ensures.refused c.take_documents.ensures.finished
+
+pub returns-clause-broken : goal.returns-clause-broken
+returns-clause-broken g c = scan_broken _ _ _ _ _ _ c.new-scanner.ensures.work c.take_documents.ensures.broken

@@ -1,0 +1,26 @@
+use Rattle.std.proofs.Common.{◌≡◌, ◌+◌, ◌<◌, ◌≤◌, ◌^◌, length, false, List}
+use Rattle.std.specs.Io.KnownBytes.{prepend_known}
+use Rattle.trec_reader.specs.Ahead.{most_of}
+use Rattle.trec_reader.specs.declared.document.RawDoc.{RawDoc}
+use Rattle.indri_app.specs.Pieces.{Finished, some_refused}
+use Rattle.indri_app.specs.Work.{behind_all, document_pieces}
+use Rattle.indri_app.proofs.Following.{AreFollowed}
+use Rattle.indri_app.proofs.documents.take_documents.Given as goal
+
+abbrev pub invariant-documents : goal.invariant-documents
+invariant-documents g l = (done : List RawDoc) × record {
+  followed : AreFollowed done l.reader.ahead.offset (prepend_known l.reader.ahead.bytes (g.S.Source.left l.source)) (g.S.Source.left l.fn.source);
+  work : g.H.Handler.work l.handler ≡ behind_all (g.H.Handler.work l.fn.handler) done;
+  whole : g.H.Handler.is_whole l.handler;
+  refused : l.some_refused ≡ some_refused (document_pieces (g.H.Handler.work l.fn.handler) done);
+  finished : Finished (document_pieces (g.H.Handler.work l.fn.handler) done) (g.K.Sink.taken l.fn.sink) (g.K.Sink.taken l.sink);
+  begun : l.reader.is_ended ≡ false;
+  fits : most_of l.reader.ahead (g.S.Source.can_give l.source) < 2 ^ 64;
+  layers : g.S.Source.layers l.source ≡ g.S.Source.layers l.fn.source;
+  held : g.S.Source.held l.source ≡ g.S.Source.held l.fn.source;
+  read_later : g.S.Source.faults l.fn.source ≤ g.S.Source.faults l.source;
+  write_later : g.K.Sink.faults l.fn.sink ≤ g.K.Sink.faults l.sink;
+}
+
+abbrev pub decreases-documents : goal.decreases-documents
+decreases-documents g l = length l.reader.ahead.bytes + g.S.Source.can_give l.source

@@ -5,7 +5,6 @@ ghost use Rattle.smoothing.specs.Counts.{AreCounts};
 ghost use Rattle.smoothing.specs.Fractions.{IsMu, dirichlet};
 ghost use Rattle.ri_base.specs.Ratio.{ratio_of};
 ghost use Rattle.query_check.specs.Answers.{whole_checked};
-ghost use Rattle.query_check.specs.Leaves.{leaf_tree};
 ghost use Rattle.plain_query.specs.Checked.{is_plain_checked};
 ghost use Rattle.ranked_output.specs.Texts.{lines_of, lines_text};
 ghost use Rattle.indri_app.specs.Answer.{IsResult, first_lines};

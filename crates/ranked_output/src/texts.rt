@@ -8,7 +8,7 @@ use log_chain::LAST;
 use ri_base::{Bytes, Hit, NoMemory};
 use std::alloc::Global;
 
-/// The digits of a score behind its point.
+/// The digits of a score behind its point: scores are in millionths.
 const PLACES: u32 = 6;
 
 /// The quotient as its whole part, a point and six digits, cut: a long division.

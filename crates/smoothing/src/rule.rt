@@ -5,7 +5,7 @@ ghost use Rattle.smoothing.specs.Fractions.{Computes, fraction_of};
 
 use ri_base::Fraction;
 
-/// The greatest `mu`.
+/// The greatest `mu`. With it the numbers of a belief stay below `2 ^ 51`.
 pub const MAX_MU: u32 = 1_000_000;
 
 /// Which smoothing rule, and its numbers.

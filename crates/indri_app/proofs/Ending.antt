@@ -1,19 +1,18 @@
 -- How a run ends.
-use Rattle.std.proofs.Common.{◌≡◌, ◌≤◌, ◌<◌, ◌⊎◌, ◌||◌, inl, inr, ℕ, Bool, true, false, List, [], ◌∷◌, ◌++◌, refl, ap, sym, ◌∙◌, subst, Option, Some, None, Result, Ok, Err, length, arith, append-nil}
+use Rattle.std.proofs.Common.{◌≡◌, ◌≤◌, ◌||◌, inl, inr, ℕ, Bool, true, false, List, [], ◌∷◌, ◌++◌, refl, ap, sym, ◌∙◌, subst, Option, Some, None, Result, Ok, Err, length, arith, append-nil}
 use Rattle.std.proofs.Math.Seq.{take-length}
 use Rattle.std.specs.Io.KnownBytes.{append_known}
 use Rattle.std.specs.Option.{IfSome}
 use Rattle.std.specs.Prelude.{IfErr, IfOk, OnOk}
 use Rattle.ri_base.specs.Documents.{Document}
 use Rattle.ri_base.specs.Expression.{ExprTree}
-use Rattle.ri_base.specs.declared.hit.Hit.{Hit}
 use Rattle.ri_ends.specs.Causes.{Rose}
 use Rattle.query_check.specs.Check.{CheckedTree}
 use Rattle.smoothing.specs.declared.rule.RuleKind.{RuleKind}
 use Rattle.trec_reader.specs.Read.{read}
 use Rattle.indri_app.specs.Answer.{IsResult}
 use Rattle.indri_app.specs.Command.{Command, rank_by, scan_for}
-use Rattle.indri_app.specs.CommandPieces.{ArePieces, Breaks, IsDone, Shows, documents_of, ranked_documents, read_pieces, result_piece}
+use Rattle.indri_app.specs.CommandPieces.{Breaks, IsDone, Shows, documents_of, ranked_documents, read_pieces, result_piece}
 use Rattle.indri_app.specs.Faults.{IsBroken}
 use Rattle.indri_app.specs.Pieces.{BrokenOff, Finished, Piece, StoppedBetween, some_refused}
 use Rattle.indri_app.specs.Runs.{EndsIn, IsClosed, RunsTo, WritesLine, read_line}

@@ -9,7 +9,7 @@ use Rattle.trec_reader.specs.declared.document.RawDoc.{RawDoc}
 use Rattle.trec_reader.specs.declared.refusal.TrecRefusal.{TrecRefusal}
 use Rattle.trec_reader.specs.declared.refusal.TrecRefusal.TheVariants as input
 use Rattle.indri_app.specs.Faults.{IsBroken}
-use Rattle.indri_app.specs.Pieces.{Finished, Piece, StoppedBetween, some_refused}
+use Rattle.indri_app.specs.Pieces.{Finished, StoppedBetween, some_refused}
 use Rattle.indri_app.specs.Work.{Work, behind, behind_all, document_pieces, input_pieces, refusal_pieces, replies}
 use Rattle.indri_app.specs.declared.fault.Fault.{Fault}
 use Rattle.indri_app.proofs.Joining.{Finished-none, Finished-then, broken-more, broken-then, refused-append, stopped-behind}

@@ -1,5 +1,5 @@
 -- Numbers of the command line.
-use Rattle.std.proofs.Common.{ℕ, ◌≡◌, ◌<◌, ◌+◌, ◌-◌, ◌*◌, true, false, List, [], ◌∷◌, Some, slice_get, drop, length, get_or, arith, refl, option_map}
+use Rattle.std.proofs.Common.{ℕ, ◌≡◌, ◌<◌, ◌+◌, ◌-◌, ◌*◌, false, List, [], ◌∷◌, Some, slice_get, drop, length, get_or, arith, refl, option_map}
 use Rattle.query_reader.specs.Parts.{value_from}
 use Rattle.query_reader.proofs.Numbers.{value_grows}
 use Rattle.indri_app.specs.Command.{is_mu, plain_verb, text_with, verb_of, verb_with}

@@ -1,4 +1,4 @@
-use Rattle.std.proofs.Common.{rules, ◌≡◌, true, List, [], ◌∷◌, ◌++◌, Some, arith}
+use Rattle.std.proofs.Common.{rules, ◌≡◌, true, [], ◌∷◌, ◌++◌, arith}
 use Rattle.trec_reader.specs.Read.{Found}
 use Rattle.indri_app.specs.Faults.{IsBroken}
 use Rattle.indri_app.specs.Pieces.{Finished, some_refused}

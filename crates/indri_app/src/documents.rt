@@ -3,7 +3,7 @@ ghost use Rattle.std.specs.Prelude.{◌≡◌, ◌≤◌, IfErr, IfOk, IfSome, I
 ghost use Rattle.refusals.specs.declared.refusal.Refusal.TheVariants.{Input};
 ghost use Rattle.ri_ends.specs.Causes.{Rose};
 ghost use Rattle.trec_reader.specs.Read.{read};
-ghost use Rattle.indri_app.specs.Faults.{IsBroken};
+ghost use Rattle.indri_app.specs.Faults.{IsBroken, StaysUnless};
 ghost use Rattle.indri_app.specs.Pieces.{Finished, some_refused};
 ghost use Rattle.indri_app.specs.Work.{behind, behind_all, input_pieces, refusal_piece, replies};
 ghost use Rattle.std.specs.Prelude.{◌∷◌, []};
@@ -32,6 +32,7 @@ fn take_document<H: Handler, K: Sink>(
     ensures no_read { IsErrOf result Fault.Read → ⊥ }
     ensures later { K.faults sink.old ≤ K.faults sink.new }
     ensures cause { IsErrOf result Fault.Write → Rose (K.faults sink.old) (K.faults sink.new) }
+    ensures same { StaysUnless Fault.Write result (K.faults sink.old) (K.faults sink.new) }
 {
     let Ok(reply) = handler.take(alloc, document) else {
         return Err(Fault::Memory);
@@ -52,6 +53,7 @@ fn write_refusal<K: Sink>(alloc: Global, refusal: TrecRefusal, sink: &mut K) -> 
     ensures no_read { IsErrOf result Fault.Read → ⊥ }
     ensures later { K.faults sink.old ≤ K.faults sink.new }
     ensures cause { IsErrOf result Fault.Write → Rose (K.faults sink.old) (K.faults sink.new) }
+    ensures same { StaysUnless Fault.Write result (K.faults sink.old) (K.faults sink.new) }
 {
     match Reply::refused(alloc, &Refusal::Input(refusal)) {
         Ok(reply) => reply.write(sink),
@@ -79,6 +81,8 @@ pub fn take_documents<H: Handler, S: Source, K: Sink>(
     ensures write { IsErrOf result Fault.Write → Rose (K.faults sink.old) (K.faults sink.new) }
     ensures read_later { S.faults source.old ≤ S.faults source.new }
     ensures write_later { K.faults sink.old ≤ K.faults sink.new }
+    ensures read_same { StaysUnless Fault.Read result (S.faults source.old) (S.faults source.new) }
+    ensures write_same { StaysUnless Fault.Write result (K.faults sink.old) (K.faults sink.new) }
     ensures layers { S.layers source.new ≡ S.layers source.old }
     ensures held { S.held source.new ≡ S.held source.old }
 {

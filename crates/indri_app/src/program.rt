@@ -7,6 +7,7 @@ ghost use Rattle.ri_ends.specs.Causes.{Rose};
 ghost use Rattle.refusals.specs.Lines.{line_of};
 ghost use Rattle.indri_app.specs.Command.{IfAsksFor, IfRefused, IsRule, asked, rank_by, scan_for, usage_line};
 ghost use Rattle.indri_app.specs.CommandPieces.{Breaks, IsDone, Shows};
+ghost use Rattle.indri_app.specs.Faults.{StaysUnless};
 ghost use Rattle.indri_app.specs.Pieces.{BrokenOff, Finished};
 ghost use Rattle.indri_app.specs.Runs.{IsClosed, RunsTo, Tells};
 ghost use Rattle.indri_app.specs.declared.words.TheConstants.{MOST_SHOWN};
@@ -39,6 +40,7 @@ fn tell<K: Sink>(sink: &mut K, line: &[u8], told: Status) -> Status
     ensures tells { Tells told line.now result (K.taken sink.old) (K.taken sink.new) }
     ensures later { K.faults sink.old ≤ K.faults sink.new }
     ensures write { result ≡ Status.WriteFault → Rose (K.faults sink.old) (K.faults sink.new) }
+    ensures same { result ≢ Status.WriteFault → K.faults sink.new ≡ K.faults sink.old }
 {
     match sink.write_all(line) {
         Ok(()) => told,
@@ -52,6 +54,7 @@ fn tell_refusal<K: Sink>(alloc: Global, sink: &mut K, refusal: &Refusal) -> Stat
     ensures tells { Tells Status.QueryRefused (line_of refusal.now) result (K.taken sink.old) (K.taken sink.new) }
     ensures later { K.faults sink.old ≤ K.faults sink.new }
     ensures write { result ≡ Status.WriteFault → Rose (K.faults sink.old) (K.faults sink.new) }
+    ensures same { result ≢ Status.WriteFault → K.faults sink.new ≡ K.faults sink.old }
 {
     match line_of(alloc, refusal) {
         Ok(line) => tell(sink, &line, Status::QueryRefused),
@@ -65,6 +68,7 @@ fn tell_refusal<K: Sink>(alloc: Global, sink: &mut K, refusal: &Refusal) -> Stat
 fn close<K: Sink>(fault: Fault, sink: &mut K) -> Status
     ensures closed { IsClosed fault result (K.taken sink.old) (K.taken sink.new) (K.faults sink.old) (K.faults sink.new) }
     ensures later { K.faults sink.old ≤ K.faults sink.new }
+    ensures same { result ≢ Status.ReadFault → K.faults sink.new ≡ K.faults sink.old }
 {
     match fault {
         Fault::Read => match sink.write_all(b"fault read\n") {
@@ -90,6 +94,8 @@ fn scan<S: Source, K: Sink>(
     ensures write { IsErrOf result Fault.Write → Rose (K.faults sink.old) (K.faults sink.new) }
     ensures read_later { S.faults source.old ≤ S.faults source.new }
     ensures write_later { K.faults sink.old ≤ K.faults sink.new }
+    ensures read_same { StaysUnless Fault.Read result (S.faults source.old) (S.faults source.new) }
+    ensures write_same { StaysUnless Fault.Write result (K.faults sink.old) (K.faults sink.new) }
     ensures layers { S.layers source.new ≡ S.layers source.old }
     ensures held { S.held source.new ≡ S.held source.old }
 {
@@ -115,6 +121,7 @@ fn write_results<K: Sink>(
     ensures no_read { IsErrOf result Fault.Read → ⊥ }
     ensures later { K.faults sink.old ≤ K.faults sink.new }
     ensures cause { IsErrOf result Fault.Write → Rose (K.faults sink.old) (K.faults sink.new) }
+    ensures same { StaysUnless Fault.Write result (K.faults sink.old) (K.faults sink.new) }
 {
     match ranking_text(alloc, rule, shown, query, index) {
         Ok(text) => Reply::told(text).write(sink),
@@ -142,6 +149,8 @@ fn query<S: Source, K: Sink>(
     ensures write { IsErrOf result Fault.Write → Rose (K.faults sink.old) (K.faults sink.new) }
     ensures read_later { S.faults source.old ≤ S.faults source.new }
     ensures write_later { K.faults sink.old ≤ K.faults sink.new }
+    ensures read_same { StaysUnless Fault.Read result (S.faults source.old) (S.faults source.new) }
+    ensures write_same { StaysUnless Fault.Write result (K.faults sink.old) (K.faults sink.new) }
     ensures layers { S.layers source.new ≡ S.layers source.old }
     ensures held { S.held source.new ≡ S.held source.old }
 {
@@ -174,6 +183,8 @@ fn do_command<S: Source, K: Sink>(
     ensures write { IsErrOf result Fault.Write → Rose (K.faults sink.old) (K.faults sink.new) }
     ensures read_later { S.faults source.old ≤ S.faults source.new }
     ensures write_later { K.faults sink.old ≤ K.faults sink.new }
+    ensures read_same { StaysUnless Fault.Read result (S.faults source.old) (S.faults source.new) }
+    ensures write_same { StaysUnless Fault.Write result (K.faults sink.old) (K.faults sink.new) }
     ensures layers { S.layers source.new ≡ S.layers source.old }
     ensures held { S.held source.new ≡ S.held source.old }
 {
@@ -203,6 +214,8 @@ fn run_command<S: Source, K: Sink>(
     ensures write { result ≡ Status.WriteFault → Rose (K.faults sink.old) (K.faults sink.new) }
     ensures read_later { S.faults source.old ≤ S.faults source.new }
     ensures write_later { K.faults sink.old ≤ K.faults sink.new }
+    ensures read_same { result ≢ Status.ReadFault → result ≢ Status.Memory → S.faults source.new ≡ S.faults source.old }
+    ensures write_same { result ≢ Status.WriteFault → result ≢ Status.ReadFault → K.faults sink.new ≡ K.faults sink.old }
     ensures layers { S.layers source.new ≡ S.layers source.old }
     ensures held { S.held source.new ≡ S.held source.old }
 {
@@ -231,11 +244,14 @@ pub fn run<S: Source, K: Sink>(
     ensures no_command { asked words.now ≡ None → Tells Status.Usage usage_line result (K.taken sink.old) (K.taken sink.new) × (source.new ≡ source.old) }
     ensures refused { IfRefused (asked words.now) (λ refusal. Tells Status.QueryRefused (line_of refusal) result (K.taken sink.old) (K.taken sink.new) × (source.new ≡ source.old)) }
 
-    // A fault has its cause in this call, and no count falls.
+    // A fault has its cause in this call: a count rises where its end failed, and nowhere else. Where memory is wanting at the
+    // last line of a failed read, the status is `Memory` and the count of the source has risen.
     ensures read { result ≡ Status.ReadFault → Rose (S.faults source.old) (S.faults source.new) }
     ensures write { result ≡ Status.WriteFault → Rose (K.faults sink.old) (K.faults sink.new) }
     ensures read_later { S.faults source.old ≤ S.faults source.new }
     ensures write_later { K.faults sink.old ≤ K.faults sink.new }
+    ensures read_same { result ≢ Status.ReadFault → result ≢ Status.Memory → S.faults source.new ≡ S.faults source.old }
+    ensures write_same { result ≢ Status.WriteFault → result ≢ Status.ReadFault → K.faults sink.new ≡ K.faults sink.old }
 
     ensures layers { S.layers source.new ≡ S.layers source.old }
     ensures held { S.held source.new ≡ S.held source.old }

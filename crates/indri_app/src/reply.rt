@@ -1,7 +1,7 @@
 // What is written for one thing that is asked.
 ghost use Rattle.std.specs.Prelude.{◌≡◌, ◌≤◌, ◌∷◌, [], false, IfErr, IfOk, IsErrOf, OnOk};
 ghost use Rattle.ri_ends.specs.Causes.{Rose};
-ghost use Rattle.indri_app.specs.Faults.{IsBroken};
+ghost use Rattle.indri_app.specs.Faults.{IsBroken, StaysUnless};
 ghost use Rattle.indri_app.specs.Pieces.{Finished};
 ghost use Rattle.indri_app.specs.Work.{refusal_piece};
 
@@ -64,6 +64,7 @@ impl Reply {
         ensures no_read { IsErrOf result Fault.Read → ⊥ }
         ensures later { K.faults sink.old ≤ K.faults sink.new }
         ensures cause { IsErrOf result Fault.Write → Rose (K.faults sink.old) (K.faults sink.new) }
+        ensures same { StaysUnless Fault.Write result (K.faults sink.old) (K.faults sink.new) }
     {
         match sink.write_all(&self.text) {
             Ok(()) => Ok(()),

@@ -1,4 +1,4 @@
-use Rattle.std.proofs.Common.{rules, ◌≡◌, true, [], ◌∷◌, ◌++◌, arith}
+use Rattle.std.proofs.Common.{rules, ◌≡◌, true, [], ◌∷◌, ◌++◌, ◌∙◌, arith}
 use Rattle.trec_reader.specs.Read.{Found}
 use Rattle.indri_app.specs.Faults.{IsBroken}
 use Rattle.indri_app.specs.Pieces.{Finished, some_refused}
@@ -22,6 +22,8 @@ documents-init g c = (
     held = search rules;
     read_later = omega arith;
     write_later = omega arith;
+    read_same = search rules;
+    write_same = search rules;
   },
 )
 
@@ -43,6 +45,8 @@ documents-preserved g c =
         held = search rules;
         read_later = omega arith;
         write_later = omega arith;
+        read_same = c.in-Ok-Some.ensures.none (λ e. cc) ∙ inv.1.read_same;
+        write_same = c.in-Ok-take_document.ensures.same (λ e. cc) ∙ inv.1.write_same;
       },
     )
 

@@ -20,6 +20,8 @@ invariant-documents g l = (done : List RawDoc) × record {
   held : g.S.Source.held l.source ≡ g.S.Source.held l.fn.source;
   read_later : g.S.Source.faults l.fn.source ≤ g.S.Source.faults l.source;
   write_later : g.K.Sink.faults l.fn.sink ≤ g.K.Sink.faults l.sink;
+  read_same : g.S.Source.faults l.source ≡ g.S.Source.faults l.fn.source;
+  write_same : g.K.Sink.faults l.sink ≡ g.K.Sink.faults l.fn.sink;
 }
 
 abbrev pub decreases-documents : goal.decreases-documents

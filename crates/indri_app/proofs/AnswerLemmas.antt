@@ -1,5 +1,5 @@
 -- The first results of a ranking.
-use Rattle.std.proofs.Common.{ℕ, ◌≡◌, List, take, drop, map, Result, Ok, Err, ap, sym, ◌∙◌, subst}
+use Rattle.std.proofs.Common.{ℕ, ◌≡◌, List, [], take, drop, map, Result, Ok, Err, ap, sym, ◌∙◌, subst}
 use Rattle.std.specs.Prelude.{IfOk}
 use Rattle.ri_base.specs.Documents.{Document}
 use Rattle.ri_base.specs.declared.hit.Hit.{Hit}

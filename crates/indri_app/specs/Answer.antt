@@ -1,5 +1,5 @@
 -- The results of a query and the lines that show them.
-use Rattle.std.specs.Prelude.{ℕ, List, map, take, drop}
+use Rattle.std.specs.Prelude.{ℕ, List, [], map, take, drop}
 use Rattle.ri_base.specs.Documents.{Document}
 use Rattle.ri_base.specs.declared.hit.Hit.{Hit}
 use Rattle.smoothing.specs.declared.rule.RuleKind.{RuleKind}

@@ -1,4 +1,4 @@
-use Rattle.std.proofs.Common.{◌≡◌, ◌<◌, ap, arith}
+use Rattle.std.proofs.Common.{[], ◌≡◌, ◌<◌, ap, arith}
 use Rattle.query_check.specs.Answers.{whole_checked}
 use Rattle.query_check.specs.Scale.{scale}
 use Rattle.query_check.specs.Trees.{scaled_tree}

@@ -1,7 +1,7 @@
 -- A document as a whole as the candidate that it is.
-use Rattle.std.proofs.Common.{◌≡◌, ◌<◌, ℕ, ◌+◌, ◌-◌, Bool, true, false, not, ◌&&◌, ◌==◌, if◌then◌else◌, Option, None, Some, List, [], ◌∷◌, ◌++◌, length, map, filter, zip, refl, sym, ap, ◌∙◌, arith, append-nil}
-use Rattle.std.specs.Bool.{nat_eq, nat_lt}
-use Rattle.std.specs.List.{All, list_all, list_any}
+use Rattle.std.proofs.Common.{◌≡◌, ℕ, ◌+◌, Bool, true, false, not, ◌==◌, if◌then◌else◌, None, Some, List, [], ◌∷◌, ◌++◌, length, map, filter, zip, refl, sym, ap, ◌∙◌, arith, append-nil}
+use Rattle.std.specs.Bool.{nat_lt}
+use Rattle.std.specs.List.{list_all, list_any}
 use Rattle.std.proofs.lemmas.Bool.Decides.{nat_tests}
 use Rattle.std.proofs.lemmas.List.{length-map}
 use Rattle.std.proofs.lemmas.List.Elements.{All-cons, All-nil}

@@ -23,8 +23,7 @@ use Rattle.ri_base.specs.declared.query.Range.{Range}
 use Rattle.ri_base.specs.declared.query.Range.TheVariants.{Whole, Field, Passages}
 use Rattle.smoothing.specs.declared.rule.RuleKind.{RuleKind}
 use Rattle.query_check.specs.Check.{CheckedTree}
-use Rattle.query_check.specs.Leaves.{LeafTree, leaf_tree}
-use Rattle.query_check.specs.declared.leaf_kind.LeafKind.{LeafKind}
+use Rattle.query_check.specs.Leaves.{LeafTree}
 use Rattle.query_check.specs.Scale.{scale}
 use Rattle.plain_query.specs.Checked.{is_plain_checked, is_plain_leaf}
 use Rattle.plain_query.specs.Plain.{has_none, is_whole}

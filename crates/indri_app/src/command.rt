@@ -1,7 +1,5 @@
 // The command of a text.
 ghost use Rattle.std.specs.Prelude.{◌≡◌, ◌≤◌, Ok, Err, Result, true, IfOk};
-ghost use Rattle.plain_query.specs.Checked.{is_plain_checked};
-ghost use Rattle.query_check.specs.Answers.{whole_checked};
 ghost use Rattle.query_reader.specs.QueryText.{query_text};
 ghost use Rattle.indri_app.specs.Command.{IsRule, IsVerb, command_of, query_read};
 ghost use Rattle.indri_app.specs.declared.words.TheConstants.{MOST_SHOWN};

@@ -1,5 +1,5 @@
 -- A text that is read as an expression is one of it.
-use Rattle.std.proofs.Common.{ℕ, zero, suc, ◌≡◌, ◌≤◌, Bool, true, false, not, ◌&&◌, ◌||◌, ◌⊎◌, inl, inr, List, [], ◌∷◌, ◌++◌, length, drop, Option, None, Some, Ok, Err, refl, sym, ap, ◌∙◌, subst, arith, append_assoc, eqb-true}
+use Rattle.std.proofs.Common.{ℕ, zero, suc, ◌≡◌, ◌≤◌, Bool, true, false, not, ◌&&◌, ◌||◌, ◌⊎◌, inl, inr, List, [], ◌∷◌, ◌++◌, length, drop, Ok, Err, refl, sym, ap, ◌∙◌, subst, arith, append_assoc, eqb-true}
 use Rattle.std.specs.Prelude.{◌==◌, nat_lt, if◌then◌else◌, codes}
 use Rattle.std.specs.List.{list_all, prefix_len, take_while}
 use Rattle.std.specs.Str.{bytes_eq}
@@ -7,7 +7,7 @@ use Rattle.std.proofs.lemmas.Slice.Eq.{bytes_eq-Decides}
 use Rattle.std.proofs.lemmas.List.Folds.{list_all-append}
 use Rattle.ri_base.specs.Ascii.{is_space, is_letter, is_digit, is_letter_or_digit}
 use Rattle.ri_base.specs.Expression as tree
-use Rattle.ri_base.specs.Expression.{ExprTree, ExprTrees, expr_trees}
+use Rattle.ri_base.specs.Expression.{ExprTree, expr_trees}
 use Rattle.query_reader.specs.Cursor.{At, Reading, place, refuse}
 use Rattle.query_reader.specs.Bytes.{begins, begins_in, skip, past, spaced}
 use Rattle.query_reader.specs.Operators.{operator_of, extent_operator, test_operator, name_of, is_number, is_numbered, behind_letters}
@@ -16,7 +16,7 @@ use Rattle.query_reader.specs.Items.{hash, is_context, arguments}
 use Rattle.query_reader.specs.Exprs.{number_then_opening, head_of, head, is_any, made, behind_argument, next_expr, operator, atom, with_field, expr_by, inner, expr}
 use Rattle.query_reader.specs.QueryText.{without_context, ended, lone_expr, expr_text, placed, start}
 use Rattle.query_language.specs.Grammar as grammar
-use Rattle.query_language.specs.Grammar.{AreSpaces, AreArguments, IsField, IsNumber, IsAtom, IsExpr, IsExprText}
+use Rattle.query_language.specs.Grammar.{AreArguments, IsField, IsNumber, IsAtom, IsExpr, IsExprText}
 use Rattle.query_reader.specs.declared.fault.QueryKind.{QueryKind}
 use Rattle.query_reader.specs.declared.fault.QueryKind.TheVariants as kind
 use Rattle.query_reader.specs.declared.operator.Operator.{Operator}

@@ -1,9 +1,9 @@
 -- Worked texts, computed by the definitions alone.
-use Rattle.std.proofs.Common.{◌≡◌, [], ◌∷◌, Ok, Err, None, Some, refl}
+use Rattle.std.proofs.Common.{◌≡◌, [], ◌∷◌, Ok, Err, None, refl}
 use Rattle.std.specs.Prelude.{codes, false}
 use Rattle.ri_base.specs.Expression as x
 use Rattle.ri_base.specs.Query as q
-use Rattle.ri_base.specs.declared.query.Range.TheVariants.{Whole, Field, Passages}
+use Rattle.ri_base.specs.declared.query.Range.TheVariants.{Whole, Passages}
 use Rattle.query_reader.specs.QueryText.{query_text, expr_text}
 use Rattle.query_reader.specs.declared.fault.QueryKind.TheVariants.{Expected, UnknownOperator, BadNumber, EmptyTerm, EmptyOperator, FilterInside, WindowInside, ContextInside, BadField, WeightTooLong, NotYetBuilt}
 use Rattle.query_language.proofs.Computing.{reading}

@@ -1,4 +1,4 @@
-use Rattle.std.proofs.Common.{arith, ◌≡◌, ◌<◌, ◌≤◌, ◌∙◌, length, sym, subst}
+use Rattle.std.proofs.Common.{arith, ◌<◌, ◌≤◌, ◌∙◌, length}
 use Rattle.ri_base.specs.Collection.{document_at}
 use Rattle.belief_nodes.specs.Network.{network_tree}
 use Rattle.full_ranking.proofs.RankingLemmas.{all_candidates, next_keys, next_rows}

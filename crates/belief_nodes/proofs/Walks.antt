@@ -1,6 +1,6 @@
 -- What the calculation of a key asks of an operator and of its arguments, from one place of a list on.
 use Rattle.std.proofs.Common.{◌≡◌, ℕ, ◌+◌, ◌*◌, ◌/◌, ◌^◌, ◌<◌, ◌≤◌, List, [], ◌∷◌, map, drop, length, get_or, arith, refl, min, le_of_lt}
-use Rattle.std.specs.Prelude.{All, sum, fold, ◌==◌, slice_index}
+use Rattle.std.specs.Prelude.{All, sum, fold, ◌==◌, slice_index, true}
 use Rattle.std.specs.Int.{◌∣◌}
 use Rattle.std.proofs.Math.Nat.{pos_of_dvd_of_pos, le_of_dvd, div-eq_of_eq-mul_right}
 use Rattle.std.proofs.lemmas.Bool.{ltb-true}
@@ -118,6 +118,15 @@ module _ (n e : ℕ) (xs : WeightedScaledTrees) where
   unfolding key shares weighted_shares
   weight_key digits h = rw (weight_quotient h) refl
 
+-- a tree is fit whose scale divides a common one
+fit_of : (n m : ℕ) (x : ScaledTree) → is_below n x ≡ true → is_scaled x ≡ true → scale x ∣ m → 0 < m → m < 2 ^ 60 → IsFit n x
+fit_of n m x numbered scaled divides positive small = record {
+  numbered = numbered;
+  scaled = scaled;
+  positive = pos_of_dvd_of_pos divides positive;
+  small = (let le : scale x ≤ m = le_of_dvd positive divides in omega (arith, small, le));
+}
+
 -- the arguments one by one
 module _ (n m : ℕ) (x : ScaledTree) (xs : ScaledTrees) (h : AreFit n m (more x xs)) where
   pub first_divides : scale x ∣ m
@@ -126,12 +135,7 @@ module _ (n m : ℕ) (x : ScaledTree) (xs : ScaledTrees) (h : AreFit n m (more x
 
   pub first_fit : IsFit n x
   unfolding is_below are_below are_weighted_below is_scaled are_scaled are_weighted_scaled
-  first_fit = record {
-    numbered = both_left (is_below n x) (are_below n xs) h.numbered;
-    scaled = both_left (is_scaled x) (are_scaled xs) h.scaled;
-    positive = pos_of_dvd_of_pos first_divides h.positive;
-    small = (let le : scale x ≤ m = le_of_dvd h.positive first_divides in omega (arith, h.small));
-  }
+  first_fit = fit_of n m x (both_left (is_below n x) (are_below n xs) h.numbered) (both_left (is_scaled x) (are_scaled xs) h.scaled) first_divides h.positive h.small
 
   pub rest_fit : AreFit n m xs
   unfolding is_below are_below are_weighted_below is_scaled are_scaled are_weighted_scaled scale common weighted_common
@@ -150,12 +154,7 @@ module _ (n m w : ℕ) (x : ScaledTree) (xs : WeightedScaledTrees) (h : AreWeigh
 
   pub weighted_first_fit : IsFit n x
   unfolding is_below are_below are_weighted_below is_scaled are_scaled are_weighted_scaled
-  weighted_first_fit = record {
-    numbered = both_left (is_below n x) (are_weighted_below n xs) h.numbered;
-    scaled = both_left (is_scaled x) (are_weighted_scaled xs) h.scaled;
-    positive = pos_of_dvd_of_pos weighted_first_divides h.positive;
-    small = (let le : scale x ≤ m = le_of_dvd h.positive weighted_first_divides in omega (arith, h.small));
-  }
+  weighted_first_fit = fit_of n m x (both_left (is_below n x) (are_weighted_below n xs) h.numbered) (both_left (is_scaled x) (are_weighted_scaled xs) h.scaled) weighted_first_divides h.positive h.small
 
   pub weighted_rest_fit : AreWeightedFit n m xs
   unfolding is_below are_below are_weighted_below is_scaled are_scaled are_weighted_scaled scale common weighted_common

@@ -9,7 +9,8 @@ ghost use Rattle.extent_lists.specs.Rows.{IsRising};
 use ri_base::{Extent, NoMemory};
 use std::alloc::Global;
 
-/// How many extents are looked at one by one before a search.
+/// How many extents are looked at one by one before a search: those of a window are mostly near, and so few are found faster
+/// by a look at each than by halving.
 const NEAR: usize = 16;
 
 /// For each extent the number of extents up to the last one before it that ends earlier, and 0 where none does.

@@ -5,16 +5,17 @@ use ri_base::{Fraction, Steps};
 use std::marker::Model;
 use std::sync::ledger::Ledger;
 
-/// A lower level at which digits are looked at.
+/// A lower level at which digits are looked at: twelve squarings tell a logarithm to within some 0.0005.
 pub const FIRST: u32 = 12;
 
-/// The level of the digits that decide.
+/// The level of the digits that decide: some twelve decimal places, twice those that a score shows.
 pub const LAST: u32 = 40;
 
-/// The most squarings of one number: up to here the digits enclose its logarithm.
+/// The most squarings of one number: up to here the digits enclose its logarithm, since what is cut of a rest of `PLACES`
+/// places stays below one digit.
 pub const MAX_LEVEL: u32 = 60;
 
-/// The binary places of a rest.
+/// The binary places of a rest. A rest is below 2^63, so its square fits into 128 bits.
 const PLACES: u32 = 62;
 
 /// The digits of the logarithm to base 2 of `q / p`, for a fraction `p / q`. At level `k` they are the whole part of that

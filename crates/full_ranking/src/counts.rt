@@ -44,16 +44,3 @@ pub fn all_stats(
     }
     Ok(stats)
 }
-
-fn is_plain(leaf: &LeafKind) -> bool
-    ensures { result ≡ is_plain_leaf (leaf_tree leaf.now) }
-{
-    matches!(leaf, LeafKind::Extents(_, None))
-}
-
-/// Whether each leaf is an expression without a context.
-pub fn are_plain(leaves: &[LeafKind]) -> bool
-    ensures { result ≡ list_all is_plain_leaf (map leaf_tree leaves.now) }
-{
-    leaves.iter().all(|leaf| is_plain(leaf))
-}

@@ -6,6 +6,5 @@ mod laws;
 mod memory;
 mod ranking;
 
-pub use counts::are_plain;
 pub use laws::ranking_is_true;
 pub use ranking::rank;

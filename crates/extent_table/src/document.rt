@@ -3,6 +3,7 @@ ghost use Rattle.std.specs.Prelude.{◌≡◌, ◌<◌, ◌≤◌, ◌⊎◌, If
 ghost use Rattle.ri_base.specs.Documents.{AreFields};
 
 use anyhow::{Context, Result, bail};
+use ri_base::limits::{MAX_DOC_FIELDS, MAX_DOC_TOKENS};
 use ri_base::{Doc, Docno, FieldSpan, Name, Spans, Term, Terms};
 use std::alloc::Global;
 
@@ -59,7 +60,7 @@ fn fields(alloc: Global, text: &str, length: u32) -> Result<Spans>
     for word in text.split_whitespace() {
         let next = field(alloc, word, length)?;
         let ends = (next.begin(), next.end());
-        if spans.len() >= 65_535 || !stands_behind(last, ends) {
+        if spans.len() >= MAX_DOC_FIELDS || !stands_behind(last, ends) {
             bail!("no fields in order");
         }
         spans.push(next)?;
@@ -72,7 +73,7 @@ fn fields(alloc: Global, text: &str, length: u32) -> Result<Spans>
 pub fn document(alloc: Global, tokens_text: &str, fields_text: &str) -> Result<Doc> {
     let docno = Docno::new(alloc, b"d")?.context("no docno")?;
     let tokens = tokens(alloc, tokens_text)?;
-    if tokens.len() > 1_048_576 {
+    if tokens.len() > MAX_DOC_TOKENS {
         bail!("too many tokens");
     }
     let fields = fields(alloc, fields_text, tokens.len() as u32)?;

@@ -12,6 +12,7 @@ use document::document;
 use expression::expression;
 use extent_ops::{ExtentIter, extents};
 use memory_index::MemIndex;
+use ri_base::limits::MAX_HELD_TOKENS;
 use ri_base::{Doc, ExtentExpr, Extents, Postings, Sealed};
 use std::alloc::Global;
 
@@ -21,7 +22,7 @@ const MOST_SHOWN: usize = 100;
 /// An index of this document alone.
 fn sealed(alloc: Global, doc: &Doc) -> Result<Sealed> {
     let mut index = MemIndex::new(alloc, 1)?;
-    if index.token_count() + u64::from(doc.len()) > 67_108_864 || index.add(alloc, doc).is_err() {
+    if index.token_count() + u64::from(doc.len()) > MAX_HELD_TOKENS || index.add(alloc, doc).is_err() {
         bail!("not added");
     }
     match index.seal(alloc) {

@@ -22,7 +22,9 @@ const MOST_SHOWN: usize = 100;
 /// An index of this document alone.
 fn sealed(alloc: Global, doc: &Doc) -> Result<Sealed> {
     let mut index = MemIndex::new(alloc, 1)?;
-    if index.token_count() + u64::from(doc.len()) > MAX_HELD_TOKENS || index.add(alloc, doc).is_err() {
+    if index.token_count() + u64::from(doc.len()) > MAX_HELD_TOKENS
+        || index.add(alloc, doc).is_err()
+    {
         bail!("not added");
     }
     match index.seal(alloc) {

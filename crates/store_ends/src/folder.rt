@@ -1,0 +1,128 @@
+// A folder of the system.
+ghost use Rattle.std.specs.Io.{ReadsAtMost};
+
+use crate::LONGEST_NAME;
+use ri_ends::NoMemory;
+use std::fs::{File, Metadata, OpenFile};
+use std::io::{ErrorKind, Read, Seek, SeekFrom, Write};
+use std::rt::Files;
+use std::{fs, io};
+
+// The file that is written before it takes another's place. No call can name it.
+const BESIDE: &str = ".new";
+
+/// A folder by its path, with the room for the paths of its files.
+#[derive(Drop)]
+pub(crate) struct Folder<'a, R: Files + AllocGlobal> {
+    rt: &'a R,
+    folder: &'a str,
+    path: String,
+    beside: String,
+}
+
+impl<'a, R: Files + AllocGlobal> Folder<'a, R> {
+    pub fn new(rt: &'a R, folder: &'a str) -> Result<Self, NoMemory> {
+        let room = folder.len() + 1 + LONGEST_NAME;
+        let path = String::with_capacity(rt.alloc(), room)?;
+        let mut beside = String::with_capacity(rt.alloc(), room)?;
+        beside.push_str(folder)?;
+        beside.push_str("/")?;
+        beside.push_str(BESIDE)?;
+        Ok(Folder {
+            rt,
+            folder,
+            path,
+            beside,
+        })
+    }
+
+    // Makes `path` that of the file of this name.
+    fn set_path(&mut self, name: &str) -> io::Result<()> {
+        if self.folder.is_empty() || !is_file_name(name) {
+            return Err(io::Error::from(ErrorKind::InvalidFilename));
+        }
+        self.path.clear();
+        self.path.push_str(self.folder)?;
+        self.path.push_str("/")?;
+        self.path.push_str(name)?;
+        Ok(())
+    }
+
+    pub fn length_of(&mut self, name: &str) -> io::Result<Option<u64>> {
+        self.set_path(name)?;
+        match fs::metadata(self.rt, self.path.as_str()) {
+            Ok(metadata) if metadata.is_file() => Ok(Some(metadata.len())),
+            Ok(_) => Err(io::Error::from(ErrorKind::IsADirectory)),
+            Err(error) if error.kind() == ErrorKind::NotFound => Ok(None),
+            Err(error) => Err(error),
+        }
+    }
+
+    pub fn read_at(&mut self, name: &str, at: u64, buf: &mut [u8]) -> io::Result<usize>
+        ensures { ReadsAtMost result buf.new }
+    {
+        match self.length_of(name)? {
+            Some(length) if at < length => {
+                let mut file = File::open(self.rt, self.path.as_str())?;
+                file.seek(SeekFrom::Start(at))?;
+                fill(&mut file, buf)
+            }
+            _ => Ok(0),
+        }
+    }
+
+    pub fn write(&mut self, name: &str, bytes: &[u8]) -> io::Result<()> {
+        self.set_path(name)?;
+        write_file(self.rt, self.path.as_str(), bytes)?;
+        self.keep_entries()
+    }
+
+    // Writes a file beside the one of this name, and renames it.
+    pub fn exchange(&mut self, name: &str, bytes: &[u8]) -> io::Result<()> {
+        self.set_path(name)?;
+        write_file(self.rt, self.beside.as_str(), bytes)?;
+        fs::rename(self.rt, self.beside.as_str(), self.path.as_str())?;
+        self.keep_entries()
+    }
+
+    pub fn delete(&mut self, name: &str) -> io::Result<()> {
+        self.set_path(name)?;
+        match fs::remove_file(self.rt, self.path.as_str()) {
+            Ok(()) => self.keep_entries(),
+            Err(error) if error.kind() == ErrorKind::NotFound => Ok(()),
+            Err(error) => Err(error),
+        }
+    }
+
+    // Makes the names of the folder's files reach the disk.
+    fn keep_entries(&self) -> io::Result<()> {
+        File::open(self.rt, self.folder)?.sync_all()
+    }
+}
+
+// Whether this is the name of a file in a folder: no path, none that is hidden, and no `.` or `..`.
+fn is_file_name(name: &str) -> bool {
+    !name.is_empty() && !name.starts_with('.') && !name.contains('/')
+}
+
+// Reads until the buffer is full or the file ends.
+fn fill(file: &mut impl Read, buf: &mut [u8]) -> io::Result<usize>
+    ensures { ReadsAtMost result buf.new }
+{
+    let mut count = 0;
+    while count < buf.len() {
+        let more = file.read(&mut buf[count..])?;
+        if more == 0 {
+            break;
+        }
+        count += more;
+    }
+    Ok(count)
+}
+
+// Writes a whole file, in place of one that is there, and makes its bytes reach the disk.
+fn write_file<R: Files>(rt: &R, path: &str, bytes: &[u8]) -> io::Result<()> {
+    let mut file = File::create(rt, path)?;
+    file.write_all(bytes)?;
+    file.sync_all()
+}

@@ -1,5 +1,9 @@
 // A folder of the system.
+ghost use Rattle.std.specs.Prelude.{◌≡◌, ◌++◌, ◌∷◌, OnOk};
+ghost use Rattle.std.specs.Bool.{OnTrue};
 ghost use Rattle.std.specs.Io.{ReadsAtMost};
+ghost use Rattle.std.specs.String.{string_bytes};
+ghost use Rattle.store_ends.specs.Folders.{IsFileName};
 
 use crate::LONGEST_NAME;
 use ri_ends::NoMemory;
@@ -37,7 +41,10 @@ impl<'a, R: Files + AllocGlobal> Folder<'a, R> {
     }
 
     // Makes `path` that of the file of this name.
-    fn set_path(&mut self, name: &str) -> io::Result<()> {
+    fn set_path(&mut self, name: &str) -> io::Result<()>
+        ensures inside { OnOk result (IsFileName name.now) }
+        ensures path { OnOk result (string_bytes self.new.path ≡ self.old.folder.now ++ 47 ∷ name.now) }
+    {
         if self.folder.is_empty() || !is_file_name(name) {
             return Err(io::Error::from(ErrorKind::InvalidFilename));
         }
@@ -48,7 +55,9 @@ impl<'a, R: Files + AllocGlobal> Folder<'a, R> {
         Ok(())
     }
 
-    pub fn length_of(&mut self, name: &str) -> io::Result<Option<u64>> {
+    pub fn length_of(&mut self, name: &str) -> io::Result<Option<u64>>
+        ensures inside { OnOk result (IsFileName name.now) }
+    {
         self.set_path(name)?;
         match fs::metadata(self.rt, self.path.as_str()) {
             Ok(metadata) if metadata.is_file() => Ok(Some(metadata.len())),
@@ -59,7 +68,8 @@ impl<'a, R: Files + AllocGlobal> Folder<'a, R> {
     }
 
     pub fn read_at(&mut self, name: &str, at: u64, buf: &mut [u8]) -> io::Result<usize>
-        ensures { ReadsAtMost result buf.new }
+        ensures bound { ReadsAtMost result buf.new }
+        ensures inside { OnOk result (IsFileName name.now) }
     {
         match self.length_of(name)? {
             Some(length) if at < length => {
@@ -71,21 +81,27 @@ impl<'a, R: Files + AllocGlobal> Folder<'a, R> {
         }
     }
 
-    pub fn write(&mut self, name: &str, bytes: &[u8]) -> io::Result<()> {
+    pub fn write(&mut self, name: &str, bytes: &[u8]) -> io::Result<()>
+        ensures inside { OnOk result (IsFileName name.now) }
+    {
         self.set_path(name)?;
         write_file(self.rt, self.path.as_str(), bytes)?;
         self.keep_entries()
     }
 
     // Writes a file beside the one of this name, and renames it.
-    pub fn exchange(&mut self, name: &str, bytes: &[u8]) -> io::Result<()> {
+    pub fn exchange(&mut self, name: &str, bytes: &[u8]) -> io::Result<()>
+        ensures inside { OnOk result (IsFileName name.now) }
+    {
         self.set_path(name)?;
         write_file(self.rt, self.beside.as_str(), bytes)?;
         fs::rename(self.rt, self.beside.as_str(), self.path.as_str())?;
         self.keep_entries()
     }
 
-    pub fn delete(&mut self, name: &str) -> io::Result<()> {
+    pub fn delete(&mut self, name: &str) -> io::Result<()>
+        ensures inside { OnOk result (IsFileName name.now) }
+    {
         self.set_path(name)?;
         match fs::remove_file(self.rt, self.path.as_str()) {
             Ok(()) => self.keep_entries(),
@@ -100,9 +116,14 @@ impl<'a, R: Files + AllocGlobal> Folder<'a, R> {
     }
 }
 
-// Whether this is the name of a file in a folder: no path, none that is hidden, and no `.` or `..`.
-fn is_file_name(name: &str) -> bool {
-    !name.is_empty() && !name.starts_with('.') && !name.contains('/')
+// Whether this is the name of a file that lies in the folder itself.
+fn is_file_name(name: &str) -> bool
+    ensures { OnTrue result (IsFileName name.now) }
+{
+    match name.as_bytes() {
+        [] | [b'.', ..] => false,
+        bytes => !bytes.contains(&b'/') && !bytes.contains(&0),
+    }
 }
 
 // Reads until the buffer is full or the file ends.

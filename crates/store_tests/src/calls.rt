@@ -73,6 +73,31 @@ pub fn first_wrong<T: Store>(store: &mut T, calls: &[(&str, Call, Answer<'_>)]) 
     None
 }
 
+/// A call of each kind.
+static EACH: [Call; 5] = [
+    Call::Len,
+    Call::Read(0, 8),
+    Call::Put(b"new"),
+    Call::Replace(b"new"),
+    Call::Remove,
+];
+
+pub const FAILED: Answer<'static> = Answer::Fault(OutFault::Failed);
+
+/// Whether a call of each kind on the file of this name fails.
+pub fn all_fail<T: Store>(store: &mut T, name: &str) -> bool
+    requires { T.longest store.old ≡ LONGEST_NAME }
+    ensures { T.longest store.new ≡ LONGEST_NAME }
+{
+    let mut room = [0; 8];
+    for call in &EACH {
+        if answer_of(store, name, *call, &mut room) != FAILED {
+            return false;
+        }
+    }
+    true
+}
+
 /// A name of exactly as many bytes as one may have.
 pub const LONG: &str = "a-name-of-64-bytes-is-the-longest-that-a-store-must-be-able-to-a";
 

@@ -1,31 +1,8 @@
 // The store in a folder.
-use crate::calls::{Answer, CALLS, Call, answer_of, first_wrong};
-use ri_ends::OutFault;
+use crate::calls::{Answer, CALLS, Call, FAILED, all_fail, first_wrong};
 use std::fs;
 use std::test::Fail;
 use store_ends::FolderStore;
-
-/// A call of each kind.
-static EACH: [Call; 5] = [
-    Call::Len,
-    Call::Read(0, 8),
-    Call::Put(b"new"),
-    Call::Replace(b"new"),
-    Call::Remove,
-];
-
-const FAILED: Answer<'static> = Answer::Fault(OutFault::Failed);
-
-/// Whether each call on the file of this name fails.
-fn all_fail<R: std::rt::Files + AllocGlobal>(store: &mut FolderStore<'_, R>, name: &str) -> bool {
-    let mut room = [0; 8];
-    for call in &EACH {
-        if answer_of(store, name, *call, &mut room) != FAILED {
-            return false;
-        }
-    }
-    true
-}
 
 // The folder is empty behind them, so nothing else was left in it.
 #[test]

@@ -1,6 +1,5 @@
 // The store in memory, and how its calls fail.
-use crate::calls::{Answer, CALLS, Call, first_wrong};
-use ri_ends::OutFault;
+use crate::calls::{Answer, CALLS, Call, FAILED, first_wrong};
 use std::alloc::{AllocError, Global};
 use std::test::Fail;
 use store_ends::{Left, MemStore, StoreFail};
@@ -56,7 +55,7 @@ fn calls_that_fail(rt: HostRuntime) -> Result<(), Fail> {
         let mut store = failing(rt.alloc(), *leaves)?;
         let calls = [
             ("f", Call::Len, Answer::Length(Some(3))),
-            ("f", *call, Answer::Fault(OutFault::Failed)),
+            ("f", *call, FAILED),
             ("f", Call::Read(0, 8), *wanted),
         ];
         assert_eq!(rt; first_wrong(&mut store, &calls), None);

@@ -14,7 +14,8 @@ use crate::failing::{StoreFail, fail_at, outcome};
 use ri_ends::OutFault;
 use std::alloc::Global;
 
-/// Keeps files in memory.
+/// Keeps files in memory, as the files that it began with and the record of all calls that were to change one. So it tells
+/// what a stop at each moment leaves. It is meant for tests: to look a file up it goes over the whole record.
 #[derive(Drop)]
 pub struct MemStore {
     alloc: Global,
@@ -26,10 +27,13 @@ pub struct MemStore {
 }
 
 impl MemStore {
-    /// These files, names and contents by rising name, kept in memory of this allocator. The calls in `fails` fail.
+    /// These files, names and contents, kept in memory of this allocator. Of files of one name the first counts. The calls in
+    /// `fails` fail; the first call is number 1.
     pub fn new(alloc: Global, files: Vec<(Vec<u8>, Vec<u8>)>, fails: Vec<StoreFail>) -> Self
         ensures files { ⟦<MemStore as Store>⟧.files result ≡ Some (first_files files.items) }
         ensures layers { ⟦<MemStore as Store>⟧.layers result ≡ Some [] }
+        ensures clock { ⟦<MemStore as Store>⟧.clock result ≡ 0 }
+        ensures held { ⟦<MemStore as Store>⟧.held result ≡ [] }
         ensures faults { ⟦<MemStore as Store>⟧.faults result ≡ 0 }
         ensures longest { ⟦<MemStore as Store>⟧.longest result ≡ LONGEST_NAME }
         ensures fails { fails_of result ≡ fails.items }

@@ -1,6 +1,9 @@
 // The front of a source.
-ghost use Rattle.std.specs.Prelude.{◌≡◌, ◌∷◌, ℕ, List, [], Some, take};
+ghost use Rattle.std.specs.Prelude.{◌≡◌, ◌+◌, ◌<◌, ◌∷◌, ℕ, List, [], Some, take, length, IfOk, OnOk, OnErr, MatchResult};
+ghost use Rattle.std.specs.Io.{ReadsAtMost};
+ghost use Rattle.std.specs.Io.KnownBytes.{prepend_known, IsAtEnd, ReadConsumes};
 ghost use Rattle.std.specs.Option.{option_map};
+ghost use Rattle.ri_ends.specs.Causes.{HasCause};
 ghost use Rattle.ri_ends.specs.Front.{behind_front, missing_of, source_of};
 
 use crate::{Failed, Source};
@@ -38,9 +41,11 @@ impl<S: Source> Front<S> {
         self.missing
     }
 
-    /// The other source.
+    /// The other source, which has left what the front has and what stands behind it.
     pub fn into_source(self) -> S
-        ensures { result ≡ source_of self }
+        ensures source { result ≡ source_of self }
+        ensures left { ⟦<Front<S> as Source>⟧.left self ≡ option_map (take (missing_of self)) (S.left result) }
+        ensures layers { ⟦<Front<S> as Source>⟧.layers self ≡ behind_front (missing_of self) (S.left result) (S.layers result) }
     {
         self.source
     }
@@ -65,7 +70,24 @@ impl<S: Source> Source for Front<S> {
 
     ghost told_together = { λ s. front_told s.missing (S.left s.source) (S.layers s.source) (S.told_together s.source) };
 
-    fn read(&mut self, buf: &mut [u8]) -> Result<usize, Failed> {
+    fn read(&mut self, buf: &mut [u8]) -> Result<usize, Failed>
+        ensures bound { ReadsAtMost result buf.new }
+        ensures bytes { IfOk result (λ n. ⟦<Front<S> as Source>⟧.left self.old ≡ prepend_known (take n buf.new) (⟦<Front<S> as Source>⟧.left self.new)) }
+        ensures end { IfOk result (λ n. n ≡ 0 → 0 < length buf.new → IsAtEnd (⟦<Front<S> as Source>⟧.left self.new)) }
+        ensures failed { OnErr result (⟦<Front<S> as Source>⟧.left self.new ≡ ⟦<Front<S> as Source>⟧.left self.old) }
+        ensures reader { ReadConsumes (⟦<Front<S> as Source>⟧.reader_left self.old) (⟦<Front<S> as Source>⟧.reader_left self.new) result buf.new }
+        ensures layers { ⟦<Front<S> as Source>⟧.layers self.new ≡ ⟦<Front<S> as Source>⟧.layers self.old }
+        ensures held { ⟦<Front<S> as Source>⟧.held self.new ≡ ⟦<Front<S> as Source>⟧.held self.old }
+        ensures cause { HasCause (⟦<Front<S> as Source>⟧.faults self.old) (⟦<Front<S> as Source>⟧.faults self.new) result }
+        ensures none { OnOk result (⟦<Front<S> as Source>⟧.faults self.new ≡ ⟦<Front<S> as Source>⟧.faults self.old) }
+        ensures lowers { MatchResult result
+            (λ n. ⟦<Front<S> as Source>⟧.can_give self.new + n ≡ ⟦<Front<S> as Source>⟧.can_give self.old)
+            (λ _. ⟦<Front<S> as Source>⟧.can_give self.new ≡ ⟦<Front<S> as Source>⟧.can_give self.old) }
+
+        // The bytes that are missing are fewer by those that were given.
+        ensures gives { IfOk result (λ n. missing_of self.new + n ≡ missing_of self.old) }
+        ensures gives_none { OnErr result (missing_of self.new ≡ missing_of self.old) }
+    {
         if self.missing == 0 {
             return Ok(0);
         }

@@ -7,7 +7,7 @@ ghost use Rattle.store_ends.specs.Folders.{IsFileName};
 
 use crate::LONGEST_NAME;
 use ri_ends::NoMemory;
-use std::fs::{File, Metadata, OpenFile};
+use std::fs::{File, OpenFile};
 use std::io::{ErrorKind, Read, Seek, SeekFrom, Write};
 use std::rt::Files;
 use std::{fs, io};
@@ -55,6 +55,7 @@ impl<'a, R: Files + AllocGlobal> Folder<'a, R> {
         Ok(())
     }
 
+    // The length of a file, or nothing where there is none.
     pub fn length_of(&mut self, name: &str) -> io::Result<Option<u64>>
         ensures inside { OnOk result (IsFileName name.now) }
     {
@@ -67,6 +68,7 @@ impl<'a, R: Files + AllocGlobal> Folder<'a, R> {
         }
     }
 
+    // The file's bytes from a place on, as many as there are and as have room.
     pub fn read_at(&mut self, name: &str, at: u64, buf: &mut [u8]) -> io::Result<usize>
         ensures bound { ReadsAtMost result buf.new }
         ensures inside { OnOk result (IsFileName name.now) }
@@ -81,6 +83,7 @@ impl<'a, R: Files + AllocGlobal> Folder<'a, R> {
         }
     }
 
+    // Writes a whole file in its place.
     pub fn write(&mut self, name: &str, bytes: &[u8]) -> io::Result<()>
         ensures inside { OnOk result (IsFileName name.now) }
     {
@@ -99,6 +102,7 @@ impl<'a, R: Files + AllocGlobal> Folder<'a, R> {
         self.keep_entries()
     }
 
+    // Removes a file, where there is one.
     pub fn delete(&mut self, name: &str) -> io::Result<()>
         ensures inside { OnOk result (IsFileName name.now) }
     {

@@ -1,8 +1,8 @@
 // A store in memory.
-ghost use Rattle.std.specs.Prelude.{ℕ, List, Option, ◌≡◌, ◌≤◌, ◌^◌, [], None, Some, length, IfOk, OnOk, OnErr, IsSome, IsSomeAnd, IsErr, IfSome, IsErrOf, ◌↔◌, unwrap_or, false, true};
+ghost use Rattle.std.specs.Prelude.{ℕ, List, Option, ◌≡◌, ◌≤◌, [], None, Some, length, IfOk, OnOk, OnErr, IsSome, IsSomeAnd, IsErr, IfSome, IsErrOf, ◌↔◌, unwrap_or, false, true};
 ghost use Rattle.std.specs.Option.{option_map};
 ghost use Rattle.std.specs.Io.{ReadsAtMost};
-ghost use Rattle.store_ends.specs.Past.{first_files, after, failing_call, made, is_done, state_of, Records, files_of, since_of, next_fail, next_call, fails_of, left_by};
+ghost use Rattle.store_ends.specs.Past.{first_files, files_of, since_of, next_fail, next_call, fails_of, left_by};
 ghost use Rattle.ri_ends.specs.Failing.{call_behind};
 ghost use Rattle.store_ends.specs.declared.limits.TheConstants.{LONGEST_NAME};
 ghost use Rattle.store_ends.specs.Causes.{HasOutCause};
@@ -105,7 +105,7 @@ impl MemStore {
 
 impl Store for MemStore {
     ghost use Rattle.std.proofs.Common.{lit≤};
-    ghost use Rattle.store_ends.specs.Past.{LeftSince, left_now, now_left, earlier_left};
+    ghost use Rattle.store_ends.specs.Past.{left_now, now_left, earlier_left};
 
     ghost files = { λ s. Some (files_of s) };
 

@@ -1,3 +1,5 @@
 pub mod Causes
 pub mod Failing
+pub mod Front
+pub mod FrontLaws
 pub mod Memory

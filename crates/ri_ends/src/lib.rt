@@ -3,6 +3,7 @@
 #![tactic(auto)]
 
 mod fault;
+mod front;
 mod lent;
 mod mem_sink;
 mod mem_source;
@@ -11,6 +12,7 @@ mod source;
 mod std_ends;
 
 pub use fault::{Failed, OutFault};
+pub use front::Front;
 pub use lent::Lent;
 pub use mem_sink::{MemSink, SinkFail};
 pub use mem_source::MemSource;

@@ -1,0 +1,50 @@
+-- Files of which one is changed, and what a stop leaves over several calls.
+use Rattle.std.proofs.Common.{◌≡◌, ◌⊎◌, inl, inr, ℕ, ◌≤◌, List, refl, sym, ap, Bool, true, false, Option, Some}
+use Rattle.std.specs.Prelude.{bytes_eq, if◌then◌else◌}
+use Rattle.std.proofs.Math.Path.{fun_ext}
+use Rattle.std.proofs.lemmas.Bool.{false_from_ne_true}
+use Rattle.std.proofs.lemmas.Slice.Eq.{bytes_eq-Decides}
+use Rattle.store_ends.specs.Files.{Files, with_file, Leaves, LeavesNoMore}
+
+-- a file under another name is as it was
+pub with_file-other : (name other : List ℕ) (state : Option (List ℕ)) (f : Files) → (other ≡ name → ⊥) → with_file name state f other ≡ f other
+with_file-other name other state f ne =
+    let e : bytes_eq other name ≡ false = false_from_ne_true (bytes_eq other name) (λ eq. ne ((bytes_eq-Decides other name).0 eq)) in
+    rw e refl
+
+pub with_file-same : (name : List ℕ) (state : Option (List ℕ)) (f : Files) → with_file name state f name ≡ state
+with_file-same name state f =
+    let e : bytes_eq name name ≡ true = (bytes_eq-Decides name name).1 refl in
+    rw e refl
+
+-- No call leaves anything new.
+pub Leaves-same : (past : ℕ → Files → Type 0) (P : Option Files → Type 0) → Leaves past past P
+Leaves-same past P = record { each = λ t f s. inl s }
+
+-- One call after others: what it may leave is among what they all may leave.
+pub Leaves-then : (past mid since : ℕ → Files → Type 0) (P Q : Option Files → Type 0) → Leaves past mid P → Leaves mid since Q → ((f : Option Files) → Q f → P f) → Leaves past since P
+Leaves-then past mid since P Q first second into = record { each = λ t f s. elim (second.each t f s) [ inl m ↦ first.each t f m | inr q ↦ inr (into (Some f) q) ] }
+
+-- A reading call after others leaves nothing new.
+pub Leaves-none : (past mid since : ℕ → Files → Type 0) (P : Option Files → Type 0) → Leaves past mid P → LeavesNoMore mid since → Leaves past since P
+Leaves-none past mid since P first second = record { each = λ t f s. first.each t f (second t f s) }
+
+own : (name other : List ℕ) (f : Files) (b : Bool) → bytes_eq other name ≡ b → (if b then f name else f other) ≡ f other
+own name other f true e = ap f (sym ((bytes_eq-Decides other name).0 e))
+own name other f false e = refl
+
+-- Files are the same where one of them is put into the state that it has.
+pub with_file-own : (name : List ℕ) (f : Files) → with_file name (f name) f ≡ f
+with_file-own name f = fun_ext (λ other. own name other f (bytes_eq other name) refl)
+
+-- What a stop leaves holds of the files as they are too, which are the old ones or some of which P holds.
+pub Leaves-now : {S : Type 0} (files : S → Option Files) (clock : S → ℕ) (since : S → ℕ → Files → Type 0) (old new : S) (P : Option Files → Type 0) (f : Files)
+    → ((t : ℕ) (g : Files) → t ≤ clock new → files new ≡ Some g → since new t g) → ((g : Files) → since old (clock old) g → files old ≡ Some g)
+    → clock old ≤ clock new → Leaves (since old) (since new) P → files new ≡ Some f → (files old ≡ Some f) ⊎ P (Some f)
+Leaves-now files clock since old new P f honest still later leaves now =
+    elim (leaves.each (clock old) f (honest (clock old) f later now)) [ inl before ↦ inl (still f before) | inr p ↦ inr p ]
+
+-- A stop at a moment since the call began leaves the old files or some of which P holds.
+pub Leaves-entry : {S : Type 0} (files : S → Option Files) (clock : S → ℕ) (since : S → ℕ → Files → Type 0) (old new : S) (P : Option Files → Type 0) (f : Files)
+    → ((g : Files) → since old (clock old) g → files old ≡ Some g) → Leaves (since old) (since new) P → since new (clock old) f → (files old ≡ Some f) ⊎ P (Some f)
+Leaves-entry files clock since old new P f still leaves left = elim (leaves.each (clock old) f left) [ inl before ↦ inl (still f before) | inr p ↦ inr p ]

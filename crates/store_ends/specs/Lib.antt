@@ -1,0 +1,4 @@
+pub mod Causes
+pub mod Files
+pub mod Folders
+pub mod Past

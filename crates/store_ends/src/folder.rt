@@ -1,0 +1,153 @@
+// A folder of the system.
+ghost use Rattle.std.specs.Prelude.{◌≡◌, ◌++◌, ◌∷◌, OnOk};
+ghost use Rattle.std.specs.Bool.{OnTrue};
+ghost use Rattle.std.specs.Io.{ReadsAtMost};
+ghost use Rattle.std.specs.String.{string_bytes};
+ghost use Rattle.store_ends.specs.Folders.{IsFileName};
+
+use crate::LONGEST_NAME;
+use ri_ends::NoMemory;
+use std::fs::{File, OpenFile};
+use std::io::{ErrorKind, Read, Seek, SeekFrom, Write};
+use std::rt::Files;
+use std::{fs, io};
+
+// The file that is written before it takes another's place. No call can name it.
+const BESIDE: &str = ".new";
+
+/// A folder by its path, with the room for the paths of its files.
+#[derive(Drop)]
+pub(crate) struct Folder<'a, R: Files + AllocGlobal> {
+    rt: &'a R,
+    folder: &'a str,
+    path: String,
+    beside: String,
+}
+
+impl<'a, R: Files + AllocGlobal> Folder<'a, R> {
+    pub fn new(rt: &'a R, folder: &'a str) -> Result<Self, NoMemory> {
+        let room = folder.len() + 1 + LONGEST_NAME;
+        let path = String::with_capacity(rt.alloc(), room)?;
+        let mut beside = String::with_capacity(rt.alloc(), room)?;
+        beside.push_str(folder)?;
+        beside.push_str("/")?;
+        beside.push_str(BESIDE)?;
+        Ok(Folder {
+            rt,
+            folder,
+            path,
+            beside,
+        })
+    }
+
+    // Makes `path` that of the file of this name.
+    fn set_path(&mut self, name: &str) -> io::Result<()>
+        ensures inside { OnOk result (IsFileName name.now) }
+        ensures path { OnOk result (string_bytes self.new.path ≡ self.old.folder.now ++ 47 ∷ name.now) }
+    {
+        if self.folder.is_empty() || !is_file_name(name) {
+            return Err(io::Error::from(ErrorKind::InvalidFilename));
+        }
+        self.path.clear();
+        self.path.push_str(self.folder)?;
+        self.path.push_str("/")?;
+        self.path.push_str(name)?;
+        Ok(())
+    }
+
+    // The length of a file, or nothing where there is none.
+    pub fn length_of(&mut self, name: &str) -> io::Result<Option<u64>>
+        ensures inside { OnOk result (IsFileName name.now) }
+    {
+        self.set_path(name)?;
+        match fs::metadata(self.rt, self.path.as_str()) {
+            Ok(metadata) if metadata.is_file() => Ok(Some(metadata.len())),
+            Ok(_) => Err(io::Error::from(ErrorKind::IsADirectory)),
+            Err(error) if error.kind() == ErrorKind::NotFound => Ok(None),
+            Err(error) => Err(error),
+        }
+    }
+
+    // The file's bytes from a place on, as many as there are and as have room.
+    pub fn read_at(&mut self, name: &str, at: u64, buf: &mut [u8]) -> io::Result<usize>
+        ensures bound { ReadsAtMost result buf.new }
+        ensures inside { OnOk result (IsFileName name.now) }
+    {
+        match self.length_of(name)? {
+            Some(length) if at < length => {
+                let mut file = File::open(self.rt, self.path.as_str())?;
+                file.seek(SeekFrom::Start(at))?;
+                fill(&mut file, buf)
+            }
+            _ => Ok(0),
+        }
+    }
+
+    // Writes a whole file in its place.
+    pub fn write(&mut self, name: &str, bytes: &[u8]) -> io::Result<()>
+        ensures inside { OnOk result (IsFileName name.now) }
+    {
+        self.set_path(name)?;
+        write_file(self.rt, self.path.as_str(), bytes)?;
+        self.keep_entries()
+    }
+
+    // Writes a file beside the one of this name, and renames it.
+    pub fn exchange(&mut self, name: &str, bytes: &[u8]) -> io::Result<()>
+        ensures inside { OnOk result (IsFileName name.now) }
+    {
+        self.set_path(name)?;
+        write_file(self.rt, self.beside.as_str(), bytes)?;
+        fs::rename(self.rt, self.beside.as_str(), self.path.as_str())?;
+        self.keep_entries()
+    }
+
+    // Removes a file, where there is one.
+    pub fn delete(&mut self, name: &str) -> io::Result<()>
+        ensures inside { OnOk result (IsFileName name.now) }
+    {
+        self.set_path(name)?;
+        match fs::remove_file(self.rt, self.path.as_str()) {
+            Ok(()) => self.keep_entries(),
+            Err(error) if error.kind() == ErrorKind::NotFound => Ok(()),
+            Err(error) => Err(error),
+        }
+    }
+
+    // Makes the names of the folder's files reach the disk.
+    fn keep_entries(&self) -> io::Result<()> {
+        File::open(self.rt, self.folder)?.sync_all()
+    }
+}
+
+// Whether this is the name of a file that lies in the folder itself.
+fn is_file_name(name: &str) -> bool
+    ensures { OnTrue result (IsFileName name.now) }
+{
+    match name.as_bytes() {
+        [] | [b'.', ..] => false,
+        bytes => !bytes.contains(&b'/') && !bytes.contains(&0),
+    }
+}
+
+// Reads until the buffer is full or the file ends.
+fn fill(file: &mut impl Read, buf: &mut [u8]) -> io::Result<usize>
+    ensures { ReadsAtMost result buf.new }
+{
+    let mut count = 0;
+    while count < buf.len() {
+        let more = file.read(&mut buf[count..])?;
+        if more == 0 {
+            break;
+        }
+        count += more;
+    }
+    Ok(count)
+}
+
+// Writes a whole file, in place of one that is there, and makes its bytes reach the disk.
+fn write_file<R: Files>(rt: &R, path: &str, bytes: &[u8]) -> io::Result<()> {
+    let mut file = File::create(rt, path)?;
+    file.write_all(bytes)?;
+    file.sync_all()
+}

@@ -8,7 +8,7 @@ use Rattle.extent_walks.specs.Walks.{plan, plans}
 use Rattle.extent_walks.specs.declared.walk.Ahead.{Ahead}
 use Rattle.extent_walks.proofs.NextLemmas.{AreLow-over, HasEach-more, IsFrom-begin, IsFrom-here, IsJoinedSoFar-more, IsLeast-at_top, IsLeast-first, IsLeast-first_end, IsLeast-joined_beyond, IsLeast-short, IsLeast-window, IsLeastBelow-both, IsLeastBelow-missing, IsLeastBelow-none, IsLeastSoFar-more, IsNext-at_begin, IsNext-either, IsNext-later, IsNext-least, IsNext-no_extent, IsNext-no_least, IsNext-none, IsNext-within, IsPassed-over, place_falls}
 use Rattle.extent_walks.proofs.ShapeLemmas.{monotone_plan}
-use Rattle.extent_walks.proofs.WalkLaws.{argument_depth, argument_has, argument_inside, argument_kept, depth, depths, each_set-more, each_set-none, joined_above, kept-set, plan-Listed, plan-Within, plans-past, plans_before, plans_stay, set-listed, set-some, set-within}
+use Rattle.extent_walks.proofs.WalkLaws.{argument_depth, argument_has, argument_inside, argument_kept, depths, each_set-more, each_set-none, joined_above, kept-set, plan-Listed, plan-Within, plans-past, plans_before, plans_stay, set-listed, set-some, set-within}
 use Rattle.extent_walks.proofs.walk.+next.Goals as goal
 use Rattle.extent_walks.proofs.walk.+next.Goals.{Ahead::next-then-not-answers, Ahead::next-else-not-answers}
 

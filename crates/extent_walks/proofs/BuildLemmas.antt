@@ -1,5 +1,5 @@
 -- the plan of an expression
-use Rattle.std.proofs.Common.{◌≡◌, ◌↔◌, ℕ, zero, suc, ◌-◌, ◌<◌, ◌≤◌, Bool, true, false, nat_le, List, [], ◌∷◌, length, drop, get_or, map, Vec, Box, Global, refl, sym, ap, ◌∙◌, subst, arith}
+use Rattle.std.proofs.Common.{◌≡◌, ◌↔◌, ℕ, zero, suc, ◌+◌, ◌<◌, ◌≤◌, Bool, true, false, nat_le, List, [], ◌∷◌, ◌++◌, length, take, get_or, add-one, map, Vec, Box, Global, refl, sym, ap, ◌∙◌, subst, arith}
 use Rattle.std.specs.List.{All, Contains}
 use Rattle.std.proofs.lemmas.Bool.Decides.{nat_tests}
 use Rattle.ri_base.specs.Documents.{Document, Field}
@@ -12,12 +12,9 @@ use Rattle.extent_lists.specs.Plans.{LiesInSome}
 use Rattle.extent_lists.specs.Operators.{IsChain, IsLeastEnd, IsWindow, Joins}
 use Rattle.extent_lists.specs.Plans.{GiveEach, Gives, Plan, Plans, each_set, joined, listed, more, none, set, shortest, union_of, whole, window, within}
 use Rattle.extent_lists.specs.Rows.{Lists}
-use Rattle.extent_walks.specs.Walks.{plan, plans}
-use Rattle.extent_walks.specs.declared.walk.Walk.{Walk, Joined, Listed, Shortest}
-use Rattle.extent_walks.specs.declared.walk.Group.{Group, End, More}
+use Rattle.extent_walks.specs.Walks.{chain_plan, plan, plans}
 use Rattle.extent_walks.specs.declared.walk.Ahead.{Ahead}
-use Rattle.extent_lists.proofs.RowLemmas.{drop_before}
-use Rattle.extent_walks.proofs.WalkLaws.{plan-Joined, plan-Listed, plan-Shortest, plans-End, plans-More}
+use Rattle.std.proofs.lemmas.List.{append_assoc}
 use Rattle.extent_lists.proofs.SameLemmas.{AreWithin, HasEach-within, IsChain-within, IsInSome-within, IsLeastEnd-same, IsWindow-within}
 
 -- ---- lists
@@ -110,14 +107,20 @@ module _ (x : ExtentExpr) (d : Document) (p : Plan) where
   pub Gives-of_in_field : (b : Box ExtentExpr Global) (f : List ℕ) (q : Plan) (xs outer : List Pair) → x ≡ InField b f → p ≡ within q outer → Gives q (expr_tree b.value) d → Lists (IsField d.fields f) xs → ((m n : ℕ) → LiesInSome outer m n ↔ LiesInSome xs m n) → Gives p (expr_tree x) d
   Gives-of_in_field b f q xs outer e is h l same = rw (e, is, expr_tree-InField) (gives_in_field d q (expr_tree b.value) f xs outer h l same)
 
-pub GiveEach-none : (xs : List ExtentExpr) (d : Document) (i : ℕ) → length xs ≤ i → GiveEach none (map expr_tree (drop i xs)) d
-GiveEach-none [] d zero h = tt
-GiveEach-none [] d (suc i) h = tt
-GiveEach-none (x ∷ xs) d zero h = absurd (omega (arith, h))
-GiveEach-none (x ∷ xs) d (suc i) h = GiveEach-none xs d i (omega (arith, h))
+GiveEach-push : (d : Document) (xs : List Ahead) (ts : List ExprTree) (y : Ahead) (t : ExprTree) → GiveEach (plans xs) ts d → Gives (plan y.walk) t d → GiveEach (plans (xs ++ y ∷ [])) (ts ++ t ∷ []) d
+GiveEach-push d [] [] y t h k = (k, tt)
+GiveEach-push d [] (u ∷ ts) y t h k = absurd h
+GiveEach-push d (x ∷ xs) [] y t h k = absurd h
+GiveEach-push d (x ∷ xs) (u ∷ ts) y t h k = (h.0, GiveEach-push d xs ts y t h.1 k)
 
-pub GiveEach-more : (xs : List ExtentExpr) (d : Document) (i : ℕ) (x : ExtentExpr) (p : Plan) (g : Plans) → 0 < i → i ≤ length xs → x ≡ get_or xs (i - 1) x → Gives p (expr_tree x) d → GiveEach g (map expr_tree (drop i xs)) d → GiveEach (more p g) (map expr_tree (drop (i - 1) xs)) d
-GiveEach-more xs d i x p g some inside is h k = rw (drop_before xs i x some inside is) (h, k)
+map_take : (xs : List ExtentExpr) (i : ℕ) (x : ExtentExpr) → i < length xs → x ≡ get_or xs i x → map expr_tree (take (suc i) xs) ≡ map expr_tree (take i xs) ++ expr_tree x ∷ []
+map_take [] i x h e = absurd (omega (arith, h))
+map_take (y ∷ ys) zero x h e = ap (λ (v : ExtentExpr). expr_tree v ∷ []) (sym e)
+map_take (y ∷ ys) (suc i) x h e = ap (λ (ts : List ExprTree). expr_tree y ∷ ts) (map_take ys i x (omega (arith, h)) e)
+
+-- one expression more
+pub GiveEach-more : (d : Document) (xs : List ExtentExpr) (i : ℕ) (x : ExtentExpr) (ys : List Ahead) (y : Ahead) → i < length xs → x ≡ get_or xs i x → GiveEach (plans ys) (map expr_tree (take i xs)) d → Gives (plan y.walk) (expr_tree x) d → GiveEach (plans (ys ++ y ∷ [])) (map expr_tree (take (i + 1) xs)) d
+GiveEach-more d xs i x ys y lt e h k = rw (add-one, map_take xs i x lt e) (GiveEach-push d ys (map expr_tree (take i xs)) y (expr_tree x) h k)
 
 -- ---- chains
 
@@ -175,17 +178,28 @@ pub chain_more : (n : ℕ) (p q r : Plan) (g : Plans) → ((b e : ℕ) → set r
 unfolding set each_set
 chain_more n p q r g same b e = least_same n (set p) (IsChain n (each_set (more q g))) (set r) same b e
 
--- the same of walks
-module _ (n : ℕ) (g : Group) where
-  pub chain_of_none : (xs : List Pair) → g ≡ End → xs ≡ [] → (b e : ℕ) → set (plan (Listed xs)) b e ↔ IsLeastEnd (IsChain n (each_set (plans g))) b e
-  chain_of_none xs is empty b e = rw (is, plan-Listed, plans-End, empty) (chain_none n b e)
+pub chain_plan-is : (n : ℕ) (g : Plans) (b e : ℕ) → set (chain_plan n g) b e ↔ IsLeastEnd (IsChain n (each_set g)) b e
+chain_plan-is n none b e = chain_none n b e
+chain_plan-is n (more p none) b e = chain_one n p b e
+chain_plan-is n (more p (more q g)) b e = chain_more n p q (chain_plan n (more q g)) g (λ c d. chain_plan-is n (more q g) c d) b e
 
-  pub chain_of_one : (one : Box Ahead Global) (others : Box Group Global) → g ≡ More one others → others.value ≡ End → (b e : ℕ) → set (plan (Shortest one)) b e ↔ IsLeastEnd (IsChain n (each_set (plans g))) b e
-  chain_of_one one others is last b e = rw (is, plan-Shortest, plans-More, last, plans-End) (chain_one n (plan one.value.walk) b e)
+-- the chain of those arguments that are taken, of which the others come before them
+pub record IsChainSoFar (n : ℕ) (all others : List Ahead) (p : Plan) : Type 0 where
+  pub one : Ahead
+  pub rest : List Ahead
+  pub all_are : all ≡ others ++ one ∷ rest
+  pub chain : p ≡ chain_plan n (plans (one ∷ rest))
 
-  pub chain_of_more : (one two chain : Box Ahead Global) (others rest : Box Group Global) (later : Walk) → g ≡ More one others → others.value ≡ More two rest → chain.value.walk ≡ later →
-      ((b e : ℕ) → set (plan later) b e ↔ IsLeastEnd (IsChain n (each_set (plans (More two rest)))) b e) → (b e : ℕ) → set (plan (Joined n one chain)) b e ↔ IsLeastEnd (IsChain n (each_set (plans g))) b e
-  chain_of_more one two chain others rest later is next walks same b e =
-      let rest_of : plans others.value ≡ more (plan two.value.walk) (plans rest.value) = ap (λ (v : Group). plans v) next ∙ plans-More two rest in
-      let whole : plans g ≡ more (plan one.value.walk) (more (plan two.value.walk) (plans rest.value)) = ap (λ (v : Group). plans v) is ∙ plans-More one others ∙ ap (λ (v : Plans). more (plan one.value.walk) v) rest_of in
-      rw (whole, plan-Joined, walks) (chain_more n (plan one.value.walk) (plan two.value.walk) (plan later) (plans rest.value) (rw plans-More at same) b e)
+pub IsChainSoFar-last : (n : ℕ) (all others : List Ahead) (x : Ahead) → all ≡ others ++ x ∷ [] → IsChainSoFar n all others (shortest (plan x.walk))
+IsChainSoFar-last n all others x is = record { one = x; rest = []; all_are = is; chain = refl }
+
+pub IsChainSoFar-more : (n : ℕ) (all others fewer : List Ahead) (x : Ahead) (p : Plan) → IsChainSoFar n all others p → others ≡ fewer ++ x ∷ [] → IsChainSoFar n all fewer (joined n (plan x.walk) p)
+IsChainSoFar-more n all others fewer x p h is = record {
+  one = x;
+  rest = h.one ∷ h.rest;
+  all_are = h.all_are ∙ ap (λ (xs : List Ahead). xs ++ h.one ∷ h.rest) is ∙ append_assoc fewer (x ∷ []) (h.one ∷ h.rest);
+  chain = ap (λ (q : Plan). joined n (plan x.walk) q) h.chain;
+}
+
+pub IsChainSoFar-all : (n : ℕ) (all : List Ahead) (p : Plan) → IsChainSoFar n all [] p → p ≡ chain_plan n (plans all)
+IsChainSoFar-all n all p h = h.chain ∙ ap (λ (xs : List Ahead). chain_plan n (plans xs)) (sym h.all_are)

@@ -1,5 +1,5 @@
 -- the least extent of a set from a place on
-use Rattle.std.proofs.Common.{◌≡◌, ◌↔◌, IsTrue, ℕ, ◌+◌, ◌-◌, ◌*◌, ◌<◌, ◌≤◌, ◌⊎◌, inl, inr, ⊎_elim, Bool, true, false, cond, max, Option, Some, None, List, [], ◌∷◌, nat_lt, refl, sym, ◌∙◌, ap, subst, arith}
+use Rattle.std.proofs.Common.{◌≡◌, ℕ, ◌+◌, ◌-◌, ◌*◌, ◌<◌, ◌≤◌, ◌⊎◌, inl, inr, ⊎_elim, Bool, true, false, cond, max, Option, Some, None, List, [], ◌∷◌, nat_lt, refl, sym, ◌∙◌, ap, subst, arith}
 use Rattle.std.proofs.lemmas.Bool.Decides.{nat_tests}
 use Rattle.ri_base.specs.Pair.{Pair}
 use Rattle.extent_lists.specs.Rows.{least_with}
@@ -413,18 +413,6 @@ module _ (R : ℕ → ℕ → Type 0) (some : (b e : ℕ) → R b e → b < e) (
   ends_from : (e : ℕ) → HasInside R low e → e < top → (to : ℕ) × EndsFrom R low top to × (to ≤ e)
   ends_from e h p = (h.1, (h.0, h.3.0, omega (arith, some h.0 h.1 h.2, h.3.1, p), h.2), h.3.1)
 
-  pub IsLeastBelow-missing : IsLeast (EndsFrom R low top) None → IsLeastBelow top (HasEachInside (R ∷ ss) low) None
-  IsLeastBelow-missing l = record {
-    only = λ m h. absurd (never h);
-    least = λ e h p. let w = ends_from e h.0 p in absurd (never (l.least w.0 w.1).1);
-  }
-
-  pub IsLeastBelow-others_missing : IsLeastBelow top (HasEachInside ss low) None → IsLeastBelow top (HasEachInside (R ∷ ss) low) None
-  IsLeastBelow-others_missing l = record {
-    only = λ m h. absurd (never h);
-    least = λ e h p. absurd (never (l.least e h.1 p).1);
-  }
-
   pub IsLeastBelow-both : (a b m : ℕ) → IsLeast (EndsFrom R low top) (Some a) → IsLeastBelow top (HasEachInside ss low) (Some b) → m ≡ max a b → IsLeastBelow top (HasEachInside (R ∷ ss) low) (Some m)
   IsLeastBelow-both a b m l k is = record {
     only = λ v h.
@@ -439,6 +427,13 @@ module _ (R : ℕ → ℕ → Type 0) (some : (b e : ℕ) → R b e → b < e) (
         let two : b ≡ v.0 = same_some v.1 in
         (m, refl, omega (arith, is, one, two, u.2, v.2, w.2));
   }
+
+-- where a set has no end, no extent has one of it inside
+pub IsLeastBelow-missing : (R : ℕ → ℕ → Type 0) (some : (b e : ℕ) → R b e → b < e) (ss : List (ℕ → ℕ → Type 0)) (low top : ℕ) → ((e : ℕ) → HasEachInside ss low e → HasInside R low e) → IsLeast (EndsFrom R low top) None → IsLeastBelow top (HasEachInside ss low) None
+IsLeastBelow-missing R some ss low top one l = record {
+  only = λ m h. absurd (never h);
+  least = λ e h p. let w = ends_from R some [] low top e (one e h) p in absurd (never (l.least w.0 w.1).1);
+}
 
 -- ---- windows
 
@@ -498,11 +493,8 @@ IsNext-not_whole n ss begin end fails = record {
 
 -- ---- whether each set has an extent
 
-pub has_each_end : IsTrue true ↔ HasEach []
-has_each_end = (λ h. tt, λ h. refl)
+pub HasEach-more : (R : ℕ → ℕ → Type 0) (ss : List (ℕ → ℕ → Type 0)) (x : Pair) → IsNext R 0 0 (Some x) → HasEach ss → HasEach (R ∷ ss)
+HasEach-more R ss x h k = ((x.begin, x.end, (h.only x refl).0), k)
 
-pub has_each_none : (R : ℕ → ℕ → Type 0) (ss : List (ℕ → ℕ → Type 0)) → IsNext R 0 0 None → HasEach (R ∷ ss) → ⊥
-has_each_none R ss h k = never (h.least k.0.0 k.0.1 k.0.2 (IsFrom-low 0 k.0.0 k.0.1 (omega arith))).1
-
-pub has_each_more : (R : ℕ → ℕ → Type 0) (ss : List (ℕ → ℕ → Type 0)) (x : Pair) (others : Bool) → IsNext R 0 0 (Some x) → (IsTrue others ↔ HasEach ss) → IsTrue others ↔ HasEach (R ∷ ss)
-has_each_more R ss x others h k = (λ yes. ((x.begin, x.end, (h.only x refl).0), k.0 yes), λ all. k.1 all.1)
+pub IsNext-no_extent : (R : ℕ → ℕ → Type 0) → IsNext R 0 0 None → ((b : ℕ) × (e : ℕ) × R b e) → ⊥
+IsNext-no_extent R h k = never (h.least k.0 k.1 k.2 (IsFrom-low 0 k.0 k.1 (omega arith))).1

@@ -1,16 +1,16 @@
 -- walks, variant by variant
-use Rattle.std.proofs.Common.{◌≡◌, ℕ, ◌+◌, ◌<◌, max, ⊎_elim, Option, Some, None, IfSome, List, [], ◌∷◌, Box, Global, refl, sym, ap, ◌∙◌, subst, arith}
+use Rattle.std.proofs.Common.{◌≡◌, ℕ, zero, suc, ◌+◌, ◌-◌, ◌<◌, ◌≤◌, max, ⊎_elim, Option, Some, None, IfSome, List, [], ◌∷◌, ◌++◌, length, drop, get_or, slice_set, Box, Vec, Global, add-one, refl, ap, ◌∙◌, arith}
+use Rattle.std.proofs.lemmas.List.{drop-set, drop_all}
+use mathlib.Core.Former.{Count}
 use Rattle.ri_base.specs.Pair.{Pair}
-use Rattle.extent_walks.specs.Next.{IsNext}
 use Rattle.extent_lists.specs.Plans.{LiesInSome}
-use Rattle.extent_lists.specs.Operators.{HasEach, IsInSome, IsLeastEnd, IsWindow, Joins}
+use Rattle.extent_lists.specs.Operators.{HasEach, HasEachInside, HasInside, IsInSome, IsLeastEnd, IsWindow, Joins}
 use Rattle.extent_lists.specs.Plans.{Plan, Plans, listed, union_of, within, shortest, joined, window, whole, none, more, set, each_set}
 use Rattle.extent_lists.specs.Rows.{Has}
 use Rattle.extent_walks.specs.Shapes.{list_shape, of_union, of_windows, plan_shape, plans_shape, weaker}
-use Rattle.extent_walks.specs.Walks.{AreKept, IsAheadKept, IsKept, plan, plans}
+use Rattle.extent_walks.specs.Walks.{AreKept, IsAheadKept, IsKept, IsRight, IsRowKept, plan, plans, row_plans}
 use Rattle.extent_walks.specs.declared.shape.Shape.TheVariants.{Monotone, OneToken}
-use Rattle.extent_walks.specs.declared.walk.Walk.{Walk, Listed, Union, Within, Shortest, Joined, Window, Whole}
-use Rattle.extent_walks.specs.declared.walk.Group.{Group, End, More}
+use Rattle.extent_walks.specs.declared.walk.Walk.{Walk, Listed, Union, Union', Within, Shortest, Joined, Window, Window', Whole, Whole', Row_of-Ahead, end_of-Ahead, more_of-Ahead, items-the_row-Ahead, items_hidden-the_row-Ahead-0}
 use Rattle.extent_walks.specs.declared.walk.Ahead.{Ahead}
 
 -- ---- each extent has a token
@@ -53,252 +53,282 @@ unfoldable mutual
   depth (window n g) = depths g + 1
   depth (whole n g) = depths g + 1
 
+  -- the deepest of them
   pub depths : Plans → ℕ
   depths none = 0
-  depths (more p g) = max (depth p) (depths g) + 1
+  depths (more p g) = max (depth p) (depths g)
+
+-- ---- the arguments as a list
+
+abbrev row_of : Walk → (m : Count) × Row_of-Ahead m
+row_of (Union' _ row) = (_, row)
+row_of (Window' _ _ row) = (_, row)
+row_of (Whole' _ _ row) = (_, row)
+row_of _ = (_, end_of-Ahead)
+
+plans_of_row : (m : _) (row : Row_of-Ahead m) → row_plans row ≡ plans (items-the_row-Ahead m row)
+unfolding plan row_plans
+plans_of_row m end_of-Ahead = refl
+plans_of_row m (more_of-Ahead w shape asked from found others) = ap (λ (g : Plans). more (plan w) g) (plans_of_row _ others)
+
+kept_of_row : (m : _) (row : Row_of-Ahead m) → IsRowKept row ≡ AreKept (items-the_row-Ahead m row)
+unfolding IsKept IsRowKept
+kept_of_row m end_of-Ahead = refl
+kept_of_row m (more_of-Ahead w shape asked from found others) = ap (λ (g : Type 0). (IsKept w × IsRight (plan w) shape asked from found) × g) (kept_of_row _ others)
 
 -- ---- plans
 
 pub plan-Listed : (xs : List Pair) → plan (Listed xs) ≡ listed xs
-unfolding plan plans
+unfolding plan row_plans
 plan-Listed xs = refl
 
-pub plan-Union : (b : Box Group Global) → plan (Union b) ≡ union_of (plans b.value)
-unfolding plan plans
-plan-Union b = refl
+pub plan-Union : (v : Vec Ahead Global) → plan (Union v) ≡ union_of (plans v.items)
+unfolding plan row_plans
+plan-Union v = ap union_of (plans_of_row _ (row_of (Union v)).1 ∙ ap plans (items_hidden-the_row-Ahead-0 v))
 
 pub plan-Within : (b : Box Ahead Global) (fields : List Pair) → plan (Within b fields) ≡ within (plan b.value.walk) fields
-unfolding plan plans
+unfolding plan row_plans
 plan-Within b fields = refl
 
 pub plan-Shortest : (b : Box Ahead Global) → plan (Shortest b) ≡ shortest (plan b.value.walk)
-unfolding plan plans
+unfolding plan row_plans
 plan-Shortest b = refl
 
 pub plan-Joined : (n : ℕ) (b d : Box Ahead Global) → plan (Joined n b d) ≡ joined n (plan b.value.walk) (plan d.value.walk)
-unfolding plan plans
+unfolding plan row_plans
 plan-Joined n b d = refl
 
-pub plan-Window : (n : ℕ) (b : Box Group Global) → plan (Window n b) ≡ window n (plans b.value)
-unfolding plan plans
-plan-Window n b = refl
+pub plan-Window : (n : ℕ) (v : Vec Ahead Global) → plan (Window n v) ≡ window n (plans v.items)
+unfolding plan row_plans
+plan-Window n v = ap (λ (g : Plans). window n g) (plans_of_row _ (row_of (Window n v)).1 ∙ ap plans (items_hidden-the_row-Ahead-0 v))
 
-pub plan-Whole : (n : ℕ) (b : Box Group Global) → plan (Whole n b) ≡ whole n (plans b.value)
-unfolding plan plans
-plan-Whole n b = refl
+pub plan-Whole : (n : ℕ) (v : Vec Ahead Global) → plan (Whole n v) ≡ whole n (plans v.items)
+unfolding plan row_plans
+plan-Whole n v = ap (λ (g : Plans). whole n g) (plans_of_row _ (row_of (Whole n v)).1 ∙ ap plans (items_hidden-the_row-Ahead-0 v))
 
-pub plans-End : plans End ≡ none
-unfolding plan plans
-plans-End = refl
+pub depth-union_of : (g : Plans) → depth (union_of g) ≡ depths g + 1
+unfolding depth depths
+depth-union_of g = refl
 
-pub plans-More : (b : Box Ahead Global) (d : Box Group Global) → plans (More b d) ≡ more (plan b.value.walk) (plans d.value)
-unfolding plan plans
-plans-More b d = refl
+pub depth-within : (p : Plan) (fields : List Pair) → depth (within p fields) ≡ depth p + 1
+unfolding depth depths
+depth-within p fields = refl
 
-pub depth-Union : (w : Walk) (b : Box Group Global) → w ≡ Union b → depth (plan w) ≡ depths (plans b.value) + 1
-unfolding plan plans depth depths
-depth-Union w b e = ap (λ (v : Walk). depth (plan v)) e
+pub depth-shortest : (p : Plan) → depth (shortest p) ≡ depth p + 1
+unfolding depth depths
+depth-shortest p = refl
 
-pub depth-Within : (w : Walk) (b : Box Ahead Global) (fields : List Pair) → w ≡ Within b fields → depth (plan w) ≡ depth (plan b.value.walk) + 1
-unfolding plan plans depth depths
-depth-Within w b fields e = ap (λ (v : Walk). depth (plan v)) e
+pub depth-joined : (n : ℕ) (p q : Plan) → depth (joined n p q) ≡ max (depth p) (depth q) + 1
+unfolding depth depths
+depth-joined n p q = refl
 
-pub depth-Shortest : (w : Walk) (b : Box Ahead Global) → w ≡ Shortest b → depth (plan w) ≡ depth (plan b.value.walk) + 1
-unfolding plan plans depth depths
-depth-Shortest w b e = ap (λ (v : Walk). depth (plan v)) e
+pub depth-window : (n : ℕ) (g : Plans) → depth (window n g) ≡ depths g + 1
+unfolding depth depths
+depth-window n g = refl
 
-pub depth-Joined : (w : Walk) (n : ℕ) (b d : Box Ahead Global) → w ≡ Joined n b d → depth (plan w) ≡ max (depth (plan b.value.walk)) (depth (plan d.value.walk)) + 1
-unfolding plan plans depth depths
-depth-Joined w n b d e = ap (λ (v : Walk). depth (plan v)) e
+pub depth-whole : (n : ℕ) (g : Plans) → depth (whole n g) ≡ depths g + 1
+unfolding depth depths
+depth-whole n g = refl
 
-pub depth-Window : (w : Walk) (n : ℕ) (b : Box Group Global) → w ≡ Window n b → depth (plan w) ≡ depths (plans b.value) + 1
-unfolding plan plans depth depths
-depth-Window w n b e = ap (λ (v : Walk). depth (plan v)) e
+-- ---- one argument of several
 
-pub depth-Whole : (w : Walk) (n : ℕ) (b : Box Group Global) → w ≡ Whole n b → depth (plan w) ≡ depths (plans b.value) + 1
-unfolding plan plans depth depths
-depth-Whole w n b e = ap (λ (v : Walk). depth (plan v)) e
+pub depth-at : (xs : List Ahead) (i : ℕ) (d : Ahead) → i < length xs → depth (plan (get_or xs i d).walk) ≤ depths (plans xs)
+unfolding depth depths
+depth-at [] i d h = absurd (omega (arith, h))
+depth-at (x ∷ xs) zero d h = omega arith
+depth-at (x ∷ xs) (suc i) d h = let k = depth-at xs i d (omega (arith, h)) in omega (arith, k)
 
-pub depths-More : (g : Group) (b : Box Ahead Global) (d : Box Group Global) → g ≡ More b d → depths (plans g) ≡ max (depth (plan b.value.walk)) (depths (plans d.value)) + 1
-unfolding plan plans depth depths
-depths-More g b d e = ap (λ (v : Group). depths (plans v)) e
+pub kept-at : (xs : List Ahead) (i : ℕ) (d : Ahead) → i < length xs → AreKept xs → IsAheadKept (get_or xs i d)
+kept-at [] i d h k = absurd (omega (arith, h))
+kept-at (x ∷ xs) zero d h k = k.0
+kept-at (x ∷ xs) (suc i) d h k = kept-at xs i d (omega (arith, h)) k.1
+
+pub HasEach-at : (xs : List Ahead) (i : ℕ) (d : Ahead) → i < length xs → HasEach (each_set (plans xs)) → (b : ℕ) × (e : ℕ) × set (plan (get_or xs i d).walk) b e
+unfolding set each_set
+HasEach-at [] i d h k = absurd (omega (arith, h))
+HasEach-at (x ∷ xs) zero d h k = k.0
+HasEach-at (x ∷ xs) (suc i) d h k = HasEach-at xs i d (omega (arith, h)) k.1
+
+pub HasInside-at : (xs : List Ahead) (i : ℕ) (d : Ahead) (b e : ℕ) → i < length xs → HasEachInside (each_set (plans xs)) b e → HasInside (set (plan (get_or xs i d).walk)) b e
+unfolding set each_set
+HasInside-at [] i d b e h k = absurd (omega (arith, h))
+HasInside-at (x ∷ xs) zero d b e h k = k.0
+HasInside-at (x ∷ xs) (suc i) d b e h k = HasInside-at xs i d b e (omega (arith, h)) k.1
+
+pub kept-set : (xs : List Ahead) (i : ℕ) (y : Ahead) → AreKept xs → IsAheadKept y → AreKept (slice_set xs i y)
+kept-set [] i y k h = tt
+kept-set (x ∷ xs) zero y k h = (h, k.1)
+kept-set (x ∷ xs) (suc i) y k h = (k.0, kept-set xs i y k.1 h)
+
+pub plans-set : (xs : List Ahead) (i : ℕ) (y d : Ahead) → i < length xs → plan y.walk ≡ plan (get_or xs i d).walk → plans (slice_set xs i y) ≡ plans xs
+plans-set [] i y d h e = absurd (omega (arith, h))
+plans-set (x ∷ xs) zero y d h e = ap (λ (p : Plan). more p (plans xs)) e
+plans-set (x ∷ xs) (suc i) y d h e = ap (λ (g : Plans). more (plan x.walk) g) (plans-set xs i y d (omega (arith, h)) e)
+
+-- of those from a place on, the first and the others
+pub plans-from : (xs : List Ahead) (i : ℕ) (d : Ahead) → i < length xs → plans (drop i xs) ≡ more (plan (get_or xs i d).walk) (plans (drop (i + 1) xs))
+plans-from xs i d h = rw add-one (from xs i d h)
+  where
+    from : (xs : List Ahead) (i : ℕ) (d : Ahead) → i < length xs → plans (drop i xs) ≡ more (plan (get_or xs i d).walk) (plans (drop (suc i) xs))
+    from [] i d h = absurd (omega (arith, h))
+    from (x ∷ xs) zero d h = refl
+    from (x ∷ xs) (suc i) d h = from xs i d (omega (arith, h))
+
+-- the one before a place
+module _ (xs : List Ahead) (i : ℕ) (old new : Ahead) (some : 0 < i) (inside : i ≤ length xs) (is : old ≡ get_or xs (i - 1) old) where
+  pub argument_depth : depth (plan old.walk) ≤ depths (plans xs)
+  argument_depth = rw (← is) at (depth-at xs (i - 1) old (omega (arith, some, inside)))
+
+  pub argument_kept : AreKept xs → IsAheadKept old
+  argument_kept h = rw (← is) at (kept-at xs (i - 1) old (omega (arith, some, inside)) h)
+
+  pub argument_has : HasEach (each_set (plans xs)) → (b : ℕ) × (e : ℕ) × set (plan old.walk) b e
+  argument_has h = rw (← is) at (HasEach-at xs (i - 1) old (omega (arith, some, inside)) h)
+
+  pub argument_inside : (b e : ℕ) → HasEachInside (each_set (plans xs)) b e → HasInside (set (plan old.walk)) b e
+  argument_inside b e h = rw (← is) at (HasInside-at xs (i - 1) old b e (omega (arith, some, inside)) h)
+
+  pub plans_stay : plan new.walk ≡ plan old.walk → plans (slice_set xs (i - 1) new) ≡ plans xs
+  plans_stay e = plans-set xs (i - 1) new old (omega (arith, some, inside)) (e ∙ ap (λ (a : Ahead). plan a.walk) is)
+
+  pub plans_before : plan new.walk ≡ plan old.walk → plans (drop (i - 1) (slice_set xs (i - 1) new)) ≡ more (plan old.walk) (plans (drop i xs))
+  plans_before e =
+      let one : (i - 1) + 1 ≡ i = omega (arith, some) in
+      ap plans (drop-set xs (i - 1) new (omega (arith, some, inside))) ∙ rw (e, one) refl
+
+-- none from the end on
+pub plans-past : (xs : List Ahead) (i : ℕ) → length xs ≤ i → plans (drop i xs) ≡ none
+plans-past xs i h = ap plans (drop_all i xs h)
+
+-- ---- one argument more
+
+pub AreKept-push : (xs : List Ahead) (y : Ahead) → AreKept xs → IsAheadKept y → AreKept (xs ++ y ∷ [])
+AreKept-push [] y h k = (k, tt)
+AreKept-push (x ∷ xs) y h k = (h.0, AreKept-push xs y h.1 k)
+
+pub AreKept-pop : (xs : List Ahead) (y : Ahead) → AreKept (xs ++ y ∷ []) → AreKept xs × IsAheadKept y
+AreKept-pop [] y h = (tt, h.0)
+AreKept-pop (x ∷ xs) y h = let k = AreKept-pop xs y h.1 in ((h.0, k.0), k.1)
 
 -- ---- what is remembered
 
-module _ (w : Walk) (h : IsKept w) where
-  pub kept_union : (b : Box Group Global) → w ≡ Union b → AreKept b.value
-  unfolding IsKept AreKept
-  kept_union b e = subst (λ (v : Walk). IsKept v) e h
-
-  pub kept_within : (b : Box Ahead Global) (fields : List Pair) → w ≡ Within b fields → IsAheadKept b.value
-  unfolding IsKept AreKept
-  kept_within b fields e = subst (λ (v : Walk). IsKept v) e h
-
-  pub kept_shortest : (b : Box Ahead Global) → w ≡ Shortest b → IsAheadKept b.value
-  unfolding IsKept AreKept
-  kept_shortest b e = subst (λ (v : Walk). IsKept v) e h
-
-  pub kept_joined : (n : ℕ) (b d : Box Ahead Global) → w ≡ Joined n b d → IsAheadKept b.value × IsAheadKept d.value
-  unfolding IsKept AreKept
-  kept_joined n b d e = subst (λ (v : Walk). IsKept v) e h
-
-  pub kept_window : (n : ℕ) (b : Box Group Global) → w ≡ Window n b → AreKept b.value
-  unfolding IsKept AreKept
-  kept_window n b e = subst (λ (v : Walk). IsKept v) e h
-
-  pub kept_whole : (n : ℕ) (b : Box Group Global) → w ≡ Whole n b → AreKept b.value
-  unfolding IsKept AreKept
-  kept_whole n b e = subst (λ (v : Walk). IsKept v) e h
-
-pub kept_more : (g : Group) → AreKept g → (b : Box Ahead Global) (d : Box Group Global) → g ≡ More b d → IsAheadKept b.value × AreKept d.value
-unfolding IsKept AreKept
-kept_more g h b d e = subst (λ (v : Group). AreKept v) e h
-
 pub IsKept-Listed : (xs : List Pair) → IsKept (Listed xs)
-unfolding IsKept AreKept
+unfolding IsKept IsRowKept
 IsKept-Listed xs = tt
 
-pub IsKept-Union : (b : Box Group Global) → AreKept b.value → IsKept (Union b)
-unfolding IsKept AreKept
-IsKept-Union b h = h
+pub IsKept-Union : (v : Vec Ahead Global) → IsKept (Union v) ≡ AreKept v.items
+unfolding IsKept IsRowKept
+IsKept-Union v = kept_of_row _ (row_of (Union v)).1 ∙ ap AreKept (items_hidden-the_row-Ahead-0 v)
 
-pub IsKept-Within : (b : Box Ahead Global) (fields : List Pair) → IsAheadKept b.value → IsKept (Within b fields)
-unfolding IsKept AreKept
-IsKept-Within b fields h = h
+pub IsKept-Within : (b : Box Ahead Global) (fields : List Pair) → IsKept (Within b fields) ≡ IsAheadKept b.value
+unfolding IsKept IsRowKept
+IsKept-Within b fields = refl
 
-pub IsKept-Shortest : (b : Box Ahead Global) → IsAheadKept b.value → IsKept (Shortest b)
-unfolding IsKept AreKept
-IsKept-Shortest b h = h
+pub IsKept-Shortest : (b : Box Ahead Global) → IsKept (Shortest b) ≡ IsAheadKept b.value
+unfolding IsKept IsRowKept
+IsKept-Shortest b = refl
 
-pub IsKept-Joined : (n : ℕ) (b d : Box Ahead Global) → IsAheadKept b.value → IsAheadKept d.value → IsKept (Joined n b d)
-unfolding IsKept AreKept
-IsKept-Joined n b d h k = (h, k)
+pub IsKept-Joined : (n : ℕ) (b d : Box Ahead Global) → IsKept (Joined n b d) ≡ (IsAheadKept b.value × IsAheadKept d.value)
+unfolding IsKept IsRowKept
+IsKept-Joined n b d = refl
 
-pub IsKept-Window : (n : ℕ) (b : Box Group Global) → AreKept b.value → IsKept (Window n b)
-unfolding IsKept AreKept
-IsKept-Window n b h = h
+pub IsKept-Window : (n : ℕ) (v : Vec Ahead Global) → IsKept (Window n v) ≡ AreKept v.items
+unfolding IsKept IsRowKept
+IsKept-Window n v = kept_of_row _ (row_of (Window n v)).1 ∙ ap AreKept (items_hidden-the_row-Ahead-0 v)
 
-pub IsKept-Whole : (n : ℕ) (b : Box Group Global) → AreKept b.value → IsKept (Whole n b)
-unfolding IsKept AreKept
-IsKept-Whole n b h = h
-
-pub AreKept-End : AreKept End
-unfolding IsKept AreKept
-AreKept-End = tt
-
-pub AreKept-More : (b : Box Ahead Global) (d : Box Group Global) → IsAheadKept b.value → AreKept d.value → AreKept (More b d)
-unfolding IsKept AreKept
-AreKept-More b d h k = (h, k)
+pub IsKept-Whole : (n : ℕ) (v : Vec Ahead Global) → IsKept (Whole n v) ≡ AreKept v.items
+unfolding IsKept IsRowKept
+IsKept-Whole n v = kept_of_row _ (row_of (Whole n v)).1 ∙ ap AreKept (items_hidden-the_row-Ahead-0 v)
 
 -- ---- what is known of extents
 
-module _ (w : Walk) where
-  pub shape-Listed : (xs : List Pair) → w ≡ Listed xs → plan_shape (plan w) ≡ list_shape xs
-  unfolding plan plans plan_shape plans_shape
-  shape-Listed xs e = ap (λ (v : Walk). plan_shape (plan v)) e
+pub shape-listed : (xs : List Pair) → plan_shape (listed xs) ≡ list_shape xs
+unfolding plan_shape plans_shape
+shape-listed xs = refl
 
-  pub shape-Union : (b : Box Group Global) → w ≡ Union b → plan_shape (plan w) ≡ of_union (plans_shape (plans b.value))
-  unfolding plan plans plan_shape plans_shape
-  shape-Union b e = ap (λ (v : Walk). plan_shape (plan v)) e
+pub shape-union_of : (g : Plans) → plan_shape (union_of g) ≡ of_union (plans_shape g)
+unfolding plan_shape plans_shape
+shape-union_of g = refl
 
-  pub shape-Within : (b : Box Ahead Global) (fields : List Pair) → w ≡ Within b fields → plan_shape (plan w) ≡ plan_shape (plan b.value.walk)
-  unfolding plan plans plan_shape plans_shape
-  shape-Within b fields e = ap (λ (v : Walk). plan_shape (plan v)) e
+pub shape-within : (p : Plan) (fields : List Pair) → plan_shape (within p fields) ≡ plan_shape p
+unfolding plan_shape plans_shape
+shape-within p fields = refl
 
-  pub shape-Shortest : (b : Box Ahead Global) → w ≡ Shortest b → plan_shape (plan w) ≡ of_windows (plan_shape (plan b.value.walk))
-  unfolding plan plans plan_shape plans_shape
-  shape-Shortest b e = ap (λ (v : Walk). plan_shape (plan v)) e
+pub shape-shortest : (p : Plan) → plan_shape (shortest p) ≡ of_windows (plan_shape p)
+unfolding plan_shape plans_shape
+shape-shortest p = refl
 
-  pub shape-Joined : (n : ℕ) (b d : Box Ahead Global) → w ≡ Joined n b d → plan_shape (plan w) ≡ of_windows (weaker (plan_shape (plan b.value.walk)) (plan_shape (plan d.value.walk)))
-  unfolding plan plans plan_shape plans_shape
-  shape-Joined n b d e = ap (λ (v : Walk). plan_shape (plan v)) e
+pub shape-joined : (n : ℕ) (p q : Plan) → plan_shape (joined n p q) ≡ of_windows (weaker (plan_shape p) (plan_shape q))
+unfolding plan_shape plans_shape
+shape-joined n p q = refl
 
-  pub shape-Window : (n : ℕ) (b : Box Group Global) → w ≡ Window n b → plan_shape (plan w) ≡ of_windows (plans_shape (plans b.value))
-  unfolding plan plans plan_shape plans_shape
-  shape-Window n b e = ap (λ (v : Walk). plan_shape (plan v)) e
+pub shape-window : (n : ℕ) (g : Plans) → plan_shape (window n g) ≡ of_windows (plans_shape g)
+unfolding plan_shape plans_shape
+shape-window n g = refl
 
-  pub shape-Whole : (n : ℕ) (b : Box Group Global) → w ≡ Whole n b → plan_shape (plan w) ≡ Monotone
-  unfolding plan plans plan_shape plans_shape
-  shape-Whole n b e = ap (λ (v : Walk). plan_shape (plan v)) e
+pub shape-whole : (n : ℕ) (g : Plans) → plan_shape (whole n g) ≡ Monotone
+unfolding plan_shape plans_shape
+shape-whole n g = refl
 
-pub shapes-End : (g : Group) → g ≡ End → plans_shape (plans g) ≡ OneToken
-unfolding plan plans plan_shape plans_shape
-shapes-End g e = ap (λ (v : Group). plans_shape (plans v)) e
+pub shapes-none : plans_shape none ≡ OneToken
+unfolding plan_shape plans_shape
+shapes-none = refl
 
-pub shapes-More : (g : Group) (b : Box Ahead Global) (d : Box Group Global) → g ≡ More b d → plans_shape (plans g) ≡ weaker (plan_shape (plan b.value.walk)) (plans_shape (plans d.value))
-unfolding plan plans plan_shape plans_shape
-shapes-More g b d e = ap (λ (v : Group). plans_shape (plans v)) e
+pub shapes-more : (p : Plan) (g : Plans) → plans_shape (more p g) ≡ weaker (plan_shape p) (plans_shape g)
+unfolding plan_shape plans_shape
+shapes-more p g = refl
 
--- ---- the next extent
+pub weaker-before : (xs : List Ahead) (i : ℕ) (x : Ahead) → 0 < i → i ≤ length xs → x ≡ get_or xs (i - 1) x → AreKept xs → weaker x.shape (plans_shape (plans (drop i xs))) ≡ plans_shape (plans (drop (i - 1) xs))
+weaker-before xs i x some inside is kept =
+    let one : (i - 1) + 1 ≡ i = omega (arith, some) in
+    rw (plans-from xs (i - 1) x (omega (arith, some, inside)), one, ← is, shapes-more, (argument_kept xs i x x some inside is kept).1.1) refl
 
-module _ (w : Walk) (begin end : ℕ) (found : Option Pair) where
-  pub next_of_list : (xs : List Pair) → w ≡ Listed xs → IsNext (λ b e. Has xs b e × (b < e)) begin end found → IsNext (set (plan w)) begin end found
-  unfolding plan plans set each_set
-  next_of_list xs e h = subst (λ (v : Walk). IsNext (set (plan v)) begin end found) (sym e) h
+-- ---- sets
 
-  pub next_of_union : (b : Box Group Global) → w ≡ Union b → IsNext (IsInSome (each_set (plans b.value))) begin end found → IsNext (set (plan w)) begin end found
-  unfolding plan plans set each_set
-  next_of_union b e h = subst (λ (v : Walk). IsNext (set (plan v)) begin end found) (sym e) h
+pub set-listed : (xs : List Pair) → set (listed xs) ≡ (λ b e. Has xs b e × (b < e))
+unfolding set each_set
+set-listed xs = refl
 
-  pub next_of_within : (b : Box Ahead Global) (fields : List Pair) → w ≡ Within b fields → IsNext (λ b' e. set (plan b.value.walk) b' e × LiesInSome fields b' e) begin end found → IsNext (set (plan w)) begin end found
-  unfolding plan plans set each_set
-  next_of_within b fields e h = subst (λ (v : Walk). IsNext (set (plan v)) begin end found) (sym e) h
+pub set-union_of : (g : Plans) → set (union_of g) ≡ IsInSome (each_set g)
+unfolding set each_set
+set-union_of g = refl
 
-  pub next_of_shortest : (b : Box Ahead Global) → w ≡ Shortest b → IsNext (IsLeastEnd (set (plan b.value.walk))) begin end found → IsNext (set (plan w)) begin end found
-  unfolding plan plans set each_set
-  next_of_shortest b e h = subst (λ (v : Walk). IsNext (set (plan v)) begin end found) (sym e) h
+pub set-within : (p : Plan) (fields : List Pair) → set (within p fields) ≡ (λ b e. set p b e × LiesInSome fields b e)
+unfolding set each_set
+set-within p fields = refl
 
-  pub next_of_joined : (n : ℕ) (b d : Box Ahead Global) → w ≡ Joined n b d → IsNext (IsLeastEnd (Joins n (set (plan b.value.walk)) (set (plan d.value.walk)))) begin end found → IsNext (set (plan w)) begin end found
-  unfolding plan plans set each_set
-  next_of_joined n b d e h = subst (λ (v : Walk). IsNext (set (plan v)) begin end found) (sym e) h
+pub set-shortest : (p : Plan) → set (shortest p) ≡ IsLeastEnd (set p)
+unfolding set each_set
+set-shortest p = refl
 
-  pub next_of_window : (n : ℕ) (b : Box Group Global) → w ≡ Window n b → IsNext (IsLeastEnd (IsWindow n (each_set (plans b.value)))) begin end found → IsNext (set (plan w)) begin end found
-  unfolding plan plans set each_set
-  next_of_window n b e h = subst (λ (v : Walk). IsNext (set (plan v)) begin end found) (sym e) h
+pub set-joined : (n : ℕ) (p q : Plan) → set (joined n p q) ≡ IsLeastEnd (Joins n (set p) (set q))
+unfolding set each_set
+set-joined n p q = refl
 
-  pub next_of_whole : (n : ℕ) (b : Box Group Global) → w ≡ Whole n b → IsNext (λ b' e. (b' ≡ 0) × (e ≡ n) × (b' < e) × HasEach (each_set (plans b.value))) begin end found → IsNext (set (plan w)) begin end found
-  unfolding plan plans set each_set
-  next_of_whole n b e h = subst (λ (v : Walk). IsNext (set (plan v)) begin end found) (sym e) h
+pub set-window : (n : ℕ) (g : Plans) → set (window n g) ≡ IsLeastEnd (IsWindow n (each_set g))
+unfolding set each_set
+set-window n g = refl
 
-pub each_set-End : (g : Group) → g ≡ End → each_set (plans g) ≡ []
-unfolding plan plans set each_set
-each_set-End g e = ap (λ (v : Group). each_set (plans v)) e
+pub set-whole : (n : ℕ) (g : Plans) → set (whole n g) ≡ (λ b e. (b ≡ 0) × (e ≡ n) × (b < e) × HasEach (each_set g))
+unfolding set each_set
+set-whole n g = refl
 
-pub each_set-More : (g : Group) (b : Box Ahead Global) (d : Box Group Global) → g ≡ More b d → each_set (plans g) ≡ set (plan b.value.walk) ∷ each_set (plans d.value)
-unfolding plan plans set each_set
-each_set-More g b d e = ap (λ (v : Group). each_set (plans v)) e
+pub each_set-none : each_set none ≡ []
+unfolding set each_set
+each_set-none = refl
 
--- ---- the same lists and operators
+pub each_set-more : (p : Plan) (g : Plans) → each_set (more p g) ≡ set p ∷ each_set g
+unfolding set each_set
+each_set-more p g = refl
 
-pub same_more : (g : Group) (b b' : Box Ahead Global) (d d' : Box Group Global) → g ≡ More b d → plan b'.value.walk ≡ plan b.value.walk → plans d'.value ≡ plans d.value → plans (More b' d') ≡ plans g
-same_more g b b' d d' e h k =
-    let there : plans g ≡ more (plan b.value.walk) (plans d.value) = ap (λ (v : Group). plans v) e ∙ plans-More b d in
-    let here : plans (More b' d') ≡ more (plan b'.value.walk) (plans d'.value) = plans-More b' d' in
-    cc
+pub ruleset plan_laws = (plan-Listed, plan-Union, plan-Within, plan-Shortest, plan-Joined, plan-Window, plan-Whole)
 
-pub same_union : (w : Walk) (b b' : Box Group Global) → w ≡ Union b → plans b'.value ≡ plans b.value → plan (Union b') ≡ plan w
-same_union w b b' e h =
-    let there : plan w ≡ union_of (plans b.value) = ap (λ (v : Walk). plan v) e ∙ plan-Union b in
-    let here : plan (Union b') ≡ union_of (plans b'.value) = plan-Union b' in
-    cc
+pub ruleset kept_laws = (IsKept-Listed, IsKept-Union, IsKept-Within, IsKept-Shortest, IsKept-Joined, IsKept-Window, IsKept-Whole)
 
-pub more_of : (b : Box Ahead Global) (d : Box Group Global) (w : Walk) (g : Group) → b.value.walk ≡ w → d.value ≡ g → plans (More b d) ≡ more (plan w) (plans g)
-more_of b d w g e f = rw (plans-More, e, f) refl
+pub ruleset shape_laws = (shape-listed, shape-union_of, shape-within, shape-shortest, shape-joined, shape-window, shape-whole, shapes-none, shapes-more)
 
-pub union_at : (b : Box Group Global) (g : Group) → b.value ≡ g → plan (Union b) ≡ union_of (plans g)
-union_at b g e = rw (plan-Union, e) refl
+pub ruleset depth_laws = (depth-union_of, depth-within, depth-shortest, depth-joined, depth-window, depth-whole)
 
-pub window_at : (n : ℕ) (b : Box Group Global) (g : Group) → b.value ≡ g → plan (Window n b) ≡ window n (plans g)
-window_at n b g e = rw (plan-Window, e) refl
+pub ruleset set_laws = (set-listed, set-union_of, set-within, set-shortest, set-joined, set-window, set-whole)
 
-pub whole_at : (n : ℕ) (b : Box Group Global) (g : Group) → b.value ≡ g → plan (Whole n b) ≡ whole n (plans g)
-whole_at n b g e = rw (plan-Whole, e) refl
-
-pub within_at : (b : Box Ahead Global) (fields : List Pair) (w : Walk) → b.value.walk ≡ w → plan (Within b fields) ≡ within (plan w) fields
-within_at b fields w e = rw (plan-Within, e) refl
-
-pub ruleset plan_laws = (plan-Listed, plan-Union, plan-Within, plan-Shortest, plan-Joined, plan-Window, plan-Whole, plans-End, plans-More)
-
-pub ruleset kept_laws = (IsKept-Listed, IsKept-Union, IsKept-Within, IsKept-Shortest, IsKept-Joined, IsKept-Window, IsKept-Whole, AreKept-End, AreKept-More)
-
-pub ruleset walk_laws = (plan_laws, kept_laws)
+pub ruleset walk_laws = (plan_laws, kept_laws, depth_laws, set_laws)

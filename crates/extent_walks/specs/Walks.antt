@@ -1,28 +1,37 @@
 -- What a walk is over, and that what it remembers and knows is right.
-use Rattle.std.specs.Prelude.{◌≡◌, Bool, true, Option, ⊤}
+use Rattle.std.specs.Prelude.{◌≡◌, ℕ, Bool, true, Option, List, [], ◌∷◌, ⊤}
 use Rattle.ri_base.specs.Pair.{Pair}
 use Rattle.extent_walks.specs.Next.{IsNext}
 use Rattle.extent_lists.specs.Plans.{Plan, Plans, listed, union_of, within, shortest, joined, window, whole, none, more, set}
 use Rattle.extent_walks.specs.Shapes.{plan_shape}
 use Rattle.extent_walks.specs.declared.place.Place.{Place}
 use Rattle.extent_walks.specs.declared.shape.Shape.{Shape}
-use Rattle.extent_walks.specs.declared.walk.Walk.{Walk, Listed, Union', Within', Shortest', Joined', Window', Whole'}
-use Rattle.extent_walks.specs.declared.walk.Group.{Group, End, More'}
+use Rattle.extent_walks.specs.declared.walk.Walk.{Walk, Listed, Union', Within', Shortest', Joined', Window', Whole', Row_of-Ahead, end_of-Ahead, more_of-Ahead}
 use Rattle.extent_walks.specs.declared.walk.Ahead.{Ahead}
 
 unfoldable mutual
   pub plan : Walk → Plan
   plan (Listed xs) = listed xs
-  plan (Union' p g) = union_of (plans g)
+  plan (Union' row all) = union_of (row_plans all)
   plan (Within' p w shape asked from found fields) = within (plan w) fields
   plan (Shortest' p w shape asked from found) = shortest (plan w)
   plan (Joined' n p w shape asked from found q v shape_too asked_too from_too found_too) = joined n (plan w) (plan v)
-  plan (Window' n p g) = window n (plans g)
-  plan (Whole' n p g) = whole n (plans g)
+  plan (Window' n row all) = window n (row_plans all)
+  plan (Whole' n row all) = whole n (row_plans all)
 
-  pub plans : Group → Plans
-  plans End = none
-  plans (More' p w shape asked from found q g) = more (plan w) (plans g)
+  pub row_plans : {m : _} → Row_of-Ahead m → Plans
+  row_plans end_of-Ahead = none
+  row_plans (more_of-Ahead w shape asked from found others) = more (plan w) (row_plans others)
+
+abbrev pub plans : List Ahead → Plans
+plans [] = none
+plans (a ∷ others) = more (plan a.walk) (plans others)
+
+-- the chain of arguments: from the last one on, each joined to the chain of those behind it
+abbrev pub chain_plan : ℕ → Plans → Plan
+chain_plan n none = listed []
+chain_plan n (more p none) = shortest p
+chain_plan n (more p (more q g)) = joined n p (chain_plan n (more q g))
 
 -- what was answered last, if it was asked, is the least from there on
 abbrev pub IsAnswer : Plan → Bool → Place → Option Pair → Type 0
@@ -36,17 +45,21 @@ unfoldable mutual
   -- what is remembered and known is right everywhere
   pub IsKept : Walk → Type 0
   IsKept (Listed xs) = ⊤
-  IsKept (Union' p g) = AreKept g
+  IsKept (Union' row all) = IsRowKept all
   IsKept (Within' p w shape asked from found fields) = IsKept w × IsRight (plan w) shape asked from found
   IsKept (Shortest' p w shape asked from found) = IsKept w × IsRight (plan w) shape asked from found
   IsKept (Joined' n p w shape asked from found q v shape_too asked_too from_too found_too) =
       (IsKept w × IsRight (plan w) shape asked from found) × (IsKept v × IsRight (plan v) shape_too asked_too from_too found_too)
-  IsKept (Window' n p g) = AreKept g
-  IsKept (Whole' n p g) = AreKept g
+  IsKept (Window' n row all) = IsRowKept all
+  IsKept (Whole' n row all) = IsRowKept all
 
-  pub AreKept : Group → Type 0
-  AreKept End = ⊤
-  AreKept (More' p w shape asked from found q g) = (IsKept w × IsRight (plan w) shape asked from found) × AreKept g
+  pub IsRowKept : {m : _} → Row_of-Ahead m → Type 0
+  IsRowKept end_of-Ahead = ⊤
+  IsRowKept (more_of-Ahead w shape asked from found others) = (IsKept w × IsRight (plan w) shape asked from found) × IsRowKept others
 
 abbrev pub IsAheadKept : Ahead → Type 0
 IsAheadKept a = IsKept a.walk × IsRight (plan a.walk) a.shape a.is_asked a.from a.found
+
+abbrev pub AreKept : List Ahead → Type 0
+AreKept [] = ⊤
+AreKept (a ∷ others) = IsAheadKept a × AreKept others

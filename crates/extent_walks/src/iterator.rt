@@ -12,10 +12,10 @@ ghost use Rattle.extent_walks.specs.Walks.{AreKept, IsAheadKept, IsKept, plan, p
 use crate::listed::Listed;
 use crate::outermost::Outermost;
 use crate::place::Place;
-use crate::walk::{Ahead, Group, Walk, chain_of};
+use crate::walk::{Ahead, Walk, chain_of};
 use extent_lists::{of_fields, of_term};
 use ri_base::{Extent, ExtentExpr, NoMemory, Postings, SegFault};
-use std::alloc::Global;
+use std::alloc::{AllocError, Global};
 use std::marker::Model;
 
 /// What gives the extents of the expression.
@@ -46,11 +46,11 @@ fn walk_of<P: Postings>(
         }
         ExtentExpr::Unordered(n, all) => {
             let all = group_of(alloc, all, postings, id)?;
-            Ok(Walk::Window(*n, boxed(alloc, all)?))
+            Ok(Walk::Window(*n, all))
         }
         ExtentExpr::Syn(all) => {
             let all = group_of(alloc, all, postings, id)?;
-            Ok(Walk::Union(boxed(alloc, all)?))
+            Ok(Walk::Union(all))
         }
         ExtentExpr::Any(name) => {
             let fields = of_fields(alloc, postings.spans(id), name)?;
@@ -58,7 +58,7 @@ fn walk_of<P: Postings>(
         }
         ExtentExpr::Band(all) => {
             let all = group_of(alloc, all, postings, id)?;
-            Ok(Walk::Whole(postings.length(id), boxed(alloc, all)?))
+            Ok(Walk::Whole(postings.length(id), all))
         }
         ExtentExpr::InField(x, name) => {
             let inner = walk_of(alloc, x, postings, id)?;
@@ -67,13 +67,6 @@ fn walk_of<P: Postings>(
             Ok(Walk::Within(ahead(alloc, inner)?, outer))
         }
     }
-}
-
-/// The arguments in a box.
-fn boxed(alloc: Global, all: Group) -> Result<Box<Group>, NoMemory>
-    ensures { IfOk result (λ b. b.value ≡ all) }
-{
-    Ok(Box::new(alloc, all)?)
 }
 
 /// What gives extents, in a box, before it is asked.
@@ -93,21 +86,19 @@ fn group_of<P: Postings>(
     all: &[ExtentExpr],
     postings: &mut P,
     id: u32,
-) -> Result<Group, SegFault>
+) -> Result<Vec<Ahead>, SegFault>
     requires { id < length (P.documents postings.old) }
     ensures keeps { Keeps P.documents P.faults P.sound P.quiet postings.old postings.new }
     ensures exact { P.sound postings.old → IfOk result
-        (λ g. GiveEach (plans g) (map expr_tree all.now) (document_at (P.documents postings.old) id)) }
-    ensures kept { IfOk result AreKept }
+        (λ v. GiveEach (plans v.items) (map expr_tree all.now) (document_at (P.documents postings.old) id)) }
+    ensures kept { IfOk result (λ v. AreKept v.items) }
     ensures honest { P.sound postings.old → IfErr result IsOutside }
     ensures store { result ≡ Err SegFault.Store → Rose (P.faults postings.old) (P.faults postings.new) }
 {
-    let mut out = Group::End;
-    let mut i = all.len();
-    while i > 0 {
-        i -= 1;
-        let walk = walk_of(alloc, &all[i], postings, id)?;
-        out = Group::More(ahead(alloc, walk)?, boxed(alloc, out)?);
+    let mut out = Vec::new(alloc);
+    for x in all {
+        let walk = walk_of(alloc, x, postings, id)?;
+        out.push(Ahead::new(walk)).map_err(AllocError::from)?;
     }
     Ok(out)
 }

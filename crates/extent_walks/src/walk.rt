@@ -4,10 +4,10 @@ ghost use Rattle.ri_base.specs.Pair.{Pair};
 ghost use Rattle.extent_walks.specs.Next.{EndsFrom, IsFrom, IsLeast, IsLeastBelow, IsNext};
 ghost use Rattle.extent_lists.specs.Plans.{LiesInSome};
 ghost use Rattle.extent_walks.specs.Next.{earlier, least_either};
-ghost use Rattle.extent_lists.specs.Operators.{HasEach, HasEachInside, IsChain, IsInSome, IsLeastEnd, IsWindow, Joins};
+ghost use Rattle.extent_lists.specs.Operators.{HasEach, HasEachInside, IsInSome, IsLeastEnd, IsWindow, Joins};
 ghost use Rattle.extent_lists.specs.Plans.{each_set, set};
 ghost use Rattle.extent_walks.specs.Shapes.{AreMonotone, HasShape, has_one_end, plan_shape, plans_shape};
-ghost use Rattle.extent_walks.specs.Walks.{AreKept, IsAheadKept, IsKept, plan, plans};
+ghost use Rattle.extent_walks.specs.Walks.{AreKept, IsAheadKept, IsKept, chain_plan, plan, plans};
 
 use crate::listed::Listed;
 use crate::outermost::Outermost;
@@ -25,7 +25,7 @@ pub enum Walk {
     /// A list.
     Listed(Listed),
     /// Any of the arguments.
-    Union(Box<Group>),
+    Union(Vec<Ahead>),
     /// Those that lie in a field.
     Within(Box<Ahead>, Outermost),
     /// The one of the least end for each begin.
@@ -33,9 +33,9 @@ pub enum Walk {
     /// For each begin of a first extent the least end of a later one that follows it within so many tokens.
     Joined(u32, Box<Ahead>, Box<Ahead>),
     /// For each begin the least end of a window of at most so many tokens that has each argument.
-    Window(u32, Box<Group>),
+    Window(u32, Vec<Ahead>),
     /// A document of so many tokens, where each argument is found.
-    Whole(u32, Box<Group>),
+    Whole(u32, Vec<Ahead>),
 }
 
 /// A walk, what is known of its extents, and where it was asked last what it answered.
@@ -47,14 +47,6 @@ pub struct Ahead {
     is_asked: bool,
     from: Place,
     found: Option<Extent>,
-}
-
-/// The arguments of an operator.
-#[derive(Drop)]
-#[cycle(walk)]
-pub enum Group {
-    End,
-    More(Box<Ahead>, Box<Group>),
 }
 
 /// The one that comes first.
@@ -121,17 +113,18 @@ fn may_be_less(begin: u32, top: u64, least: Option<u32>) -> bool
 #[tactic(auto, using(crate::proofs::WalkLaws::walk_laws))]
 impl Walk {
     /// What is known of its extents. It takes a step for each extent of a list and for each argument.
+    #[tactic(auto, using(crate::proofs::WalkLaws::walk_laws, crate::proofs::WalkLaws::shape_laws))]
     fn shape(&self) -> Shape
         requires { IsKept self.now }
         ensures { result ≡ plan_shape (plan self.now) }
     {
         match self {
             Walk::Listed(list) => list.shape(),
-            Walk::Union(all) => all.shape().of_union(),
+            Walk::Union(all) => weakest(all).of_union(),
             Walk::Within(inner, _) => inner.shape,
             Walk::Shortest(inner) => inner.shape.of_windows(),
             Walk::Joined(_, first, later) => first.shape.weaker(later.shape).of_windows(),
-            Walk::Window(_, all) => all.shape().of_windows(),
+            Walk::Window(_, all) => weakest(all).of_windows(),
             Walk::Whole(_, _) => Shape::Monotone,
         }
     }
@@ -146,7 +139,7 @@ impl Walk {
     {
         match self {
             Walk::Listed(list) => list.next(from),
-            Walk::Union(all) => all.next(from),
+            Walk::Union(all) => next_of_any(all, from),
             Walk::Within(inner, fields) => next_within(inner, fields, from),
             Walk::Shortest(inner) => next_shortest(inner, from),
             Walk::Joined(n, first, later) => next_joined(*n, first, later, from),
@@ -291,75 +284,74 @@ impl Ahead {
     }
 }
 
-#[tactic(auto, using(crate::proofs::WalkLaws::walk_laws))]
-impl Group {
-    /// What is known of the extents of each.
-    fn shape(&self) -> Shape
-        requires { AreKept self.now }
-        ensures { result ≡ plans_shape (plans self.now) }
-    {
-        match self {
-            Group::End => Shape::OneToken,
-            Group::More(one, others) => one.shape.weaker(others.shape()),
-        }
+/// What is known of the extents of each argument.
+fn weakest(all: &[Ahead]) -> Shape
+    requires { AreKept all.now }
+    ensures { result ≡ plans_shape (plans all.now) }
+{
+    let mut shape = Shape::OneToken;
+    let mut i = all.len();
+    while i > 0 {
+        i -= 1;
+        shape = all[i].shape.weaker(shape);
     }
+    shape
+}
 
-    /// The first extent of any of them from this place on.
-    #[cycle(next)]
-    fn next(&mut self, from: Place) -> Option<Extent>
-        requires { AreKept self.old }
-        ensures next { IsNext (IsInSome (each_set (plans self.old))) from.begin from.end result }
-        ensures same { plans self.new ≡ plans self.old }
-        ensures kept { AreKept self.new }
-    {
-        match self {
-            Group::End => None,
-            Group::More(one, others) => {
-                let a = one.next(from);
-                let b = others.next(from);
-                earlier(a, b)
-            }
-        }
+/// The first extent of any argument from this place on.
+#[cycle(next)]
+fn next_of_any(all: &mut Vec<Ahead>, from: Place) -> Option<Extent>
+    requires { AreKept all.old.items }
+    ensures next { IsNext (IsInSome (each_set (plans all.old.items))) from.begin from.end result }
+    ensures same { plans all.new.items ≡ plans all.old.items }
+    ensures kept { AreKept all.new.items }
+{
+    let mut found = None;
+    let mut i = all.len();
+    while i > 0 {
+        i -= 1;
+        let here = all[i].next(from);
+        found = earlier(here, found);
     }
+    found
+}
 
-    /// The least end by which each has an extent that begins at `low` or behind and below `top`.
-    #[cycle(next)]
-    fn enclosing_end(&mut self, low: u32, top: u64) -> Option<u32>
-        requires { AreKept self.old }
-        ensures least { IsLeastBelow top (HasEachInside (each_set (plans self.old)) low) result }
-        ensures same { plans self.new ≡ plans self.old }
-        ensures kept { AreKept self.new }
-    {
-        match self {
-            Group::End => Some(0),
-            Group::More(one, others) => {
-                let Some(a) = one.least_end(low, top) else {
-                    return None;
-                };
-                let Some(b) = others.enclosing_end(low, top) else {
-                    return None;
-                };
-                Some(a.max(b))
-            }
-        }
+/// The least end by which each argument has an extent that begins at `low` or behind and below `top`.
+#[cycle(next)]
+fn enclosing_end(all: &mut Vec<Ahead>, low: u32, top: u64) -> Option<u32>
+    requires { AreKept all.old.items }
+    ensures least { IsLeastBelow top (HasEachInside (each_set (plans all.old.items)) low) result }
+    ensures same { plans all.new.items ≡ plans all.old.items }
+    ensures kept { AreKept all.new.items }
+{
+    let mut end = 0;
+    let mut i = all.len();
+    while i > 0 {
+        i -= 1;
+        let Some(here) = all[i].least_end(low, top) else {
+            return None;
+        };
+        end = here.max(end);
     }
+    Some(end)
+}
 
-    /// Whether each has an extent.
-    #[cycle(next)]
-    fn has_each(&mut self) -> bool
-        requires { AreKept self.old }
-        ensures each { IsTrue result ↔ HasEach (each_set (plans self.old)) }
-        ensures same { plans self.new ≡ plans self.old }
-        ensures kept { AreKept self.new }
-    {
-        match self {
-            Group::End => true,
-            Group::More(one, others) => match one.next(Place::at(0)) {
-                None => false,
-                Some(_) => others.has_each(),
-            },
-        }
+/// Whether each argument has an extent.
+#[cycle(next)]
+fn has_each(all: &mut Vec<Ahead>) -> bool
+    requires { AreKept all.old.items }
+    ensures each { IsTrue result ↔ HasEach (each_set (plans all.old.items)) }
+    ensures same { plans all.new.items ≡ plans all.old.items }
+    ensures kept { AreKept all.new.items }
+{
+    let mut i = all.len();
+    while i > 0 {
+        i -= 1;
+        let Some(_) = all[i].next(Place::at(0)) else {
+            return false;
+        };
     }
+    true
 }
 
 #[cycle(next)]
@@ -457,14 +449,14 @@ fn joined_end(n: u32, first: &mut Box<Ahead>, later: &mut Box<Ahead>, begin: u32
 }
 
 #[cycle(next)]
-fn next_window(n: u32, all: &mut Box<Group>, from: Place) -> Option<Extent>
-    requires { AreKept all.old.value }
-    ensures next { IsNext (IsLeastEnd (IsWindow n (each_set (plans all.old.value)))) from.begin from.end result }
-    ensures same { plans all.new.value ≡ plans all.old.value }
-    ensures kept { AreKept all.new.value }
+fn next_window(n: u32, all: &mut Vec<Ahead>, from: Place) -> Option<Extent>
+    requires { AreKept all.old.items }
+    ensures next { IsNext (IsLeastEnd (IsWindow n (each_set (plans all.old.items)))) from.begin from.end result }
+    ensures same { plans all.new.items ≡ plans all.old.items }
+    ensures kept { AreKept all.new.items }
 {
     let mut low = from.begin;
-    while let Some(x) = all.next(Place::at(low)) {
+    while let Some(x) = next_of_any(all, Place::at(low)) {
         let end = window_end(n, all, x);
         if let Some(found) = extent_from(from, x.begin(), end) {
             return Some(found);
@@ -476,16 +468,16 @@ fn next_window(n: u32, all: &mut Box<Group>, from: Place) -> Option<Extent>
 
 /// The least end of a window that begins where x does, which is the first from its begin on.
 #[cycle(next)]
-fn window_end(n: u32, all: &mut Box<Group>, x: Extent) -> Option<u32>
-    requires kept { AreKept all.old.value }
-    requires first { IsNext (IsInSome (each_set (plans all.old.value))) x.begin 0 (Some x) }
-    ensures least { IsLeast (IsWindow n (each_set (plans all.old.value)) x.begin) result }
+fn window_end(n: u32, all: &mut Vec<Ahead>, x: Extent) -> Option<u32>
+    requires kept { AreKept all.old.items }
+    requires first { IsNext (IsInSome (each_set (plans all.old.items))) x.begin 0 (Some x) }
+    ensures least { IsLeast (IsWindow n (each_set (plans all.old.items)) x.begin) result }
     ensures above { IfSome result (λ e. x.begin < e) }
-    ensures same { plans all.new.value ≡ plans all.old.value }
-    ensures kept { AreKept all.new.value }
+    ensures same { plans all.new.items ≡ plans all.old.items }
+    ensures kept { AreKept all.new.items }
 {
     let top = u64::from(x.begin()) + u64::from(n);
-    let Some(end) = all.enclosing_end(x.begin(), top + 1) else {
+    let Some(end) = enclosing_end(all, x.begin(), top + 1) else {
         return None;
     };
     let end = end.max(x.end());
@@ -496,38 +488,38 @@ fn window_end(n: u32, all: &mut Box<Group>, x: Extent) -> Option<u32>
 }
 
 #[cycle(next)]
-fn next_whole(length: u32, all: &mut Box<Group>, from: Place) -> Option<Extent>
-    requires { AreKept all.old.value }
+fn next_whole(length: u32, all: &mut Vec<Ahead>, from: Place) -> Option<Extent>
+    requires { AreKept all.old.items }
     ensures next { IsNext
-        (λ b e. (b ≡ 0) × (e ≡ length) × (b < e) × HasEach (each_set (plans all.old.value)))
+        (λ b e. (b ≡ 0) × (e ≡ length) × (b < e) × HasEach (each_set (plans all.old.items)))
         from.begin from.end result }
-    ensures same { plans all.new.value ≡ plans all.old.value }
-    ensures kept { AreKept all.new.value }
+    ensures same { plans all.new.items ≡ plans all.old.items }
+    ensures kept { AreKept all.new.items }
 {
     if length == 0 || !from.is_before(0, length) {
         return None;
     }
-    if all.has_each() {
+    if has_each(all) {
         return Some(Extent::new(0, length));
     }
     None
 }
 
 /// The chain of these arguments.
-pub fn chain_of(alloc: Global, n: u32, all: Group) -> Result<Walk, NoMemory>
-    requires { AreKept all }
-    ensures chain { IfOk result
-        (λ w. (b : ℕ) → (e : ℕ) → set (plan w) b e ↔ IsLeastEnd (IsChain n (each_set (plans all))) b e) }
+#[tactic(auto, using(crate::proofs::WalkLaws::walk_laws))]
+pub fn chain_of(alloc: Global, n: u32, all: Vec<Ahead>) -> Result<Walk, NoMemory>
+    requires { AreKept all.items }
+    ensures chain { IfOk result (λ w. plan w ≡ chain_plan n (plans all.items)) }
     ensures kept { IfOk result IsKept }
 {
-    match all {
-        Group::End => Ok(Walk::Listed(Listed::new(Vec::new(alloc)))),
-        Group::More(one, others) => match Box::into_inner(others) {
-            Group::End => Ok(Walk::Shortest(one)),
-            Group::More(two, rest) => {
-                let later = chain_of(alloc, n, Group::More(two, rest))?;
-                Ok(Walk::Joined(n, one, Box::new(alloc, Ahead::new(later))?))
-            }
-        },
+    let mut others = all;
+    let Some(last) = others.pop() else {
+        return Ok(Walk::Listed(Listed::new(Vec::new(alloc))));
+    };
+    let mut chain = Walk::Shortest(Box::new(alloc, last)?);
+    while let Some(one) = others.pop() {
+        let later = Box::new(alloc, Ahead::new(chain))?;
+        chain = Walk::Joined(n, Box::new(alloc, one)?, later);
     }
+    Ok(chain)
 }

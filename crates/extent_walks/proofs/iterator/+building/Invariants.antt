@@ -1,4 +1,4 @@
-use Rattle.std.proofs.Common.{◌≤◌, drop, length, map}
+use Rattle.std.proofs.Common.{map, take}
 use Rattle.ri_base.specs.Collection.{document_at}
 use Rattle.ri_base.specs.Expression.{expr_tree}
 use Rattle.ri_base.specs.Keeps.{Keeps}
@@ -6,13 +6,9 @@ use Rattle.extent_lists.specs.Plans.{GiveEach}
 use Rattle.extent_walks.specs.Walks.{AreKept, plans}
 use Rattle.extent_walks.proofs.iterator.+building.Given as goal
 
-abbrev pub invariant-group_of-loop-i : goal.invariant-group_of-loop-i
-invariant-group_of-loop-i g l = record {
-  within : l.i ≤ length l.all;
+abbrev pub invariant-group_of-loop-x : goal.invariant-group_of-loop-x
+invariant-group_of-loop-x g l = record {
   keeps : Keeps g.P.Postings.documents g.P.Postings.faults g.P.Postings.sound g.P.Postings.quiet l.initial.postings l.postings;
-  gives : g.P.Postings.sound l.initial.postings → GiveEach (plans l.out) (map expr_tree (drop l.i l.all)) (document_at (g.P.Postings.documents l.initial.postings) l.id);
-  kept : AreKept l.out;
+  gives : g.P.Postings.sound l.initial.postings → GiveEach (plans l.out.items) (map expr_tree (take l.x-index l.all)) (document_at (g.P.Postings.documents l.initial.postings) l.id);
+  kept : AreKept l.out.items;
 }
-
-abbrev pub decreases-group_of-loop-i : goal.decreases-group_of-loop-i
-decreases-group_of-loop-i g l = l.i

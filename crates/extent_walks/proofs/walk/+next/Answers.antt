@@ -1,14 +1,14 @@
-use Rattle.std.proofs.Common.{◌≡◌, ◌≢◌, ◌≤◌, ⊎_elim, Some, None, true, false, refl, sym, ap, ◌∙◌, arith}
+use Rattle.std.proofs.Common.{◌≡◌, ◌≢◌, ◌≤◌, ◌-◌, ⊎_elim, Some, None, true, false, refl, sym, ap, ◌∙◌, arith}
+use Rattle.std.proofs.lemmas.List.{length-set}
 use Rattle.extent_walks.specs.Next.{IsNext}
 use Rattle.extent_lists.specs.Operators.{IsInSome, IsWindow, Joins}
 use Rattle.extent_lists.specs.Plans.{each_set, set}
 use Rattle.extent_walks.specs.Shapes.{is_monotone, plan_shape}
 use Rattle.extent_walks.specs.Walks.{plan, plans}
 use Rattle.extent_walks.specs.declared.walk.Ahead.{Ahead}
-use Rattle.extent_walks.specs.declared.walk.Group.{Group}
-use Rattle.extent_walks.proofs.NextLemmas.{AreLow-over, IsFrom-begin, IsJoinedSoFar-more, IsLeast-at_top, IsLeast-joined_beyond, IsLeast-short, IsLeast-window, IsLeastBelow-both, IsLeastBelow-missing, IsLeastBelow-none, IsLeastBelow-others_missing, IsLeastSoFar-more, IsNext-either, IsNext-later, IsNext-least, IsNext-none, IsNext-within, IsPassed-over, IsFrom-here, IsLeast-first, IsLeast-first_end, place_falls, IsNext-at_begin, IsNext-no_least, has_each_end, has_each_more, has_each_none}
+use Rattle.extent_walks.proofs.NextLemmas.{AreLow-over, HasEach-more, IsFrom-begin, IsFrom-here, IsJoinedSoFar-more, IsLeast-at_top, IsLeast-first, IsLeast-first_end, IsLeast-joined_beyond, IsLeast-short, IsLeast-window, IsLeastBelow-both, IsLeastBelow-missing, IsLeastBelow-none, IsLeastSoFar-more, IsNext-at_begin, IsNext-either, IsNext-later, IsNext-least, IsNext-no_extent, IsNext-no_least, IsNext-none, IsNext-within, IsPassed-over, place_falls}
 use Rattle.extent_walks.proofs.ShapeLemmas.{monotone_plan}
-use Rattle.extent_walks.proofs.WalkLaws.{AreKept-More, IsKept-Union, depth, depth-Joined, depth-Shortest, depth-Union, depth-Whole, depth-Window, depth-Within, depths, depths-More, each_set-End, each_set-More, joined_above, kept_joined, kept_more, kept_shortest, kept_union, kept_whole, kept_window, kept_within, next_of_joined, next_of_list, next_of_shortest, next_of_union, next_of_whole, next_of_window, next_of_within, same_more, same_union, set-some}
+use Rattle.extent_walks.proofs.WalkLaws.{argument_depth, argument_has, argument_inside, argument_kept, depths, each_set-more, each_set-none, joined_above, kept-set, plan-Listed, plan-Within, plans-past, plans_before, plans_stay, set-listed, set-some, set-within}
 use Rattle.extent_walks.proofs.walk.+next.Goals as goal
 use Rattle.extent_walks.proofs.walk.+next.Goals.{Ahead::next-then-not-answers, Ahead::next-else-not-answers}
 
@@ -63,212 +63,127 @@ Ahead::least_end-first_end-requires t c =
 
 -- ---- the arguments
 
-pub Group::next-next-a-requires : goal.Group::next-next-a-requires
-Group::next-next-a-requires t c = (
-  omega (arith, c.decreases, depths-More c.args.self.now c.in-More.one c.in-More.others c.in-More.is, ap (λ (a : Ahead). depth (plan a.walk)) c.deref_mut.ensures.value),
-  rw c.deref_mut.ensures.value (kept_more c.args.self.now c.requires c.in-More.one c.in-More.others c.in-More.is).0,
-)
+pub next_of_any-loop-i-init : goal.next_of_any-loop-i-init
+next_of_any-loop-i-init t c = record {
+  inside = omega (arith, c.len-i.ensures, c.args.all.now.ok.0);
+  same = refl;
+  kept = c.requires;
+  first = rw (plans-past c.args.all.now.items c.len-i.result (omega (arith, c.len-i.ensures, c.args.all.now.ok.0)), each_set-none) (IsNext-none c.args.from.begin c.args.from.end);
+}
 
-pub Group::next-next-b-requires : goal.Group::next-next-b-requires
-Group::next-next-b-requires t c = (
-  omega (arith, c.decreases, depths-More c.args.self.now c.in-More.one c.in-More.others c.in-More.is, ap (λ (g : Group). depths (plans g)) c.deref_mut-in-More.ensures.value),
-  rw c.deref_mut-in-More.ensures.value (kept_more c.args.self.now c.requires c.in-More.one c.in-More.others c.in-More.is).1,
-)
+pub next_of_any-next-here-requires : goal.next_of_any-next-here-requires
+next_of_any-next-here-requires t c =
+    let old = c.index_mut.result.now in (
+      omega (arith, c.decreases, ap depths c.loop-i.invariant.same, argument_depth c.loop-i.all.items c.loop-i.i old old c.loop-i-test.true c.loop-i.invariant.inside c.index_mut.ensures.value),
+      argument_kept c.loop-i.all.items c.loop-i.i old old c.loop-i-test.true c.loop-i.invariant.inside c.index_mut.ensures.value c.loop-i.invariant.kept,
+    )
 
-pub Group::next-returns-in-End-clause-next : goal.Group::next-returns-in-End-clause-next
-Group::next-returns-in-End-clause-next t c = rw (each_set-End c.args.self.now c.in-End.is) (IsNext-none c.args.from.begin c.args.from.end)
+pub next_of_any-loop-i-preserved : goal.next_of_any-loop-i-preserved
+next_of_any-loop-i-preserved t c =
+    let xs = c.loop-i.all.items in
+    let i = c.loop-i.i in
+    let old = c.index_mut.result.now in
+    let new = c.next-here.new.self in
+    let is = c.index_mut.ensures.value in
+    record {
+      inside = rw length-set (omega (arith, c.loop-i.invariant.inside));
+      same = plans_stay xs i old new c.loop-i-test.true c.loop-i.invariant.inside is c.next-here.ensures.same ∙ c.loop-i.invariant.same;
+      kept = kept-set xs (i - 1) new c.loop-i.invariant.kept c.next-here.ensures.kept;
+      first = rw (plans_before xs i old new c.loop-i-test.true c.loop-i.invariant.inside is c.next-here.ensures.same, each_set-more, c.earlier-found.ensures) (IsNext-either _ _ _ _ _ _ c.next-here.ensures.next c.loop-i.invariant.first);
+    }
 
-pub Group::next-returns-in-More-clause-next : goal.Group::next-returns-in-More-clause-next
-Group::next-returns-in-More-clause-next t c =
-    rw (each_set-More c.args.self.now c.in-More.one c.in-More.others c.in-More.is, c.earlier.ensures)
-    (IsNext-either _ _ _ _ _ _ (rw c.deref_mut.ensures.value at c.next-a.ensures.next) (rw c.deref_mut-in-More.ensures.value at c.next-b.ensures.next))
+pub enclosing_end-loop-i-init : goal.enclosing_end-loop-i-init
+enclosing_end-loop-i-init t c = record {
+  inside = omega (arith, c.len-i.ensures, c.args.all.now.ok.0);
+  same = refl;
+  kept = c.requires;
+  least = rw (plans-past c.args.all.now.items c.len-i.result (omega (arith, c.len-i.ensures, c.args.all.now.ok.0)), each_set-none) (IsLeastBelow-none c.args.low c.args.top);
+}
 
-pub Group::next-returns-in-More-clause-same : goal.Group::next-returns-in-More-clause-same
-Group::next-returns-in-More-clause-same t c =
-    same_more c.args.self.now c.in-More.one _ c.in-More.others _ c.in-More.is
-    (c.next-a.ensures.same ∙ ap (λ (a : Ahead). plan a.walk) c.deref_mut.ensures.value)
-    (c.next-b.ensures.same ∙ ap (λ (g : Group). plans g) c.deref_mut-in-More.ensures.value)
+pub enclosing_end-least_end-requires : goal.enclosing_end-least_end-requires
+enclosing_end-least_end-requires t c =
+    let old = c.index_mut.result.now in (
+      omega (arith, c.decreases, ap depths c.loop-i.invariant.same, argument_depth c.loop-i.all.items c.loop-i.i old old c.loop-i-test.true c.loop-i.invariant.inside c.index_mut.ensures.value),
+      argument_kept c.loop-i.all.items c.loop-i.i old old c.loop-i-test.true c.loop-i.invariant.inside c.index_mut.ensures.value c.loop-i.invariant.kept,
+    )
 
-pub Group::next-returns-in-More-clause-kept : goal.Group::next-returns-in-More-clause-kept
-Group::next-returns-in-More-clause-kept t c = AreKept-More _ _ c.next-a.ensures.kept c.next-b.ensures.kept
+pub enclosing_end-returns-in_default-clause-least : goal.enclosing_end-returns-in_default-clause-least
+enclosing_end-returns-in_default-clause-least t c =
+    let old = c.index_mut.result.now in
+    let inside = argument_inside c.loop-i.all.items c.loop-i.i old old c.loop-i-test.true c.loop-i.invariant.inside c.index_mut.ensures.value c.args.low in
+    rw c.loop-i.invariant.same at (IsLeastBelow-missing (set (plan old.walk)) (set-some (plan old.walk)) (each_set (plans c.loop-i.all.items)) c.args.low c.args.top inside c.in_default.ensures.least)
 
-pub Group::enclosing_end-least_end-requires : goal.Group::enclosing_end-least_end-requires
-Group::enclosing_end-least_end-requires t c = (
-  omega (arith, c.decreases, depths-More c.args.self.now c.in-More.one c.in-More.others c.in-More.is, ap (λ (a : Ahead). depth (plan a.walk)) c.deref_mut.ensures.value),
-  rw c.deref_mut.ensures.value (kept_more c.args.self.now c.requires c.in-More.one c.in-More.others c.in-More.is).0,
-)
+pub enclosing_end-returns-in_default-clause-same : goal.enclosing_end-returns-in_default-clause-same
+enclosing_end-returns-in_default-clause-same t c =
+    plans_stay c.loop-i.all.items c.loop-i.i c.index_mut.result.now c.least_end.new.self c.loop-i-test.true c.loop-i.invariant.inside c.index_mut.ensures.value c.least_end.ensures.same ∙ c.loop-i.invariant.same
 
-pub Group::enclosing_end-enclosing_end-requires : goal.Group::enclosing_end-enclosing_end-requires
-Group::enclosing_end-enclosing_end-requires t c = (
-  omega (arith, c.decreases, depths-More c.args.self.now c.in-More.one c.in-More.others c.in-More.is, ap (λ (g : Group). depths (plans g)) c.deref_mut-in-More.ensures.value),
-  rw c.deref_mut-in-More.ensures.value (kept_more c.args.self.now c.requires c.in-More.one c.in-More.others c.in-More.is).1,
-)
+pub enclosing_end-returns-in_default-clause-kept : goal.enclosing_end-returns-in_default-clause-kept
+enclosing_end-returns-in_default-clause-kept t c = kept-set c.loop-i.all.items (c.loop-i.i - 1) c.least_end.new.self c.loop-i.invariant.kept c.least_end.ensures.kept
 
-pub Group::enclosing_end-returns-in-End-clause-least : goal.Group::enclosing_end-returns-in-End-clause-least
-Group::enclosing_end-returns-in-End-clause-least t c = rw (each_set-End c.args.self.now c.in-End.is) (IsLeastBelow-none c.args.low c.args.top)
+pub enclosing_end-loop-i-preserved : goal.enclosing_end-loop-i-preserved
+enclosing_end-loop-i-preserved t c =
+    let xs = c.loop-i.all.items in
+    let i = c.loop-i.i in
+    let old = c.index_mut.result.now in
+    let new = c.least_end.new.self in
+    let is = c.index_mut.ensures.value in
+    record {
+      inside = rw length-set (omega (arith, c.loop-i.invariant.inside));
+      same = plans_stay xs i old new c.loop-i-test.true c.loop-i.invariant.inside is c.least_end.ensures.same ∙ c.loop-i.invariant.same;
+      kept = kept-set xs (i - 1) new c.loop-i.invariant.kept c.least_end.ensures.kept;
+      least = rw (plans_before xs i old new c.loop-i-test.true c.loop-i.invariant.inside is c.least_end.ensures.same, each_set-more) (IsLeastBelow-both _ (set-some (plan old.walk)) _ _ _ _ _ _ c.in-Some.ensures.least c.loop-i.invariant.least c.max-end.ensures);
+    }
 
-pub Group::enclosing_end-returns-in_default-clause-least :
-    goal.Group::enclosing_end-returns-in_default-clause-least
-Group::enclosing_end-returns-in_default-clause-least t c =
-    rw (each_set-More c.args.self.now c.in-More.one c.in-More.others c.in-More.is)
-    (IsLeastBelow-missing _ (set-some (plan c.in-More.one.value.walk)) _ _ _ (rw c.deref_mut.ensures.value at c.in_default.ensures.least))
+pub has_each-loop-i-init : goal.has_each-loop-i-init
+has_each-loop-i-init t c = record {
+  inside = omega (arith, c.len-i.ensures, c.args.all.now.ok.0);
+  same = refl;
+  kept = c.requires;
+  each = rw (plans-past c.args.all.now.items c.len-i.result (omega (arith, c.len-i.ensures, c.args.all.now.ok.0)), each_set-none) tt;
+}
 
-pub Group::enclosing_end-returns-in_default-clause-same :
-    goal.Group::enclosing_end-returns-in_default-clause-same
-Group::enclosing_end-returns-in_default-clause-same t c =
-    same_more c.args.self.now c.in-More.one _ c.in-More.others _ c.in-More.is
-    (c.least_end.ensures.same ∙ ap (λ (a : Ahead). plan a.walk) c.deref_mut.ensures.value)
-    refl
+pub has_each-next-requires : goal.has_each-next-requires
+has_each-next-requires t c =
+    let old = c.index_mut.result.now in (
+      omega (arith, c.decreases, ap depths c.loop-i.invariant.same, argument_depth c.loop-i.all.items c.loop-i.i old old c.loop-i-test.true c.loop-i.invariant.inside c.index_mut.ensures.value),
+      argument_kept c.loop-i.all.items c.loop-i.i old old c.loop-i-test.true c.loop-i.invariant.inside c.index_mut.ensures.value c.loop-i.invariant.kept,
+    )
 
-pub Group::enclosing_end-returns-in_default-clause-kept :
-    goal.Group::enclosing_end-returns-in_default-clause-kept
-Group::enclosing_end-returns-in_default-clause-kept t c =
-    AreKept-More _ _ c.least_end.ensures.kept (kept_more c.args.self.now c.requires c.in-More.one c.in-More.others c.in-More.is).1
+pub has_each-returns-in_default-clause-each : goal.has_each-returns-in_default-clause-each
+has_each-returns-in_default-clause-each t c =
+    let old = c.index_mut.result.now in
+    let none : IsNext (set (plan old.walk)) 0 0 None = rw c.at.ensures at c.in_default.ensures.next in
+    let has = argument_has c.loop-i.all.items c.loop-i.i old old c.loop-i-test.true c.loop-i.invariant.inside c.index_mut.ensures.value in
+    (λ no. cc, λ each. absurd (IsNext-no_extent (set (plan old.walk)) none (has (rw (← c.loop-i.invariant.same) at each))))
 
-pub Group::enclosing_end-returns-in_default-enclosing_end-clause-least :
-    goal.Group::enclosing_end-returns-in_default-enclosing_end-clause-least
-Group::enclosing_end-returns-in_default-enclosing_end-clause-least t c =
-    rw (each_set-More c.args.self.now c.in-More.one c.in-More.others c.in-More.is)
-    (IsLeastBelow-others_missing _ (set-some (plan c.in-More.one.value.walk)) _ _ _ (rw c.deref_mut-in-More.ensures.value at c.in_default-enclosing_end.ensures.least))
+pub has_each-returns-in_default-clause-same : goal.has_each-returns-in_default-clause-same
+has_each-returns-in_default-clause-same t c =
+    plans_stay c.loop-i.all.items c.loop-i.i c.index_mut.result.now c.next.new.self c.loop-i-test.true c.loop-i.invariant.inside c.index_mut.ensures.value c.next.ensures.same ∙ c.loop-i.invariant.same
 
-pub Group::enclosing_end-returns-in_default-enclosing_end-clause-same :
-    goal.Group::enclosing_end-returns-in_default-enclosing_end-clause-same
-Group::enclosing_end-returns-in_default-enclosing_end-clause-same t c =
-    same_more c.args.self.now c.in-More.one _ c.in-More.others _ c.in-More.is
-    (c.least_end.ensures.same ∙ ap (λ (a : Ahead). plan a.walk) c.deref_mut.ensures.value)
-    (c.enclosing_end.ensures.same ∙ ap (λ (g : Group). plans g) c.deref_mut-in-More.ensures.value)
+pub has_each-returns-in_default-clause-kept : goal.has_each-returns-in_default-clause-kept
+has_each-returns-in_default-clause-kept t c = kept-set c.loop-i.all.items (c.loop-i.i - 1) c.next.new.self c.loop-i.invariant.kept c.next.ensures.kept
 
-pub Group::enclosing_end-returns-in_default-enclosing_end-clause-kept :
-    goal.Group::enclosing_end-returns-in_default-enclosing_end-clause-kept
-Group::enclosing_end-returns-in_default-enclosing_end-clause-kept t c = AreKept-More _ _ c.least_end.ensures.kept c.enclosing_end.ensures.kept
-
-pub Group::enclosing_end-returns-in-Some-enclosing_end-clause-least :
-    goal.Group::enclosing_end-returns-in-Some-enclosing_end-clause-least
-Group::enclosing_end-returns-in-Some-enclosing_end-clause-least t c =
-    rw (each_set-More c.args.self.now c.in-More.one c.in-More.others c.in-More.is)
-    (IsLeastBelow-both _ (set-some (plan c.in-More.one.value.walk)) _ _ _ _ _ _ (rw c.deref_mut.ensures.value at c.in-Some.ensures.least) (rw c.deref_mut-in-More.ensures.value at c.in-Some-enclosing_end.ensures.least) c.max.ensures)
-
-pub Group::enclosing_end-returns-in-Some-enclosing_end-clause-same :
-    goal.Group::enclosing_end-returns-in-Some-enclosing_end-clause-same
-Group::enclosing_end-returns-in-Some-enclosing_end-clause-same t c =
-    same_more c.args.self.now c.in-More.one _ c.in-More.others _ c.in-More.is
-    (c.least_end.ensures.same ∙ ap (λ (a : Ahead). plan a.walk) c.deref_mut.ensures.value)
-    (c.enclosing_end.ensures.same ∙ ap (λ (g : Group). plans g) c.deref_mut-in-More.ensures.value)
-
-pub Group::enclosing_end-returns-in-Some-enclosing_end-clause-kept :
-    goal.Group::enclosing_end-returns-in-Some-enclosing_end-clause-kept
-Group::enclosing_end-returns-in-Some-enclosing_end-clause-kept t c = AreKept-More _ _ c.least_end.ensures.kept c.enclosing_end.ensures.kept
-
-pub Group::has_each-next-requires : goal.Group::has_each-next-requires
-Group::has_each-next-requires t c = (
-  omega (arith, c.decreases, depths-More c.args.self.now c.in-More.one c.in-More.others c.in-More.is, ap (λ (a : Ahead). depth (plan a.walk)) c.deref_mut.ensures.value),
-  rw c.deref_mut.ensures.value (kept_more c.args.self.now c.requires c.in-More.one c.in-More.others c.in-More.is).0,
-)
-
-pub Group::has_each-has_each-requires : goal.Group::has_each-has_each-requires
-Group::has_each-has_each-requires t c = (
-  omega (arith, c.decreases, depths-More c.args.self.now c.in-More.one c.in-More.others c.in-More.is, ap (λ (g : Group). depths (plans g)) c.deref_mut-in-Some.ensures.value),
-  rw c.deref_mut-in-Some.ensures.value (kept_more c.args.self.now c.requires c.in-More.one c.in-More.others c.in-More.is).1,
-)
-
-pub Group::has_each-returns-in-End-clause-each : goal.Group::has_each-returns-in-End-clause-each
-Group::has_each-returns-in-End-clause-each t c = rw (each_set-End c.args.self.now c.in-End.is) has_each_end
+pub has_each-loop-i-preserved : goal.has_each-loop-i-preserved
+has_each-loop-i-preserved t c =
+    let xs = c.loop-i.all.items in
+    let i = c.loop-i.i in
+    let old = c.index_mut.result.now in
+    let new = c.next.new.self in
+    let is = c.index_mut.ensures.value in
+    record {
+      inside = rw length-set (omega (arith, c.loop-i.invariant.inside));
+      same = plans_stay xs i old new c.loop-i-test.true c.loop-i.invariant.inside is c.next.ensures.same ∙ c.loop-i.invariant.same;
+      kept = kept-set xs (i - 1) new c.loop-i.invariant.kept c.next.ensures.kept;
+      each = rw (plans_before xs i old new c.loop-i-test.true c.loop-i.invariant.inside is c.next.ensures.same, each_set-more) (HasEach-more _ _ _ (rw c.at.ensures at c.in-Some.ensures.next) c.loop-i.invariant.each);
+    }
 
 -- ---- each operator
 
-pub Walk::next-next-requires-in-Union : goal.Walk::next-next-requires-in-Union
-Walk::next-next-requires-in-Union t c = (
-  omega (arith, c.decreases, depth-Union c.args.self.now c.in-Union.all c.in-Union.is, ap (λ (g : Group). depths (plans g)) c.deref_mut.ensures.value),
-  rw c.deref_mut.ensures.value (kept_union c.args.self.now c.requires c.in-Union.all c.in-Union.is),
-)
-
-pub Walk::next-next_within-requires : goal.Walk::next-next_within-requires
-Walk::next-next_within-requires t c = (
-  omega (arith, c.decreases, depth-Within c.args.self.now c.in-Within.inner c.in-Within.fields c.in-Within.is),
-  kept_within c.args.self.now c.requires c.in-Within.inner c.in-Within.fields c.in-Within.is,
-)
-
-pub Walk::next-next_shortest-requires : goal.Walk::next-next_shortest-requires
-Walk::next-next_shortest-requires t c = (
-  omega (arith, c.decreases, depth-Shortest c.args.self.now c.in-Shortest.inner c.in-Shortest.is),
-  kept_shortest c.args.self.now c.requires c.in-Shortest.inner c.in-Shortest.is,
-)
-
-pub Walk::next-next_joined-requires : goal.Walk::next-next_joined-requires
-Walk::next-next_joined-requires t c =
-    let k = kept_joined c.args.self.now c.requires c.in-Joined.n c.in-Joined.first c.in-Joined.later c.in-Joined.is in
-    (omega (arith, c.decreases, depth-Joined c.args.self.now c.in-Joined.n c.in-Joined.first c.in-Joined.later c.in-Joined.is), (k.0, k.1))
-
-pub Walk::next-next_window-requires : goal.Walk::next-next_window-requires
-Walk::next-next_window-requires t c = (
-  omega (arith, c.decreases, depth-Window c.args.self.now c.in-Window.n c.in-Window.all c.in-Window.is),
-  kept_window c.args.self.now c.requires c.in-Window.n c.in-Window.all c.in-Window.is,
-)
-
-pub Walk::next-next_whole-requires : goal.Walk::next-next_whole-requires
-Walk::next-next_whole-requires t c = (
-  omega (arith, c.decreases, depth-Whole c.args.self.now c.in-Whole.length c.in-Whole.all c.in-Whole.is),
-  kept_whole c.args.self.now c.requires c.in-Whole.length c.in-Whole.all c.in-Whole.is,
-)
-
 pub Walk::next-returns-in-Listed-clause-next : goal.Walk::next-returns-in-Listed-clause-next
-Walk::next-returns-in-Listed-clause-next t c = next_of_list c.args.self.now _ _ _ _ c.in-Listed.is c.next.ensures
-
-pub Walk::next-returns-in-Union-clause-next : goal.Walk::next-returns-in-Union-clause-next
-Walk::next-returns-in-Union-clause-next t c = next_of_union c.args.self.now _ _ _ c.in-Union.all c.in-Union.is (rw c.deref_mut.ensures.value at c.next-in-Union.ensures.next)
-
-pub Walk::next-returns-in-Union-clause-same : goal.Walk::next-returns-in-Union-clause-same
-Walk::next-returns-in-Union-clause-same t c =
-    same_union c.args.self.now c.in-Union.all _ c.in-Union.is (c.next-in-Union.ensures.same ∙ ap (λ (g : Group). plans g) c.deref_mut.ensures.value)
-
-pub Walk::next-returns-in-Union-clause-kept : goal.Walk::next-returns-in-Union-clause-kept
-Walk::next-returns-in-Union-clause-kept t c = IsKept-Union _ c.next-in-Union.ensures.kept
+Walk::next-returns-in-Listed-clause-next t c = rw (c.in-Listed.is, plan-Listed, set-listed) (rw c.in-Listed.list-is at c.next.ensures)
 
 pub Walk::next-returns-in-Within-clause-next : goal.Walk::next-returns-in-Within-clause-next
-Walk::next-returns-in-Within-clause-next t c = next_of_within c.args.self.now _ _ _ c.in-Within.inner c.in-Within.fields c.in-Within.is c.next_within.ensures.next
-
-pub Walk::next-returns-in-Shortest-clause-next : goal.Walk::next-returns-in-Shortest-clause-next
-Walk::next-returns-in-Shortest-clause-next t c = next_of_shortest c.args.self.now _ _ _ c.in-Shortest.inner c.in-Shortest.is c.next_shortest.ensures.next
-
-pub Walk::next-returns-in-Joined-clause-next : goal.Walk::next-returns-in-Joined-clause-next
-Walk::next-returns-in-Joined-clause-next t c = next_of_joined c.args.self.now _ _ _ c.in-Joined.n c.in-Joined.first c.in-Joined.later c.in-Joined.is c.next_joined.ensures.next
-
-pub Walk::next-returns-in-Window-clause-next : goal.Walk::next-returns-in-Window-clause-next
-Walk::next-returns-in-Window-clause-next t c = next_of_window c.args.self.now _ _ _ c.in-Window.n c.in-Window.all c.in-Window.is c.next_window.ensures.next
-
-pub Walk::next-returns-in-Whole-clause-next : goal.Walk::next-returns-in-Whole-clause-next
-Walk::next-returns-in-Whole-clause-next t c = next_of_whole c.args.self.now _ _ _ c.in-Whole.length c.in-Whole.all c.in-Whole.is c.next_whole.ensures.next
-
--- ---- whether each argument has an extent
-
-pub Group::has_each-returns-in-None-clause-each : goal.Group::has_each-returns-in-None-clause-each
-Group::has_each-returns-in-None-clause-each t c =
-    let next : IsNext (set (plan c.in-More.one.value.walk)) 0 0 None = rw (c.in-None.is, c.deref_mut.ensures.value, c.at.ensures) at c.next.ensures.next in
-    rw (each_set-More c.args.self.now c.in-More.one c.in-More.others c.in-More.is) (λ no. cc, λ all. absurd (has_each_none _ _ next all))
-
-pub Group::has_each-returns-in-None-clause-same : goal.Group::has_each-returns-in-None-clause-same
-Group::has_each-returns-in-None-clause-same t c =
-    same_more c.args.self.now c.in-More.one _ c.in-More.others _ c.in-More.is
-    (c.next.ensures.same ∙ ap (λ (a : Ahead). plan a.walk) c.deref_mut.ensures.value)
-    refl
-
-pub Group::has_each-returns-in-None-clause-kept : goal.Group::has_each-returns-in-None-clause-kept
-Group::has_each-returns-in-None-clause-kept t c =
-    AreKept-More _ _ c.next.ensures.kept (kept_more c.args.self.now c.requires c.in-More.one c.in-More.others c.in-More.is).1
-
-pub Group::has_each-returns-in-Some-clause-each : goal.Group::has_each-returns-in-Some-clause-each
-Group::has_each-returns-in-Some-clause-each t c =
-    let next : IsNext (set (plan c.in-More.one.value.walk)) 0 0 (Some c.in-Some.field-0) = rw (c.in-Some.is, c.deref_mut.ensures.value, c.at.ensures) at c.next.ensures.next in
-    rw (each_set-More c.args.self.now c.in-More.one c.in-More.others c.in-More.is) (has_each_more _ _ c.in-Some.field-0 _ next (rw c.deref_mut-in-Some.ensures.value at c.has_each.ensures.each))
-
-pub Group::has_each-returns-in-Some-clause-same : goal.Group::has_each-returns-in-Some-clause-same
-Group::has_each-returns-in-Some-clause-same t c =
-    same_more c.args.self.now c.in-More.one _ c.in-More.others _ c.in-More.is
-    (c.next.ensures.same ∙ ap (λ (a : Ahead). plan a.walk) c.deref_mut.ensures.value)
-    (c.has_each.ensures.same ∙ ap (λ (g : Group). plans g) c.deref_mut-in-Some.ensures.value)
-
-pub Group::has_each-returns-in-Some-clause-kept : goal.Group::has_each-returns-in-Some-clause-kept
-Group::has_each-returns-in-Some-clause-kept t c = AreKept-More _ _ c.next.ensures.kept c.has_each.ensures.kept
+Walk::next-returns-in-Within-clause-next t c = rw (c.in-Within.is, plan-Within, set-within) (rw (c.in-Within.inner-is, c.in-Within.fields-is) at c.next_within.ensures.next)
 
 -- ---- those inside a field
 
@@ -400,21 +315,21 @@ next_joined-returns-clause-next t c =
 
 pub window_end-returns-clause-least : goal.window_end-returns-clause-least
 window_end-returns-clause-least t c =
-    let ss = each_set (plans c.args.all.now.value) in
-    let least = rw (c.deref_mut.ensures.value, c.begin-2.ensures.begin, c.from.ensures, c.from-2.ensures, c.begin.ensures.begin) at c.in-Some.ensures.least in
+    let ss = each_set (plans c.args.all.now.items) in
+    let least = rw (c.begin-2.ensures.begin, c.from.ensures, c.from-2.ensures, c.begin.ensures.begin) at c.in-Some.ensures.least in
     IsLeast-window c.args.n ss c.args.x c.requires.first c.in-Some.end c.max-end.result least (rw c.end.ensures.end at c.max-end.ensures) (omega (arith, c.if-from-top.false, c.from-3.ensures, c.from.ensures, c.from-2.ensures, c.begin.ensures.begin))
 
 pub next_window-window_end-end-requires : goal.next_window-window_end-end-requires
 next_window-window_end-end-requires t c =
-    let same = c.next.ensures.same ∙ ap (λ (g : Group). plans g) c.deref_mut.ensures.value in
+    let same = c.next_of_any.ensures.same in
     let next = rw c.at.ensures at c.in-Some.ensures.next in
-    (omega (arith, c.decreases, ap depths (same ∙ c.loop-x.invariant.same)), (c.next.ensures.kept, rw c.next.ensures.same (IsNext-at_begin _ c.loop-x.low c.in-Some.x next)))
+    (omega (arith, c.decreases, ap depths (same ∙ c.loop-x.invariant.same)), (c.next_of_any.ensures.kept, rw c.next_of_any.ensures.same (IsNext-at_begin _ c.loop-x.low c.in-Some.x next)))
 
 pub next_window-returns-in-Some-extent_from-clause-next : goal.next_window-returns-in-Some-extent_from-clause-next
 next_window-returns-in-Some-extent_from-clause-next t c =
-    let ss = each_set (plans c.args.all.now.value) in
-    let next : IsNext (IsInSome ss) c.loop-x.low 0 (Some c.in-Some.x) = rw (c.deref_mut.ensures.value, c.loop-x.invariant.same, c.at.ensures) at c.in-Some.ensures.next in
-    let least = rw (c.next.ensures.same, c.deref_mut.ensures.value, c.loop-x.invariant.same) at c.window_end-end.ensures.least in
+    let ss = each_set (plans c.args.all.now.items) in
+    let next : IsNext (IsInSome ss) c.loop-x.low 0 (Some c.in-Some.x) = rw (c.loop-x.invariant.same, c.at.ensures) at c.in-Some.ensures.next in
+    let least = rw (c.next_of_any.ensures.same, c.loop-x.invariant.same) at c.window_end-end.ensures.least in
     let found = rw c.begin.ensures.begin at c.in-Some-extent_from.ensures.some in
     IsNext-least (IsWindow c.args.n ss) (IsInSome ss) (λ b e w. (w.begins.0, w.begins.2)) c.args.from.begin c.args.from.end c.loop-x.low c.in-Some.x c.in-Some-extent_from.found c.window_end-end.result c.loop-x.invariant.low next least found.0 found.1 found.2
 
@@ -426,12 +341,12 @@ next_window-loop-x-smaller t c =
 
 pub next_window-loop-x-preserved : goal.next_window-loop-x-preserved
 next_window-loop-x-preserved t c =
-    let ss = each_set (plans c.args.all.now.value) in
-    let next : IsNext (IsInSome ss) c.loop-x.low 0 (Some c.in-Some.x) = rw (c.deref_mut.ensures.value, c.loop-x.invariant.same, c.at.ensures) at c.in-Some.ensures.next in
-    let least = rw (c.next.ensures.same, c.deref_mut.ensures.value, c.loop-x.invariant.same) at c.window_end-end.ensures.least in
+    let ss = each_set (plans c.args.all.now.items) in
+    let next : IsNext (IsInSome ss) c.loop-x.low 0 (Some c.in-Some.x) = rw (c.loop-x.invariant.same, c.at.ensures) at c.in-Some.ensures.next in
+    let least = rw (c.next_of_any.ensures.same, c.loop-x.invariant.same) at c.window_end-end.ensures.least in
     let none = rw c.begin.ensures.begin at (c.extent_from.ensures.none c.in_default-extent_from.is) in
     record {
-      same = c.window_end-end.ensures.same ∙ c.next.ensures.same ∙ ap (λ (g : Group). plans g) c.deref_mut.ensures.value ∙ c.loop-x.invariant.same;
+      same = c.window_end-end.ensures.same ∙ c.next_of_any.ensures.same ∙ c.loop-x.invariant.same;
       kept = c.window_end-end.ensures.kept;
       low = rw c.begin-low.ensures.begin (AreLow-over (IsWindow c.args.n ss) (IsInSome ss) (λ b e w. (w.begins.0, w.begins.2)) c.args.from.begin c.args.from.end c.loop-x.low c.in-Some.x c.window_end-end.result c.loop-x.invariant.low next least none);
     }

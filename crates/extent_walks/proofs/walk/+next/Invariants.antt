@@ -1,6 +1,7 @@
-use Rattle.std.proofs.Common.{◌≡◌, ◌+◌, ◌-◌, ◌*◌, max}
-use Rattle.extent_lists.specs.Operators.{IsWindow, Joins}
+use Rattle.std.proofs.Common.{◌≡◌, ◌+◌, ◌-◌, ◌*◌, ◌≤◌, Some, drop, length, max}
+use Rattle.extent_lists.specs.Operators.{HasEach, HasEachInside, IsInSome, IsWindow, Joins}
 use Rattle.extent_lists.specs.Plans.{each_set, set}
+use Rattle.extent_walks.specs.Next.{IsLeastBelow, IsNext}
 use Rattle.extent_walks.specs.Walks.{AreKept, IsAheadKept, plan, plans}
 use Rattle.extent_walks.proofs.NextLemmas.{AreLow, IsJoinedSoFar, IsLeastSoFar, IsPassed}
 use Rattle.extent_walks.proofs.WalkLaws.{depth, depths}
@@ -28,6 +29,39 @@ invariant-joined_end-loop-x l = record {
 abbrev pub decreases-joined_end-loop-x : goal.decreases-joined_end-loop-x
 decreases-joined_end-loop-x l = 18446744073709551616 - l.end
 
+abbrev pub invariant-next_of_any-loop-i : goal.invariant-next_of_any-loop-i
+invariant-next_of_any-loop-i l = record {
+  inside : l.i ≤ length l.all.items;
+  same : plans l.all.items ≡ plans l.initial.all.items;
+  kept : AreKept l.all.items;
+  first : IsNext (IsInSome (each_set (plans (drop l.i l.all.items)))) l.from.begin l.from.end l.found;
+}
+
+abbrev pub decreases-next_of_any-loop-i : goal.decreases-next_of_any-loop-i
+decreases-next_of_any-loop-i l = l.i
+
+abbrev pub invariant-enclosing_end-loop-i : goal.invariant-enclosing_end-loop-i
+invariant-enclosing_end-loop-i l = record {
+  inside : l.i ≤ length l.all.items;
+  same : plans l.all.items ≡ plans l.initial.all.items;
+  kept : AreKept l.all.items;
+  least : IsLeastBelow l.top (HasEachInside (each_set (plans (drop l.i l.all.items))) l.low) (Some l.end);
+}
+
+abbrev pub decreases-enclosing_end-loop-i : goal.decreases-enclosing_end-loop-i
+decreases-enclosing_end-loop-i l = l.i
+
+abbrev pub invariant-has_each-loop-i : goal.invariant-has_each-loop-i
+invariant-has_each-loop-i l = record {
+  inside : l.i ≤ length l.all.items;
+  same : plans l.all.items ≡ plans l.initial.all.items;
+  kept : AreKept l.all.items;
+  each : HasEach (each_set (plans (drop l.i l.all.items)));
+}
+
+abbrev pub decreases-has_each-loop-i : goal.decreases-has_each-loop-i
+decreases-has_each-loop-i l = l.i
+
 abbrev pub invariant-next_joined-loop-x : goal.invariant-next_joined-loop-x
 invariant-next_joined-loop-x l = record {
   same_first : plan l.first.value.walk ≡ plan l.initial.first.value.walk;
@@ -52,9 +86,9 @@ decreases-next_shortest-loop-x l = 4294967296 - l.low
 
 abbrev pub invariant-next_window-loop-x : goal.invariant-next_window-loop-x
 invariant-next_window-loop-x l = record {
-  same : plans l.all.value ≡ plans l.initial.all.value;
-  kept : AreKept l.all.value;
-  low : AreLow (IsWindow l.n (each_set (plans l.initial.all.value))) l.from.begin l.from.end l.low;
+  same : plans l.all.items ≡ plans l.initial.all.items;
+  kept : AreKept l.all.items;
+  low : AreLow (IsWindow l.n (each_set (plans l.initial.all.items))) l.from.begin l.from.end l.low;
 }
 
 abbrev pub decreases-next_window-loop-x : goal.decreases-next_window-loop-x
@@ -85,14 +119,14 @@ decreases-Ahead::first_end l = 8 * depth (plan l.self.now.walk) + 2
 abbrev pub decreases-Ahead::least_of_ends : goal.decreases-Ahead::least_of_ends
 decreases-Ahead::least_of_ends l = 8 * depth (plan l.self.now.walk) + 2
 
-abbrev pub decreases-Group::next : goal.decreases-Group::next
-decreases-Group::next l = 8 * depths (plans l.self.now) + 3
+abbrev pub decreases-next_of_any : goal.decreases-next_of_any
+decreases-next_of_any l = 8 * depths (plans l.all.now.items) + 4
 
-abbrev pub decreases-Group::enclosing_end : goal.decreases-Group::enclosing_end
-decreases-Group::enclosing_end l = 8 * depths (plans l.self.now) + 3
+abbrev pub decreases-enclosing_end : goal.decreases-enclosing_end
+decreases-enclosing_end l = 8 * depths (plans l.all.now.items) + 4
 
-abbrev pub decreases-Group::has_each : goal.decreases-Group::has_each
-decreases-Group::has_each l = 8 * depths (plans l.self.now) + 3
+abbrev pub decreases-has_each : goal.decreases-has_each
+decreases-has_each l = 8 * depths (plans l.all.now.items) + 4
 
 abbrev pub decreases-next_within : goal.decreases-next_within
 decreases-next_within l = 8 * depth (plan l.inner.now.value.walk) + 5
@@ -107,10 +141,10 @@ abbrev pub decreases-joined_end : goal.decreases-joined_end
 decreases-joined_end l = 8 * max (depth (plan l.first.now.value.walk)) (depth (plan l.later.now.value.walk)) + 4
 
 abbrev pub decreases-next_window : goal.decreases-next_window
-decreases-next_window l = 8 * depths (plans l.all.now.value) + 5
+decreases-next_window l = 8 * depths (plans l.all.now.items) + 6
 
 abbrev pub decreases-window_end : goal.decreases-window_end
-decreases-window_end l = 8 * depths (plans l.all.now.value) + 4
+decreases-window_end l = 8 * depths (plans l.all.now.items) + 5
 
 abbrev pub decreases-next_whole : goal.decreases-next_whole
-decreases-next_whole l = 8 * depths (plans l.all.now.value) + 5
+decreases-next_whole l = 8 * depths (plans l.all.now.items) + 6

@@ -1,3 +1,4 @@
 pub mod Codec
 pub mod Faults
 pub mod Loops
+pub mod Written

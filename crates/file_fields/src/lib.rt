@@ -13,4 +13,4 @@ pub use numbers::{u16_at, u32_at, u64_at};
 pub use texts::{
     docno_at, docno_behind_at, is_before, name_behind_at, term_behind_at, text_length_at,
 };
-pub use writing::{put_text, put_u16, put_u32, put_u64};
+pub use writing::{put_docno, put_name, put_term, put_u16, put_u32, put_u64};

@@ -1,14 +1,12 @@
 -- the sizes of a manifest's lists
-use Rattle.std.proofs.Common.{◌≡◌, ◌<◌, ◌≤◌, nat_le, ℕ, ◌^◌, true, List, [], ◌∷◌, ◌++◌, length, ap, ◌∙◌, append_assoc, arith}
+use Rattle.std.proofs.Common.{◌≡◌, ◌<◌, ◌≤◌, nat_le, ℕ, ◌^◌, true, List, [], ◌∷◌, length, arith}
 use Rattle.std.specs.List.{All, AllByRecursion}
-use Rattle.std.proofs.lemmas.Bool.{and_parts}
 use Rattle.std.proofs.lemmas.Bool.Decides.{nat_tests}
 use Rattle.std.proofs.lemmas.List.Elements.{All-from_recursion}
 use Rattle.file_fields.specs.Reading.{AllFit}
-use Rattle.manifest.specs.Entries.{BehindPrior, behind_prior, with_number}
-use Rattle.manifest.specs.Fits.{FitsPrior, FitsSegment, IsManifest}
+use Rattle.manifest.specs.Entries.{with_number}
+use Rattle.manifest.specs.Fits.{FitsSegment, IsManifest}
 use Rattle.manifest.specs.declared.manifest.Manifest.{Manifest}
-use Rattle.manifest.specs.declared.manifest.PriorEntry.{PriorEntry}
 use Rattle.manifest.specs.declared.manifest.SegEntry.{SegEntry}
 
 at_most : (a b : ℕ) → nat_le a b ≡ true → a ≤ b
@@ -26,13 +24,3 @@ all_marks next used (e ∷ es) h = (h.0.1.1.0.0, all_marks next (with_number use
 
 pub few_marks : (m : Manifest) → IsManifest m → All (λ e. length e.marks < 2 ^ 32) m.segments
 few_marks m h = All-from_recursion (λ e. length e.marks < 2 ^ 32) m.segments (all_marks m.next [] m.segments h.1.0.0.1.1)
-
-all_names : (next : ℕ) (s : BehindPrior) (ps : List PriorEntry) → AllFit (FitsPrior next) behind_prior s ps → AllByRecursion (λ p. length p.name < 256) ps
-all_names next s [] h = tt
-all_names next s (p ∷ ps) h = (omega (arith, at_most (length p.name) 32 (and_parts (nat_le 1 (length p.name)) (nat_le (length p.name) 32) h.0.0.0).1), all_names next (behind_prior s p) ps h.1)
-
-pub short_names : (m : Manifest) → IsManifest m → All (λ p. length p.name < 256) m.priors
-short_names m h = All-from_recursion (λ p. length p.name < 256) m.priors (all_names m.next _ m.priors h.1.0.1.1.0.1.1)
-
-pub three : (a b c d x y z : List ℕ) → b ≡ a ++ x → c ≡ b ++ y → d ≡ c ++ z → d ≡ a ++ (x ++ (y ++ z))
-three a b c d x y z e f g = g ∙ ap (λ l. l ++ z) (f ∙ ap (λ l. l ++ y) e) ∙ append_assoc (a ++ x) y z ∙ append_assoc a x (y ++ z)

@@ -7,7 +7,7 @@ ghost use Rattle.manifest.specs.Fits.{IsManifest};
 ghost use Rattle.manifest.specs.Spelling.{manifest_text, spelled_marks, spelled_opening, spelled_prior, spelled_priors, spelled_segment, spelled_segments, spelled_stale};
 
 use crate::manifest::{Manifest, PriorEntry, SegEntry};
-use file_fields::{put_text, put_u32, put_u64};
+use file_fields::{put_name, put_u32, put_u64};
 use ri_base::{Bytes, Name, NoMemory};
 use std::alloc::Global;
 
@@ -54,16 +54,14 @@ fn put_stale(out: &mut Vec<u8>, stale: &[u64]) -> Result<(), NoMemory>
 }
 
 fn put_prior(out: &mut Vec<u8>, prior: &PriorEntry) -> Result<(), NoMemory>
-    requires { length prior.now.name < 256 }
     ensures { OnOk result (out.new.items ≡ out.old.items ++ spelled_prior prior.now) }
 {
-    put_text(out, prior.name.as_bytes())?;
+    put_name(out, &prior.name)?;
     put_u64(out, prior.number)
 }
 
 fn put_priors(out: &mut Vec<u8>, priors: &[PriorEntry]) -> Result<(), NoMemory>
-    requires few { length priors.now < 256 }
-    requires names { All (λ p. length p.name < 256) priors.now }
+    requires { length priors.now < 256 }
     ensures { OnOk result (out.new.items ≡ out.old.items ++ spelled_priors priors.now) }
 {
     out.push(priors.len() as u8)?;
@@ -81,7 +79,7 @@ fn put_opening(out: &mut Vec<u8>, next: u64) -> Result<(), NoMemory>
     put_u64(out, next)
 }
 
-#[tactic(auto, using(crate::proofs::WritingLemmas::few_segments, crate::proofs::WritingLemmas::few_marks, crate::proofs::WritingLemmas::few_priors, crate::proofs::WritingLemmas::short_names))]
+#[tactic(auto, using(crate::proofs::WritingLemmas::few_segments, crate::proofs::WritingLemmas::few_marks, crate::proofs::WritingLemmas::few_priors))]
 fn text_of(alloc: Global, m: &Manifest) -> Result<Bytes, NoMemory>
     requires { IsManifest m.now }
     ensures { IfOk result (λ b. b ≡ manifest_text m.now) }

@@ -23,3 +23,15 @@ pub const MAX_QUERY_NODES: usize = 1000;
 
 /// The number of a window or a passage, at most: as many as a document has tokens.
 pub const MAX_WIDTH: u32 = 1_048_576;
+
+/// The names of fields of one part of a collection, at most, so that two bytes hold the number of a name.
+pub const MAX_PART_NAMES: usize = 65_536;
+
+/// The priors of a repository, at most: as many as a query can name beside that of the length.
+pub const MAX_PRIORS: usize = 8;
+
+/// The rows of a prior, at most: as many as one part of a collection has documents.
+pub const MAX_PRIOR_ROWS: usize = 1_048_576;
+
+/// The numbers of a prior's fractions are below this, so that each has at most 18 digits.
+pub const PRIOR_LIMIT: u64 = 1_000_000_000_000_000_000;

@@ -175,10 +175,17 @@ impl Name {
             return Ok(None);
         }
         let bytes = lowered(alloc, bytes)?;
-        if !starts_with_letter(&bytes) || !are_name_bytes(&bytes) {
+        Name::of_lower(alloc, &bytes)
+    }
+
+    /// The name of these bytes, where they are of its form as they stand.
+    pub fn of_lower(alloc: Global, bytes: &[u8]) -> Result<Option<Name>, NoMemory>
+        ensures { IfOk result (λ found. found ≡ (if is_name bytes.now then Some bytes.now else None)) }
+    {
+        if !starts_with_letter(bytes) || bytes.len() > NAME_BYTES || !are_name_bytes(bytes) {
             return Ok(None);
         }
-        let bytes = ShortBytes::copy_of(alloc, &bytes)?;
+        let bytes = ShortBytes::copy_of(alloc, bytes)?;
         Ok(Some(Name { bytes }))
     }
 

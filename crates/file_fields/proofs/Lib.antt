@@ -1,0 +1,5 @@
+pub mod Codec
+pub mod Faults
+pub mod Loops
+pub mod TextLemmas
+pub mod Written

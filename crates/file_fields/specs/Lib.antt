@@ -1,0 +1,4 @@
+pub mod Reading
+pub mod Fields
+pub mod Spelling
+pub mod Answers

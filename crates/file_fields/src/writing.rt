@@ -1,0 +1,58 @@
+// Fields behind the bytes that are written.
+ghost use Rattle.std.specs.Prelude.{◌≡◌, ◌<◌, ◌++◌, length, OnOk};
+ghost use Rattle.std.specs.Int.{w16, w32, w64, to_le_bytes};
+ghost use Rattle.file_fields.specs.Spelling.{spelled_text};
+
+use ri_base::{Docno, Name, NoMemory, Term};
+
+pub fn put_u16(out: &mut Vec<u8>, number: u16) -> Result<(), NoMemory>
+    ensures { OnOk result (out.new.items ≡ out.old.items ++ to_le_bytes w16 number) }
+{
+    out.extend_from_slice(&number.to_le_bytes())?;
+    Ok(())
+}
+
+pub fn put_u32(out: &mut Vec<u8>, number: u32) -> Result<(), NoMemory>
+    ensures { OnOk result (out.new.items ≡ out.old.items ++ to_le_bytes w32 number) }
+{
+    out.extend_from_slice(&number.to_le_bytes())?;
+    Ok(())
+}
+
+pub fn put_u64(out: &mut Vec<u8>, number: u64) -> Result<(), NoMemory>
+    ensures { OnOk result (out.new.items ≡ out.old.items ++ to_le_bytes w64 number) }
+{
+    out.extend_from_slice(&number.to_le_bytes())?;
+    Ok(())
+}
+
+/// A text behind its length.
+fn put_text(out: &mut Vec<u8>, text: &[u8]) -> Result<(), NoMemory>
+    requires { length text.now < 256 }
+    ensures { OnOk result (out.new.items ≡ out.old.items ++ spelled_text text.now) }
+{
+    out.push(text.len() as u8)?;
+    out.extend_from_slice(text)?;
+    Ok(())
+}
+
+#[tactic(auto, using(crate::proofs::TextLemmas::short_docno))]
+pub fn put_docno(out: &mut Vec<u8>, docno: &Docno) -> Result<(), NoMemory>
+    ensures { OnOk result (out.new.items ≡ out.old.items ++ spelled_text docno.now) }
+{
+    put_text(out, docno.as_bytes())
+}
+
+#[tactic(auto, using(crate::proofs::TextLemmas::short_term))]
+pub fn put_term(out: &mut Vec<u8>, term: &Term) -> Result<(), NoMemory>
+    ensures { OnOk result (out.new.items ≡ out.old.items ++ spelled_text term.now) }
+{
+    put_text(out, term.as_bytes())
+}
+
+#[tactic(auto, using(crate::proofs::TextLemmas::short_name))]
+pub fn put_name(out: &mut Vec<u8>, name: &Name) -> Result<(), NoMemory>
+    ensures { OnOk result (out.new.items ≡ out.old.items ++ spelled_text name.now) }
+{
+    put_text(out, name.as_bytes())
+}

@@ -1,0 +1,4 @@
+pub mod EntryLemmas
+pub mod EntryLaws
+pub mod ManifestLaws
+pub mod WritingLemmas

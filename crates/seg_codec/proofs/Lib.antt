@@ -1,0 +1,9 @@
+pub mod ListedLemmas
+pub mod Rows
+pub mod DocumentLaws
+pub mod BlockLaws
+pub mod DictionaryLaws
+pub mod HeaderLaws
+pub mod CutLemmas
+pub mod Appends
+pub mod DropLemmas

@@ -4,5 +4,6 @@ pub mod CoverLemmas
 pub mod Distinct
 pub mod Laws
 pub mod Orders
+pub mod PassedLemmas
 pub mod ReachLemmas
 pub mod Sweep

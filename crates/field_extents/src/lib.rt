@@ -7,5 +7,5 @@ mod cover;
 mod restriction;
 
 pub use begins::{WindowBegins, distinct_begins};
-pub use cover::covered;
+pub use cover::{WindowCover, covered};
 pub use restriction::inside;

@@ -37,7 +37,7 @@ pub fn inside(
 }
 
 /// How many fields stand before the first that begins behind this position.
-fn begun_by(spans: &[FieldSpan], position: u32) -> usize
+pub fn begun_by(spans: &[FieldSpan], position: u32) -> usize
     ensures { result ≡ prefix_len (λ f. nat_le f.begin position) spans.now }
 {
     spans
@@ -47,7 +47,7 @@ fn begun_by(spans: &[FieldSpan], position: u32) -> usize
 }
 
 /// The greatest of `reach` and the ends of the fields of this name.
-fn reach_of(reach: u32, spans: &[FieldSpan], name: &Name) -> u32
+pub fn reach_of(reach: u32, spans: &[FieldSpan], name: &Name) -> u32
     ensures { result ≡ greatest_end name.now reach spans.now }
 {
     let mut greatest = reach;

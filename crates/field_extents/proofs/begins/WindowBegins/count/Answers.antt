@@ -1,10 +1,12 @@
 use Rattle.std.proofs.Common.{◌≡◌, ℕ, ◌+◌, ◌-◌, ◌<◌, List, length, take, drop, nat_lt, ap, ◌∙◌}
 use Rattle.std.specs.List.{All, prefix_len}
+use Rattle.std.proofs.lemmas.Bool.{ltb-true}
 use Rattle.std.proofs.lemmas.List.{take_rest}
 use Rattle.ri_base.specs.Pair.{Pair}
 use Rattle.field_extents.specs.Extents.{begin_count}
 use Rattle.field_extents.specs.Passed.{PassedExtents}
-use Rattle.field_extents.proofs.PassedLemmas.{begin_count-ahead, passed_more}
+use Rattle.field_extents.proofs.PassedLemmas.{begin_count-ahead, begins_before}
+use Rattle.field_extents.proofs.Prefixes.{passes_front}
 use Rattle.field_extents.proofs.begins.WindowBegins.count.Goals as goal
 
 pub returns-clause-passed : goal.returns-clause-passed
@@ -16,7 +18,7 @@ returns-clause-passed c =
     let before : All (λ x. x.begin < c.args.window.begin) (take n xs) = rw (passed_is, extents_is) c.requires in
     let rest : take (length xs - n) (drop n xs) ≡ drop n xs = take_rest xs n in
     let more : c.begun_before.result ≡ prefix_len (λ x. nat_lt x.begin c.args.window.begin) (drop n xs) = rw (c.begin.ensures.begin, rest) at c.begun_before.ensures.begun in
-    passed_more xs n c.args.window.begin c.begun_before.result more before
+    passes_front (begins_before c.args.window.begin) xs n c.begun_before.result more (λ x. x.begin < c.args.window.begin) (λ x. ltb-true _ _) before
 
 pub returns-clause-exact : goal.returns-clause-exact
 returns-clause-exact c =

@@ -4,7 +4,8 @@
 usage: bench/rankings.py
 
 It reads the cases in bench/rankings.cases and writes their lines to bench/rankings.lines. `.ci/examples` runs the program
-on the cases and compares what it writes with these lines.
+on the cases and compares what it writes with these lines. So it does with bench/rankings.windows, which has ranges and
+contexts, and bench/rankings.windows.lines. Nothing runs the program on those yet, since it refuses such queries today.
 
 A case is some lines, and the line `query` ends it:
 
@@ -20,9 +21,14 @@ case needs. Printed is how many cases there are, and how many statements were ch
 How the figures were computed. Everything is by the definitions, in exact whole numbers. No code is shared with the
 program, and nothing was taken from it or its output:
 
-- Extents: all positions, all chains and all windows are tried. Counts are sums over all documents.
+- Extents: all positions, all chains and all windows are tried. Counts are sums over all documents, also those that a
+  filter leaves out. A filter passes where the set of its expression's extents isn't empty, or where it is.
+- Windows: of all pairs of places those that are the whole document, a field of the name, or a passage. Of a leaf in a
+  window tf is how many positions begin an extent that lies inside it, len how many positions it has. With a context only
+  extents inside some field of that name count, and only positions in such a field. The sums cf and total are those of
+  tf and len over all documents as wholes, with the same context.
 - A leaf's fraction is p = 2 W tf + mu B over q = 2 W (len + mu), not reduced, with B = max(2 cf, 1) and
-  W = max(total, 1).
+  W = max(total, 1). That of the prior of lengths is one of three. It makes no candidate.
 - Scales by least common multiples; weights without those of 0, divided by their greatest common divisor.
 - Digits by the recurrence, 40 squarings from floor(q 2^62 / (p 2^e)). Keys are weighted sums, of `#max` the least.
 - The order of the lines is key, docno, begin, end; the score is the floor of key 10^6 / (scale 2^40).
@@ -50,6 +56,7 @@ from math import gcd, lcm, prod
 from pathlib import Path
 
 BENCH = Path(__file__).resolve().parent
+TABLES = (("rankings.cases", "rankings.lines"), ("rankings.windows", "rankings.windows.lines"))
 LEVEL = 40
 MOST_LINES = 10
 MILLION = 10**6
@@ -173,7 +180,15 @@ def read(text):
 
 @dataclass
 class Leaf:
+    """An expression, perhaps with the name of the fields in which alone it is counted."""
+
     expr: tuple
+    context: str | None = None
+
+
+@dataclass
+class Prior:
+    """The prior of a document's length."""
 
 
 @dataclass
@@ -187,6 +202,26 @@ class Sum:
 @dataclass
 class Greatest:
     arguments: list
+
+
+@dataclass
+class Filter:
+    """Keeps the documents with an extent of the expression, or those without."""
+
+    keep: bool
+    expr: tuple
+
+
+@dataclass
+class Query:
+    """Filters from the outermost inwards, what is ranked (a kind first, as of an expression), and the tree of the beliefs."""
+
+    filters: list
+    ranked: tuple
+    tree: Sum
+
+
+WHOLE = ("whole",)
 
 
 class Reader:
@@ -251,27 +286,56 @@ class Reader:
             return Sum([weight for weight, _ in pairs], [argument for _, argument in pairs])
         if self.take(r"#max\("):
             return Greatest(self.many(self.belief))
-        return Leaf(self.expr())
+        if self.take(r"#prior\((?i:length)\)"):
+            return Prior()
+        return self.leaf()
+
+    def leaf(self):
+        expr = self.expr()
+        context = self.take(r"[\t\n\f\r ]*\.\(([A-Za-z][A-Za-z0-9]*)\)")
+        return Leaf(expr, context and context[1].lower())
+
+    def ranked(self):
+        if not self.take(r"#combine\["):
+            return WHOLE
+        if found := self.take(r"passage(\d+):(\d+)\]\("):
+            return ("passage", int(found[1]), int(found[2]))
+        return ("field", self.need(r"([A-Za-z][A-Za-z0-9]*)\]\(")[1].lower())
+
+    def filters(self):
+        found = []
+        self.take(SPACE)
+        while keeps := self.take(r"#fil(req|rej)\("):
+            self.take(SPACE)
+            found.append(Filter(keeps[1] == "req", self.expr()))
+            self.take(SPACE)
+        return found
 
     def query(self):
         self.text += ")"
+        filters = self.filters()
+        ranked = self.ranked()
         arguments = self.many(self.belief)
+        assert len(arguments) == 1 or not filters or ranked != WHOLE, "more than one belief in a filter"
+        for _ in range(len(filters) + (ranked != WHOLE)):
+            self.take(SPACE)
+            self.need(r"\)")
         assert self.at == len(self.text), "something behind the query"
-        return Sum([1] * len(arguments), arguments)
+        return Query(filters, ranked, Sum([1] * len(arguments), arguments))
 
 
 # The check of a query.
 
 
 def has_weights(tree):
-    if isinstance(tree, Leaf):
+    if isinstance(tree, (Leaf, Prior)):
         return True
     return (isinstance(tree, Greatest) or any(tree.weights)) and all(map(has_weights, tree.arguments))
 
 
 def reduced(tree):
     """The tree without what has the weight 0, whose weights have no common divisor."""
-    if isinstance(tree, Leaf):
+    if isinstance(tree, (Leaf, Prior)):
         return tree
     if isinstance(tree, Greatest):
         return Greatest([reduced(argument) for argument in tree.arguments])
@@ -281,13 +345,13 @@ def reduced(tree):
 
 
 def leaves_of(tree):
-    if isinstance(tree, Leaf):
+    if isinstance(tree, (Leaf, Prior)):
         return [tree]
     return [leaf for argument in tree.arguments for leaf in leaves_of(argument)]
 
 
 def scale(tree):
-    if isinstance(tree, Leaf):
+    if isinstance(tree, (Leaf, Prior)):
         return 1
     common = lcm(*map(scale, tree.arguments))
     return common if isinstance(tree, Greatest) else sum(tree.weights) * common
@@ -342,7 +406,56 @@ def extents(expr, document):
     return least_ends(window for window in windows if is_window(window, sets))
 
 
+def passes(document, wanted):
+    return bool(extents(wanted.expr, document)) == wanted.keep
+
+
 # Fractions, digits and keys.
+
+# Windows of a document, and what is counted of a leaf in one.
+
+
+def is_ranked(pair, ranked, document):
+    """Whether the pair of places is one of those that are ranked."""
+    kind, *rest = ranked
+    begin, end = pair
+    length = len(document.tokens)
+    if kind == "whole":
+        return pair == (0, length)
+    if kind == "field":
+        return (rest[0], begin, end) in document.fields
+    width, every = rest
+    return begin % every == 0 and (end - begin == width or end == length and end - begin < width)
+
+
+def windows(ranked, document):
+    places = range(len(document.tokens) + 1)
+    return [(b, e) for b in places for e in places if b < e and is_ranked((b, e), ranked, document)]
+
+
+def is_in_context(x, context, document):
+    return context is None or any(is_inside(x, span) for span in extents(("any", context), document))
+
+
+def occurrences(leaf, document, window):
+    """At how many positions of the window an extent of the leaf begins that counts. A prior has none."""
+    if isinstance(leaf, Prior):
+        return 0
+    found = [x for x in extents(leaf.expr, document) if is_inside(x, window)]
+    return len({x[0] for x in found if is_in_context(x, leaf.context, document)})
+
+
+def positions(leaf, document, window):
+    """How many positions of the window count for the leaf."""
+    return sum(is_in_context((i, i + 1), leaf.context, document) for i in range(*window))
+
+
+# A document of at least so many tokens has the fraction behind it by its length. The first row that fits decides.
+LENGTH_STEPS = ((1000, (1, 1)), (100, (1, 2)), (0, (1, 4)))
+
+
+def prior_fraction(document):
+    return next(fraction for least, fraction in LENGTH_STEPS if len(document.tokens) >= least)
 
 
 @cache
@@ -362,7 +475,7 @@ def digits(p, q):
 
 def key(tree, values):
     """The key of a tree. `values` gives the digits of its leaves one after the other."""
-    if isinstance(tree, Leaf):
+    if isinstance(tree, (Leaf, Prior)):
         return next(values)
     common = lcm(*map(scale, tree.arguments))
     keys = [common // scale(argument) * key(argument, values) for argument in tree.arguments]
@@ -371,7 +484,7 @@ def key(tree, values):
 
 def product(tree, fractions):
     """The product of a tree, as how often each fraction is a factor of it."""
-    if isinstance(tree, Leaf):
+    if isinstance(tree, (Leaf, Prior)):
         return Counter([next(fractions)])
     common = lcm(*map(scale, tree.arguments))
     parts = [raised(product(argument, fractions), common // scale(argument)) for argument in tree.arguments]
@@ -485,31 +598,50 @@ def compare_products(left, right):
 @dataclass
 class Candidate:
     document: Document
+    window: tuple
     fractions: list
     key: int
     powers: Counter = field(repr=False)
 
     def order(self):
-        return self.key, self.document.docno.encode(), 0, len(self.document.tokens)
+        return self.key, self.document.docno.encode(), *self.window
 
 
-def candidates(tree, documents, mu):
-    """Those of the documents in which some leaf occurs."""
-    total = sum(len(document.tokens) for document in documents)
-    counts = []
-    for leaf in leaves_of(tree):
-        begins = [len({begin for begin, _ in extents(leaf.expr, document)}) for document in documents]
-        counts.append((begins, sum(begins)))
+def sums_of(leaf, documents):
+    """How often the leaf occurs in the documents as wholes, and in how many positions it is counted."""
+    if isinstance(leaf, Prior):
+        return 0, 0
+    wholes = [(document, (0, len(document.tokens))) for document in documents]
+    return sum(occurrences(leaf, *whole) for whole in wholes), sum(positions(leaf, *whole) for whole in wholes)
+
+
+def fraction_of(leaf, document, window, sums, mu):
+    if isinstance(leaf, Prior):
+        return prior_fraction(document)
+    cf, total = sums
+    width = 2 * max(total, 1)
+    tf = occurrences(leaf, document, window)
+    return width * tf + mu * max(2 * cf, 1), width * (positions(leaf, document, window) + mu)
+
+
+def found_windows(query, document):
+    """The windows in which some leaf occurs, of a document that passes all filters."""
+    if not all(passes(document, wanted) for wanted in query.filters):
+        return []
+    leaves = leaves_of(query.tree)
+    return [w for w in windows(query.ranked, document) if any(occurrences(leaf, document, w) for leaf in leaves)]
+
+
+def candidates(query, documents, mu):
+    """Those of the documents that pass all filters, each with the windows in which some leaf occurs."""
+    leaves = leaves_of(query.tree)
+    sums = [sums_of(leaf, documents) for leaf in leaves]
     found = []
-    for i, document in enumerate(documents):
-        fractions = []
-        for begins, cf in counts:
-            p = 2 * max(total, 1) * begins[i] + mu * max(2 * cf, 1)
-            q = 2 * max(total, 1) * (len(document.tokens) + mu)
-            fractions.append((p, q))
-        if any(begins[i] for begins, _ in counts):
-            value = key(tree, iter([digits(p, q) for p, q in fractions]))
-            found.append(Candidate(document, fractions, value, product(tree, iter(fractions))))
+    for document in documents:
+        for window in found_windows(query, document):
+            fractions = [fraction_of(leaf, document, window, both, mu) for leaf, both in zip(leaves, sums)]
+            value = key(query.tree, iter([digits(p, q) for p, q in fractions]))
+            found.append(Candidate(document, window, fractions, value, product(query.tree, iter(fractions))))
     return found
 
 
@@ -562,9 +694,9 @@ def check_score(line, score, e):
     check("a score encloses the logarithm of the product", compare(low, qs) <= 0 < compare(high, qs))
 
 
-def ranking(tree, documents, mu):
-    e = scale(tree)
-    ordered = sorted(candidates(tree, documents, mu), key=Candidate.order)
+def ranking(query, documents, mu):
+    e = scale(query.tree)
+    ordered = sorted(candidates(query, documents, mu), key=Candidate.order)
     lines, rest = ordered[:MOST_LINES], ordered[MOST_LINES:]
     shown = marks(lines, e)
     check_order(lines, shown, rest, e)
@@ -572,19 +704,27 @@ def ranking(tree, documents, mu):
         score = line.key * MILLION // (e << LEVEL)
         check_score(line, score, e)
         shown_score = f"-{score // MILLION}.{score % MILLION:06}"
-        yield f"{i + 1} {mark} {shown_score} {line.document.docno} 0 {len(line.document.tokens)}"
+        yield f"{i + 1} {mark} {shown_score} {line.document.docno} {line.window[0]} {line.window[1]}"
 
 
-def answer(case, query):
+def fault(query):
+    """What the check of a query finds first, if anything."""
+    if not has_weights(query.tree):
+        return "NoWeight"
+    tree = reduced(query.tree)
+    if all(isinstance(leaf, Prior) for leaf in leaves_of(tree)):
+        return "NoLeaf"
+    return "ScaleTooLarge" if scale(tree) >= 1 << 60 else None
+
+
+def answer(case, text):
     """The lines of a case, and its status."""
-    tree = Reader(query).query()
-    if not has_weights(tree):
-        return ["refused Check NoWeight", "status 2"]
-    tree = reduced(tree)
-    if scale(tree) >= 1 << 60:
-        return ["refused Check ScaleTooLarge", "status 2"]
+    query = Reader(text).query()
+    if found := fault(query):
+        return [f"refused Check {found}", "status 2"]
+    query = Query(query.filters, query.ranked, reduced(query.tree))
     documents, refusals = read(case.text)
-    return [*refusals, *ranking(tree, documents, case.mu), f"status {3 if refusals else 0}"]
+    return [*refusals, *ranking(query, documents, case.mu), f"status {3 if refusals else 0}"]
 
 
 def lines_of(text):
@@ -606,8 +746,9 @@ def lines_of(text):
 
 
 def main():
-    lines = list(lines_of((BENCH / "rankings.cases").read_text()))
-    (BENCH / "rankings.lines").write_text("\n".join(lines) + "\n")
+    for cases, written in TABLES:
+        lines = list(lines_of((BENCH / cases).read_text()))
+        (BENCH / written).write_text("\n".join(lines) + "\n")
     for statement, count in checked.items():
         print(f"{count:6} {statement}")
 

@@ -13,8 +13,8 @@ use Rattle.query_check.specs.Leaves.{LeafTree, extents, prior}
 use Rattle.belief_nodes.specs.Fractions.{leaf_fraction}
 use Rattle.belief_nodes.specs.Network.{NetworkTree}
 use Rattle.belief_nodes.specs.Priors.{Prior, prior_at, prior_fraction}
+use Rattle.windows.specs.Windows.{windows}
 use Rattle.document_scoring.specs.Counts.{count_in}
-use Rattle.document_scoring.specs.Windows.{windows}
 
 pub record Candidate : Type 0 where
   pub docno : List ℕ
@@ -45,7 +45,7 @@ candidate kind priors network d w = record {
 
 -- of the windows of a range those in which some leaf occurs
 abbrev pub found_windows : List LeafTree → Range → Document → List Pair
-found_windows leaves range d = filter (λ w. list_any (occurs d w) leaves) (windows range d)
+found_windows leaves range d = filter (λ w. list_any (occurs d w) leaves) (windows range (length d.tokens) d.fields)
 
 -- the candidates of a document that passes the query's filters
 abbrev pub document_candidates : RuleKind → List Prior → NetworkTree → Document → List Candidate

@@ -1,4 +1,3 @@
 pub mod Candidates
 pub mod Counts
 pub mod Rows
-pub mod Windows

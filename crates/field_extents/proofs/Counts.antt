@@ -61,3 +61,25 @@ count_by-none p a (suc n) h =
     let first : count_by p (range_with_len a (suc n)) ≡ 0 + count_by p (range_with_len (a + 1) n) = first_counts p a n false (h a (omega arith) (omega arith)) in
     let rest : count_by p (range_with_len (a + 1) n) ≡ 0 = count_by-none p (a + 1) n (λ i l u. h i (omega arith) (omega arith)) in
     omega arith
+
+-- a test that passes everywhere
+pub count_by-all : (p : ℕ → Bool) (a n : ℕ) → ((i : ℕ) → a ≤ i → i < a + n → p i ≡ true) → count_by p (range_with_len a n) ≡ n
+count_by-all p a zero h = refl
+count_by-all p a (suc n) h =
+    let first : count_by p (range_with_len a (suc n)) ≡ 1 + count_by p (range_with_len (a + 1) n) = first_counts p a n true (h a (omega arith) (omega arith)) in
+    let rest : count_by p (range_with_len (a + 1) n) ≡ n = count_by-all p (a + 1) n (λ i l u. h i (omega arith) (omega arith)) in
+    omega arith
+
+-- of positions in two parts
+pub count_by-parts : (p : ℕ → Bool) (a m n : ℕ) → count_by p (range_with_len a (m + n)) ≡ count_by p (range_with_len a m) + count_by p (range_with_len (a + m) n)
+count_by-parts p a zero n =
+    let none : zero + n ≡ n = omega arith in
+    let here : a + zero ≡ a = omega arith in
+    rw (none, here) (omega arith)
+count_by-parts p a (suc m) n =
+    let longer : suc m + n ≡ suc (m + n) = omega arith in
+    let behind : (a + 1) + m ≡ a + suc m = omega arith in
+    let of_all : count_by p (range_with_len a (suc (m + n))) ≡ cond (p a) 1 0 + count_by p (range_with_len (a + 1) (m + n)) = first_counts p a (m + n) (p a) refl in
+    let of_front : count_by p (range_with_len a (suc m)) ≡ cond (p a) 1 0 + count_by p (range_with_len (a + 1) m) = first_counts p a m (p a) refl in
+    let rest : count_by p (range_with_len (a + 1) (m + n)) ≡ count_by p (range_with_len (a + 1) m) + count_by p (range_with_len (a + suc m) n) = rw behind at (count_by-parts p (a + 1) m n) in
+    rw longer (omega (arith, of_all, of_front, rest))

@@ -4,5 +4,8 @@ pub mod CoverLemmas
 pub mod Distinct
 pub mod Laws
 pub mod Orders
+pub mod PassedCover
+pub mod PassedLemmas
+pub mod Prefixes
 pub mod ReachLemmas
 pub mod Sweep

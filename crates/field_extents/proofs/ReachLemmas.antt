@@ -1,23 +1,24 @@
 -- An extent lies in a field of a name exactly where the fields of that name that have begun reach its end.
-use Rattle.std.proofs.Common.{◌≡◌, ℕ, ◌+◌, ◌<◌, ◌≤◌, ⊎_elim, Bool, true, false, ◌||◌, ◌&&◌, nat_le, max, List, [], ◌∷◌, ◌++◌, length, take, drop, get_or, filter, cond, refl, sym, ap, ◌∙◌, add-zero, append-nil, length-drop, length-take, arith}
+use Rattle.std.proofs.Common.{◌≡◌, ℕ, ◌+◌, ◌<◌, ◌≤◌, ⊎_elim, Bool, true, false, ◌||◌, ◌&&◌, nat_le, max, List, [], ◌∷◌, ◌++◌, length, take, drop, get_or, filter, cond, refl, sym, ap, ◌∙◌, append-nil, arith}
 use Rattle.std.specs.List.{All, AllPairs, AllWithin, prefix_len}
 use Rattle.std.specs.Str.{bytes_eq}
 use Rattle.std.proofs.Math.Seq.{take-add}
 use Rattle.std.proofs.Math.Bool.{or-false, or_assoc}
-use Rattle.std.proofs.lemmas.Bool.{and_left, and_right, cases_Bool, cases_eq, le-leb, leb-false, leb-true, lt-leb}
+use Rattle.std.proofs.lemmas.Bool.{and_left, and_right, cases_Bool, le-leb, leb-false, leb-true, lt-leb}
 use Rattle.std.proofs.lemmas.Bool.Decides.{nat_tests}
-use Rattle.std.proofs.lemmas.List.{get_or-drop, get_or-take, get_or_read, take-append-drop}
-use Rattle.std.proofs.lemmas.List.Elements.{All-append, All-head, All-tail, filter_more}
+use Rattle.std.proofs.lemmas.List.{get_or_read, take-append-drop}
+use Rattle.std.proofs.lemmas.List.Elements.{All-head, All-tail, filter_more}
 use Rattle.std.proofs.lemmas.List.Folds.{list_any_none, list_any-append}
-use Rattle.std.proofs.lemmas.List.Sums.{fold-append, prefix_len-le-length, prefix_len_passes, prefix_len_stops}
+use Rattle.std.proofs.lemmas.List.Sums.{fold-append}
 use Rattle.ri_base.specs.Documents.{Field, IsBefore}
 use Rattle.ri_base.specs.Pair.{Pair}
 use Rattle.field_extents.specs.Extents.{AreInOrder}
 use Rattle.field_extents.specs.Fields.{lies_in, lies_in_some, greatest_end}
 use Rattle.field_extents.proofs.Orders.{begin-IsBefore, begin-IsNoLater}
+use Rattle.field_extents.proofs.Prefixes.{fails_behind, passes_front, within_front}
 
 -- among fields that begin at or before x, x lies in one of the name exactly where their greatest end is no less than its own
-begun : (name : List ℕ) (x : Pair) (least : ℕ) (fields : List Field) → All (λ f. f.begin ≤ x.begin) fields → nat_le x.end (greatest_end name least fields) ≡ (nat_le x.end least || lies_in_some fields name x)
+pub begun : (name : List ℕ) (x : Pair) (least : ℕ) (fields : List Field) → All (λ f. f.begin ≤ x.begin) fields → nat_le x.end (greatest_end name least fields) ≡ (nat_le x.end least || lies_in_some fields name x)
 begun name x least [] h = sym (or-false (nat_le x.end least))
 begun name x least (f ∷ fields) h =
     let first : f.begin ≤ x.begin = All-head (λ f. f.begin ≤ x.begin) f fields h in
@@ -45,21 +46,18 @@ lies_in_some-by_reach name x fields n some front rest =
     by_front ∙ sym reaches
 
 -- behind those of the first n fields and those of the next that begin by a position, each begins behind it
-all_behind : (fields : List Field) (n position : ℕ) → AllPairs IsBefore fields → All (λ f. position < f.begin) (drop (n + prefix_len (λ f. nat_le f.begin position) (drop n fields)) fields)
+pub all_behind : (fields : List Field) (n position : ℕ) → AllPairs IsBefore fields → All (λ f. position < f.begin) (drop (n + prefix_len (λ f. nat_le f.begin position) (drop n fields)) fields)
 all_behind fields n position in_order k d l =
-    let begun_by : Field → Bool = λ f. nat_le f.begin position in
-    let more = prefix_len begun_by (drop n fields) in
-    let bound : (n + more) + k < length fields = omega (arith, length-drop (n + more) fields) in
-    let left : more < length (drop n fields) = omega (arith, length-drop n fields) in
-    let stops : nat_le (get_or (drop n fields) more d).begin position ≡ false = prefix_len_stops begun_by (drop n fields) d left in
-    let there : get_or (drop n fields) more d ≡ get_or fields (n + more) d = get_or-drop n fields more d in
-    let first : position < (get_or fields (n + more) d).begin = omega (arith, leb-false _ _ stops, ap (λ (f : Field). f.begin) there) in
-    let later : (get_or fields (n + more) d).begin ≤ (get_or fields ((n + more) + k) d).begin = ⊎_elim
-    (λ (same : k ≡ 0). rw (same, add-zero) (omega arith))
-    (λ (other : k ≡ 0 → ⊥). begin-IsBefore (get_or fields (n + more) d) (get_or fields ((n + more) + k) d) (in_order (n + more) ((n + more) + k) d (omega arith) bound))
-    (cases_eq k 0) in
-    let here : get_or (drop (n + more) fields) k d ≡ get_or fields ((n + more) + k) d = get_or-drop (n + more) fields k d in
-    omega (arith, ap (λ (f : Field). f.begin) here)
+    let stays : AllPairs (λ f g. nat_le f.begin position ≡ false → nat_le g.begin position ≡ false) fields = λ i j e m u fails.
+    lt-leb _ _ (omega (arith, leb-false _ _ fails, begin-IsBefore (get_or fields i e) (get_or fields j e) (in_order i j e m u))) in
+    leb-false _ _ (fails_behind (λ f. nat_le f.begin position) fields n stays k d l)
+
+-- the greatest end of the first n and of those of the next
+pub greatest_end-more : (name : List ℕ) (fields : List Field) (n more reach to : ℕ) → reach ≡ greatest_end name 0 (take n fields) → to ≡ greatest_end name reach (take more (drop n fields)) → to ≡ greatest_end name 0 (take (n + more) fields)
+greatest_end-more name fields n more reach to of_front of_more =
+    let front_and_more : greatest_end name 0 (take (n + more) fields) ≡ greatest_end name (greatest_end name 0 (take n fields)) (take more (drop n fields)) =
+    ap (λ fs. greatest_end name 0 fs) (take-add n more fields) ∙ fold-append _ 0 (take n fields) (take more (drop n fields)) in
+    of_more ∙ ap (λ least. greatest_end name least (take more (drop n fields))) of_front ∙ sym front_and_more
 
 -- the first k extents have been decided: n fields begin at or before those, and the greatest of their ends is `reach`
 pub record HasReached (xs : List Pair) (fields : List Field) (name : List ℕ) (k n reach : ℕ) (kept : List Pair) : Type 0 where
@@ -71,22 +69,13 @@ pub record HasReached (xs : List Pair) (fields : List Field) (name : List ℕ) (
 -- the next extent is x, and `more` fields begin behind those and not behind it
 module _ (xs : List Pair) (fields : List Field) (name : List ℕ) (k n reach : ℕ) (kept : List Pair) (x : Pair) (inside : k < length xs) (read : x ≡ get_or xs k x) (some : 0 < x.end) (extents : AreInOrder xs) (in_order : AllPairs IsBefore fields) (h : HasReached xs fields name k n reach kept) (more to : ℕ) (begun_more : more ≡ prefix_len (λ f. nat_le f.begin x.begin) (drop n fields)) (reached : to ≡ greatest_end name reach (take more (drop n fields))) where
   within_more : n + more ≤ length fields
-  within_more = omega (arith, h.within, begun_more, prefix_len-le-length {X = Field} (λ f. nat_le f.begin x.begin) (drop n fields), length-drop n fields)
+  within_more = within_front (λ (f : Field). nat_le f.begin x.begin) fields n more begun_more h.within
 
   greatest_more : to ≡ greatest_end name 0 (take (n + more) fields)
-  greatest_more =
-      let front_and_more : greatest_end name 0 (take (n + more) fields) ≡ greatest_end name (greatest_end name 0 (take n fields)) (take more (drop n fields)) =
-      ap (λ fs. greatest_end name 0 fs) (take-add n more fields) ∙ fold-append _ 0 (take n fields) (take more (drop n fields)) in
-      reached ∙ ap (λ least. greatest_end name least (take more (drop n fields))) h.greatest ∙ sym front_and_more
+  greatest_more = greatest_end-more name fields n more reach to h.greatest reached
 
   front : All (λ f. f.begin ≤ x.begin) (take (n + more) fields)
-  front = rw (take-add n more fields) (All-append (λ f. f.begin ≤ x.begin) (take n fields) (take more (drop n fields))
-      (rw read (h.begun k x (omega arith) inside))
-      (λ i e m.
-      let bound : i < more = omega (arith, length-take more (drop n fields)) in
-      let there : get_or (take more (drop n fields)) i e ≡ get_or (drop n fields) i e = get_or-take more (drop n fields) i e bound in
-      let passes : nat_le (get_or (drop n fields) i e).begin x.begin ≡ true = prefix_len_passes (λ f. nat_le f.begin x.begin) (drop n fields) i e (omega (arith, begun_more)) in
-      omega (arith, leb-true _ _ passes, ap (λ (f : Field). f.begin) there)))
+  front = passes_front (λ (f : Field). nat_le f.begin x.begin) fields n more begun_more (λ f. f.begin ≤ x.begin) (λ f. leb-true _ _) (rw read (h.begun k x (omega arith) inside))
 
   begun_later : AllWithin (λ y. All (λ f. f.begin ≤ y.begin) (take (n + more) fields)) xs (k + 1) (length xs)
   begun_later j d l u i e m =

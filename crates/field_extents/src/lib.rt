@@ -6,6 +6,6 @@ mod begins;
 mod cover;
 mod restriction;
 
-pub use begins::distinct_begins;
-pub use cover::covered;
+pub use begins::{WindowBegins, distinct_begins};
+pub use cover::{WindowCover, covered};
 pub use restriction::inside;

@@ -1,9 +1,10 @@
 // The extents that lie in fields of a name.
-ghost use Rattle.std.specs.Prelude.{◌≡◌, IfOk, AllPairs, filter, nat_le};
+ghost use Rattle.std.specs.Prelude.{◌≡◌, ◌≤◌, IfOk, AllPairs, filter, nat_le};
 ghost use Rattle.std.specs.List.{prefix_len};
 ghost use Rattle.ri_base.specs.Documents.{IsBefore};
-ghost use Rattle.field_extents.specs.Extents.{AreInOrder};
-ghost use Rattle.field_extents.specs.Fields.{greatest_end, lies_in_some};
+ghost use Rattle.ri_base.specs.Pair.{Pair};
+ghost use Rattle.field_extents.specs.Extents.{AreInOrder, begin_count};
+ghost use Rattle.field_extents.specs.Fields.{covered_count, greatest_end, lies_in_some};
 
 use ri_base::{Extents, FieldSpan, Name, NoMemory};
 use std::alloc::Global;
@@ -17,7 +18,9 @@ pub fn inside(
 ) -> Result<Extents, NoMemory>
     requires extents { AreInOrder xs.now }
     requires fields { AllPairs IsBefore spans.now }
-    ensures { IfOk result (λ kept. kept ≡ filter (lies_in_some spans.now name.now) xs.now) }
+    ensures exact { IfOk result (λ kept. kept ≡ filter (lies_in_some spans.now name.now) xs.now) }
+    // Whatever the window is, no more of them begin in it than the fields cover positions of it.
+    ensures few { IfOk result (λ kept. (window : Pair) → begin_count kept window ≤ covered_count spans.now name.now window) }
 {
     let mut kept = Extents::new(alloc);
     let mut begun = 0;
@@ -37,7 +40,7 @@ pub fn inside(
 }
 
 /// How many fields stand before the first that begins behind this position.
-fn begun_by(spans: &[FieldSpan], position: u32) -> usize
+pub fn begun_by(spans: &[FieldSpan], position: u32) -> usize
     ensures { result ≡ prefix_len (λ f. nat_le f.begin position) spans.now }
 {
     spans
@@ -47,7 +50,7 @@ fn begun_by(spans: &[FieldSpan], position: u32) -> usize
 }
 
 /// The greatest of `reach` and the ends of the fields of this name.
-fn reach_of(reach: u32, spans: &[FieldSpan], name: &Name) -> u32
+pub fn reach_of(reach: u32, spans: &[FieldSpan], name: &Name) -> u32
     ensures { result ≡ greatest_end name.now reach spans.now }
 {
     let mut greatest = reach;

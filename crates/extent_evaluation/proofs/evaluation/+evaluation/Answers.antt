@@ -60,8 +60,8 @@ pub evaluated-returns-in_ok-inside-in-InField-clause-exact : goal.evaluated-retu
 evaluated-returns-in_ok-inside-in-InField-clause-exact g t c = λ sound.
     let fields = c.spans-in-InField.ensures.exact ∙ ap (λ (ds : List Document). (document_at ds c.args.id).fields) c.in_ok-found-in-InField.ensures.keeps.documents_stay in
     Lists-of_in_field c.args.expr.now _ c.in-InField.x c.in-InField.name c.spans-in-InField.result.now c.in_ok-found-in-InField.found _ c.in-InField.is fields
-    (rw c.deref-in-InField.ensures at (c.in_ok-found-in-InField.ensures.exact sound)) c.in_ok-inside-in-InField.ensures
+    (rw c.deref-in-InField.ensures at (c.in_ok-found-in-InField.ensures.exact sound)) c.in_ok-inside-in-InField.ensures.exact
 
 pub evaluated-returns-in_ok-inside-in-InField-clause-ascending : goal.evaluated-returns-in_ok-inside-in-InField-clause-ascending
 evaluated-returns-in_ok-inside-in-InField-clause-ascending g t c =
-    IsAscending-inside c.spans-in-InField.result.now c.in-InField.name c.in_ok-found-in-InField.found _ c.in_ok-found-in-InField.ensures.ascending c.in_ok-inside-in-InField.ensures
+    IsAscending-inside c.spans-in-InField.result.now c.in-InField.name c.in_ok-found-in-InField.found _ c.in_ok-found-in-InField.ensures.ascending c.in_ok-inside-in-InField.ensures.exact

@@ -1,5 +1,5 @@
 -- A document as a whole as the candidate that it is.
-use Rattle.std.proofs.Common.{◌≡◌, ℕ, ◌+◌, Bool, true, false, not, ◌==◌, if◌then◌else◌, None, Some, List, [], ◌∷◌, ◌++◌, length, map, filter, flat_map, zip, refl, sym, ap, ◌∙◌, arith, append-nil}
+use Rattle.std.proofs.Common.{◌≡◌, ℕ, Bool, true, false, not, ◌==◌, if◌then◌else◌, None, Some, List, [], ◌∷◌, ◌++◌, length, map, filter, flat_map, zip, refl, sym, ap, ◌∙◌, arith, append-nil}
 use Rattle.std.specs.Bool.{nat_lt}
 use Rattle.std.specs.List.{list_all, list_any}
 use Rattle.std.proofs.lemmas.Bool.Decides.{nat_tests}

@@ -7,4 +7,4 @@ mod texts;
 
 pub use marks::Mark;
 pub use order::mark;
-pub use texts::{line, score_text};
+pub use texts::{line, score_text, trec_line};

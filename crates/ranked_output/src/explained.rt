@@ -10,9 +10,7 @@ ghost use Rattle.ranked_output.specs.Marks.{IsScale};
 use crate::texts::score_text;
 use belief_nodes::LeafCount;
 use query_printer::print_expr;
-use ri_base::{
-    Bytes, Extent, ExtentExpr, Extents, Fraction, Hit, LeafStats, List, Name, NoMemory,
-};
+use ri_base::{Bytes, Extent, ExtentExpr, Extents, Fraction, Hit, LeafStats, List, Name, NoMemory};
 use std::alloc::Global;
 
 /// What is shown of a leaf.
@@ -29,7 +27,10 @@ pub enum LeafShown {
         belief: Fraction,
     },
     /// A prior and its belief.
-    Prior { name: Name, belief: Fraction },
+    Prior {
+        name: Name,
+        belief: Fraction,
+    },
 }
 
 /// A hit with its rank, the scale of its query, and the query's leaves in reading order.

@@ -84,12 +84,14 @@ pub fn trec_line(
     ensures { IfOk result (λ text. text ≡ trec_text topic.now rank hit.now.docno (score scale hit.now.key) run.now) }
 {
     let score = score_text(alloc, hit.key, scale)?;
+    let digits = rank.to_string(alloc)?;
+    let (docno, rank) = (hit.docno.as_bytes(), digits.as_bytes());
     let mut text = Vec::new(alloc);
     text.extend_from_slice(topic.as_bytes())?;
     text.extend_from_slice(b" Q0 ")?;
-    text.extend_from_slice(hit.docno.as_bytes())?;
+    text.extend_from_slice(docno)?;
     text.push(b' ')?;
-    text.extend_from_slice(rank.to_string(alloc)?.as_bytes())?;
+    text.extend_from_slice(rank)?;
     text.extend_from_slice(b" -")?;
     text.extend_from_slice(score.as_slice())?;
     text.push(b' ')?;

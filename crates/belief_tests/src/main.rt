@@ -1,8 +1,10 @@
-//! Tests of beliefs, logarithms and scores that were worked out by hand or computed elsewhere. The program itself does nothing.
+//! Tests of beliefs, logarithms, scores and explained results that were worked out by hand or computed elsewhere. The program itself does nothing.
 #![tactic(auto)]
 
 #[cfg(test)]
 mod dirichlet;
+#[cfg(test)]
+mod explained;
 #[cfg(test)]
 mod logarithms;
 #[cfg(test)]

@@ -326,9 +326,53 @@ fn queries(rt: HostRuntime) -> Result<(), Fail> {
     Ok(())
 }
 
+/// Queries with options, over two documents, and what is written.
+static SHOWN: [(&[&str], &[u8]); 4] = [
+    (
+        &[".", "query", "a", "--mu=1", "--k", "1"],
+        b"1 - -0.263034 d2 0 1\n",
+    ),
+    (
+        &[
+            ".", "query", "--topic", "301", "--mu", "1", "--run", "mine", "a",
+        ],
+        b"301 Q0 d2 1 -0.263034 mine\n301 Q0 d1 2 -0.847996 mine\n",
+    ),
+    (
+        &[
+            ".",
+            "query",
+            "--topic=301",
+            "--run=mine",
+            "--mu=1",
+            "--k=1",
+            "--",
+            "a",
+        ],
+        b"301 Q0 d2 1 -0.263034 mine\n",
+    ),
+    (&[".", "query", "--topic", "301", "--run", "mine", "c"], b""),
+];
+
+#[test]
+fn options(rt: HostRuntime) -> Result<(), Fail> {
+    for (texts, lines) in &SHOWN {
+        assert_ends(
+            &rt,
+            rt.alloc(),
+            case_of(texts, TWO, 64),
+            Status::Done,
+            lines,
+        )?;
+    }
+    Ok(())
+}
+
 /// Words that are no command, and texts that are refused: the words, the status, and what is written.
-static REFUSED: [(&[&str], Status, &str); 32] = [
+static REFUSED: [(&[&str], Status, &str); 34] = [
     (&[], Status::Usage, USAGE),
+    (&[".", "query", "--run", "mine", "a"], Status::Usage, USAGE),
+    (&[".", "explain", "1", "a"], Status::Usage, USAGE),
     (&[".", "query", "--mu", "0", "a"], Status::Usage, USAGE),
     (&[".", "query", "--mu", "01", "a"], Status::Usage, USAGE),
     (

@@ -11,10 +11,12 @@ use Rattle.query_check.specs.Check.{CheckedTree}
 use Rattle.smoothing.specs.declared.rule.RuleKind.{RuleKind}
 use Rattle.trec_reader.specs.Read.{read}
 use Rattle.indri_app.specs.Answer.{IsResult}
-use Rattle.indri_app.specs.Command.{Command, rank_by, scan_for}
+use Rattle.refusals.specs.declared.refusal.Refusal.{Refusal}
+use Rattle.indri_app.specs.Command.{Command, IfAsksFor, rank_by, scan_for}
 use Rattle.indri_app.specs.CommandPieces.{Breaks, IsDone, Shows, documents_of, ranked_documents, read_pieces, result_piece}
 use Rattle.indri_app.specs.Faults.{IsBroken}
 use Rattle.indri_app.specs.Pieces.{BrokenOff, Finished, Piece, StoppedBetween, some_refused}
+use Rattle.indri_app.specs.Shown.{Shown}
 use Rattle.indri_app.specs.Runs.{EndsIn, IsClosed, RunsTo, WritesLine, read_line}
 use Rattle.indri_app.specs.Work.{Work, behind_all, collecting, input_pieces, scanning}
 use Rattle.indri_app.specs.declared.fault.Fault.{Fault}
@@ -59,17 +61,17 @@ or-false : (b : Bool) → (b || false) ≡ b
 or-false true = refl
 or-false false = refl
 
-query-broken-at : (e : Fault) (rule : RuleKind) (k : ℕ) (q : CheckedTree) (bytes : List ℕ) (before now : Option (List ℕ)) → IsBroken e (read_pieces (rank_by rule k q) bytes) before now → Breaks e (rank_by rule k q) bytes before now
+query-broken-at : (e : Fault) (rule : RuleKind) (k : Shown) (q : CheckedTree) (bytes : List ℕ) (before now : Option (List ℕ)) → IsBroken e (read_pieces (rank_by rule k q) bytes) before now → Breaks e (rank_by rule k q) bytes before now
 query-broken-at fault.Read rule k q bytes before now b = b
 query-broken-at fault.Write rule k q bytes before now b = inl b
 query-broken-at fault.Memory rule k q bytes before now b = b
 
-pub query-broken : (left : Option (List ℕ)) (e : Fault) (rule : RuleKind) (k : ℕ) (q : CheckedTree) (before now : Option (List ℕ)) → IfSome left (λ bytes. IsBroken e (input_pieces (collecting []) (read bytes)) before now) → IfSome left (λ bytes. Breaks e (rank_by rule k q) bytes before now)
+pub query-broken : (left : Option (List ℕ)) (e : Fault) (rule : RuleKind) (k : Shown) (q : CheckedTree) (before now : Option (List ℕ)) → IfSome left (λ bytes. IsBroken e (input_pieces (collecting []) (read bytes)) before now) → IfSome left (λ bytes. Breaks e (rank_by rule k q) bytes before now)
 query-broken None e rule k q before now b = tt
 query-broken (Some bytes) e rule k q before now b = query-broken-at e rule k q bytes before now b
 
 -- nothing is begun
-pub query-first : (left : Option (List ℕ)) (rule : RuleKind) (k : ℕ) (q : CheckedTree) (before now : Option (List ℕ)) → now ≡ before → IfSome left (λ bytes. Breaks fault.Memory (rank_by rule k q) bytes before now)
+pub query-first : (left : Option (List ℕ)) (rule : RuleKind) (k : Shown) (q : CheckedTree) (before now : Option (List ℕ)) → now ≡ before → IfSome left (λ bytes. Breaks fault.Memory (rank_by rule k q) bytes before now)
 query-first None rule k q before now same = tt
 query-first (Some bytes) rule k q before now same = stopped_first (read_pieces (rank_by rule k q) bytes) before now same
 
@@ -77,7 +79,7 @@ query-first (Some bytes) rule k q before now same = stopped_first (read_pieces (
 ranked-are : (bytes : List ℕ) (w : Work) (docs : List Document) → w ≡ behind_all (collecting []) (read bytes).0 → w ≡ collecting docs → docs ≡ ranked_documents bytes
 ranked-are bytes w docs e same = ap documents_of (sym same ∙ e)
 
-pub query-done : (left : Option (List ℕ)) (rule : RuleKind) (k : ℕ) (q : CheckedTree) (w : Work) (docs : List Document) (refused : Bool) (before mid now : Option (List ℕ)) → IfSome left (λ bytes. refused ≡ some_refused (input_pieces (collecting []) (read bytes)))
+pub query-done : (left : Option (List ℕ)) (rule : RuleKind) (k : Shown) (q : CheckedTree) (w : Work) (docs : List Document) (refused : Bool) (before mid now : Option (List ℕ)) → IfSome left (λ bytes. refused ≡ some_refused (input_pieces (collecting []) (read bytes)))
     → IfSome left (λ bytes. w ≡ behind_all (collecting []) (read bytes).0) → w ≡ collecting docs → IfSome left (λ bytes. Finished (input_pieces (collecting []) (read bytes)) before mid) → Shows rule k q docs (λ piece. Finished (piece ∷ []) mid now)
     → IfSome left (λ bytes. IsDone (rank_by rule k q) bytes refused before now)
 query-done None rule k q w docs refused before mid now r e same f shows = tt
@@ -87,7 +89,7 @@ query-done (Some bytes) rule k q w docs refused before mid now r e same f (ranki
     let there : IsResult rule k q (ranked_documents bytes) ranking = subst (λ (ds : List Document). IsResult rule k q ds ranking) (ranked-are bytes w docs e same) is in
     (pieces ++ piece ∷ [], (ranking, there, refl), refused-append pieces (piece ∷ []) ∙ or-false (some_refused pieces) ∙ sym r, Finished-then pieces (piece ∷ []) before mid now f last)
 
-query-cut : (left : Option (List ℕ)) (rule : RuleKind) (k : ℕ) (q : CheckedTree) (w : Work) (docs : List Document) (before mid now : Option (List ℕ))
+query-cut : (left : Option (List ℕ)) (rule : RuleKind) (k : Shown) (q : CheckedTree) (w : Work) (docs : List Document) (before mid now : Option (List ℕ))
     → IfSome left (λ bytes. w ≡ behind_all (collecting []) (read bytes).0) → w ≡ collecting docs → IfSome left (λ bytes. Finished (input_pieces (collecting []) (read bytes)) before mid) → Shows rule k q docs (λ piece. BrokenOff (piece ∷ []) mid now)
     → IfSome left (λ bytes. Breaks fault.Write (rank_by rule k q) bytes before now)
 query-cut None rule k q w docs before mid now e same f shows = tt
@@ -98,13 +100,13 @@ query-cut (Some bytes) rule k q w docs before mid now e same f (ranking, is, las
     inr (pieces ++ piece ∷ [], (ranking, there, refl), broken-then fault.Write pieces (piece ∷ []) before mid now f last)
 
 -- nothing is written of the results
-query-none : (left : Option (List ℕ)) (rule : RuleKind) (k : ℕ) (q : CheckedTree) (before mid now : Option (List ℕ))
+query-none : (left : Option (List ℕ)) (rule : RuleKind) (k : Shown) (q : CheckedTree) (before mid now : Option (List ℕ))
     → IfSome left (λ bytes. Finished (input_pieces (collecting []) (read bytes)) before mid) → now ≡ mid → IfSome left (λ bytes. Breaks fault.Memory (rank_by rule k q) bytes before now)
 query-none None rule k q before mid now f same = tt
 query-none (Some bytes) rule k q before mid now f same = subst (λ t. StoppedBetween (read_pieces (rank_by rule k q) bytes) before t) (sym same) (record { done = read_pieces (rank_by rule k q) bytes; left = []; are = sym (append-nil (read_pieces (rank_by rule k q) bytes)); written = f.written })
 
 -- the results aren't written, or not whole
-pub query-broken-last : (e : Fault) (left : Option (List ℕ)) (rule : RuleKind) (k : ℕ) (q : CheckedTree) (w : Work) (docs : List Document) (before mid now : Option (List ℕ))
+pub query-broken-last : (e : Fault) (left : Option (List ℕ)) (rule : RuleKind) (k : Shown) (q : CheckedTree) (w : Work) (docs : List Document) (before mid now : Option (List ℕ))
     → IfSome left (λ bytes. w ≡ behind_all (collecting []) (read bytes).0) → w ≡ collecting docs → IfSome left (λ bytes. Finished (input_pieces (collecting []) (read bytes)) before mid)
     → (e ≡ fault.Read → ⊥) → (e ≡ fault.Write → Shows rule k q docs (λ piece. BrokenOff (piece ∷ []) mid now)) → (e ≡ fault.Memory → now ≡ mid)
     → IfSome left (λ bytes. Breaks e (rank_by rule k q) bytes before now)
@@ -142,3 +144,10 @@ pub closed : (left : Option (List ℕ)) (x : Fault) (s : Status) (command : Comm
     → IfSome left (λ bytes. RunsTo s command bytes start now a c)
 closed None x s command start mid now a b c h broken ends = tt
 closed (Some bytes) x s command start mid now a b c h broken ends = closed-at x s command bytes start mid now a b c h broken ends
+
+-- where there is no memory before a command begins, nothing of it is written
+pub nothing_begun : (found : Option (Result Command Refusal)) (left before now : Option (List ℕ)) → now ≡ before → IfAsksFor found (λ command. IfSome left (λ bytes. StoppedBetween (read_pieces command bytes) before now))
+nothing_begun None left before now same = tt
+nothing_begun (Some (Ok command)) None before now same = tt
+nothing_begun (Some (Ok command)) (Some bytes) before now same = stopped_first (read_pieces command bytes) before now same
+nothing_begun (Some (Err why)) left before now same = tt

@@ -8,12 +8,13 @@ use Rattle.ranked_output.specs.Texts.{Line, lines_of}
 use Rattle.true_order.specs.Ranked.{hit_beliefs}
 use Rattle.true_order.specs.TrueOrder.{IsTrueOrder}
 use Rattle.full_ranking.specs.Ranking.{IsRanking}
+use Rattle.indri_app.specs.Shown.{Shown}
 
 -- the lines of the first k results of a ranking
 abbrev pub first_lines : ℕ → CheckedTree → List Hit → List Line
 first_lines k q ranking = lines_of q.scale (take k ranking)
 
--- a ranking of these documents, and the order of its first k lines is true of the beliefs behind it
-pub record IsResult (rule : RuleKind) (k : ℕ) (q : CheckedTree) (docs : List Document) (ranking : List Hit) : Type 0 where
+-- a ranking of these documents, and the order of its first lines is true of the beliefs behind it
+pub record IsResult (rule : RuleKind) (shown : Shown) (q : CheckedTree) (docs : List Document) (ranking : List Hit) : Type 0 where
   pub ranked : IsRanking rule [] q docs ranking
-  pub order : IsTrueOrder q.tree (first_lines k q ranking) (map hit_beliefs (drop k ranking))
+  pub order : IsTrueOrder q.tree (first_lines shown.count q ranking) (map hit_beliefs (drop shown.count ranking))

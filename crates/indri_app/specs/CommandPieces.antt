@@ -5,10 +5,10 @@ use Rattle.ri_base.specs.declared.hit.Hit.{Hit}
 use Rattle.smoothing.specs.declared.rule.RuleKind.{RuleKind}
 use Rattle.trec_reader.specs.Read.{read}
 use Rattle.query_check.specs.Check.{CheckedTree}
-use Rattle.ranked_output.specs.Texts.{lines_text}
 use Rattle.indri_app.specs.Answer.{IsResult, first_lines}
 use Rattle.indri_app.specs.Command.{Command, rank_by, scan_for}
 use Rattle.indri_app.specs.Pieces.{BrokenOff, Finished, Piece, StoppedBetween, some_refused}
+use Rattle.indri_app.specs.Shown.{Shown, shown_text}
 use Rattle.indri_app.specs.Work.{Work, behind_all, collecting, input_pieces, scanning}
 use Rattle.indri_app.specs.declared.fault.Fault.{Fault}
 use Rattle.indri_app.specs.declared.fault.Fault.TheVariants.{Memory, Read, Write}
@@ -16,7 +16,7 @@ use Rattle.indri_app.specs.declared.fault.Fault.TheVariants.{Memory, Read, Write
 -- what a command does with its documents
 abbrev pub work_of : Command → Work
 work_of (scan_for x) = scanning x
-work_of (rank_by rule k q) = collecting []
+work_of (rank_by rule shown q) = collecting []
 
 -- the pieces that are written while the input is read: all of a scan, and of a query the refusals
 abbrev pub read_pieces : Command → List ℕ → List Piece
@@ -32,18 +32,18 @@ abbrev pub ranked_documents : List ℕ → List Document
 ranked_documents bytes = documents_of (behind_all (collecting []) (read bytes).0)
 
 -- the first results of a query in one piece
-abbrev pub result_piece : ℕ → CheckedTree → List Hit → Piece
-result_piece k q ranking = record { text = lines_text (first_lines k q ranking); is_refusal = false }
+abbrev pub result_piece : Shown → CheckedTree → List Hit → Piece
+result_piece shown q ranking = record { text = shown_text shown.labels (first_lines shown.count q ranking); is_refusal = false }
 
 -- P holds of the piece of the first results of a ranking of these documents.
-abbrev pub Shows : RuleKind → ℕ → CheckedTree → List Document → (Piece → Type 0) → Type 0
-Shows rule k q docs P = (ranking : List Hit) × IsResult rule k q docs ranking × P (result_piece k q ranking)
+abbrev pub Shows : RuleKind → Shown → CheckedTree → List Document → (Piece → Type 0) → Type 0
+Shows rule shown q docs P = (ranking : List Hit) × IsResult rule shown q docs ranking × P (result_piece shown q ranking)
 
 -- These are all pieces of a command. The last one of a query is that of a ranking.
 abbrev pub ArePieces : Command → List ℕ → List Piece → Type 0
 ArePieces (scan_for x) bytes pieces = pieces ≡ read_pieces (scan_for x) bytes
-ArePieces (rank_by rule k q) bytes pieces =
-    Shows rule k q (ranked_documents bytes) (λ piece. pieces ≡ read_pieces (rank_by rule k q) bytes ++ piece ∷ [])
+ArePieces (rank_by rule shown q) bytes pieces =
+    Shows rule shown q (ranked_documents bytes) (λ piece. pieces ≡ read_pieces (rank_by rule shown q) bytes ++ piece ∷ [])
 
 -- All pieces were written, and it is so that some say that something is refused, or not.
 abbrev pub IsDone : Command → List ℕ → Bool → Option (List ℕ) → Option (List ℕ) → Type 0

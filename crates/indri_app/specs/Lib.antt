@@ -6,6 +6,7 @@ pub mod Faults
 pub mod Pieces
 pub mod Runs
 pub mod Scan
+pub mod Shown
 pub mod Status
 pub mod Told
 pub mod Work

@@ -1,36 +1,63 @@
 // The lines of a ranking.
 ghost use Rattle.std.specs.Prelude.{◌≡◌, ◌≤◌, List, true, length, map, take, All, IfOk};
+ghost use Rattle.command_words.specs.Asked.{told_labels};
+ghost use Rattle.command_words.specs.declared.words.TheConstants.{MAX_RESULTS};
 ghost use Rattle.ri_base.specs.declared.hit.Hit.{Hit};
 ghost use Rattle.smoothing.specs.Counts.{AreCounts};
 ghost use Rattle.smoothing.specs.Fractions.{IsMu, dirichlet};
 ghost use Rattle.ri_base.specs.Ratio.{ratio_of};
 ghost use Rattle.query_check.specs.Answers.{whole_checked};
 ghost use Rattle.plain_query.specs.Checked.{is_plain_checked};
-ghost use Rattle.ranked_output.specs.Texts.{lines_of, lines_text};
+ghost use Rattle.ranked_output.specs.Marks.{IsScale};
+ghost use Rattle.ranked_output.specs.Texts.{line_of, lines_of};
 ghost use Rattle.indri_app.specs.Answer.{IsResult, first_lines};
 ghost use Rattle.indri_app.specs.Command.{IsRule};
-ghost use Rattle.indri_app.specs.declared.words.TheConstants.{MOST_SHOWN};
+ghost use Rattle.indri_app.specs.Shown.{shown_line, shown_text, told_shown};
 
+use crate::shown::Shown;
 use full_ranking::{rank, ranking_is_true};
 use memory_index::MemIndex;
 use query_check::Checked;
-use ranked_output::{line, mark};
-use ri_base::{Fraction, Hits, NoMemory};
+use ranked_output::{Mark, line, mark, trec_line};
+use ri_base::{Bytes, Fraction, Hit, Hits, NoMemory};
 use smoothing::{Rule, RuleKind, dirichlet_fraction};
 use std::alloc::{AllocError, Global};
 
+/// The line of a hit, as results or a run show it.
+fn shown_line(
+    alloc: Global,
+    labels: &Option<(String, String)>,
+    rank: u32,
+    mark: Mark,
+    hit: &Hit,
+    scale: u64,
+) -> Result<Bytes, NoMemory>
+    requires { IsScale scale }
+    ensures { IfOk result (λ text. text ≡ shown_line (told_labels labels.now) rank (line_of scale mark hit.now)) }
+{
+    match labels {
+        Some((topic, run)) => trec_line(alloc, topic, rank, hit, scale, run),
+        None => line(alloc, rank, mark, hit, scale),
+    }
+}
+
 /// The lines of results.
-fn lines_text(alloc: Global, checked: &Checked, hits: &Hits) -> Result<Vec<u8>, NoMemory>
-    requires few { length hits.now ≤ MOST_SHOWN }
+fn lines_text(
+    alloc: Global,
+    labels: &Option<(String, String)>,
+    checked: &Checked,
+    hits: &Hits,
+) -> Result<Vec<u8>, NoMemory>
+    requires few { length hits.now ≤ MAX_RESULTS }
     requires leaves { All (λ hit. length hit.fractions ≡ length checked.now.leaves.items) hits.now }
-    ensures { IfOk result (λ text. text.items ≡ lines_text (lines_of checked.now.scale hits.now)) }
+    ensures { IfOk result (λ text. text.items ≡ shown_text (told_labels labels.now) (lines_of checked.now.scale hits.now)) }
 {
     let mut text = Vec::new(alloc);
     let mut above = None;
     let mut rank = 1;
     for hit in hits.as_slice() {
         let mark = mark(above, hit, checked.scale);
-        let line = line(alloc, rank, mark, hit, checked.scale)?;
+        let line = shown_line(alloc, labels, rank, mark, hit, checked.scale)?;
         text.extend_from_slice(line.as_slice())?;
         above = Some(hit);
         rank += 1;
@@ -42,15 +69,15 @@ fn lines_text(alloc: Global, checked: &Checked, hits: &Hits) -> Result<Vec<u8>, 
 pub fn ranking_text(
     alloc: Global,
     kind: RuleKind,
-    shown: usize,
+    shown: &Shown,
     checked: &Checked,
     index: MemIndex,
 ) -> Result<Vec<u8>, NoMemory>
     requires rule { IsRule kind }
-    requires shown { shown ≤ MOST_SHOWN }
+    requires shown { shown.now.count ≤ MAX_RESULTS }
     requires plain { is_plain_checked (whole_checked checked.now) ≡ true }
-    ensures { IfOk result (λ text. (ranking : List Hit) × IsResult kind shown (whole_checked checked.now) index.documents ranking
-        × (text.items ≡ lines_text (first_lines shown (whole_checked checked.now) ranking))) }
+    ensures { IfOk result (λ text. (ranking : List Hit) × IsResult kind (told_shown shown.now) (whole_checked checked.now) index.documents ranking
+        × (text.items ≡ shown_text (told_labels shown.now.labels) (first_lines shown.now.count (whole_checked checked.now) ranking))) }
 {
     let RuleKind::Dirichlet { mu } = kind;
     let rule = Rule::new(
@@ -65,6 +92,6 @@ pub fn ranking_text(
         return Err(AllocError);
     };
     ranking_is_true();
-    let hits = rank(alloc, checked, &rule, &mut sealed, shown)?;
-    lines_text(alloc, checked, &hits)
+    let hits = rank(alloc, checked, &rule, &mut sealed, shown.count as usize)?;
+    lines_text(alloc, &shown.labels, checked, &hits)
 }

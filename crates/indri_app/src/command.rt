@@ -1,16 +1,19 @@
-// The command of a text.
-ghost use Rattle.std.specs.Prelude.{◌≡◌, ◌≤◌, Ok, Err, Result, true, IfOk};
+// The command that the words of the command line ask for.
+ghost use Rattle.std.specs.Prelude.{◌≡◌, ◌≤◌, Ok, Err, Result, Some, true, IfOk, IfSome};
+ghost use Rattle.command_words.specs.Asked.{AreInRange, told_words};
+ghost use Rattle.command_words.specs.declared.words.TheConstants.{MAX_RESULTS};
 ghost use Rattle.query_reader.specs.QueryText.{query_text};
-ghost use Rattle.indri_app.specs.Command.{IsRule, IsVerb, command_of, query_read};
-ghost use Rattle.indri_app.specs.declared.words.TheConstants.{MOST_SHOWN};
+ghost use Rattle.indri_app.specs.Command.{IsRule, asked, command_of, query_read};
+ghost use Rattle.indri_app.specs.Shown.{told_shown};
 ghost use Rattle.indri_app.specs.Told.{CanRun, Reads, text_fault, told};
 
-use crate::words::Verb;
+use crate::shown::Shown;
+use command_words::{Words, read_words};
 use plain_query::{checked_is_plain, is_plain};
 use query_check::{CheckFault, Checked, check};
 use query_reader::{QueryFault, QueryKind, read_expr, read_query};
 use refusals::Refusal;
-use ri_base::ExtentExpr;
+use ri_base::{ArgList, ExtentExpr};
 use smoothing::RuleKind;
 use std::alloc::Global;
 
@@ -22,7 +25,7 @@ pub enum Command {
     /// The first results of a query over the documents of the input.
     Query {
         rule: RuleKind,
-        shown: usize,
+        shown: Shown,
         query: Checked,
     },
 }
@@ -47,13 +50,13 @@ fn text_fault(fault: QueryFault) -> TextFault
 fn read_ranked(
     alloc: Global,
     rule: RuleKind,
-    shown: usize,
+    shown: Shown,
     text: &str,
-) -> Result<Command, TextFault>
+) -> Result<Option<Command>, TextFault>
     requires rule { IsRule rule }
-    requires shown { shown ≤ MOST_SHOWN }
-    ensures read { Reads result (query_read rule shown (query_text text.now)) }
-    ensures can { IfOk result (λ command. CanRun (told command)) }
+    requires shown { shown.count ≤ MAX_RESULTS }
+    ensures read { Reads result (Some (query_read rule (told_shown shown) (query_text text.now))) }
+    ensures can { IfOk result (λ found. IfSome found (λ command. CanRun (told command))) }
 {
     let query = match read_query(alloc, text) {
         Ok(query) => query,
@@ -67,23 +70,43 @@ fn read_ranked(
     }
     checked_is_plain();
     match check(alloc, query, &[]) {
-        Ok(query) => Ok(Command::Query { rule, shown, query }),
+        Ok(query) => Ok(Some(Command::Query { rule, shown, query })),
         Err(CheckFault::Memory) => Err(TextFault::Memory),
         Err(fault) => Err(TextFault::Refused(Refusal::Check(fault))),
     }
 }
 
-/// The command of a text.
-pub fn read_command(alloc: Global, verb: Verb, text: &str) -> Result<Command, TextFault>
-    requires verb { IsVerb verb }
-    ensures read { Reads result (command_of verb text.now) }
-    ensures can { IfOk result (λ command. CanRun (told command)) }
+/// The command of what is asked for. `None` says that it isn't built yet.
+fn read_command(alloc: Global, words: Words) -> Result<Option<Command>, TextFault>
+    requires ranges { AreInRange words }
+    ensures read { Reads result (command_of (told_words words)) }
+    ensures can { IfOk result (λ found. IfSome found (λ command. CanRun (told command))) }
 {
-    match verb {
-        Verb::Scan => match read_expr(alloc, text) {
-            Ok(expr) => Ok(Command::Scan(expr)),
+    match words {
+        Words::Scan(text) => match read_expr(alloc, &text) {
+            Ok(expr) => Ok(Some(Command::Scan(expr))),
             Err(fault) => Err(text_fault(fault)),
         },
-        Verb::Query { rule, shown } => read_ranked(alloc, rule, shown, text),
+        Words::Query(asked) => {
+            let rule = RuleKind::Dirichlet { mu: asked.mu };
+            let shown = Shown {
+                count: asked.k,
+                labels: asked.trec,
+            };
+            read_ranked(alloc, rule, shown, &asked.text)
+        }
+        Words::Explain(..) => Ok(None),
+    }
+}
+
+/// The command that the words ask for, and `None` where they are no command.
+pub fn asked_command(alloc: Global, words: &ArgList) -> Result<Option<Command>, TextFault>
+    ensures read { Reads result (asked words.now) }
+    ensures can { IfOk result (λ found. IfSome found (λ command. CanRun (told command))) }
+{
+    match read_words(alloc, words) {
+        Ok(Some(words)) => read_command(alloc, words),
+        Ok(None) => Ok(None),
+        Err(_) => Err(TextFault::Memory),
     }
 }

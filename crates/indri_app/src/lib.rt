@@ -10,8 +10,8 @@ mod handler;
 mod program;
 mod reply;
 mod scan;
+mod shown;
 mod status;
-mod words;
 
 pub use program::run;
 pub use status::Status;

@@ -10,18 +10,19 @@ ghost use Rattle.indri_app.specs.CommandPieces.{Breaks, IsDone, Shows};
 ghost use Rattle.indri_app.specs.Faults.{StaysUnless};
 ghost use Rattle.indri_app.specs.Pieces.{BrokenOff, Finished};
 ghost use Rattle.indri_app.specs.Runs.{IsClosed, RunsTo, Tells};
-ghost use Rattle.indri_app.specs.declared.words.TheConstants.{MOST_SHOWN};
+ghost use Rattle.command_words.specs.declared.words.TheConstants.{MAX_RESULTS};
+ghost use Rattle.indri_app.specs.Shown.{told_shown};
 ghost use Rattle.indri_app.specs.Told.{CanRun, told};
 
 use crate::Status;
 use crate::answer::ranking_text;
 use crate::collection::Gatherer;
-use crate::command::{Command, TextFault, read_command};
+use crate::command::{Command, TextFault, asked_command};
 use crate::documents::take_documents;
 use crate::fault::Fault;
 use crate::reply::Reply;
 use crate::scan::Scanner;
-use crate::words::verb_of;
+use crate::shown::Shown;
 use memory_index::MemIndex;
 use query_check::Checked;
 use refusals::{Refusal, line_of};
@@ -107,17 +108,17 @@ fn scan<S: Source, K: Sink>(
 fn write_results<K: Sink>(
     alloc: Global,
     rule: RuleKind,
-    shown: usize,
+    shown: &Shown,
     query: &Checked,
     index: MemIndex,
     sink: &mut K,
 ) -> Result<(), Fault>
     requires rule { IsRule rule }
-    requires shown { shown ≤ MOST_SHOWN }
+    requires shown { shown.now.count ≤ MAX_RESULTS }
     requires plain { is_plain_checked (whole_checked query.now) ≡ true }
-    ensures shown { IfOk result (λ _. Shows rule shown (whole_checked query.now) index.documents (λ piece. Finished (piece ∷ []) (K.taken sink.old) (K.taken sink.new))) }
+    ensures shown { IfOk result (λ _. Shows rule (told_shown shown.now) (whole_checked query.now) index.documents (λ piece. Finished (piece ∷ []) (K.taken sink.old) (K.taken sink.new))) }
     ensures none { IsErrOf result Fault.Memory → K.taken sink.new ≡ K.taken sink.old }
-    ensures front { IsErrOf result Fault.Write → Shows rule shown (whole_checked query.now) index.documents (λ piece. BrokenOff (piece ∷ []) (K.taken sink.old) (K.taken sink.new)) }
+    ensures front { IsErrOf result Fault.Write → Shows rule (told_shown shown.now) (whole_checked query.now) index.documents (λ piece. BrokenOff (piece ∷ []) (K.taken sink.old) (K.taken sink.new)) }
     ensures no_read { IsErrOf result Fault.Read → ⊥ }
     ensures later { K.faults sink.old ≤ K.faults sink.new }
     ensures cause { IsErrOf result Fault.Write → Rose (K.faults sink.old) (K.faults sink.new) }
@@ -133,17 +134,17 @@ fn write_results<K: Sink>(
 fn query<S: Source, K: Sink>(
     alloc: Global,
     rule: RuleKind,
-    shown: usize,
+    shown: &Shown,
     query: &Checked,
     source: &mut S,
     sink: &mut K,
 ) -> Result<bool, Fault>
     requires rule { IsRule rule }
-    requires shown { shown ≤ MOST_SHOWN }
+    requires shown { shown.now.count ≤ MAX_RESULTS }
     requires plain { is_plain_checked (whole_checked query.now) ≡ true }
 
-    ensures done { IfOk result (λ refused. IfSome (S.left source.old) (λ bytes. IsDone (rank_by rule shown (whole_checked query.now)) bytes refused (K.taken sink.old) (K.taken sink.new))) }
-    ensures broken { IfErr result (λ fault. IfSome (S.left source.old) (λ bytes. Breaks fault (rank_by rule shown (whole_checked query.now)) bytes (K.taken sink.old) (K.taken sink.new))) }
+    ensures done { IfOk result (λ refused. IfSome (S.left source.old) (λ bytes. IsDone (rank_by rule (told_shown shown.now) (whole_checked query.now)) bytes refused (K.taken sink.old) (K.taken sink.new))) }
+    ensures broken { IfErr result (λ fault. IfSome (S.left source.old) (λ bytes. Breaks fault (rank_by rule (told_shown shown.now) (whole_checked query.now)) bytes (K.taken sink.old) (K.taken sink.new))) }
 
     ensures read { IsErrOf result Fault.Read → Rose (S.faults source.old) (S.faults source.new) }
     ensures write { IsErrOf result Fault.Write → Rose (K.faults sink.old) (K.faults sink.new) }
@@ -194,7 +195,7 @@ fn do_command<S: Source, K: Sink>(
             rule,
             shown,
             query: checked,
-        } => query(alloc, rule, shown, &checked, source, sink),
+        } => query(alloc, rule, &shown, &checked, source, sink),
     }
 }
 
@@ -256,11 +257,9 @@ pub fn run<S: Source, K: Sink>(
     ensures layers { S.layers source.new ≡ S.layers source.old }
     ensures held { S.held source.new ≡ S.held source.old }
 {
-    let Some((verb, text)) = verb_of(words) else {
-        return tell(sink, USAGE, Status::Usage);
-    };
-    match read_command(alloc, verb, text) {
-        Ok(command) => run_command(alloc, command, source, sink),
+    match asked_command(alloc, words) {
+        Ok(Some(command)) => run_command(alloc, command, source, sink),
+        Ok(None) => tell(sink, USAGE, Status::Usage),
         Err(TextFault::Refused(refusal)) => tell_refusal(alloc, sink, &refusal),
         Err(TextFault::Memory) => Status::Memory,
     }

@@ -49,6 +49,11 @@ line_text rank l =
     decimal rank ++ 32 ∷ sign l.mark ∷ 32 ∷ 45 ∷ score_text l.score ++ 32 ∷ l.docno ++ 32 ∷ decimal l.begin
     ++ 32 ∷ decimal l.end ++ 10 ∷ []
 
+-- TOPIC Q0 DOCNO RANK -SCORE RUN: the line of a document in a run, six columns as trec_eval reads them
+abbrev pub trec_text : List ℕ → ℕ → List ℕ → ℕ → List ℕ → List ℕ
+trec_text topic rank docno score run =
+    topic ++ 32 ∷ 81 ∷ 48 ∷ 32 ∷ docno ++ 32 ∷ decimal rank ++ 32 ∷ 45 ∷ score_text score ++ 32 ∷ run ++ 10 ∷ []
+
 -- the lines of hits behind the one above them, if there is one
 abbrev pub lines_behind : ℕ → Option Hit → List Hit → List Line
 lines_behind scale above [] = []

@@ -1,7 +1,7 @@
 ghost use Rattle.std.specs.Prelude.{◌≡◌, ◌*◌, ◌/◌, ◌^◌, ◌<◌, IfOk};
 ghost use Rattle.ranked_output.specs.Marks.{IsScale};
 ghost use Rattle.log_chain.specs.Score.{score};
-ghost use Rattle.ranked_output.specs.Texts.{line_of, line_text, score_text, sign};
+ghost use Rattle.ranked_output.specs.Texts.{line_of, line_text, score_text, sign, trec_text};
 
 use crate::Mark;
 use log_chain::LAST;
@@ -67,6 +67,35 @@ pub fn line(alloc: Global, rank: u32, mark: Mark, hit: &Hit, scale: u64) -> Resu
     text.extend_from_slice(hit.begin.to_string(alloc)?.as_bytes())?;
     text.push(b' ')?;
     text.extend_from_slice(hit.end.to_string(alloc)?.as_bytes())?;
+    text.push(b'\n')?;
+    Ok(Bytes::of(text))
+}
+
+/// The line of a hit in a run, as trec_eval reads it: `TOPIC Q0 DOCNO RANK -SCORE RUN`. The scale is that of the query.
+pub fn trec_line(
+    alloc: Global,
+    topic: &str,
+    rank: u32,
+    hit: &Hit,
+    scale: u64,
+    run: &str,
+) -> Result<Bytes, NoMemory>
+    requires { IsScale scale }
+    ensures { IfOk result (λ text. text ≡ trec_text topic.now rank hit.now.docno (score scale hit.now.key) run.now) }
+{
+    let score = score_text(alloc, hit.key, scale)?;
+    let digits = rank.to_string(alloc)?;
+    let (docno, rank) = (hit.docno.as_bytes(), digits.as_bytes());
+    let mut text = Vec::new(alloc);
+    text.extend_from_slice(topic.as_bytes())?;
+    text.extend_from_slice(b" Q0 ")?;
+    text.extend_from_slice(docno)?;
+    text.push(b' ')?;
+    text.extend_from_slice(rank)?;
+    text.extend_from_slice(b" -")?;
+    text.extend_from_slice(score.as_slice())?;
+    text.push(b' ')?;
+    text.extend_from_slice(run.as_bytes())?;
     text.push(b'\n')?;
     Ok(Bytes::of(text))
 }

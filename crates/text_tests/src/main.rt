@@ -1,6 +1,9 @@
-//! Tests of the TREC text that is read, and of the words and documents that are made of it. The program itself does nothing.
+//! Tests of the TREC text that is read, of the words and documents that are made of it, and of the
+//! words of the command line. The program itself does nothing.
 #![tactic(auto)]
 
+#[cfg(test)]
+mod command;
 #[cfg(test)]
 mod documents;
 #[cfg(test)]

@@ -1,0 +1,4 @@
+pub mod GivenLemmas
+pub mod NumberLemmas
+pub mod TakenLemmas
+pub mod WordLemmas

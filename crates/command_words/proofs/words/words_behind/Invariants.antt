@@ -1,0 +1,5 @@
+use Rattle.std.proofs.Common.{◌≡◌, ◌++◌, drop, map}
+use Rattle.command_words.proofs.words.words_behind.Given as goal
+
+abbrev pub invariant-loop-index : goal.invariant-loop-index
+invariant-loop-index l = map (λ word. word.now) l.rest.items ++ drop l.index l.words ≡ drop 2 l.words

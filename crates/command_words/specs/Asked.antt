@@ -1,0 +1,30 @@
+-- What the answer of `read_words` says.
+use Rattle.std.specs.Prelude.{ℕ, ◌≤◌, List, Option, String, option_map, string_bytes}
+use Rattle.smoothing.specs.Fractions.{IsMu}
+use Rattle.command_words.specs.Table.{Asks, Question, explain, query, scan}
+use Rattle.command_words.specs.declared.words.Asked.{Asked}
+use Rattle.command_words.specs.declared.words.Words.{Words}
+use Rattle.command_words.specs.declared.words.Words.TheVariants.{Explain, Query, Scan}
+use Rattle.command_words.specs.declared.words.TheConstants.{MAX_RESULTS}
+
+abbrev pub told_labels : {Z : Type 0} → Option (String Z × String Z) → Option (List ℕ × List ℕ)
+told_labels labels = option_map (λ x. (string_bytes x.0, string_bytes x.1)) labels
+
+abbrev pub told_asked : Asked → Question
+told_asked asked = record { text = string_bytes asked.text; k = asked.k; mu = asked.mu; labels = told_labels asked.trec }
+
+abbrev pub told_words : Words → Asks
+told_words (Scan text) = scan (string_bytes text)
+told_words (Query asked) = query (told_asked asked)
+told_words (Explain rank asked) = explain rank (told_asked asked)
+
+-- the numbers of a query are in their ranges
+pub record IsInRange (asked : Asked) : Type 0 where
+  pub least : 1 ≤ asked.k
+  pub most : asked.k ≤ MAX_RESULTS
+  pub mu : IsMu asked.mu
+
+abbrev pub AreInRange : Words → Type 0
+AreInRange (Scan text) = Unit {0}
+AreInRange (Query asked) = IsInRange asked
+AreInRange (Explain rank asked) = IsInRange asked

@@ -1,0 +1,13 @@
+// How the results of a query are shown.
+ghost use Rattle.std.specs.Prelude.{◌≡◌};
+ghost use Rattle.indri_app.specs.Shown.{shown_for, told_shown};
+ghost use Rattle.command_words.specs.Asked.{told_asked};
+
+/// How results are shown.
+#[derive(Debug, Drop)]
+pub struct Shown {
+    /// How many of them, at most.
+    pub count: u32,
+    /// The topic and the run, where they are written as lines of a run.
+    pub labels: Option<(String, String)>,
+}

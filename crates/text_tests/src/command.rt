@@ -1,0 +1,227 @@
+// Words of the command line, and what they ask for.
+use command_words::read_words;
+use ri_base::ArgList;
+use std::alloc::Global;
+use std::test::Fail;
+
+/// The words behind a folder with a `|` between two of them, and what they ask for.
+static ASKED: [(&str, &str); 29] = [
+    ("scan|a", "Some(Scan(\"a\"))"),
+    ("scan|", "Some(Scan(\"\"))"),
+    ("scan|-", "Some(Scan(\"-\"))"),
+    ("scan|--|--mu", "Some(Scan(\"--mu\"))"),
+    ("scan|--|a", "Some(Scan(\"a\"))"),
+    ("scan|a|--", "Some(Scan(\"a\"))"),
+    (
+        "query|a",
+        "Some(Query(Asked { text: \"a\", k: 10, mu: 2500, trec: None }))",
+    ),
+    (
+        "query|--k|3|a",
+        "Some(Query(Asked { text: \"a\", k: 3, mu: 2500, trec: None }))",
+    ),
+    (
+        "query|--k=3|a",
+        "Some(Query(Asked { text: \"a\", k: 3, mu: 2500, trec: None }))",
+    ),
+    (
+        "query|a|--k|3",
+        "Some(Query(Asked { text: \"a\", k: 3, mu: 2500, trec: None }))",
+    ),
+    (
+        "query|--k|1|a",
+        "Some(Query(Asked { text: \"a\", k: 1, mu: 2500, trec: None }))",
+    ),
+    (
+        "query|--k|1000|a",
+        "Some(Query(Asked { text: \"a\", k: 1000, mu: 2500, trec: None }))",
+    ),
+    (
+        "query|--mu|1|a",
+        "Some(Query(Asked { text: \"a\", k: 10, mu: 1, trec: None }))",
+    ),
+    (
+        "query|--mu=1000000|a",
+        "Some(Query(Asked { text: \"a\", k: 10, mu: 1000000, trec: None }))",
+    ),
+    (
+        "query|--|--k",
+        "Some(Query(Asked { text: \"--k\", k: 10, mu: 2500, trec: None }))",
+    ),
+    (
+        "query|--k|3|--|-a",
+        "Some(Query(Asked { text: \"-a\", k: 3, mu: 2500, trec: None }))",
+    ),
+    (
+        "query|-",
+        "Some(Query(Asked { text: \"-\", k: 10, mu: 2500, trec: None }))",
+    ),
+    (
+        "query|",
+        "Some(Query(Asked { text: \"\", k: 10, mu: 2500, trec: None }))",
+    ),
+    (
+        "query|--topic|t|--run|r|a",
+        "Some(Query(Asked { text: \"a\", k: 10, mu: 2500, trec: Some((\"t\", \"r\")) }))",
+    ),
+    (
+        "query|a|--run=-5|--topic=!~",
+        "Some(Query(Asked { text: \"a\", k: 10, mu: 2500, trec: Some((\"!~\", \"-5\")) }))",
+    ),
+    (
+        "query|--topic|-|--run|=|a",
+        "Some(Query(Asked { text: \"a\", k: 10, mu: 2500, trec: Some((\"-\", \"=\")) }))",
+    ),
+    (
+        "query|--topic|wwwwwwwwwwwwwwwwwwwwwwwwwwwwwwwwwwwwwwwwwwwwwwwwwwwwwwwwwwwwwwww|--run|wwwwwwwwwwwwwwwwwwwwwwwwwwwwwwwwwwwwwwwwwwwwwwwwwwwwwwwwwwwwwwww|--k|1000|a",
+        "Some(Query(Asked { text: \"a\", k: 1000, mu: 2500, trec: Some((\"wwwwwwwwwwwwwwwwwwwwwwwwwwwwwwwwwwwwwwwwwwwwwwwwwwwwwwwwwwwwwwww\", \"wwwwwwwwwwwwwwwwwwwwwwwwwwwwwwwwwwwwwwwwwwwwwwwwwwwwwwwwwwwwwwww\")) }))",
+    ),
+    (
+        "explain|1|a",
+        "Some(Explain(1, Asked { text: \"a\", k: 1, mu: 2500, trec: None }))",
+    ),
+    (
+        "explain|1000|a",
+        "Some(Explain(1000, Asked { text: \"a\", k: 1000, mu: 2500, trec: None }))",
+    ),
+    (
+        "explain|--mu|3|2|a",
+        "Some(Explain(2, Asked { text: \"a\", k: 2, mu: 3, trec: None }))",
+    ),
+    (
+        "explain|2|--mu=3|a",
+        "Some(Explain(2, Asked { text: \"a\", k: 2, mu: 3, trec: None }))",
+    ),
+    (
+        "explain|2|a|--mu|3",
+        "Some(Explain(2, Asked { text: \"a\", k: 2, mu: 3, trec: None }))",
+    ),
+    (
+        "explain|--|2|-a",
+        "Some(Explain(2, Asked { text: \"-a\", k: 2, mu: 2500, trec: None }))",
+    ),
+    (
+        "explain|2|-",
+        "Some(Explain(2, Asked { text: \"-\", k: 2, mu: 2500, trec: None }))",
+    ),
+];
+
+/// Words behind a folder that are in no row of the table of commands.
+static REFUSED: [&str; 78] = [
+    "sing|a",
+    "create",
+    "gen|3",
+    "scan",
+    "scan|a|b",
+    "scan|-a",
+    "scan|--help",
+    "scan|-h",
+    "scan|--version",
+    "scan|--mu|1|a",
+    "scan|--k=1|a",
+    "scan|--topic|t|--run|r|a",
+    "scan|--|a|--",
+    "query",
+    "query|a|b",
+    "query|-a",
+    "query|--k|3|--k|3|a",
+    "query|--k=3|--k=3|a",
+    "query|--k=3|--k|3|a",
+    "query|a|--k",
+    "query|--k=|a",
+    "query|--k||a",
+    "query|--k|--|a",
+    "query|--k|--mu=1|a",
+    "query|--k|0|a",
+    "query|--k|1001|a",
+    "query|--k|03|a",
+    "query|--k|+3|a",
+    "query|--k|-3|a",
+    "query|--k=-3|a",
+    "query|--k=+3|a",
+    "query|--k=3 |a",
+    "query|--k=4294967297|a",
+    "query|--mu|0|a",
+    "query|--mu|1000001|a",
+    "query|--mu|01|a",
+    "query|--mu|1|--mu|1|a",
+    "query|a|--mu",
+    "query|--mu=|a",
+    "query|-k|3|a",
+    "query|-k3|a",
+    "query|--K|3|a",
+    "query|--ke|3|a",
+    "query|--help",
+    "query|-h",
+    "query|--version|a",
+    "query|--|a|--k|3",
+    "query|--topic|t|a",
+    "query|--run|r|a",
+    "query|--topic=|--run=r|a",
+    "query|--topic=t|--run=|a",
+    "query|--topic||--run|r|a",
+    "query|--topic|wwwwwwwwwwwwwwwwwwwwwwwwwwwwwwwwwwwwwwwwwwwwwwwwwwwwwwwwwwwwwwwww|--run|r|a",
+    "query|--topic|t|--run|wwwwwwwwwwwwwwwwwwwwwwwwwwwwwwwwwwwwwwwwwwwwwwwwwwwwwwwwwwwwwwwww|a",
+    "query|--topic|t u|--run|r|a",
+    "query|--topic|t|--run|\u{e9}|a",
+    "query|--topic|-5|--run|r|a",
+    "query|--topic|t|--topic|t|--run|r|a",
+    "query|--topic|t|--run|r|--run=r|a",
+    "query|--topic|t|a|--run",
+    "explain",
+    "explain|1",
+    "explain|1|a|b",
+    "explain|0|a",
+    "explain|1001|a",
+    "explain|01|a",
+    "explain|+1|a",
+    "explain|-1|a",
+    "explain|--|-1|a",
+    "explain|a|1",
+    "explain||a",
+    "explain|1|-a",
+    "explain|--k|3|1|a",
+    "explain|--topic|t|--run|r|1|a",
+    "explain|--mu|1|--mu|1|1|a",
+    "explain|1|a|--mu",
+    "explain|--mu=|1|a",
+    "explain|--help",
+];
+
+/// What these words behind a folder ask for.
+fn asked(alloc: Global, line: &str) -> Result<String, Fail> {
+    let mut words = ArgList::new(alloc);
+    words.push(".")?;
+    for word in line.split('|') {
+        words.push(word)?;
+    }
+    let found = read_words(alloc, &words)?;
+    Ok(format!(in alloc; "{:?}", found)?)
+}
+
+#[test]
+fn what_words_ask_for(rt: HostRuntime) -> Result<(), Fail> {
+    for (line, wanted) in &ASKED {
+        let found = asked(rt.alloc(), line)?;
+        assert_eq!(rt; found.as_str(), *wanted);
+    }
+    Ok(())
+}
+
+#[test]
+fn words_that_are_refused(rt: HostRuntime) -> Result<(), Fail> {
+    for line in &REFUSED {
+        let found = asked(rt.alloc(), line)?;
+        assert_eq!(rt; found.as_str(), "None", "at {line}");
+    }
+    Ok(())
+}
+
+#[test]
+fn no_command(rt: HostRuntime) -> Result<(), Fail> {
+    let mut words = ArgList::new(rt.alloc());
+    assert!(rt; read_words(rt.alloc(), &words)?.is_none());
+    words.push(".")?;
+    assert!(rt; read_words(rt.alloc(), &words)?.is_none());
+    Ok(())
+}

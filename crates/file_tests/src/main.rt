@@ -1,0 +1,11 @@
+//! Tests of the files of a repository and of marks, called as their users call them. The program itself does nothing.
+#![tactic(auto)]
+
+#[cfg(test)]
+mod manifests;
+#[cfg(test)]
+mod marks;
+#[cfg(test)]
+mod segments;
+
+fn main() {}

@@ -1,0 +1,184 @@
+// A segment that was written out by hand: `d1` has the tokens `a b`, and `d2` the token `a`.
+use memory_index::MemIndex;
+use ri_base::{Doc, Docno, FileName, Sealed, SegFault, Spans, Term, Terms};
+use seg_codec::{
+    Documents, Header, read_block, read_dictionary, read_documents, read_header, seg_bytes,
+};
+use std::alloc::Global;
+use std::test::Fail;
+
+static BYTES: [u8; 155] = [
+    0x69, 0x6e, 0x64, 0x72, 0x69, 0x73, 0x65, 0x67, 1, 0, 0, 0, 2, 0, 0, 0, 3, 0, 0, 0, 0, 0, 0, 0,
+    2, 0, 0, 0, 0, 0, 0, 0, 0x40, 0, 0, 0, 0, 0, 0, 0, 0x52, 0, 0, 0, 0, 0, 0, 0, 0x7e, 0, 0, 0, 0,
+    0, 0, 0, 0x9b, 0, 0, 0, 0, 0, 0, 0, 2, 0x64, 0x31, 2, 0, 0, 0, 0, 0, 2, 0x64, 0x32, 1, 0, 0, 0,
+    0, 0, 1, 0x61, 1, 0, 0, 0, 0, 0, 0, 0, 0x7e, 0, 0, 0, 0, 0, 0, 0, 0x13, 0, 0, 0, 1, 0x62, 1, 0,
+    0, 0, 0, 0, 0, 0, 0x91, 0, 0, 0, 0, 0, 0, 0, 0x0a, 0, 0, 0, 2, 0, 1, 0, 0, 0, 0, 0, 0, 0, 1, 1,
+    0, 0, 0, 0, 0, 0, 0, 1, 0, 1, 0, 0, 0, 1, 0, 0, 0,
+];
+
+fn doc(alloc: Global, docno: &str, words: &str) -> Result<Doc, Fail> {
+    let mut tokens = Terms::new(alloc);
+    for word in words.split(' ') {
+        tokens.push(Term::new(alloc, word.as_bytes())?.ok_or("no term")?)?;
+    }
+    if tokens.len() > 100 {
+        return Err(Fail::from("too long"));
+    }
+    let docno = Docno::new(alloc, docno.as_bytes())?.ok_or("no docno")?;
+    Ok(Doc::new(alloc, docno, tokens, Spans::new(alloc))?)
+}
+
+fn put(alloc: Global, index: &mut MemIndex, docno: &str, words: &str) -> Result<(), Fail> {
+    let doc = doc(alloc, docno, words)?;
+    if index.token_count() + u64::from(doc.len()) > 67_108_864 {
+        return Err(Fail::from("too many tokens"));
+    }
+    match index.add(alloc, &doc) {
+        Ok(_) => Ok(()),
+        Err(_) => Err(Fail::from("not added")),
+    }
+}
+
+fn sealed(alloc: Global) -> Result<Sealed, Fail> {
+    let mut index = MemIndex::new(alloc, 10)?;
+    put(alloc, &mut index, "d1", "a b")?;
+    put(alloc, &mut index, "d2", "a")?;
+    match index.seal(alloc) {
+        Ok(sealed) => Ok(sealed),
+        Err(_) => Err(Fail::from("not sealed")),
+    }
+}
+
+#[test]
+fn the_bytes_of_two_documents(rt: HostRuntime) -> Result<(), Fail> {
+    let sealed = sealed(rt.alloc())?;
+    let bytes = seg_bytes(rt.alloc(), &sealed)?;
+    assert_eq!(rt; bytes.as_slice(), BYTES.as_slice());
+    Ok(())
+}
+
+/// What is read, or the place of the fault.
+fn place_of<T: Drop>(found: Result<T, SegFault>) -> Result<Result<T, u64>, Fail> {
+    match found {
+        Ok(value) => Ok(Ok(value)),
+        Err(
+            SegFault::Malformed {
+                file: _,
+                part: _,
+                place,
+            },
+        ) => Ok(Err(place)),
+        Err(_) => Err(Fail::from("another fault")),
+    }
+}
+
+fn header_of(bytes: &[u8]) -> Result<Result<Header, u64>, Fail> {
+    place_of(read_header(bytes, FileName::Segment(1), 2, 155))
+}
+
+fn documents_of(alloc: Global, bytes: &[u8]) -> Result<Result<Documents, u64>, Fail> {
+    let Ok(header) = header_of(&BYTES[..64])? else {
+        return Err(Fail::from("no header"));
+    };
+    if header.documents_at > 64 || bytes.len() > 155 {
+        return Err(Fail::from("another header"));
+    }
+    place_of(read_documents(alloc, bytes, FileName::Segment(1), &header))
+}
+
+/// The number of terms, or the place of the fault.
+fn terms_of(alloc: Global, bytes: &[u8]) -> Result<Result<usize, u64>, Fail> {
+    let Ok(header) = header_of(&BYTES[..64])? else {
+        return Err(Fail::from("no header"));
+    };
+    if header.dictionary_at > 155 || bytes.len() > 155 {
+        return Err(Fail::from("another header"));
+    }
+    let found = place_of(read_dictionary(alloc, bytes, FileName::Segment(1), &header))?;
+    Ok(found.map(|terms| terms.len()))
+}
+
+/// The number of documents in the block of `a`, or the place of the fault.
+fn entries_of(alloc: Global, bytes: &[u8]) -> Result<Result<usize, u64>, Fail> {
+    let Ok(documents) = documents_of(alloc, &BYTES[64..82])? else {
+        return Err(Fail::from("no documents"));
+    };
+    if bytes.len() > 155 {
+        return Err(Fail::from("another block"));
+    }
+    let found = place_of(read_block(alloc, bytes, FileName::Segment(1), 126, &documents, 0))?;
+    Ok(found.map(|block| block.entries.len()))
+}
+
+#[test]
+fn its_parts_are_read(rt: HostRuntime) -> Result<(), Fail> {
+    assert!(rt; header_of(&BYTES[..64])?.is_ok());
+    assert!(rt; documents_of(rt.alloc(), &BYTES[64..82])?.is_ok());
+    assert_eq!(rt; terms_of(rt.alloc(), &BYTES[82..126])?, Ok(2));
+    assert_eq!(rt; entries_of(rt.alloc(), &BYTES[126..145])?, Ok(2));
+    Ok(())
+}
+
+#[test]
+fn no_front_of_a_part_is_read(rt: HostRuntime) -> Result<(), Fail> {
+    for n in 0..64usize {
+        assert!(rt; header_of(&BYTES[..n])?.is_err());
+    }
+    for n in 64..82usize {
+        assert!(rt; documents_of(rt.alloc(), &BYTES[64..n])?.is_err());
+    }
+    for n in 82..126usize {
+        assert!(rt; terms_of(rt.alloc(), &BYTES[82..n])?.is_err());
+    }
+    for n in 126..145usize {
+        assert!(rt; entries_of(rt.alloc(), &BYTES[126..n])?.is_err());
+    }
+    Ok(())
+}
+
+/// A byte of the header, what stands there instead, and the place of the fault.
+static HEADERS: [(usize, u8, u64); 6] = [
+    (7, 0, 0),
+    (8, 2, 8),
+    (12, 3, 12),
+    (32, 65, 32),
+    (48, 0x51, 48),
+    (56, 0x9c, 56),
+];
+
+#[test]
+fn changed_headers(rt: HostRuntime) -> Result<(), Fail> {
+    for (at, byte, place) in &HEADERS {
+        let mut bytes = BYTES;
+        if *at >= 64 {
+            return Err(Fail::from("no such byte"));
+        }
+        bytes[*at] = *byte;
+        assert_eq!(rt; header_of(&bytes[..64])?.err(), Some(*place), "{at}");
+    }
+    Ok(())
+}
+
+/// A byte of the block of `a`, what stands there instead, and the place of the fault.
+static BLOCKS: [(usize, u8, u64); 6] = [
+    (126, 0, 126),
+    (126, 3, 145),
+    (127, 1, 136),
+    (128, 0, 128),
+    (132, 2, 132),
+    (136, 2, 136),
+];
+
+#[test]
+fn changed_blocks(rt: HostRuntime) -> Result<(), Fail> {
+    for (at, byte, place) in &BLOCKS {
+        let mut bytes = BYTES;
+        if *at >= 145 {
+            return Err(Fail::from("no such byte"));
+        }
+        bytes[*at] = *byte;
+        let found = entries_of(rt.alloc(), &bytes[126..145])?;
+        assert_eq!(rt; found.err(), Some(*place), "{at}");
+    }
+    Ok(())
+}

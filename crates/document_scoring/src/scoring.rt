@@ -86,9 +86,9 @@ fn scored<F: Fn(u32, u32, u64, u64) -> Fraction>(
     })
 }
 
-/// Adds the candidates of a document, with their beliefs and keys: the document as a whole, where it passes all filters and
-/// some leaf occurs in it. Nothing is counted of a document that doesn't pass. The query is one of whole documents, and
-/// its leaves are expressions without a context.
+/// Adds the candidates of a document, with their beliefs and keys: the document as a whole, where it passes all filters
+/// and some leaf occurs in it. Nothing is counted of a document that doesn't pass. The query is one of whole documents,
+/// and its leaves are expressions without a context.
 pub fn score_document<P: Postings, F: Fn(u32, u32, u64, u64) -> Fraction>(
     alloc: Global,
     filters: &[Filter],

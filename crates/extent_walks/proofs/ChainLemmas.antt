@@ -1,13 +1,13 @@
 -- chains whose arguments have the ends of their extents in order
-use Rattle.std.proofs.Common.{◌≡◌, ℕ, zero, suc, ◌+◌, ◌-◌, ◌*◌, ◌<◌, ◌≤◌, ◌⊎◌, ⊎_elim, max, Bool, true, false, nat_le, Option, Some, None, List, [], ◌∷◌, length, drop, get_or, slice_set, add-one, refl, sym, ap, ◌∙◌, subst, arith}
+use Rattle.std.proofs.Common.{◌≡◌, ℕ, zero, suc, ◌+◌, ◌-◌, ◌<◌, ◌≤◌, ⊎_elim, Bool, true, false, nat_le, Some, None, List, [], ◌∷◌, length, drop, get_or, slice_set, add-one, refl, sym, ap, ◌∙◌, subst, arith}
 use Rattle.std.specs.Prelude.{⊤}
 use Rattle.std.specs.List.{All}
 use Rattle.ri_base.specs.Pair.{Pair}
 use Rattle.std.proofs.lemmas.Bool.Decides.{nat_tests}
 use Rattle.std.proofs.lemmas.List.Elements.{All-head, All-tail}
-use Rattle.std.proofs.lemmas.List.{drop_all, drop-set-lt, length-set}
+use Rattle.std.proofs.lemmas.List.{drop-set-lt, length-set}
 use Rattle.extent_lists.specs.Operators.{Follows, IsChain}
-use Rattle.extent_lists.specs.Plans.{Plan, Plans, listed, none, more, set, each_set}
+use Rattle.extent_lists.specs.Plans.{Plan, Plans, none, more, set, each_set}
 use Rattle.extent_walks.specs.Chains.{AreChained, IsAsked, IsChainFrom, IsReached, plan_at, with_first}
 use Rattle.extent_walks.specs.Next.{IsFrom, IsNext}
 use Rattle.extent_walks.specs.Shapes.{is_monotone, plans_shape}

@@ -1,4 +1,4 @@
-use Rattle.std.proofs.Common.{rules, ◌≡◌, ◌<◌, ◌∙◌, true, length, sym, ap, arith}
+use Rattle.std.proofs.Common.{rules, ◌≡◌, ◌<◌, ◌∙◌, true, length, arith}
 use Rattle.extent_walks.specs.Shapes.{is_monotone, plans_shape}
 use Rattle.extent_walks.specs.Walks.{plans}
 use Rattle.extent_walks.proofs.ChainLemmas.{IsReached-new, chained_of, plans_count-is}

@@ -1,6 +1,5 @@
-use Rattle.std.proofs.Common.{◌≡◌, ◌∙◌, [], ◌∷◌, ◌++◌}
-use Rattle.extent_walks.specs.declared.walk.Ahead.{Ahead}
-use Rattle.extent_walks.proofs.BuildLemmas.{IsChainSoFar-all, IsChainSoFar-last, IsChainSoFar-more}
+use Rattle.std.proofs.Common.{◌≡◌, [], ◌∷◌, ◌++◌}
+use Rattle.extent_walks.proofs.BuildLemmas.{IsChainSoFar-last, IsChainSoFar-more}
 use Rattle.extent_walks.proofs.WalkLaws.{AreKept-pop, IsKept-Joined, IsKept-Shortest, plan-Joined, plan-Shortest}
 use Rattle.extent_walks.proofs.walk.joined_of.Goals as goal
 

@@ -1,7 +1,5 @@
-use Rattle.std.proofs.Common.{sym, ap, ◌∙◌}
-use Rattle.extent_walks.specs.Shapes.{plan_shape}
-use Rattle.extent_walks.specs.Walks.{plan, plans}
-use Rattle.extent_walks.specs.declared.walk.Walk.{Walk}
+use Rattle.std.proofs.Common.{sym}
+use Rattle.extent_walks.specs.Walks.{plans}
 use Rattle.extent_walks.proofs.ShapeLemmas.{shape-chain}
 use Rattle.extent_walks.proofs.WalkLaws.{IsKept-Chain, plan-Chain}
 use Rattle.extent_walks.proofs.walk.Walk.shape.Goals as goal

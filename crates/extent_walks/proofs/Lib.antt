@@ -1,4 +1,5 @@
 pub mod BuildLemmas
+pub mod ChainLemmas
 pub mod LeftLemmas
 pub mod NextLemmas
 pub mod PlaceLemmas

@@ -1,5 +1,5 @@
 -- the least extent of a set from a place on
-use Rattle.std.proofs.Common.{◌≡◌, ℕ, ◌+◌, ◌-◌, ◌*◌, ◌<◌, ◌≤◌, ◌⊎◌, inl, inr, ⊎_elim, Bool, true, false, cond, max, Option, Some, None, List, [], ◌∷◌, nat_lt, refl, sym, ◌∙◌, ap, subst, arith}
+use Rattle.std.proofs.Common.{◌≡◌, ◌↔◌, ℕ, ◌+◌, ◌-◌, ◌*◌, ◌<◌, ◌≤◌, ◌⊎◌, inl, inr, ⊎_elim, Bool, true, false, cond, max, Option, Some, None, List, [], ◌∷◌, nat_lt, refl, sym, ◌∙◌, ap, subst, arith}
 use Rattle.std.proofs.lemmas.Bool.Decides.{nat_tests}
 use Rattle.ri_base.specs.Pair.{Pair}
 use Rattle.extent_lists.specs.Rows.{least_with}
@@ -60,6 +60,13 @@ IsNext-next_begin R begin end x found one r is ends h = record {
     passed b e s same behind =
         let here : R x.begin e = subst (λ (v : ℕ). R v e) (sym (is ∙ same)) s in
         absurd (omega (arith, one x.begin x.end e r here, ends, behind))
+
+-- of two sets that are the same
+pub IsNext-same : (R S : ℕ → ℕ → Type 0) → ((b e : ℕ) → R b e ↔ S b e) → (begin end : ℕ) (found : Option Pair) → IsNext S begin end found → IsNext R begin end found
+IsNext-same R S same begin end found h = record {
+  only = λ x is. let w = h.only x is in ((same x.begin x.end).1 w.0, w.1);
+  least = λ b e r f. h.least b e ((same b e).0 r) f;
+}
 
 -- ---- any of two sets
 

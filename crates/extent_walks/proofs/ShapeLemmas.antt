@@ -1,5 +1,5 @@
 -- what is known of the extents of a walk
-use Rattle.std.proofs.Common.{◌≡◌, ℕ, ◌+◌, ◌-◌, ◌<◌, ◌≤◌, ⊎_elim, Bool, true, false, nat_le, Some, None, Option, List, [], ◌∷◌, length, drop, get_or, refl, sym, ap, arith}
+use Rattle.std.proofs.Common.{◌≡◌, ℕ, ◌+◌, ◌-◌, ◌<◌, ◌≤◌, ⊎_elim, Bool, true, false, nat_le, Some, None, Option, List, [], ◌∷◌, length, drop, get_or, refl, sym, ap, ◌∙◌, arith}
 use Rattle.std.proofs.lemmas.Bool.{true≢false}
 use Rattle.std.proofs.lemmas.Bool.Decides.{nat_tests}
 use Rattle.std.specs.Prelude.{⊤}
@@ -7,6 +7,8 @@ use Rattle.ri_base.specs.Pair.{Pair}
 use Rattle.extent_lists.specs.Operators.{HasEachInside, IsInSome, IsLeastEnd, IsWindow, Joins}
 use Rattle.extent_lists.specs.Plans.{Plan, Plans, listed, union_of, within, shortest, joined, window, whole, none, more, set, each_set}
 use Rattle.extent_lists.specs.Rows.{Has}
+use Rattle.extent_walks.specs.Chains.{AreChained}
+use Rattle.extent_walks.specs.Walks.{chain_plan}
 use Rattle.extent_walks.specs.Shapes.{AreMonotone, AreOneToken, HasShape, HaveOneEnd, first_of, has_one_end, is_monotone, list_shape, of_union, of_windows, plan_shape, plans_shape, shape_before, weaker}
 use Rattle.extent_walks.specs.declared.shape.Shape.{Shape}
 use Rattle.extent_walks.specs.declared.shape.Shape.TheVariants.{OneToken, Monotone, OneEnd, Any}
@@ -175,7 +177,7 @@ monotone_joined n R S r s b e c d p q lower = by (nat_le p.ends.1 q.ends.1) refl
         let before : q.ends.1 < p.ends.1 = grind (arith, nat_tests) in
         p.least d (p.ends.0, q.ends.1, p.ends.2, (omega (arith, ends, q.ends.3.0), omega (arith, before, p.ends.3.1)), q.ends.4)
 
-abbrev EachMonotone : List (ℕ → ℕ → Type 0) → Type 0
+abbrev pub EachMonotone : List (ℕ → ℕ → Type 0) → Type 0
 EachMonotone [] = ⊤
 EachMonotone (R ∷ rs) = AreMonotone R × EachMonotone rs
 
@@ -261,6 +263,33 @@ one_end_plan (shortest p) h b d e j k = least_one_end (set p) b d e j k
 one_end_plan (joined n p q) h b d e j k = least_one_end (Joins n (set p) (set q)) b d e j k
 one_end_plan (window n g) h b d e j k = least_one_end (IsWindow n (each_set g)) b d e j k
 one_end_plan (whole n g) h b d e j k = omega (arith, j.1, k.1)
+
+pub shape-chain : (n : ℕ) (g : Plans) → AreChained g → plan_shape (chain_plan n g) ≡ Monotone
+unfolding plan_shape plans_shape
+shape-chain n none h = absurd h
+shape-chain n (more p g) h = each p g h
+  where
+    of : (s : Shape) → is_monotone s ≡ true → of_windows s ≡ Monotone
+    of OneToken h = refl
+    of Monotone h = refl
+    of OneEnd h = cc
+    of Any h = cc
+
+    joined_to : (s : Shape) → is_monotone s ≡ true → of_windows (weaker s Monotone) ≡ Monotone
+    joined_to OneToken h = refl
+    joined_to Monotone h = refl
+    joined_to OneEnd h = cc
+    joined_to Any h = cc
+
+    each : (p : Plan) (g : Plans) → is_monotone (plans_shape (more p g)) ≡ true → plan_shape (chain_plan n (more p g)) ≡ Monotone
+    each p none h = of (plan_shape p) (both_monotone (plan_shape p) OneToken h).0
+    each p (more q g) h =
+        let s = both_monotone (plan_shape p) (plans_shape (more q g)) h in
+        ap (λ (t : Shape). of_windows (weaker (plan_shape p) t)) (each q g s.1) ∙ joined_to (plan_shape p) s.0
+
+pub chained_monotone : (g : Plans) → AreChained g → EachMonotone (each_set g)
+chained_monotone none h = absurd h
+chained_monotone (more p g) h = monotone_plans (more p g) h
 
 pub HasShape-plan : (p : Plan) → HasShape (plan_shape p) (set p)
 HasShape-plan p = by (plan_shape p) refl

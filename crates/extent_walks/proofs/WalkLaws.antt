@@ -8,9 +8,11 @@ use Rattle.extent_lists.specs.Operators.{HasEach, HasEachInside, HasInside, IsIn
 use Rattle.extent_lists.specs.Plans.{Plan, Plans, listed, union_of, within, shortest, joined, window, whole, none, more, set, each_set}
 use Rattle.extent_lists.specs.Rows.{Has}
 use Rattle.extent_walks.specs.Shapes.{list_shape, of_union, of_windows, plan_shape, plans_shape, weaker}
-use Rattle.extent_walks.specs.Walks.{AreKept, IsAheadKept, IsKept, IsRight, IsRowKept, plan, plans, row_plans}
+use Rattle.extent_walks.specs.Chains.{AreChained, IsReached}
+use Rattle.extent_walks.specs.Walks.{chain_plan, AreKept, IsAheadKept, IsKept, IsRight, IsRowKept, plan, plans, row_plans}
 use Rattle.extent_walks.specs.declared.shape.Shape.TheVariants.{Monotone, OneToken}
-use Rattle.extent_walks.specs.declared.walk.Walk.{Walk, Listed, Union, Union', Within, Shortest, Joined, Window, Window', Whole, Whole', Row_of-Ahead, end_of-Ahead, more_of-Ahead, items-the_row-Ahead, items_hidden-the_row-Ahead-0}
+use Rattle.extent_walks.specs.declared.reach.Reach.{Reach}
+use Rattle.extent_walks.specs.declared.walk.Walk.{Walk, Listed, Union, Union', Within, Shortest, Joined, Chain, Chain', Window, Window', Whole, Whole', Row_of-Ahead, end_of-Ahead, more_of-Ahead, items-the_row-Ahead, items_hidden-the_row-Ahead-0}
 use Rattle.extent_walks.specs.declared.walk.Ahead.{Ahead}
 
 -- ---- each extent has a token
@@ -62,6 +64,7 @@ unfoldable mutual
 
 abbrev row_of : Walk → (m : Count) × Row_of-Ahead m
 row_of (Union' _ row) = (_, row)
+row_of (Chain' _ _ row _) = (_, row)
 row_of (Window' _ _ row) = (_, row)
 row_of (Whole' _ _ row) = (_, row)
 row_of _ = (_, end_of-Ahead)
@@ -98,6 +101,10 @@ pub plan-Joined : (n : ℕ) (b d : Box Ahead Global) → plan (Joined n b d) ≡
 unfolding plan row_plans
 plan-Joined n b d = refl
 
+pub plan-Chain : (n : ℕ) (v : Vec Ahead Global) (reach : Reach) → plan (Chain n v reach) ≡ chain_plan n (plans v.items)
+unfolding plan row_plans
+plan-Chain n v reach = ap (λ (g : Plans). chain_plan n g) (plans_of_row _ (row_of (Chain n v reach)).1 ∙ ap plans (items_hidden-the_row-Ahead-0 v))
+
 pub plan-Window : (n : ℕ) (v : Vec Ahead Global) → plan (Window n v) ≡ window n (plans v.items)
 unfolding plan row_plans
 plan-Window n v = ap (λ (g : Plans). window n g) (plans_of_row _ (row_of (Window n v)).1 ∙ ap plans (items_hidden-the_row-Ahead-0 v))
@@ -121,6 +128,16 @@ depth-shortest p = refl
 pub depth-joined : (n : ℕ) (p q : Plan) → depth (joined n p q) ≡ max (depth p) (depth q) + 1
 unfolding depth depths
 depth-joined n p q = refl
+
+-- a chain is deeper than its arguments
+pub depth-chain : (n : ℕ) (g : Plans) → AreChained g → depths g < depth (chain_plan n g)
+unfolding depth depths
+depth-chain n none h = absurd h
+depth-chain n (more p g) h = deeper p g
+  where
+    deeper : (p : Plan) (g : Plans) → depths (more p g) < depth (chain_plan n (more p g))
+    deeper p none = omega arith
+    deeper p (more q g) = let k = deeper q g in omega (arith, k)
 
 pub depth-window : (n : ℕ) (g : Plans) → depth (window n g) ≡ depths g + 1
 unfolding depth depths
@@ -232,6 +249,15 @@ pub IsKept-Joined : (n : ℕ) (b d : Box Ahead Global) → IsKept (Joined n b d)
 unfolding IsKept IsRowKept
 IsKept-Joined n b d = refl
 
+pub IsKept-Chain : (n : ℕ) (v : Vec Ahead Global) (reach : Reach) → IsKept (Chain n v reach) ≡ (AreKept v.items × AreChained (plans v.items) × IsReached n (each_set (plans v.items)) reach)
+unfolding IsKept IsRowKept
+IsKept-Chain n v reach =
+    let row = (row_of (Chain n v reach)).1 in
+    let items = items_hidden-the_row-Ahead-0 v in
+    let kept : IsRowKept row ≡ AreKept v.items = kept_of_row _ row ∙ ap AreKept items in
+    let is : row_plans row ≡ plans v.items = plans_of_row _ row ∙ ap plans items in
+    ap (λ (k : Type 0). k × AreChained (row_plans row) × IsReached n (each_set (row_plans row)) reach) kept ∙ ap (λ (g : Plans). AreKept v.items × AreChained g × IsReached n (each_set g) reach) is
+
 pub IsKept-Window : (n : ℕ) (v : Vec Ahead Global) → IsKept (Window n v) ≡ AreKept v.items
 unfolding IsKept IsRowKept
 IsKept-Window n v = kept_of_row _ (row_of (Window n v)).1 ∙ ap AreKept (items_hidden-the_row-Ahead-0 v)
@@ -321,9 +347,9 @@ pub each_set-more : (p : Plan) (g : Plans) → each_set (more p g) ≡ set p ∷
 unfolding set each_set
 each_set-more p g = refl
 
-pub ruleset plan_laws = (plan-Listed, plan-Union, plan-Within, plan-Shortest, plan-Joined, plan-Window, plan-Whole)
+pub ruleset plan_laws = (plan-Listed, plan-Union, plan-Within, plan-Shortest, plan-Joined, plan-Chain, plan-Window, plan-Whole)
 
-pub ruleset kept_laws = (IsKept-Listed, IsKept-Union, IsKept-Within, IsKept-Shortest, IsKept-Joined, IsKept-Window, IsKept-Whole)
+pub ruleset kept_laws = (IsKept-Listed, IsKept-Union, IsKept-Within, IsKept-Shortest, IsKept-Joined, IsKept-Chain, IsKept-Window, IsKept-Whole)
 
 pub ruleset shape_laws = (shape-listed, shape-union_of, shape-within, shape-shortest, shape-joined, shape-window, shape-whole, shapes-none, shapes-more)
 

@@ -1,3 +1,4 @@
+pub mod Chains
 pub mod Left
 pub mod Next
 pub mod Shapes

@@ -5,6 +5,7 @@ mod iterator;
 mod listed;
 mod outermost;
 mod place;
+mod reach;
 mod shape;
 mod walk;
 

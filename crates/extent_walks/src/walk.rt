@@ -1,10 +1,11 @@
 // What gives the extents of an expression one after the other.
-ghost use Rattle.std.specs.Prelude.{◌≡◌, ◌≢◌, ◌<◌, ◌≤◌, ◌+◌, ◌↔◌, ℕ, ◌⊎◌, Option, Some, None, IfOk, IfSome, IsTrue, true};
+ghost use Rattle.std.specs.Prelude.{◌≡◌, ◌≢◌, ◌<◌, ◌≤◌, ◌+◌, ◌↔◌, ℕ, ◌⊎◌, Option, Some, None, IfOk, IfSome, IsTrue, length, true};
 ghost use Rattle.ri_base.specs.Pair.{Pair};
+ghost use Rattle.extent_walks.specs.Chains.{AreChained, IsReached, plan_at};
 ghost use Rattle.extent_walks.specs.Next.{EndsFrom, IsFrom, IsLeast, IsLeastBelow, IsNext};
 ghost use Rattle.extent_lists.specs.Plans.{LiesInSome};
 ghost use Rattle.extent_walks.specs.Next.{earlier, least_either};
-ghost use Rattle.extent_lists.specs.Operators.{HasEach, HasEachInside, IsInSome, IsLeastEnd, IsWindow, Joins};
+ghost use Rattle.extent_lists.specs.Operators.{HasEach, HasEachInside, IsChain, IsInSome, IsLeastEnd, IsWindow, Joins};
 ghost use Rattle.extent_lists.specs.Plans.{each_set, set};
 ghost use Rattle.extent_walks.specs.Shapes.{AreMonotone, HasShape, has_one_end, plan_shape, plans_shape};
 ghost use Rattle.extent_walks.specs.Walks.{AreKept, IsAheadKept, IsKept, chain_plan, plan, plans};
@@ -12,6 +13,7 @@ ghost use Rattle.extent_walks.specs.Walks.{AreKept, IsAheadKept, IsKept, chain_p
 use crate::listed::Listed;
 use crate::outermost::Outermost;
 use crate::place::Place;
+use crate::reach::Reach;
 use crate::shape::Shape;
 use extent_lists::lesser;
 use ri_base::{Extent, NoMemory};
@@ -32,6 +34,8 @@ pub enum Walk {
     Shortest(Box<Ahead>),
     /// For each begin of a first extent the least end of a later one that follows it within so many tokens.
     Joined(u32, Box<Ahead>, Box<Ahead>),
+    /// The same of a chain of arguments of which none has an extent that begins no earlier than another and ends earlier.
+    Chain(u32, Vec<Ahead>, Reach),
     /// For each begin the least end of a window of at most so many tokens that has each argument.
     Window(u32, Vec<Ahead>),
     /// A document of so many tokens, where each argument is found.
@@ -124,6 +128,7 @@ impl Walk {
             Walk::Within(inner, _) => inner.shape,
             Walk::Shortest(inner) => inner.shape.of_windows(),
             Walk::Joined(_, first, later) => first.shape.weaker(later.shape).of_windows(),
+            Walk::Chain(_, _, _) => Shape::Monotone,
             Walk::Window(_, all) => weakest(all).of_windows(),
             Walk::Whole(_, _) => Shape::Monotone,
         }
@@ -143,6 +148,7 @@ impl Walk {
             Walk::Within(inner, fields) => next_within(inner, fields, from),
             Walk::Shortest(inner) => next_shortest(inner, from),
             Walk::Joined(n, first, later) => next_joined(*n, first, later, from),
+            Walk::Chain(n, all, reach) => next_chain(*n, all, reach, from),
             Walk::Window(n, all) => next_window(*n, all, from),
             Walk::Whole(length, all) => next_whole(*length, all, from),
         }
@@ -449,6 +455,82 @@ fn joined_end(n: u32, first: &mut Box<Ahead>, later: &mut Box<Ahead>, begin: u32
 }
 
 #[cycle(next)]
+fn next_chain(n: u32, all: &mut Vec<Ahead>, reach: &mut Reach, from: Place) -> Option<Extent>
+    requires kept { AreKept all.old.items }
+    requires chained { AreChained (plans all.old.items) }
+    requires reached { IsReached n (each_set (plans all.old.items)) reach.old }
+    ensures next { IsNext (IsLeastEnd (IsChain n (each_set (plans all.old.items)))) from.begin from.end result }
+    ensures same { plans all.new.items ≡ plans all.old.items }
+    ensures kept { AreKept all.new.items }
+    ensures reached { IsReached n (each_set (plans all.old.items)) reach.new }
+{
+    let mut low = from.begin;
+    while let Some(x) = first_chain(n, all, reach, low) {
+        if let Some(found) = extent_from(from, x.begin(), Some(x.end())) {
+            return Some(found);
+        }
+        low = x.begin() + 1;
+    }
+    None
+}
+
+/// The first chain from `low` on. From the last argument to the first, the first extent of each from its number on has to
+/// be followed by that of the next argument. Where it isn't, one of both numbers rises. So each extent is passed once.
+#[cycle(next)]
+fn first_chain(n: u32, all: &mut Vec<Ahead>, reach: &mut Reach, low: u32) -> Option<Extent>
+    requires kept { AreKept all.old.items }
+    requires chained { AreChained (plans all.old.items) }
+    requires reached { IsReached n (each_set (plans all.old.items)) reach.old }
+    ensures next { IsNext (IsChain n (each_set (plans all.old.items))) low 0 result }
+    ensures same { plans all.new.items ≡ plans all.old.items }
+    ensures kept { AreKept all.new.items }
+    ensures reached { IsReached n (each_set (plans all.old.items)) reach.new }
+{
+    reach.ask(low);
+    let mut end = 0;
+    let mut i = all.len();
+    while i > 0 {
+        i -= 1;
+        let Some(x) = next_of_one(all, i, reach.lows[i]) else {
+            return None;
+        };
+        if i + 1 == all.len() {
+            end = x.end();
+            continue;
+        }
+        let Some(y) = next_of_one(all, i + 1, reach.lows[i + 1]) else {
+            return None;
+        };
+        if y.begin() < x.end() {
+            reach.lows[i + 1] = x.end();
+            i += 2;
+            continue;
+        }
+        if u64::from(y.begin()) >= u64::from(x.end()) + u64::from(n) {
+            reach.lows[i] = x.begin() + 1;
+            i += 1;
+            continue;
+        }
+    }
+    let Some(x) = next_of_one(all, 0, reach.lows[0]) else {
+        return None;
+    };
+    Some(Extent::new(x.begin(), end))
+}
+
+/// The first extent of the i-th argument from `low` on.
+#[cycle(next)]
+fn next_of_one(all: &mut Vec<Ahead>, i: usize, low: u32) -> Option<Extent>
+    requires kept { AreKept all.old.items }
+    requires inside { i < length all.old.items }
+    ensures next { IsNext (set (plan_at (plans all.old.items) i)) low 0 result }
+    ensures same { plans all.new.items ≡ plans all.old.items }
+    ensures kept { AreKept all.new.items }
+{
+    all[i].next(Place::at(low))
+}
+
+#[cycle(next)]
 fn next_window(n: u32, all: &mut Vec<Ahead>, from: Place) -> Option<Extent>
     requires { AreKept all.old.items }
     ensures next { IsNext (IsLeastEnd (IsWindow n (each_set (plans all.old.items)))) from.begin from.end result }
@@ -508,6 +590,20 @@ fn next_whole(length: u32, all: &mut Vec<Ahead>, from: Place) -> Option<Extent>
 /// The chain of these arguments.
 #[tactic(auto, using(crate::proofs::WalkLaws::walk_laws))]
 pub fn chain_of(alloc: Global, n: u32, all: Vec<Ahead>) -> Result<Walk, NoMemory>
+    requires { AreKept all.items }
+    ensures chain { IfOk result (λ w. plan w ≡ chain_plan n (plans all.items)) }
+    ensures kept { IfOk result IsKept }
+{
+    if !all.is_empty() && weakest(&all).is_monotone() {
+        let reach = Reach::new(alloc, all.len())?;
+        return Ok(Walk::Chain(n, all, reach));
+    }
+    joined_of(alloc, n, all)
+}
+
+/// The same, from the last argument to the first, each joined to those behind it.
+#[tactic(auto, using(crate::proofs::WalkLaws::walk_laws))]
+fn joined_of(alloc: Global, n: u32, all: Vec<Ahead>) -> Result<Walk, NoMemory>
     requires { AreKept all.items }
     ensures chain { IfOk result (λ w. plan w ≡ chain_plan n (plans all.items)) }
     ensures kept { IfOk result IsKept }

@@ -1,14 +1,18 @@
-use Rattle.std.proofs.Common.{◌≡◌, ◌≢◌, ◌≤◌, ◌-◌, ⊎_elim, Some, None, true, false, refl, sym, ap, ◌∙◌, arith}
+use Rattle.std.proofs.Common.{◌≡◌, ◌≢◌, ◌+◌, ◌-◌, ◌<◌, ◌≤◌, ⊎_elim, Some, None, true, false, get_or, refl, sym, ap, ◌∙◌, arith}
 use Rattle.std.proofs.lemmas.List.{length-set}
 use Rattle.extent_walks.specs.Next.{IsNext}
-use Rattle.extent_lists.specs.Operators.{IsInSome, IsWindow, Joins}
+use Rattle.extent_lists.specs.Operators.{IsChain, IsInSome, IsWindow, Joins}
 use Rattle.extent_lists.specs.Plans.{each_set, set}
 use Rattle.extent_walks.specs.Shapes.{is_monotone, plan_shape}
-use Rattle.extent_walks.specs.Walks.{plan, plans}
+use Rattle.extent_walks.specs.Walks.{chain_plan, plan, plans}
 use Rattle.extent_walks.specs.declared.walk.Ahead.{Ahead}
-use Rattle.extent_walks.proofs.NextLemmas.{AreLow-over, HasEach-more, IsFrom-begin, IsFrom-here, IsJoinedSoFar-more, IsLeast-at_top, IsLeast-first, IsLeast-first_end, IsLeast-joined_beyond, IsLeast-short, IsLeast-window, IsLeastBelow-both, IsLeastBelow-missing, IsLeastBelow-none, IsLeastSoFar-more, IsNext-at_begin, IsNext-either, IsNext-later, IsNext-least, IsNext-no_extent, IsNext-no_least, IsNext-none, IsNext-within, IsPassed-over, place_falls}
-use Rattle.extent_walks.proofs.ShapeLemmas.{monotone_plan}
-use Rattle.extent_walks.proofs.WalkLaws.{argument_depth, argument_has, argument_inside, argument_kept, depths, each_set-more, each_set-none, joined_above, kept-set, plan-Listed, plan-Within, plans-past, plans_before, plans_stay, set-listed, set-some, set-within}
+use Rattle.ri_base.specs.Pair.{Pair}
+use Rattle.extent_walks.specs.Chains.{plan_at}
+use Rattle.extent_walks.proofs.BuildLemmas.{chain_plan-is}
+use Rattle.extent_walks.proofs.ChainLemmas.{IsNext-chain, IsNext-no_chain, IsReached-searched, IsSearched, IsSearched-asked, IsSearched-early, IsSearched-far, IsSearched-follows, IsSearched-last, chained_some, number_is, plan_at-is, plans_count, plans_count-is, room-early, room-far, searched_before, searched_some}
+use Rattle.extent_walks.proofs.NextLemmas.{AreLow-over, HasEach-more, IsFrom-begin, IsFrom-here, IsJoinedSoFar-more, IsLeast-at_top, IsLeast-first, IsLeast-first_end, IsLeast-joined_beyond, IsLeast-short, IsLeast-window, IsLeastBelow-both, IsLeastBelow-missing, IsLeastBelow-none, IsLeastSoFar-more, IsNext-at_begin, IsNext-either, IsNext-later, IsNext-least, IsNext-no_extent, IsNext-no_least, IsNext-none, IsNext-same, IsNext-within, IsPassed-over, place_falls}
+use Rattle.extent_walks.proofs.ShapeLemmas.{chained_monotone, monotone_plan}
+use Rattle.extent_walks.proofs.WalkLaws.{IsKept-Chain, argument_depth, argument_has, argument_inside, argument_kept, depth, depth-at, depth-chain, depths, each_set-more, each_set-none, joined_above, kept-at, kept-set, plan-Chain, plan-Listed, plan-Within, plans-past, plans-set, plans_before, plans_stay, set-listed, set-some, set-within}
 use Rattle.extent_walks.proofs.walk.+next.Goals as goal
 use Rattle.extent_walks.proofs.walk.+next.Goals.{Ahead::next-then-not-answers, Ahead::next-else-not-answers}
 
@@ -310,6 +314,349 @@ next_joined-returns-clause-next t c =
     let S = set (plan c.args.later.now.value.walk) in
     let next : IsNext R c.loop-x.low 0 None = rw (c.deref_mut.ensures.value, c.loop-x.invariant.same_first, c.at.ensures) at c.in_default.ensures.next in
     IsNext-no_least (Joins c.args.n R S) R (λ b e h. (h.0, h.2)) c.args.from.begin c.args.from.end c.loop-x.low c.loop-x.invariant.low next
+
+-- ---- chains
+
+pub next_of_one-next-requires : goal.next_of_one-next-requires
+next_of_one-next-requires t c =
+    let xs = c.args.all.now.items in
+    let old = c.index_mut.result.now in
+    let deep = rw (← c.index_mut.ensures.value) at (depth-at xs c.args.i old c.requires.inside) in
+    let kept = rw (← c.index_mut.ensures.value) at (kept-at xs c.args.i old c.requires.inside c.requires.kept) in
+    (omega (arith, c.decreases, deep), kept)
+
+pub next_of_one-returns-clause-next : goal.next_of_one-returns-clause-next
+next_of_one-returns-clause-next t c =
+    let xs = c.args.all.now.items in
+    let old = c.index_mut.result.now in
+    let is : plan old.walk ≡ plan_at (plans xs) c.args.i = ap (λ (a : Ahead). plan a.walk) c.index_mut.ensures.value ∙ plan_at-is xs c.args.i old c.requires.inside in
+    rw (is, c.at.ensures) at c.next.ensures.next
+
+pub next_of_one-returns-clause-same : goal.next_of_one-returns-clause-same
+next_of_one-returns-clause-same t c =
+    plans-set c.args.all.now.items c.args.i c.next.new.self c.index_mut.result.now c.requires.inside (c.next.ensures.same ∙ ap (λ (a : Ahead). plan a.walk) c.index_mut.ensures.value)
+
+pub next_of_one-returns-clause-kept : goal.next_of_one-returns-clause-kept
+next_of_one-returns-clause-kept t c =
+    kept-set c.args.all.now.items c.args.i c.next.new.self c.requires.kept c.next.ensures.kept
+
+pub first_chain-loop-i-init : goal.first_chain-loop-i-init
+first_chain-loop-i-init t c =
+    record {
+      inside = omega (arith, c.len-i.ensures, c.args.all.now.ok.0);
+      same = refl;
+      kept = c.requires.kept;
+      from = c.ask.ensures.from;
+      searched = IsSearched-asked c.args.n (plans c.args.all.now.items) c.args.low c.len-i.result c.args.reach.now c.ask.new.self c.requires.reached c.ask.ensures (omega (arith, c.len-i.ensures, c.args.all.now.ok.0, plans_count-is c.args.all.now.items));
+    }
+
+pub first_chain-index-requires : goal.first_chain-index-requires
+first_chain-index-requires t c =
+    let g = plans c.args.all.now.items in
+    let ls = c.loop-i.reach.lows.items in
+    let k = c.loop-i.i - 1 in
+    let inv = c.loop-i.invariant in
+    let inside : k < plans_count g = omega (arith, inv.inside, c.loop-i-test.true, plans_count-is c.loop-i.all.items, ap plans_count inv.same) in
+    omega (arith, inside, inv.searched.count, c.loop-i.reach.lows.ok.0)
+
+pub first_chain-next_of_one-requires : goal.first_chain-next_of_one-requires
+first_chain-next_of_one-requires t c =
+    let g = plans c.args.all.now.items in
+    let ls = c.loop-i.reach.lows.items in
+    let k = c.loop-i.i - 1 in
+    let inv = c.loop-i.invariant in
+    let inside : k < plans_count g = omega (arith, inv.inside, c.loop-i-test.true, plans_count-is c.loop-i.all.items, ap plans_count inv.same) in
+    (omega (arith, c.decreases, ap depths inv.same), (inv.kept, omega (arith, inv.inside, c.loop-i-test.true)))
+
+pub first_chain-returns-in_default-clause-next : goal.first_chain-returns-in_default-clause-next
+first_chain-returns-in_default-clause-next t c =
+    let g = plans c.args.all.now.items in
+    let ls = c.loop-i.reach.lows.items in
+    let k = c.loop-i.i - 1 in
+    let inv = c.loop-i.invariant in
+    let inside : k < plans_count g = omega (arith, inv.inside, c.loop-i-test.true, plans_count-is c.loop-i.all.items, ap plans_count inv.same) in
+    let low : c.index.result.now ≡ get_or ls k 0 = number_is ls k c.index.result.now (omega (arith, inside, inv.searched.count)) c.index.ensures in
+    IsNext-no_chain c.args.n g c.args.low c.loop-i.i k c.loop-i.end ls inv.searched inside (rw (inv.same, low) at c.in_default.ensures.next)
+
+pub first_chain-returns-in_default-clause-reached : goal.first_chain-returns-in_default-clause-reached
+first_chain-returns-in_default-clause-reached t c =
+    IsReached-searched c.args.n (plans c.args.all.now.items) c.args.low c.loop-i.i c.loop-i.end c.loop-i.reach c.loop-i.invariant.from c.loop-i.invariant.searched
+
+pub first_chain-loop-i-preserved-then-i-len : goal.first_chain-loop-i-preserved-then-i-len
+first_chain-loop-i-preserved-then-i-len t c =
+    let g = plans c.args.all.now.items in
+    let ls = c.loop-i.reach.lows.items in
+    let k = c.loop-i.i - 1 in
+    let inv = c.loop-i.invariant in
+    let inside : k < plans_count g = omega (arith, inv.inside, c.loop-i-test.true, plans_count-is c.loop-i.all.items, ap plans_count inv.same) in
+    let low : c.index.result.now ≡ get_or ls k 0 = number_is ls k c.index.result.now (omega (arith, inside, inv.searched.count)) c.index.ensures in
+    let h = searched_before c.args.n g c.args.low c.loop-i.i c.loop-i.end ls c.loop-i-test.true inv.searched in
+    let mono = chained_monotone g c.requires.chained in
+    let f : IsNext (set (plan_at g k)) (get_or ls k 0) 0 (Some c.in-Some.x) = rw (inv.same, low) at c.in-Some.ensures.next in
+    let last : plans_count g ≤ k + 1 = omega (arith, inside, c.if-i-len.true, c.len.ensures, c.next_of_one.new.all.ok.0, plans_count-is c.next_of_one.new.all.items, ap plans_count (c.next_of_one.ensures.same ∙ inv.same)) in
+    record {
+      inside = omega (arith, inside, plans_count-is c.next_of_one.new.all.items, ap plans_count (c.next_of_one.ensures.same ∙ inv.same));
+      same = c.next_of_one.ensures.same ∙ inv.same;
+      kept = c.next_of_one.ensures.kept;
+      from = inv.from;
+      searched = rw c.end-end.ensures.end (IsSearched-last c.args.n g mono c.args.low k c.loop-i.end ls c.in-Some.x h inside f last);
+    }
+
+pub first_chain-index-requires-in-loop-i : goal.first_chain-index-requires-in-loop-i
+first_chain-index-requires-in-loop-i t c =
+    let g = plans c.args.all.now.items in
+    let ls = c.loop-i.reach.lows.items in
+    let k = c.loop-i.i - 1 in
+    let inv = c.loop-i.invariant in
+    let inside : k < plans_count g = omega (arith, inv.inside, c.loop-i-test.true, plans_count-is c.loop-i.all.items, ap plans_count inv.same) in
+    let more_of : k + 1 < plans_count g = omega (arith, inside, c.if-i-len.false, c.len.ensures, c.next_of_one.new.all.ok.0, plans_count-is c.next_of_one.new.all.items, ap plans_count (c.next_of_one.ensures.same ∙ inv.same)) in
+    omega (arith, more_of, inv.searched.count, c.loop-i.reach.lows.ok.0)
+
+pub first_chain-next_of_one-requires-in-loop-i : goal.first_chain-next_of_one-requires-in-loop-i
+first_chain-next_of_one-requires-in-loop-i t c =
+    let g = plans c.args.all.now.items in
+    let ls = c.loop-i.reach.lows.items in
+    let k = c.loop-i.i - 1 in
+    let inv = c.loop-i.invariant in
+    let inside : k < plans_count g = omega (arith, inv.inside, c.loop-i-test.true, plans_count-is c.loop-i.all.items, ap plans_count inv.same) in
+    let more_of : k + 1 < plans_count g = omega (arith, inside, c.if-i-len.false, c.len.ensures, c.next_of_one.new.all.ok.0, plans_count-is c.next_of_one.new.all.items, ap plans_count (c.next_of_one.ensures.same ∙ inv.same)) in
+    (omega (arith, c.decreases, ap depths (c.next_of_one.ensures.same ∙ inv.same)), (c.next_of_one.ensures.kept, omega (arith, more_of, plans_count-is c.next_of_one.new.all.items, ap plans_count (c.next_of_one.ensures.same ∙ inv.same))))
+
+pub first_chain-returns-in_default-next_of_one-clause-next : goal.first_chain-returns-in_default-next_of_one-clause-next
+first_chain-returns-in_default-next_of_one-clause-next t c =
+    let g = plans c.args.all.now.items in
+    let ls = c.loop-i.reach.lows.items in
+    let k = c.loop-i.i - 1 in
+    let inv = c.loop-i.invariant in
+    let inside : k < plans_count g = omega (arith, inv.inside, c.loop-i-test.true, plans_count-is c.loop-i.all.items, ap plans_count inv.same) in
+    let more_of : k + 1 < plans_count g = omega (arith, inside, c.if-i-len.false, c.len.ensures, c.next_of_one.new.all.ok.0, plans_count-is c.next_of_one.new.all.items, ap plans_count (c.next_of_one.ensures.same ∙ inv.same)) in
+    let low_next : c.index-in-loop-i.result.now ≡ get_or ls (k + 1) 0 = number_is ls (k + 1) c.index-in-loop-i.result.now (omega (arith, more_of, inv.searched.count)) c.index-in-loop-i.ensures in
+    IsNext-no_chain c.args.n g c.args.low c.loop-i.i (k + 1) c.loop-i.end ls inv.searched more_of (rw (c.next_of_one.ensures.same, inv.same, low_next) at c.in_default-next_of_one.ensures.next)
+
+pub first_chain-returns-in_default-next_of_one-clause-reached : goal.first_chain-returns-in_default-next_of_one-clause-reached
+first_chain-returns-in_default-next_of_one-clause-reached t c =
+    IsReached-searched c.args.n (plans c.args.all.now.items) c.args.low c.loop-i.i c.loop-i.end c.loop-i.reach c.loop-i.invariant.from c.loop-i.invariant.searched
+
+pub first_chain-index_mut-requires : goal.first_chain-index_mut-requires
+first_chain-index_mut-requires t c =
+    let g = plans c.args.all.now.items in
+    let ls = c.loop-i.reach.lows.items in
+    let k = c.loop-i.i - 1 in
+    let inv = c.loop-i.invariant in
+    let inside : k < plans_count g = omega (arith, inv.inside, c.loop-i-test.true, plans_count-is c.loop-i.all.items, ap plans_count inv.same) in
+    let more_of : k + 1 < plans_count g = omega (arith, inside, c.if-i-len.false, c.len.ensures, c.next_of_one.new.all.ok.0, plans_count-is c.next_of_one.new.all.items, ap plans_count (c.next_of_one.ensures.same ∙ inv.same)) in
+    omega (arith, more_of, inv.searched.count, c.loop-i.reach.lows.ok.0)
+
+pub first_chain-loop-i-smaller-then-begin-end : goal.first_chain-loop-i-smaller-then-begin-end
+first_chain-loop-i-smaller-then-begin-end t c =
+    let g = plans c.args.all.now.items in
+    let ls = c.loop-i.reach.lows.items in
+    let k = c.loop-i.i - 1 in
+    let inv = c.loop-i.invariant in
+    let inside : k < plans_count g = omega (arith, inv.inside, c.loop-i-test.true, plans_count-is c.loop-i.all.items, ap plans_count inv.same) in
+    let low : c.index.result.now ≡ get_or ls k 0 = number_is ls k c.index.result.now (omega (arith, inside, inv.searched.count)) c.index.ensures in
+    let h = searched_before c.args.n g c.args.low c.loop-i.i c.loop-i.end ls c.loop-i-test.true inv.searched in
+    let mono = chained_monotone g c.requires.chained in
+    let f : IsNext (set (plan_at g k)) (get_or ls k 0) 0 (Some c.in-Some.x) = rw (inv.same, low) at c.in-Some.ensures.next in
+    let more_of : k + 1 < plans_count g = omega (arith, inside, c.if-i-len.false, c.len.ensures, c.next_of_one.new.all.ok.0, plans_count-is c.next_of_one.new.all.items, ap plans_count (c.next_of_one.ensures.same ∙ inv.same)) in
+    let low_next : c.index-in-loop-i.result.now ≡ get_or ls (k + 1) 0 = number_is ls (k + 1) c.index-in-loop-i.result.now (omega (arith, more_of, inv.searched.count)) c.index-in-loop-i.ensures in
+    let s : IsNext (set (plan_at g (k + 1))) (get_or ls (k + 1) 0) 0 (Some c.in-Some-next_of_one.y) = rw (c.next_of_one.ensures.same, inv.same, low_next) at c.in-Some-next_of_one.ensures.next in
+    let early : c.in-Some-next_of_one.y.begin < c.in-Some.x.end = omega (arith, c.if-begin-end.true, c.begin.ensures.begin, c.end.ensures.end) in
+    let falls = room-early c.args.n g mono c.args.low k c.loop-i.end ls c.in-Some.x h inside f c.in-Some-next_of_one.y more_of s early (omega (arith, c.end.ensures.end, c.end.type_inv)) in
+    rw c.end-then-begin-end.ensures.end (omega (arith, falls, c.loop-i-test.true))
+
+pub first_chain-loop-i-preserved-then-begin-end : goal.first_chain-loop-i-preserved-then-begin-end
+first_chain-loop-i-preserved-then-begin-end t c =
+    let g = plans c.args.all.now.items in
+    let ls = c.loop-i.reach.lows.items in
+    let k = c.loop-i.i - 1 in
+    let inv = c.loop-i.invariant in
+    let inside : k < plans_count g = omega (arith, inv.inside, c.loop-i-test.true, plans_count-is c.loop-i.all.items, ap plans_count inv.same) in
+    let low : c.index.result.now ≡ get_or ls k 0 = number_is ls k c.index.result.now (omega (arith, inside, inv.searched.count)) c.index.ensures in
+    let h = searched_before c.args.n g c.args.low c.loop-i.i c.loop-i.end ls c.loop-i-test.true inv.searched in
+    let mono = chained_monotone g c.requires.chained in
+    let f : IsNext (set (plan_at g k)) (get_or ls k 0) 0 (Some c.in-Some.x) = rw (inv.same, low) at c.in-Some.ensures.next in
+    let more_of : k + 1 < plans_count g = omega (arith, inside, c.if-i-len.false, c.len.ensures, c.next_of_one.new.all.ok.0, plans_count-is c.next_of_one.new.all.items, ap plans_count (c.next_of_one.ensures.same ∙ inv.same)) in
+    let low_next : c.index-in-loop-i.result.now ≡ get_or ls (k + 1) 0 = number_is ls (k + 1) c.index-in-loop-i.result.now (omega (arith, more_of, inv.searched.count)) c.index-in-loop-i.ensures in
+    let s : IsNext (set (plan_at g (k + 1))) (get_or ls (k + 1) 0) 0 (Some c.in-Some-next_of_one.y) = rw (c.next_of_one.ensures.same, inv.same, low_next) at c.in-Some-next_of_one.ensures.next in
+    let early : c.in-Some-next_of_one.y.begin < c.in-Some.x.end = omega (arith, c.if-begin-end.true, c.begin.ensures.begin, c.end.ensures.end) in
+    let same = c.next_of_one-in-loop-i.ensures.same ∙ c.next_of_one.ensures.same ∙ inv.same in
+    record {
+      inside = omega (arith, more_of, plans_count-is c.next_of_one-in-loop-i.new.all.items, ap plans_count same);
+      same = same;
+      kept = c.next_of_one-in-loop-i.ensures.kept;
+      from = inv.from;
+      searched = rw c.end-then-begin-end.ensures.end (IsSearched-early c.args.n g mono c.args.low k c.loop-i.end ls c.in-Some.x h inside f c.in-Some-next_of_one.y more_of s early);
+    }
+
+pub first_chain-index_mut-requires-then-from : goal.first_chain-index_mut-requires-then-from
+first_chain-index_mut-requires-then-from t c =
+    let g = plans c.args.all.now.items in
+    let ls = c.loop-i.reach.lows.items in
+    let k = c.loop-i.i - 1 in
+    let inv = c.loop-i.invariant in
+    let inside : k < plans_count g = omega (arith, inv.inside, c.loop-i-test.true, plans_count-is c.loop-i.all.items, ap plans_count inv.same) in
+    omega (arith, inside, inv.searched.count, c.loop-i.reach.lows.ok.0)
+
+pub first_chain-loop-i-smaller-then-from : goal.first_chain-loop-i-smaller-then-from
+first_chain-loop-i-smaller-then-from t c =
+    let g = plans c.args.all.now.items in
+    let ls = c.loop-i.reach.lows.items in
+    let k = c.loop-i.i - 1 in
+    let inv = c.loop-i.invariant in
+    let inside : k < plans_count g = omega (arith, inv.inside, c.loop-i-test.true, plans_count-is c.loop-i.all.items, ap plans_count inv.same) in
+    let low : c.index.result.now ≡ get_or ls k 0 = number_is ls k c.index.result.now (omega (arith, inside, inv.searched.count)) c.index.ensures in
+    let h = searched_before c.args.n g c.args.low c.loop-i.i c.loop-i.end ls c.loop-i-test.true inv.searched in
+    let mono = chained_monotone g c.requires.chained in
+    let f : IsNext (set (plan_at g k)) (get_or ls k 0) 0 (Some c.in-Some.x) = rw (inv.same, low) at c.in-Some.ensures.next in
+    let more_of : k + 1 < plans_count g = omega (arith, inside, c.if-i-len.false, c.len.ensures, c.next_of_one.new.all.ok.0, plans_count-is c.next_of_one.new.all.items, ap plans_count (c.next_of_one.ensures.same ∙ inv.same)) in
+    let low_next : c.index-in-loop-i.result.now ≡ get_or ls (k + 1) 0 = number_is ls (k + 1) c.index-in-loop-i.result.now (omega (arith, more_of, inv.searched.count)) c.index-in-loop-i.ensures in
+    let s : IsNext (set (plan_at g (k + 1))) (get_or ls (k + 1) 0) 0 (Some c.in-Some-next_of_one.y) = rw (c.next_of_one.ensures.same, inv.same, low_next) at c.in-Some-next_of_one.ensures.next in
+    let far : c.in-Some.x.end + c.args.n ≤ c.in-Some-next_of_one.y.begin = omega (arith, c.if-from.true, c.from.ensures, c.from-in-loop-i.ensures, c.from-in-loop-i-2.ensures, c.begin-in-loop-i.ensures.begin, c.end-in-loop-i.ensures.end) in
+    let falls = room-far c.args.n g mono c.args.low k c.loop-i.end ls c.in-Some.x h inside f c.in-Some-next_of_one.y more_of s (omega (arith, c.begin-then-from.ensures.begin, c.begin-then-from.type_inv)) in
+    rw c.begin-then-from.ensures.begin (omega (arith, falls, c.loop-i-test.true))
+
+pub first_chain-loop-i-preserved-then-from : goal.first_chain-loop-i-preserved-then-from
+first_chain-loop-i-preserved-then-from t c =
+    let g = plans c.args.all.now.items in
+    let ls = c.loop-i.reach.lows.items in
+    let k = c.loop-i.i - 1 in
+    let inv = c.loop-i.invariant in
+    let inside : k < plans_count g = omega (arith, inv.inside, c.loop-i-test.true, plans_count-is c.loop-i.all.items, ap plans_count inv.same) in
+    let low : c.index.result.now ≡ get_or ls k 0 = number_is ls k c.index.result.now (omega (arith, inside, inv.searched.count)) c.index.ensures in
+    let h = searched_before c.args.n g c.args.low c.loop-i.i c.loop-i.end ls c.loop-i-test.true inv.searched in
+    let mono = chained_monotone g c.requires.chained in
+    let f : IsNext (set (plan_at g k)) (get_or ls k 0) 0 (Some c.in-Some.x) = rw (inv.same, low) at c.in-Some.ensures.next in
+    let more_of : k + 1 < plans_count g = omega (arith, inside, c.if-i-len.false, c.len.ensures, c.next_of_one.new.all.ok.0, plans_count-is c.next_of_one.new.all.items, ap plans_count (c.next_of_one.ensures.same ∙ inv.same)) in
+    let low_next : c.index-in-loop-i.result.now ≡ get_or ls (k + 1) 0 = number_is ls (k + 1) c.index-in-loop-i.result.now (omega (arith, more_of, inv.searched.count)) c.index-in-loop-i.ensures in
+    let s : IsNext (set (plan_at g (k + 1))) (get_or ls (k + 1) 0) 0 (Some c.in-Some-next_of_one.y) = rw (c.next_of_one.ensures.same, inv.same, low_next) at c.in-Some-next_of_one.ensures.next in
+    let far : c.in-Some.x.end + c.args.n ≤ c.in-Some-next_of_one.y.begin = omega (arith, c.if-from.true, c.from.ensures, c.from-in-loop-i.ensures, c.from-in-loop-i-2.ensures, c.begin-in-loop-i.ensures.begin, c.end-in-loop-i.ensures.end) in
+    let same = c.next_of_one-in-loop-i.ensures.same ∙ c.next_of_one.ensures.same ∙ inv.same in
+    record {
+      inside = omega (arith, inside, plans_count-is c.next_of_one-in-loop-i.new.all.items, ap plans_count same);
+      same = same;
+      kept = c.next_of_one-in-loop-i.ensures.kept;
+      from = inv.from;
+      searched = rw c.begin-then-from.ensures.begin (IsSearched-far c.args.n g mono c.args.low k c.loop-i.end ls c.in-Some.x h inside f c.in-Some-next_of_one.y more_of s far);
+    }
+
+pub first_chain-loop-i-preserved : goal.first_chain-loop-i-preserved
+first_chain-loop-i-preserved t c =
+    let g = plans c.args.all.now.items in
+    let ls = c.loop-i.reach.lows.items in
+    let k = c.loop-i.i - 1 in
+    let inv = c.loop-i.invariant in
+    let inside : k < plans_count g = omega (arith, inv.inside, c.loop-i-test.true, plans_count-is c.loop-i.all.items, ap plans_count inv.same) in
+    let low : c.index.result.now ≡ get_or ls k 0 = number_is ls k c.index.result.now (omega (arith, inside, inv.searched.count)) c.index.ensures in
+    let h = searched_before c.args.n g c.args.low c.loop-i.i c.loop-i.end ls c.loop-i-test.true inv.searched in
+    let mono = chained_monotone g c.requires.chained in
+    let f : IsNext (set (plan_at g k)) (get_or ls k 0) 0 (Some c.in-Some.x) = rw (inv.same, low) at c.in-Some.ensures.next in
+    let more_of : k + 1 < plans_count g = omega (arith, inside, c.if-i-len.false, c.len.ensures, c.next_of_one.new.all.ok.0, plans_count-is c.next_of_one.new.all.items, ap plans_count (c.next_of_one.ensures.same ∙ inv.same)) in
+    let low_next : c.index-in-loop-i.result.now ≡ get_or ls (k + 1) 0 = number_is ls (k + 1) c.index-in-loop-i.result.now (omega (arith, more_of, inv.searched.count)) c.index-in-loop-i.ensures in
+    let s : IsNext (set (plan_at g (k + 1))) (get_or ls (k + 1) 0) 0 (Some c.in-Some-next_of_one.y) = rw (c.next_of_one.ensures.same, inv.same, low_next) at c.in-Some-next_of_one.ensures.next in
+    let same = c.next_of_one-in-loop-i.ensures.same ∙ c.next_of_one.ensures.same ∙ inv.same in
+    let behind : c.in-Some.x.end ≤ c.in-Some-next_of_one.y.begin = omega (arith, c.if-begin-end.false, c.begin.ensures.begin, c.end.ensures.end) in
+    let near : c.in-Some-next_of_one.y.begin < c.in-Some.x.end + c.args.n = omega (arith, c.if-from.false, c.from.ensures, c.from-in-loop-i.ensures, c.from-in-loop-i-2.ensures, c.begin-in-loop-i.ensures.begin, c.end-in-loop-i.ensures.end) in
+    record {
+      inside = omega (arith, inside, plans_count-is c.next_of_one-in-loop-i.new.all.items, ap plans_count same);
+      same = same;
+      kept = c.next_of_one-in-loop-i.ensures.kept;
+      from = inv.from;
+      searched = IsSearched-follows c.args.n g mono c.args.low k c.loop-i.end ls c.in-Some.x h inside f c.in-Some-next_of_one.y more_of s behind near;
+    }
+
+pub first_chain-index-requires-2 : goal.first_chain-index-requires-2
+first_chain-index-requires-2 t c =
+    omega (arith, chained_some (plans c.args.all.now.items) c.requires.chained, c.loop-i.invariant.searched.count, c.loop-i.reach.lows.ok.0)
+
+pub first_chain-next_of_one-requires-2 : goal.first_chain-next_of_one-requires-2
+first_chain-next_of_one-requires-2 t c =
+    let inv = c.loop-i.invariant in
+    (omega (arith, c.decreases, ap depths inv.same), (inv.kept, omega (arith, chained_some (plans c.args.all.now.items) c.requires.chained, plans_count-is c.loop-i.all.items, ap plans_count inv.same)))
+
+pub first_chain-returns-in_default-next_of_one-2-clause-next : goal.first_chain-returns-in_default-next_of_one-2-clause-next
+first_chain-returns-in_default-next_of_one-2-clause-next t c =
+    let g = plans c.args.all.now.items in
+    let ls = c.loop-i.reach.lows.items in
+    let inv = c.loop-i.invariant in
+    let zero : c.loop-i.i ≡ 0 = omega (arith, c.loop-i-test.false) in
+    let some = chained_some g c.requires.chained in
+    let h : IsSearched c.args.n g c.args.low 0 c.loop-i.end ls = rw zero at inv.searched in
+    let low : c.index-2.result.now ≡ get_or ls 0 0 = number_is ls 0 c.index-2.result.now (omega (arith, some, inv.searched.count)) c.index-2.ensures in
+    IsNext-no_chain c.args.n g c.args.low 0 0 c.loop-i.end ls h some (rw (inv.same, low) at c.in_default-next_of_one-2.ensures.next)
+
+pub first_chain-returns-in_default-next_of_one-2-clause-reached : goal.first_chain-returns-in_default-next_of_one-2-clause-reached
+first_chain-returns-in_default-next_of_one-2-clause-reached t c =
+    IsReached-searched c.args.n (plans c.args.all.now.items) c.args.low c.loop-i.i c.loop-i.end c.loop-i.reach c.loop-i.invariant.from c.loop-i.invariant.searched
+
+pub first_chain-new-requires : goal.first_chain-new-requires
+first_chain-new-requires t c =
+    let g = plans c.args.all.now.items in
+    let ls = c.loop-i.reach.lows.items in
+    let inv = c.loop-i.invariant in
+    let zero : c.loop-i.i ≡ 0 = omega (arith, c.loop-i-test.false) in
+    let some = chained_some g c.requires.chained in
+    let h : IsSearched c.args.n g c.args.low 0 c.loop-i.end ls = rw zero at inv.searched in
+    let low : c.index-2.result.now ≡ get_or ls 0 0 = number_is ls 0 c.index-2.result.now (omega (arith, some, inv.searched.count)) c.index-2.ensures in
+    let f : IsNext (set (plan_at g 0)) (get_or ls 0 0) 0 (Some c.in-Some-next_of_one-2.x) = rw (inv.same, low) at c.in-Some-next_of_one-2.ensures.next in
+    omega (arith, c.begin-2.ensures.begin, searched_some c.args.n g c.args.low c.loop-i.end ls c.in-Some-next_of_one-2.x h some f)
+
+pub first_chain-returns-clause-next : goal.first_chain-returns-clause-next
+first_chain-returns-clause-next t c =
+    let g = plans c.args.all.now.items in
+    let ls = c.loop-i.reach.lows.items in
+    let inv = c.loop-i.invariant in
+    let zero : c.loop-i.i ≡ 0 = omega (arith, c.loop-i-test.false) in
+    let some = chained_some g c.requires.chained in
+    let h : IsSearched c.args.n g c.args.low 0 c.loop-i.end ls = rw zero at inv.searched in
+    let low : c.index-2.result.now ≡ get_or ls 0 0 = number_is ls 0 c.index-2.result.now (omega (arith, some, inv.searched.count)) c.index-2.ensures in
+    let f : IsNext (set (plan_at g 0)) (get_or ls 0 0) 0 (Some c.in-Some-next_of_one-2.x) = rw (inv.same, low) at c.in-Some-next_of_one-2.ensures.next in
+    IsNext-chain c.args.n g c.args.low c.loop-i.end ls c.in-Some-next_of_one-2.x c.new.result (chained_monotone g c.requires.chained) h some f
+    (ap (λ (x : Pair). x.begin) c.new.ensures ∙ c.begin-2.ensures.begin) (ap (λ (x : Pair). x.end) c.new.ensures)
+
+pub first_chain-returns-clause-reached : goal.first_chain-returns-clause-reached
+first_chain-returns-clause-reached t c =
+    IsReached-searched c.args.n (plans c.args.all.now.items) c.args.low c.loop-i.i c.loop-i.end c.loop-i.reach c.loop-i.invariant.from c.loop-i.invariant.searched
+
+pub next_chain-returns-in-Some-extent_from-clause-next : goal.next_chain-returns-in-Some-extent_from-clause-next
+next_chain-returns-in-Some-extent_from-clause-next t c =
+    let R = IsChain c.args.n (each_set (plans c.args.all.now.items)) in
+    let next : IsNext R c.loop-x.low 0 (Some c.in-Some.x) = rw c.loop-x.invariant.same at c.in-Some.ensures.next in
+    let found = rw (c.begin.ensures.begin, c.end.ensures.end) at c.in-Some-extent_from.ensures.some in
+    IsNext-least R R (λ b e r. (e, r)) c.args.from.begin c.args.from.end c.loop-x.low c.in-Some.x c.in-Some-extent_from.found (Some c.in-Some.x.end) c.loop-x.invariant.low next (IsLeast-first R c.loop-x.low c.in-Some.x next) found.0 found.1 found.2
+
+pub next_chain-loop-x-smaller : goal.next_chain-loop-x-smaller
+next_chain-loop-x-smaller t c =
+    let begins : c.loop-x.low ≤ c.in-Some.x.begin = IsFrom-begin c.loop-x.low 0 c.in-Some.x.begin c.in-Some.x.end (c.in-Some.ensures.next.only c.in-Some.x refl).1 in
+    omega (arith, begins, c.begin-low.ensures.begin, c.begin-low.type_inv)
+
+pub next_chain-loop-x-preserved : goal.next_chain-loop-x-preserved
+next_chain-loop-x-preserved t c =
+    let R = IsChain c.args.n (each_set (plans c.args.all.now.items)) in
+    let next : IsNext R c.loop-x.low 0 (Some c.in-Some.x) = rw c.loop-x.invariant.same at c.in-Some.ensures.next in
+    let none = rw (c.begin.ensures.begin, c.end.ensures.end) at (c.extent_from.ensures.none c.in_default-extent_from.is) in
+    record {
+      same = c.first_chain.ensures.same ∙ c.loop-x.invariant.same;
+      kept = c.first_chain.ensures.kept;
+      reached = rw c.loop-x.invariant.same at c.first_chain.ensures.reached;
+      low = rw c.begin-low.ensures.begin (AreLow-over R R (λ b e r. (e, r)) c.args.from.begin c.args.from.end c.loop-x.low c.in-Some.x (Some c.in-Some.x.end) c.loop-x.invariant.low next (IsLeast-first R c.loop-x.low c.in-Some.x next) none);
+    }
+
+pub next_chain-returns-clause-next : goal.next_chain-returns-clause-next
+next_chain-returns-clause-next t c =
+    let R = IsChain c.args.n (each_set (plans c.args.all.now.items)) in
+    IsNext-no_least R R (λ b e r. (e, r)) c.args.from.begin c.args.from.end c.loop-x.low c.loop-x.invariant.low (rw c.loop-x.invariant.same at c.in_default.ensures.next)
+
+pub Walk::next-next_chain-requires : goal.Walk::next-next_chain-requires
+Walk::next-next_chain-requires t c =
+    let kept = rw (c.in-Chain.is, IsKept-Chain) at c.requires in
+    let deeper = depth-chain c.in-Chain.n (plans c.in-Chain.all.items) kept.1 in
+    let deep : depth (plan c.args.self.now) ≡ depth (chain_plan c.in-Chain.n (plans c.in-Chain.all.items)) = rw (c.in-Chain.is, plan-Chain) refl in
+    rw (c.in-Chain.n-is, c.in-Chain.all-is, c.in-Chain.reach-is) (omega (arith, c.decreases, deeper, deep), (kept.0, (kept.1, kept.2)))
+
+pub Walk::next-returns-in-Chain-clause-next : goal.Walk::next-returns-in-Chain-clause-next
+Walk::next-returns-in-Chain-clause-next t c =
+    rw (c.in-Chain.is, plan-Chain) (IsNext-same _ _ (λ b e. chain_plan-is c.in-Chain.n (plans c.in-Chain.all.items) b e) c.args.from.begin c.args.from.end c.next_chain.result (rw (c.in-Chain.n-is, c.in-Chain.all-is) at c.next_chain.ensures.next))
 
 -- ---- windows
 

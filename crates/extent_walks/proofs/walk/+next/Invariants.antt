@@ -1,9 +1,11 @@
 use Rattle.std.proofs.Common.{◌≡◌, ◌+◌, ◌-◌, ◌*◌, ◌≤◌, Some, drop, length, max}
-use Rattle.extent_lists.specs.Operators.{HasEach, HasEachInside, IsInSome, IsWindow, Joins}
+use Rattle.extent_lists.specs.Operators.{HasEach, HasEachInside, IsChain, IsInSome, IsWindow, Joins}
 use Rattle.extent_lists.specs.Plans.{each_set, set}
+use Rattle.extent_walks.specs.Chains.{IsReached}
 use Rattle.extent_walks.specs.Next.{IsLeastBelow, IsNext}
 use Rattle.extent_walks.specs.Walks.{AreKept, IsAheadKept, plan, plans}
 use Rattle.extent_walks.proofs.NextLemmas.{AreLow, IsJoinedSoFar, IsLeastSoFar, IsPassed}
+use Rattle.extent_walks.proofs.ChainLemmas.{IsSearched, room}
 use Rattle.extent_walks.proofs.WalkLaws.{depth, depths}
 use Rattle.extent_walks.proofs.walk.+next.Given as goal
 
@@ -83,6 +85,38 @@ invariant-next_shortest-loop-x l = record {
 
 abbrev pub decreases-next_shortest-loop-x : goal.decreases-next_shortest-loop-x
 decreases-next_shortest-loop-x l = 4294967296 - l.low
+
+abbrev pub invariant-next_chain-loop-x : goal.invariant-next_chain-loop-x
+invariant-next_chain-loop-x l = record {
+  same : plans l.all.items ≡ plans l.initial.all.items;
+  kept : AreKept l.all.items;
+  reached : IsReached l.n (each_set (plans l.initial.all.items)) l.reach;
+  low : AreLow (IsChain l.n (each_set (plans l.initial.all.items))) l.from.begin l.from.end l.low;
+}
+
+abbrev pub decreases-next_chain-loop-x : goal.decreases-next_chain-loop-x
+decreases-next_chain-loop-x l = 4294967296 - l.low
+
+abbrev pub invariant-first_chain-loop-i : goal.invariant-first_chain-loop-i
+invariant-first_chain-loop-i l = record {
+  inside : l.i ≤ length l.all.items;
+  same : plans l.all.items ≡ plans l.initial.all.items;
+  kept : AreKept l.all.items;
+  from : l.reach.from ≡ l.low;
+  searched : IsSearched l.n (plans l.initial.all.items) l.low l.i l.end l.reach.lows.items;
+}
+
+abbrev pub decreases-first_chain-loop-i : goal.decreases-first_chain-loop-i
+decreases-first_chain-loop-i l = 2 * room l.reach.lows.items + l.i
+
+abbrev pub decreases-next_of_one : goal.decreases-next_of_one
+decreases-next_of_one l = 8 * depths (plans l.all.now.items) + 4
+
+abbrev pub decreases-next_chain : goal.decreases-next_chain
+decreases-next_chain l = 8 * depths (plans l.all.now.items) + 6
+
+abbrev pub decreases-first_chain : goal.decreases-first_chain
+decreases-first_chain l = 8 * depths (plans l.all.now.items) + 5
 
 abbrev pub invariant-next_window-loop-x : goal.invariant-next_window-loop-x
 invariant-next_window-loop-x l = record {

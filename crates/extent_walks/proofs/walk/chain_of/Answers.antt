@@ -1,27 +1,13 @@
-use Rattle.std.proofs.Common.{◌≡◌, [], ◌∷◌, ◌++◌}
-use Rattle.extent_walks.proofs.BuildLemmas.{IsChainSoFar-last, IsChainSoFar-more}
-use Rattle.extent_walks.proofs.WalkLaws.{AreKept-pop, IsKept-Joined, IsKept-Shortest, plan-Joined, plan-Shortest}
+use Rattle.std.proofs.Common.{rules, ◌≡◌, ◌<◌, ◌∙◌, true, length, arith}
+use Rattle.extent_walks.specs.Shapes.{is_monotone, plans_shape}
+use Rattle.extent_walks.specs.Walks.{plans}
+use Rattle.extent_walks.proofs.ChainLemmas.{IsReached-new, chained_of, plans_count-is}
+use Rattle.extent_walks.proofs.WalkLaws.{IsKept-Chain}
 use Rattle.extent_walks.proofs.walk.chain_of.Goals as goal
 
-pub loop-one-init : goal.loop-one-init
-loop-one-init c =
-    let fewer = c.pop.new.self.items in
-    let popped : c.args.all.items ≡ fewer ++ c.in-Some.last ∷ [] = c.in-Some.ensures.items in
-    let kept = AreKept-pop fewer c.in-Some.last (rw popped at c.requires) in
-    record {
-      kept_others = kept.0;
-      kept_chain = rw (IsKept-Shortest, c.in_ok-new.ensures.ok) kept.1;
-      so_far = rw (plan-Shortest, c.in_ok-new.ensures.ok) (IsChainSoFar-last c.args.n c.args.all.items fewer c.in-Some.last popped);
-    }
-
-pub loop-one-preserved : goal.loop-one-preserved
-loop-one-preserved c =
-    let fewer = c.pop-in-loop-one.new.self.items in
-    let popped : c.loop-one.others.items ≡ fewer ++ c.in-Some-pop.one ∷ [] = c.in-Some-pop.ensures.items in
-    let kept = AreKept-pop fewer c.in-Some-pop.one (rw popped at c.loop-one.invariant.kept_others) in
-    record {
-      kept_others = kept.0;
-      kept_chain = rw (IsKept-Joined, c.in_ok-new-2.ensures.ok, c.in_ok-later.ensures.ok) (kept.1, c.new-in-Some-pop.ensures.kept);
-      so_far = rw (plan-Joined, c.in_ok-new-2.ensures.ok, c.in_ok-later.ensures.ok, c.new-in-Some-pop.ensures.walk)
-          (IsChainSoFar-more c.args.n c.args.all.items c.loop-one.others.items fewer c.in-Some-pop.one _ c.loop-one.invariant.so_far popped);
-    }
+pub returns-then-is_monotone-clause-kept : goal.returns-then-is_monotone-clause-kept
+returns-then-is_monotone-clause-kept c =
+    let xs = c.args.all.items in
+    let some : 0 < length xs = search rules in
+    let up : is_monotone (plans_shape (plans xs)) ≡ true = rw (← c.deref.ensures.value, ← c.weakest.ensures, ← c.is_monotone.ensures) c.if-is_monotone.true in
+    rw IsKept-Chain (c.requires, chained_of xs some up, IsReached-new c.args.n (plans xs) c.in_ok-reach.reach (c.in_ok-reach.ensures.count ∙ omega (arith, c.len.ensures, c.args.all.ok.0, plans_count-is xs)) c.in_ok-reach.ensures.zero)

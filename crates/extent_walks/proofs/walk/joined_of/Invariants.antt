@@ -1,7 +1,7 @@
 use Rattle.std.proofs.Common.{length}
 use Rattle.extent_walks.specs.Walks.{AreKept, IsKept, plan}
 use Rattle.extent_walks.proofs.BuildLemmas.{IsChainSoFar}
-use Rattle.extent_walks.proofs.walk.chain_of.Given as goal
+use Rattle.extent_walks.proofs.walk.joined_of.Given as goal
 
 abbrev pub invariant-loop-one : goal.invariant-loop-one
 invariant-loop-one l = record {

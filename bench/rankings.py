@@ -20,9 +20,10 @@ case needs. Printed is how many cases there are, and how many statements were ch
 How the figures were computed. Everything is by the definitions, in exact whole numbers. No code is shared with the
 program, and nothing was taken from it or its output:
 
-- Extents: all positions, all chains and all windows are tried. Counts are sums over all documents.
+- Extents: all positions, all chains and all windows are tried. Counts are sums over all documents, also those that a
+  filter leaves out. A filter passes where the set of its expression's extents isn't empty, or where it is.
 - A leaf's fraction is p = 2 W tf + mu B over q = 2 W (len + mu), not reduced, with B = max(2 cf, 1) and
-  W = max(total, 1).
+  W = max(total, 1). That of the prior of lengths is one of three. It makes no candidate.
 - Scales by least common multiples; weights without those of 0, divided by their greatest common divisor.
 - Digits by the recurrence, 40 squarings from floor(q 2^62 / (p 2^e)). Keys are weighted sums, of `#max` the least.
 - The order of the lines is key, docno, begin, end; the score is the floor of key 10^6 / (scale 2^40).
@@ -177,6 +178,11 @@ class Leaf:
 
 
 @dataclass
+class Prior:
+    """The prior of a document's length."""
+
+
+@dataclass
 class Sum:
     """A `#weight`, or a `#combine`, whose weights are all 1. The weights are whole numbers of billionths."""
 
@@ -187,6 +193,22 @@ class Sum:
 @dataclass
 class Greatest:
     arguments: list
+
+
+@dataclass
+class Filter:
+    """Keeps the documents with an extent of the expression, or those without."""
+
+    keep: bool
+    expr: tuple
+
+
+@dataclass
+class Query:
+    """Filters from the outermost inwards, and the tree of the beliefs."""
+
+    filters: list
+    tree: Sum
 
 
 class Reader:
@@ -251,27 +273,43 @@ class Reader:
             return Sum([weight for weight, _ in pairs], [argument for _, argument in pairs])
         if self.take(r"#max\("):
             return Greatest(self.many(self.belief))
+        if self.take(r"#prior\((?i:length)\)"):
+            return Prior()
         return Leaf(self.expr())
+
+    def filters(self):
+        found = []
+        self.take(SPACE)
+        while keeps := self.take(r"#fil(req|rej)\("):
+            self.take(SPACE)
+            found.append(Filter(keeps[1] == "req", self.expr()))
+            self.take(SPACE)
+        return found
 
     def query(self):
         self.text += ")"
+        filters = self.filters()
         arguments = self.many(self.belief)
+        for _ in filters:
+            assert len(arguments) == 1, "more than one belief in a filter"
+            self.take(SPACE)
+            self.need(r"\)")
         assert self.at == len(self.text), "something behind the query"
-        return Sum([1] * len(arguments), arguments)
+        return Query(filters, Sum([1] * len(arguments), arguments))
 
 
 # The check of a query.
 
 
 def has_weights(tree):
-    if isinstance(tree, Leaf):
+    if isinstance(tree, (Leaf, Prior)):
         return True
     return (isinstance(tree, Greatest) or any(tree.weights)) and all(map(has_weights, tree.arguments))
 
 
 def reduced(tree):
     """The tree without what has the weight 0, whose weights have no common divisor."""
-    if isinstance(tree, Leaf):
+    if isinstance(tree, (Leaf, Prior)):
         return tree
     if isinstance(tree, Greatest):
         return Greatest([reduced(argument) for argument in tree.arguments])
@@ -281,13 +319,13 @@ def reduced(tree):
 
 
 def leaves_of(tree):
-    if isinstance(tree, Leaf):
+    if isinstance(tree, (Leaf, Prior)):
         return [tree]
     return [leaf for argument in tree.arguments for leaf in leaves_of(argument)]
 
 
 def scale(tree):
-    if isinstance(tree, Leaf):
+    if isinstance(tree, (Leaf, Prior)):
         return 1
     common = lcm(*map(scale, tree.arguments))
     return common if isinstance(tree, Greatest) else sum(tree.weights) * common
@@ -342,7 +380,18 @@ def extents(expr, document):
     return least_ends(window for window in windows if is_window(window, sets))
 
 
+def passes(document, wanted):
+    return bool(extents(wanted.expr, document)) == wanted.keep
+
+
 # Fractions, digits and keys.
+
+# A document of at least so many tokens has the fraction behind it by its length. The first row that fits decides.
+LENGTH_STEPS = ((1000, (1, 1)), (100, (1, 2)), (0, (1, 4)))
+
+
+def prior_fraction(document):
+    return next(fraction for least, fraction in LENGTH_STEPS if len(document.tokens) >= least)
 
 
 @cache
@@ -362,7 +411,7 @@ def digits(p, q):
 
 def key(tree, values):
     """The key of a tree. `values` gives the digits of its leaves one after the other."""
-    if isinstance(tree, Leaf):
+    if isinstance(tree, (Leaf, Prior)):
         return next(values)
     common = lcm(*map(scale, tree.arguments))
     keys = [common // scale(argument) * key(argument, values) for argument in tree.arguments]
@@ -371,7 +420,7 @@ def key(tree, values):
 
 def product(tree, fractions):
     """The product of a tree, as how often each fraction is a factor of it."""
-    if isinstance(tree, Leaf):
+    if isinstance(tree, (Leaf, Prior)):
         return Counter([next(fractions)])
     common = lcm(*map(scale, tree.arguments))
     parts = [raised(product(argument, fractions), common // scale(argument)) for argument in tree.arguments]
@@ -493,23 +542,31 @@ class Candidate:
         return self.key, self.document.docno.encode(), 0, len(self.document.tokens)
 
 
-def candidates(tree, documents, mu):
-    """Those of the documents in which some leaf occurs."""
+def counts_of(leaf, documents):
+    """How often the leaf occurs in each of the documents. A prior doesn't occur."""
+    if isinstance(leaf, Prior):
+        return [0] * len(documents)
+    return [len({begin for begin, _ in extents(leaf.expr, document)}) for document in documents]
+
+
+def fraction_of(leaf, document, tf, cf, total, mu):
+    if isinstance(leaf, Prior):
+        return prior_fraction(document)
+    width = 2 * max(total, 1)
+    return width * tf + mu * max(2 * cf, 1), width * (len(document.tokens) + mu)
+
+
+def candidates(query, documents, mu):
+    """Those of the documents that pass all filters, and in which some leaf occurs."""
     total = sum(len(document.tokens) for document in documents)
-    counts = []
-    for leaf in leaves_of(tree):
-        begins = [len({begin for begin, _ in extents(leaf.expr, document)}) for document in documents]
-        counts.append((begins, sum(begins)))
+    leaves = leaves_of(query.tree)
+    counts = [counts_of(leaf, documents) for leaf in leaves]
     found = []
     for i, document in enumerate(documents):
-        fractions = []
-        for begins, cf in counts:
-            p = 2 * max(total, 1) * begins[i] + mu * max(2 * cf, 1)
-            q = 2 * max(total, 1) * (len(document.tokens) + mu)
-            fractions.append((p, q))
-        if any(begins[i] for begins, _ in counts):
-            value = key(tree, iter([digits(p, q) for p, q in fractions]))
-            found.append(Candidate(document, fractions, value, product(tree, iter(fractions))))
+        fractions = [fraction_of(leaf, document, tfs[i], sum(tfs), total, mu) for leaf, tfs in zip(leaves, counts)]
+        if all(passes(document, wanted) for wanted in query.filters) and any(tfs[i] for tfs in counts):
+            value = key(query.tree, iter([digits(p, q) for p, q in fractions]))
+            found.append(Candidate(document, fractions, value, product(query.tree, iter(fractions))))
     return found
 
 
@@ -562,9 +619,9 @@ def check_score(line, score, e):
     check("a score encloses the logarithm of the product", compare(low, qs) <= 0 < compare(high, qs))
 
 
-def ranking(tree, documents, mu):
-    e = scale(tree)
-    ordered = sorted(candidates(tree, documents, mu), key=Candidate.order)
+def ranking(query, documents, mu):
+    e = scale(query.tree)
+    ordered = sorted(candidates(query, documents, mu), key=Candidate.order)
     lines, rest = ordered[:MOST_LINES], ordered[MOST_LINES:]
     shown = marks(lines, e)
     check_order(lines, shown, rest, e)
@@ -575,16 +632,24 @@ def ranking(tree, documents, mu):
         yield f"{i + 1} {mark} {shown_score} {line.document.docno} 0 {len(line.document.tokens)}"
 
 
-def answer(case, query):
+def fault(query):
+    """What the check of a query finds first, if anything."""
+    if not has_weights(query.tree):
+        return "NoWeight"
+    tree = reduced(query.tree)
+    if all(isinstance(leaf, Prior) for leaf in leaves_of(tree)):
+        return "NoLeaf"
+    return "ScaleTooLarge" if scale(tree) >= 1 << 60 else None
+
+
+def answer(case, text):
     """The lines of a case, and its status."""
-    tree = Reader(query).query()
-    if not has_weights(tree):
-        return ["refused Check NoWeight", "status 2"]
-    tree = reduced(tree)
-    if scale(tree) >= 1 << 60:
-        return ["refused Check ScaleTooLarge", "status 2"]
+    query = Reader(text).query()
+    if found := fault(query):
+        return [f"refused Check {found}", "status 2"]
+    query = Query(query.filters, reduced(query.tree))
     documents, refusals = read(case.text)
-    return [*refusals, *ranking(tree, documents, case.mu), f"status {3 if refusals else 0}"]
+    return [*refusals, *ranking(query, documents, case.mu), f"status {3 if refusals else 0}"]
 
 
 def lines_of(text):

@@ -1,5 +1,5 @@
 -- A document as a whole as the candidate that it is.
-use Rattle.std.proofs.Common.{◌≡◌, ℕ, ◌+◌, Bool, true, false, not, ◌==◌, if◌then◌else◌, None, Some, List, [], ◌∷◌, ◌++◌, length, map, filter, zip, refl, sym, ap, ◌∙◌, arith, append-nil}
+use Rattle.std.proofs.Common.{◌≡◌, ℕ, ◌+◌, Bool, true, false, not, ◌==◌, if◌then◌else◌, None, Some, List, [], ◌∷◌, ◌++◌, length, map, filter, flat_map, zip, refl, sym, ap, ◌∙◌, arith, append-nil}
 use Rattle.std.specs.Bool.{nat_lt}
 use Rattle.std.specs.List.{list_all, list_any}
 use Rattle.std.proofs.lemmas.Bool.Decides.{nat_tests}
@@ -10,6 +10,7 @@ use Rattle.log_chain.specs.declared.chain.TheConstants.{LAST}
 use Rattle.ri_base.specs.Collection.{document_at}
 use Rattle.ri_base.specs.Documents.{Document}
 use Rattle.ri_base.specs.Pair.{Pair}
+use Rattle.ri_base.specs.Query.{FilterTree}
 use Rattle.ri_base.specs.Ratio.{Ratio, ratio_of}
 use Rattle.ri_base.specs.declared.fraction.Fraction.{Fraction}
 use Rattle.ri_base.specs.declared.hit.LeafStats.{LeafStats}
@@ -23,7 +24,7 @@ use Rattle.belief_nodes.specs.Keys.{digits_at}
 use Rattle.belief_nodes.specs.Network.{NetworkTree}
 use Rattle.belief_nodes.specs.Priors.{Prior}
 use Rattle.belief_nodes.specs.declared.leaf_count.LeafCount.{LeafCount}
-use Rattle.document_scoring.specs.Candidates.{Candidate, beliefs, candidate, found_windows, occurs}
+use Rattle.document_scoring.specs.Candidates.{Candidate, beliefs, candidate, candidates, document_candidates, found_windows, occurs, passes}
 use Rattle.document_scoring.specs.Counts.{count_in, count_of, whole}
 use Rattle.document_scoring.specs.Rows.{Adds, IsKeyed, row_candidate}
 use Rattle.document_scoring.specs.declared.scoring.Row.{Row}
@@ -92,20 +93,44 @@ some_leaf : (leaves : List LeafTree) (d : Document) → (length d.tokens == 0) �
 some_leaf leaves d long h =
     one_left (nat_lt 0 (length d.tokens)) (λ w. list_any (occurs d w) leaves) (whole d) (grind (arith, nat_tests)) h
 
+-- ---- the filters
+
+one_kept : {X Y : Type 0} (f : X → List Y) (p : X → Bool) (x : X) → p x ≡ true → flat_map f (filter p (x ∷ [])) ≡ f x
+one_kept f p x h = rw h (append-nil (f x))
+
+one_dropped : {X Y : Type 0} (f : X → List Y) (p : X → Bool) (x : X) → p x ≡ false → flat_map f (filter p (x ∷ [])) ≡ []
+one_dropped f p x h = rw h refl
+
+none_of_one : {X Y : Type 0} (f : X → List Y) (p : X → Bool) (x : X) (b : Bool) → p x ≡ b → f x ≡ [] → flat_map f (filter p (x ∷ [])) ≡ []
+none_of_one f p x true h none = one_kept f p x h ∙ none
+none_of_one f p x false h none = one_dropped f p x h
+
 -- ---- rows
 
-adds_none : (kind : RuleKind) (network : NetworkTree) (d : Document) (rows : List Row) → network.range ≡ Whole → found_windows network.leaves Whole d ≡ []
-    → Adds kind [] network d rows rows
-adds_none kind network d rows range none = record {
+adds_none : (kind : RuleKind) (filters : List FilterTree) (network : NetworkTree) (d : Document) (rows : List Row) → candidates kind [] filters network (d ∷ []) ≡ []
+    → Adds kind [] filters network d rows rows
+adds_none kind filters network d rows none = record {
   more = [];
   behind = sym (append-nil rows);
-  candidates = sym (ap (map (candidate kind [] network d)) (ap (λ (r : Range). found_windows network.leaves r d) range ∙ none));
+  candidates = sym none;
   keyed = All-nil (IsKeyed network.tree);
 }
 
-pub without_tokens : (kind : RuleKind) (network : NetworkTree) (d : Document) (end : ℕ) (rows : List Row) → network.range ≡ Whole → end ≡ length d.tokens → end ≡ 0
-    → Adds kind [] network d rows rows
-without_tokens kind network d end rows range long none = adds_none kind network d rows range (no_window network.leaves d (sym long ∙ none))
+-- no window is left, whether the document passes or not
+adds_no_window : (kind : RuleKind) (filters : List FilterTree) (network : NetworkTree) (d : Document) (rows : List Row) → network.range ≡ Whole → found_windows network.leaves Whole d ≡ []
+    → Adds kind [] filters network d rows rows
+adds_no_window kind filters network d rows range none =
+    let windows : document_candidates kind [] network d ≡ [] = ap (map (candidate kind [] network d)) (ap (λ (r : Range). found_windows network.leaves r d) range ∙ none) in
+    adds_none kind filters network d rows (none_of_one (document_candidates kind [] network) (λ e. list_all (passes e) filters) d (list_all (passes d) filters) refl windows)
+
+pub without_tokens : (kind : RuleKind) (filters : List FilterTree) (network : NetworkTree) (d : Document) (end : ℕ) (rows : List Row) → network.range ≡ Whole → end ≡ length d.tokens → end ≡ 0
+    → Adds kind [] filters network d rows rows
+without_tokens kind filters network d end rows range long none = adds_no_window kind filters network d rows range (no_window network.leaves d (sym long ∙ none))
+
+pub not_passed : (kind : RuleKind) (filters : List FilterTree) (network : NetworkTree) (d : Document) (passed : Bool) (rows : List Row) → passed ≡ list_all (passes d) filters → passed ≡ false
+    → Adds kind [] filters network d rows rows
+not_passed kind filters network d passed rows is not_so =
+    adds_none kind filters network d rows (one_dropped (document_candidates kind [] network) (λ e. list_all (passes e) filters) d (sym is ∙ not_so))
 
 negated : (a b : Bool) → a ≡ not b → a ≡ true → b ≡ false
 negated a true e h = cc
@@ -115,19 +140,19 @@ affirmed : (a b : Bool) → a ≡ not b → a ≡ false → b ≡ true
 affirmed a true e h = refl
 affirmed a false e h = cc
 
-pub without_leaves : (kind : RuleKind) (network : NetworkTree) (d : Document) (counts : List LeafCount) (rows : List Row) → network.range ≡ Whole → counts ≡ map (count_of d) network.leaves
-    → list_all (λ count. count.tf == 0) counts ≡ true → Adds kind [] network d rows rows
-without_leaves kind network d counts rows range is none =
+pub without_leaves : (kind : RuleKind) (filters : List FilterTree) (network : NetworkTree) (d : Document) (counts : List LeafCount) (rows : List Row) → network.range ≡ Whole → counts ≡ map (count_of d) network.leaves
+    → list_all (λ count. count.tf == 0) counts ≡ true → Adds kind [] filters network d rows rows
+without_leaves kind filters network d counts rows range is none =
     let tested : list_all (λ (count : LeafCount). count.tf == 0) counts ≡ not (list_any (occurs d (whole d)) network.leaves) =
     ap (list_all (λ (count : LeafCount). count.tf == 0)) is ∙ none_occurs network.leaves d in
-    adds_none kind network d rows range (no_leaf network.leaves d (negated _ _ tested none))
+    adds_no_window kind filters network d rows range (no_leaf network.leaves d (negated _ _ tested none))
 
-pub with_leaves : (kind : RuleKind) (network : NetworkTree) (docs read : List Document) (i : ℕ) (counts : List LeafCount) (docno : List ℕ) (end : ℕ) (rows next : List Row) (row : Row)
-    → read ≡ docs → network.range ≡ Whole → list_all is_plain_leaf network.leaves ≡ true → counts ≡ map (count_of (document_at docs i)) network.leaves
+pub with_leaves : (kind : RuleKind) (filters : List FilterTree) (network : NetworkTree) (docs read : List Document) (i : ℕ) (counts : List LeafCount) (docno : List ℕ) (end : ℕ) (rows next : List Row) (row : Row)
+    → list_all (passes (document_at docs i)) filters ≡ true → read ≡ docs → network.range ≡ Whole → list_all is_plain_leaf network.leaves ≡ true → counts ≡ map (count_of (document_at docs i)) network.leaves
     → list_all (λ count. count.tf == 0) counts ≡ false → docno ≡ (document_at read i).docno → end ≡ length (document_at docs i).tokens → (end == 0) ≡ false
     → row_candidate row ≡ record { docno = docno; begin = 0; end = end; beliefs = leaf_fractions kind counts network.stats } → IsKeyed network.tree row → next ≡ rows ++ row ∷ []
-    → Adds kind [] network (document_at docs i) rows next
-with_leaves kind network docs read i counts docno end rows next row same range plain counted some named long begun is keyed pushed =
+    → Adds kind [] filters network (document_at docs i) rows next
+with_leaves kind filters network docs read i counts docno end rows next row passed same range plain counted some named long begun is keyed pushed =
     let d : Document = document_at docs i in
     let tested : list_all (λ (count : LeafCount). count.tf == 0) counts ≡ not (list_any (occurs d (whole d)) network.leaves) =
     ap (list_all (λ (count : LeafCount). count.tf == 0)) counted ∙ none_occurs network.leaves d in
@@ -142,6 +167,6 @@ with_leaves kind network docs read i counts docno end rows next row same range p
     record {
       more = row ∷ [];
       behind = pushed;
-      candidates = ap (λ (c : Candidate). c ∷ []) told_by ∙ sym (ap (map (candidate kind [] network d)) window);
+      candidates = ap (λ (c : Candidate). c ∷ []) told_by ∙ sym (one_kept (document_candidates kind [] network) (λ e. list_all (passes e) filters) d passed ∙ ap (map (candidate kind [] network d)) window);
       keyed = All-cons (IsKeyed network.tree) row [] keyed (All-nil (IsKeyed network.tree));
     }

@@ -4,6 +4,7 @@ ghost use Rattle.std.specs.List.{list_all};
 ghost use Rattle.ri_base.specs.Collection.{document_at};
 ghost use Rattle.ri_base.specs.Faults.{IsOutside};
 ghost use Rattle.ri_base.specs.Keeps.{Keeps, Rose};
+ghost use Rattle.ri_base.specs.Query.{filter_tree};
 ghost use Rattle.ri_base.specs.Ratio.{ratio_of};
 ghost use Rattle.ri_base.specs.declared.query.Range.TheVariants.{Whole};
 ghost use Rattle.smoothing.specs.Fractions.{Computes};
@@ -15,8 +16,9 @@ ghost use Rattle.document_scoring.specs.Rows.{Adds, IsKeyed, row_candidate};
 
 use crate::counts::{counts_of, none_occurs};
 use crate::digits::digits_of;
+use crate::filters::all_pass;
 use belief_nodes::{LeafCount, Network};
-use ri_base::{Docno, Fraction, Fractions, Hit, NoMemory, Postings, SegFault};
+use ri_base::{Docno, Filter, Fraction, Fractions, Hit, NoMemory, Postings, SegFault};
 use smoothing::Rule;
 use std::alloc::{AllocError, Global};
 
@@ -84,10 +86,12 @@ fn scored<F: Fn(u32, u32, u64, u64) -> Fraction>(
     })
 }
 
-/// Adds the candidates of a document, with their beliefs and keys: the document as a whole, where some leaf occurs in
-/// it. The query is one of whole documents, and its leaves are expressions without a context.
+/// Adds the candidates of a document, with their beliefs and keys: the document as a whole, where it passes all filters and
+/// some leaf occurs in it. Nothing is counted of a document that doesn't pass. The query is one of whole documents, and
+/// its leaves are expressions without a context.
 pub fn score_document<P: Postings, F: Fn(u32, u32, u64, u64) -> Fraction>(
     alloc: Global,
+    filters: &[Filter],
     network: &Network,
     rule: &Rule<F>,
     part: &mut P,
@@ -100,12 +104,15 @@ pub fn score_document<P: Postings, F: Fn(u32, u32, u64, u64) -> Fraction>(
     requires plain { list_all is_plain_leaf (network_tree network.now).leaves ≡ true }
     ensures keeps { Keeps P.documents P.faults P.sound P.quiet part.old part.new }
     ensures exact { P.sound part.old → OnOk result
-        (Adds rule.now.kind [] (network_tree network.now) (document_at (P.documents part.old) id) rows.old.items rows.new.items) }
+        (Adds rule.now.kind [] (map filter_tree filters.now) (network_tree network.now) (document_at (P.documents part.old) id) rows.old.items rows.new.items) }
     ensures honest { P.sound part.old → IfErr result IsOutside }
     ensures store { result ≡ Err SegFault.Store → Rose (P.faults part.old) (P.faults part.new) }
 {
     let end = part.length(id);
     if end == 0 {
+        return Ok(());
+    }
+    if !all_pass(alloc, filters, part, id)? {
         return Ok(());
     }
     let counts = counts_of(alloc, network.leaves(), part, id)?;

@@ -8,7 +8,7 @@ use Rattle.std.proofs.lemmas.Bool.{and_parts}
 use Rattle.std.proofs.lemmas.Bool.Decides.{nat_tests}
 use Rattle.std.proofs.lemmas.Grind.{flat_map-append}
 use Rattle.std.proofs.lemmas.List.{get_or-map, length-map, length-take, map-append, take_all, take_more}
-use Rattle.std.proofs.lemmas.List.Elements.{All-append, All-same, All-take, All-cons, All-head, All-map, All-nil, All-tail}
+use Rattle.std.proofs.lemmas.List.Elements.{filter-append, All-append, All-same, All-take, All-cons, All-head, All-map, All-nil, All-tail}
 use Rattle.std.proofs.lemmas.List.Sorted.{All-permutation, IsNonDecreasingBy-from_all_adjacent, IsPermutation-map}
 use Rattle.std.proofs.lemmas.Option.{slice_get-get_or}
 use Rattle.log_chain.specs.declared.chain.TheConstants.{LAST}
@@ -26,7 +26,7 @@ use Rattle.query_check.specs.Check.{CheckedTree}
 use Rattle.query_check.specs.Leaves.{LeafTree}
 use Rattle.query_check.specs.Scale.{scale}
 use Rattle.plain_query.specs.Checked.{is_plain_checked, is_plain_leaf}
-use Rattle.plain_query.specs.Plain.{has_none, is_whole}
+use Rattle.plain_query.specs.Plain.{is_whole}
 use Rattle.belief_nodes.specs.Keys.{key_at}
 use Rattle.belief_nodes.specs.Network.{NetworkTree}
 use Rattle.belief_nodes.specs.Priors.{Prior}
@@ -40,67 +40,57 @@ use Rattle.full_ranking.specs.Ranking.{IsRanking, candidate_of, hit_order, query
 
 -- ---- a plain query
 
-none_is : {X : Type 0} (xs : List X) → has_none xs ≡ true → xs ≡ []
-none_is [] h = refl
-none_is (x ∷ xs) h = cc
-
 whole_is : (r : Range) → is_whole r ≡ true → r ≡ Whole
 whole_is Whole h = refl
 whole_is (Field f) h = cc
 whole_is (Passages width every) h = cc
 
 pub plain_range : (q : CheckedTree) → is_plain_checked q ≡ true → q.range ≡ Whole
-plain_range q h =
-    let outside = (and_parts (has_none q.filters && is_whole q.range) (list_all is_plain_leaf q.leaves) h).0 in
-    whole_is q.range (and_parts (has_none q.filters) (is_whole q.range) outside).1
-
-plain_filters : (q : CheckedTree) → is_plain_checked q ≡ true → q.filters ≡ []
-plain_filters q h =
-    let outside = (and_parts (has_none q.filters && is_whole q.range) (list_all is_plain_leaf q.leaves) h).0 in
-    none_is q.filters (and_parts (has_none q.filters) (is_whole q.range) outside).0
+plain_range q h = whole_is q.range (and_parts (is_whole q.range) (list_all is_plain_leaf q.leaves) h).0
 
 pub plain_leaves : (q : CheckedTree) → is_plain_checked q ≡ true → list_all is_plain_leaf q.leaves ≡ true
-plain_leaves q h = (and_parts (has_none q.filters && is_whole q.range) (list_all is_plain_leaf q.leaves) h).1
+plain_leaves q h = (and_parts (is_whole q.range) (list_all is_plain_leaf q.leaves) h).1
 
 -- ---- candidates, document by document
 
 -- the candidates among the first i documents
-abbrev pub first_candidates : RuleKind → NetworkTree → List Document → ℕ → List Candidate
-first_candidates kind network docs i = flat_map (document_candidates kind [] network) (take i docs)
+abbrev pub first_candidates : RuleKind → List FilterTree → NetworkTree → List Document → ℕ → List Candidate
+first_candidates kind filters network docs i = candidates kind [] filters network (take i docs)
 
 document_is : (docs : List Document) (i : ℕ) → i < length docs → document_at docs i ≡ get_or docs i empty_document
 document_is docs i h = ap (λ o. unwrap_or o empty_document) (slice_get-get_or docs i empty_document h)
 
-pub next_rows : (kind : RuleKind) (network : NetworkTree) (docs read : List Document) (i : ℕ) (rows next : List Row) → i < length docs → read ≡ docs
-    → map row_candidate rows ≡ first_candidates kind network docs i → Adds kind [] network (document_at read i) rows next
-    → map row_candidate next ≡ first_candidates kind network docs (i + 1)
-next_rows kind network docs read i rows next inside same so_far adds =
+-- the candidates of documents, and then those of others
+candidates-append : (kind : RuleKind) (filters : List FilterTree) (network : NetworkTree) (docs more : List Document)
+    → candidates kind [] filters network (docs ++ more) ≡ candidates kind [] filters network docs ++ candidates kind [] filters network more
+candidates-append kind filters network docs more =
     let f : Document → List Candidate = document_candidates kind [] network in
+    let p : Document → Bool = λ d. list_all (passes d) filters in
+    ap (flat_map f) (filter-append p docs more) ∙ flat_map-append f (filter p docs) (filter p more)
+
+pub next_rows : (kind : RuleKind) (filters : List FilterTree) (network : NetworkTree) (docs read : List Document) (i : ℕ) (rows next : List Row) → i < length docs → read ≡ docs
+    → map row_candidate rows ≡ first_candidates kind filters network docs i → Adds kind [] filters network (document_at read i) rows next
+    → map row_candidate next ≡ first_candidates kind filters network docs (i + 1)
+next_rows kind filters network docs read i rows next inside same so_far adds =
+    let found : List Document → List Candidate = candidates kind [] filters network in
     let d : Document = get_or docs i empty_document in
     let there : document_at read i ≡ d = ap (λ (ds : List Document). document_at ds i) same ∙ document_is docs i inside in
-    let more : first_candidates kind network docs (i + 1) ≡ flat_map f (take i docs) ++ f d =
-    ap (flat_map f) (take_more docs i empty_document inside) ∙ flat_map-append f (take i docs) (d ∷ []) ∙ ap (λ cs. flat_map f (take i docs) ++ cs) (append-nil (f d)) in
+    let more : first_candidates kind filters network docs (i + 1) ≡ found (take i docs) ++ found (d ∷ []) =
+    ap found (take_more docs i empty_document inside) ∙ candidates-append kind filters network (take i docs) (d ∷ []) in
     ap (map row_candidate) adds.behind
     ∙ map-append row_candidate rows adds.more
     ∙ ap (λ cs. cs ++ map row_candidate adds.more) so_far
-    ∙ ap (λ cs. flat_map f (take i docs) ++ cs) (adds.candidates ∙ ap f there)
+    ∙ ap (λ cs. found (take i docs) ++ cs) (adds.candidates ∙ ap (λ (e : Document). found (e ∷ [])) there)
     ∙ sym more
 
-pub next_keys : (kind : RuleKind) (network : NetworkTree) (d : Document) (rows next : List Row) → All (IsKeyed network.tree) rows → Adds kind [] network d rows next
+pub next_keys : (kind : RuleKind) (filters : List FilterTree) (network : NetworkTree) (d : Document) (rows next : List Row) → All (IsKeyed network.tree) rows → Adds kind [] filters network d rows next
     → All (IsKeyed network.tree) next
-next_keys kind network d rows next keys adds =
+next_keys kind filters network d rows next keys adds =
     subst (λ (rs : List Row). All (IsKeyed network.tree) rs) (sym adds.behind) (All-append (IsKeyed network.tree) rows adds.more keys adds.keyed)
 
--- no filter leaves a document out
-all_pass : (docs : List Document) → filter (λ d. list_all (passes d) []) docs ≡ docs
-all_pass [] = refl
-all_pass (d ∷ docs) = ap (λ (ds : List Document). d ∷ ds) (all_pass docs)
-
-pub all_candidates : (kind : RuleKind) (network : NetworkTree) (docs : List Document) (i : ℕ) (rows : List Row) → length docs ≤ i
-    → map row_candidate rows ≡ first_candidates kind network docs i → map row_candidate rows ≡ candidates kind [] [] network docs
-all_candidates kind network docs i rows read is =
-    let f : Document → List Candidate = document_candidates kind [] network in
-    is ∙ ap (flat_map f) (take_all i docs read) ∙ sym (ap (flat_map f) (all_pass docs))
+pub all_candidates : (kind : RuleKind) (filters : List FilterTree) (network : NetworkTree) (docs : List Document) (i : ℕ) (rows : List Row) → length docs ≤ i
+    → map row_candidate rows ≡ first_candidates kind filters network docs i → map row_candidate rows ≡ candidates kind [] filters network docs
+all_candidates kind filters network docs i rows read is = is ∙ ap (candidates kind [] filters network) (take_all i docs read)
 
 -- ---- sorted rows
 
@@ -134,17 +124,17 @@ IsRanking-made kind q docs rows sorted all keys moved up = record {
 }
 
 -- by what the network and the index tell, which are those of the query and as they were
-pub IsRanking-rows : (kind : RuleKind) (q : CheckedTree) (network : NetworkTree) (stats : List LeafStats) (docs read : List Document) (rows sorted : List Row) → is_plain_checked q ≡ true
-    → network ≡ record { leaves = q.leaves; range = q.range; stats = stats; tree = q.tree } → stats ≡ map (stats_of docs) q.leaves → read ≡ docs
-    → map row_candidate rows ≡ candidates kind [] [] network read → All (IsKeyed network.tree) rows
+pub IsRanking-rows : (kind : RuleKind) (q : CheckedTree) (filters : List FilterTree) (network : NetworkTree) (stats : List LeafStats) (docs read : List Document) (rows sorted : List Row)
+    → filters ≡ q.filters → network ≡ record { leaves = q.leaves; range = q.range; stats = stats; tree = q.tree } → stats ≡ map (stats_of docs) q.leaves → read ≡ docs
+    → map row_candidate rows ≡ candidates kind [] filters network read → All (IsKeyed network.tree) rows
     → IsPermutation rows sorted → IsSortedBy (λ a b. is_lt (row_order a b)) sorted → IsRanking kind [] q docs (map row_hit sorted)
-IsRanking-rows kind q network stats docs read rows sorted plain is summed same all keys moved up =
+IsRanking-rows kind q filters network stats docs read rows sorted asked is summed same all keys moved up =
     let seen : network ≡ query_network q docs = is ∙ ap (λ ss. record { leaves = q.leaves; range = q.range; stats = ss; tree = q.tree }) summed in
     let here : map row_candidate rows ≡ query_candidates kind [] q docs =
     all
-    ∙ ap (λ (n : NetworkTree). candidates kind [] [] n read) seen
-    ∙ ap (λ (ds : List Document). candidates kind [] [] (query_network q docs) ds) same
-    ∙ ap (λ (fs : List FilterTree). candidates kind [] fs (query_network q docs) docs) (sym (plain_filters q plain)) in
+    ∙ ap (λ (fs : List FilterTree). candidates kind [] fs network read) asked
+    ∙ ap (λ (n : NetworkTree). candidates kind [] q.filters n read) seen
+    ∙ ap (λ (ds : List Document). candidates kind [] q.filters (query_network q docs) ds) same in
     let keyed : All (IsKeyed q.tree) rows = subst (λ (n : NetworkTree). All (IsKeyed n.tree) rows) seen keys in
     IsRanking-made kind q docs rows sorted here keyed moved up
 

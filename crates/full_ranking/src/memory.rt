@@ -2,6 +2,7 @@
 ghost use Rattle.std.specs.Prelude.{◌≡◌, ◌<◌, true, length, map, [], IfOk, OnOk};
 ghost use Rattle.std.specs.List.{list_all};
 ghost use Rattle.ri_base.specs.Collection.{document_at};
+ghost use Rattle.ri_base.specs.Query.{filter_tree};
 ghost use Rattle.ri_base.specs.declared.query.Range.TheVariants.{Whole};
 ghost use Rattle.smoothing.specs.Fractions.{Computes};
 ghost use Rattle.query_check.specs.Leaves.{leaf_tree};
@@ -14,7 +15,7 @@ ghost use Rattle.document_scoring.specs.Rows.{Adds};
 use belief_nodes::{LeafCount, Network};
 use document_scoring::{Row, count_of, score_document};
 use query_check::LeafKind;
-use ri_base::{Fraction, NoMemory, Sealed, SegFault};
+use ri_base::{Filter, Fraction, NoMemory, Sealed, SegFault};
 use smoothing::Rule;
 use std::alloc::{AllocError, Global};
 
@@ -39,9 +40,10 @@ pub fn count_in_index(
     }
 }
 
-/// Adds the candidates of a document of the index.
+/// Adds the candidates of a document of the index, where it passes the filters.
 pub fn score_in_index<F: Fn(u32, u32, u64, u64) -> Fraction>(
     alloc: Global,
+    filters: &[Filter],
     network: &Network,
     rule: &Rule<F>,
     index: &mut Sealed,
@@ -53,10 +55,10 @@ pub fn score_in_index<F: Fn(u32, u32, u64, u64) -> Fraction>(
     requires whole { (network_tree network.now).range ≡ Whole }
     requires plain { list_all is_plain_leaf (network_tree network.now).leaves ≡ true }
     ensures adds { OnOk result
-        (Adds rule.now.kind [] (network_tree network.now) (document_at index.old id) rows.old.items rows.new.items) }
+        (Adds rule.now.kind [] (map filter_tree filters.now) (network_tree network.now) (document_at index.old id) rows.old.items rows.new.items) }
     ensures same { index.new ≡ index.old }
 {
-    match score_document(alloc, network, rule, index, id, rows) {
+    match score_document(alloc, filters, network, rule, index, id, rows) {
         Ok(()) => Ok(()),
         Err(SegFault::Memory) => Err(AllocError),
         Err(SegFault::Malformed { .. } | SegFault::Missing { .. } | SegFault::Store) =>

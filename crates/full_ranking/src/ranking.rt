@@ -1,6 +1,7 @@
 // Candidates and their order.
 ghost use Rattle.std.specs.Prelude.{◌≡◌, ◌≤◌, true, [], length, map, All, IfOk};
 ghost use Rattle.std.specs.List.{list_all};
+ghost use Rattle.ri_base.specs.Query.{filter_tree};
 ghost use Rattle.ri_base.specs.declared.query.Range.TheVariants.{Whole};
 ghost use Rattle.smoothing.specs.Fractions.{Computes};
 ghost use Rattle.query_check.specs.Answers.{whole_checked};
@@ -15,13 +16,14 @@ use crate::memory::score_in_index;
 use belief_nodes::Network;
 use document_scoring::Row;
 use query_check::Checked;
-use ri_base::{Fraction, Hits, NoMemory, Postings, Sealed};
+use ri_base::{Filter, Fraction, Hits, NoMemory, Postings, Sealed};
 use smoothing::Rule;
 use std::alloc::Global;
 
-/// The candidates of all documents, in order of ids.
+/// The candidates of all documents that pass the filters, in order of ids.
 fn rows_of<F: Fn(u32, u32, u64, u64) -> Fraction>(
     alloc: Global,
+    filters: &[Filter],
     network: &Network,
     rule: &Rule<F>,
     index: &mut Sealed,
@@ -29,13 +31,13 @@ fn rows_of<F: Fn(u32, u32, u64, u64) -> Fraction>(
     requires rule { Computes F.pre F.post rule.now.kind rule.now.f }
     requires whole { (network_tree network.now).range ≡ Whole }
     requires plain { list_all is_plain_leaf (network_tree network.now).leaves ≡ true }
-    ensures rows { IfOk result (λ v. map row_candidate v.items ≡ candidates rule.now.kind [] [] (network_tree network.now) index.old) }
+    ensures rows { IfOk result (λ v. map row_candidate v.items ≡ candidates rule.now.kind [] (map filter_tree filters.now) (network_tree network.now) index.old) }
     ensures keys { IfOk result (λ v. All (IsKeyed (network_tree network.now).tree) v.items) }
     ensures same { index.new ≡ index.old }
 {
     let mut rows = Vec::new(alloc);
     for id in 0..index.docs() {
-        score_in_index(alloc, network, rule, index, id, &mut rows)?;
+        score_in_index(alloc, filters, network, rule, index, id, &mut rows)?;
     }
     Ok(rows)
 }
@@ -52,7 +54,7 @@ fn hits_of(alloc: Global, rows: Vec<Row>) -> Result<Hits, NoMemory>
 }
 
 /// The first hits of the ranking of an index's documents, at most so many, for a checked query. The query is plain: it
-/// has no filter, ranks whole documents, and has leaves without contexts and no priors.
+/// ranks whole documents, and has leaves without contexts and no priors.
 pub fn rank<F: Fn(u32, u32, u64, u64) -> Fraction>(
     alloc: Global,
     checked: &Checked,
@@ -69,7 +71,7 @@ pub fn rank<F: Fn(u32, u32, u64, u64) -> Fraction>(
 {
     let stats = all_stats(alloc, &checked.leaves, index)?;
     let network = Network::new(alloc, checked, &stats)?;
-    let mut rows = rows_of(alloc, &network, rule, index)?;
+    let mut rows = rows_of(alloc, &checked.filters, &network, rule, index)?;
     rows.sort_unstable();
     rows.truncate(most);
     hits_of(alloc, rows)

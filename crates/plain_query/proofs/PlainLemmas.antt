@@ -10,7 +10,7 @@ use Rattle.query_check.specs.Leaves.{LeafTree}
 use Rattle.query_check.specs.declared.fault.CheckFault.{CheckFault}
 use Rattle.query_check.proofs.Walks.{drop_at, drop_end}
 use Rattle.plain_query.specs.Checked.{is_plain_checked, is_plain_leaf}
-use Rattle.plain_query.specs.Plain.{are_plain, are_weighted_plain, has_none, is_plain, is_plain_query, is_whole}
+use Rattle.plain_query.specs.Plain.{are_plain, are_weighted_plain, is_plain, is_plain_query, is_whole}
 
 module _ (xs : List Belief) (i : ℕ) where
   pub are_plain_found : (x : Belief) → i < length xs → x ≡ get_or xs i x → is_plain (belief_tree x) ≡ false → are_plain (belief_trees (map belief_tree (drop i xs))) ≡ false
@@ -90,7 +90,7 @@ whole_plain q names beliefs = leaves_plain names (whole q) beliefs
 
 pub plain_checked : (q : QueryTree) (names : List (List ℕ)) (c : CheckedTree) → is_plain_query q ≡ true → checks q names ≡ Ok c → is_plain_checked c ≡ true
 plain_checked q names c plain h =
-    let outside : (has_none q.filters && is_whole q.range) ≡ true = left_of (has_none q.filters && is_whole q.range) (are_plain (belief_trees q.beliefs)) plain in
-    let beliefs : are_plain (belief_trees q.beliefs) ≡ true = right_of (has_none q.filters && is_whole q.range) (are_plain (belief_trees q.beliefs)) plain in
+    let outside : is_whole q.range ≡ true = left_of (is_whole q.range) (are_plain (belief_trees q.beliefs)) plain in
+    let beliefs : are_plain (belief_trees q.beliefs) ≡ true = right_of (is_whole q.range) (are_plain (belief_trees q.beliefs)) plain in
     let same : checked_tree q names ≡ c = checked_is (first_fault names (whole q)) (checked_tree q names) c h in
     ap is_plain_checked (sym same) ∙ and_from _ _ outside (whole_plain q names beliefs)

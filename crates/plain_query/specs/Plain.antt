@@ -1,5 +1,5 @@
--- The queries that are ranked today: documents as a whole, without filters, priors and contexts.
-use Rattle.std.specs.Prelude.{ℕ, Bool, true, false, ◌&&◌, List, [], ◌∷◌, Option, None, Some}
+-- The queries that are ranked today: documents as a whole, without priors and contexts. Filters may stand round them.
+use Rattle.std.specs.Prelude.{ℕ, Bool, true, false, ◌&&◌, List, Option, None, Some}
 use Rattle.ri_base.specs.declared.query.Range.{Range}
 use Rattle.ri_base.specs.declared.query.Range.TheVariants.{Whole, Field, Passages}
 use Rattle.ri_base.specs.Query.{BeliefTree, BeliefTrees, WeightedTrees, QueryTree, combine, weight, greatest, prior, leaf, none, more, none_weighted, more_weighted, belief_trees}
@@ -25,14 +25,10 @@ unfoldable mutual
   are_weighted_plain none_weighted = true
   are_weighted_plain (more_weighted w x xs) = is_plain x && are_weighted_plain xs
 
-abbrev pub has_none : {X : Type 0} → List X → Bool
-has_none [] = true
-has_none (x ∷ xs) = false
-
 abbrev pub is_whole : Range → Bool
 is_whole Whole = true
 is_whole (Field f) = false
 is_whole (Passages width every) = false
 
 abbrev pub is_plain_query : QueryTree → Bool
-is_plain_query q = has_none q.filters && is_whole q.range && are_plain (belief_trees q.beliefs)
+is_plain_query q = is_whole q.range && are_plain (belief_trees q.beliefs)

@@ -2,16 +2,16 @@
 ghost use Rattle.std.specs.Prelude.{◌≡◌, map};
 ghost use Rattle.ri_base.specs.Queries.{whole_tree};
 ghost use Rattle.ri_base.specs.Query.{belief_tree, belief_trees, weighted_tree, weighted_trees};
-ghost use Rattle.plain_query.specs.Plain.{are_plain, are_weighted_plain, has_no_context, has_none, is_plain, is_plain_query, is_whole};
+ghost use Rattle.plain_query.specs.Plain.{are_plain, are_weighted_plain, has_no_context, is_plain, is_plain_query, is_whole};
 
 use ri_base::{Belief, Name, Query, Range};
 
-/// Whether a query ranks whole documents and has no filter, no prior and no context, children of weight 0 included.
+/// Whether a query ranks whole documents and has no prior and no context, children of weight 0 included.
 #[tactic(auto, unfolding(crate::specs::Plain::is_plain))]
 pub fn is_plain(query: &Query) -> bool
     ensures { result ≡ is_plain_query (whole_tree query.now) }
 {
-    query.filters.is_empty() && is_whole(&query.range) && are_plain(&query.beliefs)
+    is_whole(&query.range) && are_plain(&query.beliefs)
 }
 
 fn is_whole(range: &Range) -> bool

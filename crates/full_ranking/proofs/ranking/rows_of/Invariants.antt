@@ -1,4 +1,5 @@
 use Rattle.std.proofs.Common.{◌≡◌, map, All}
+use Rattle.ri_base.specs.Query.{filter_tree}
 use Rattle.belief_nodes.specs.Network.{network_tree}
 use Rattle.document_scoring.specs.Rows.{IsKeyed, row_candidate}
 use Rattle.full_ranking.proofs.RankingLemmas.{first_candidates}
@@ -7,6 +8,6 @@ use Rattle.full_ranking.proofs.ranking.rows_of.Given as goal
 abbrev pub invariant-loop-id : goal.invariant-loop-id
 invariant-loop-id g l = record {
   same : l.index ≡ l.fn.index;
-  so_far : map row_candidate l.rows.items ≡ first_candidates l.rule.kind (network_tree l.network) l.fn.index l.id;
+  so_far : map row_candidate l.rows.items ≡ first_candidates l.rule.kind (map filter_tree l.filters) (network_tree l.network) l.fn.index l.id;
   keys : All (IsKeyed (network_tree l.network).tree) l.rows.items;
 }

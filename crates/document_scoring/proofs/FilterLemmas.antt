@@ -1,0 +1,46 @@
+-- Which documents pass the filters of a query.
+use Rattle.std.proofs.Common.{◌≡◌, ◌<◌, ℕ, zero, suc, Bool, true, false, not, ◌&&◌, if◌then◌else◌, Option, List, [], ◌∷◌, length, map, get_or, slice_get, refl, sym, ap, ◌∙◌, arith}
+use Rattle.std.proofs.Math.Bool.{beq}
+use Rattle.std.specs.List.{list_all}
+use Rattle.std.specs.Option.{is_some}
+use Rattle.ri_base.specs.Collection.{document_at}
+use Rattle.ri_base.specs.Documents.{Document}
+use Rattle.ri_base.specs.Pair.{Pair}
+use Rattle.ri_base.specs.Query.{FilterTree, filter_tree}
+use Rattle.ri_base.specs.declared.query.Filter.{Filter}
+use Rattle.extent_ops.specs.Listed.{extent_list}
+use Rattle.document_scoring.specs.Candidates.{has_some, passes}
+
+-- a list has a first extent where it has some
+first_tells : (xs : List Pair) → is_some (slice_get xs 0) ≡ has_some xs
+first_tells [] = refl
+first_tells (x ∷ xs) = refl
+
+is_kept : (some keep : Bool) → beq some keep ≡ (if keep then some else not some)
+is_kept true true = refl
+is_kept true false = refl
+is_kept false true = refl
+is_kept false false = refl
+
+pub passes_is : (d : Document) (f : FilterTree) (found : List Pair) (first : Option Pair) (some : Bool) → some ≡ is_some first → first ≡ slice_get found 0
+    → found ≡ extent_list f.expr d → beq some f.keep ≡ passes d f
+passes_is d f found first some told is listed =
+    let here : some ≡ has_some (extent_list f.expr d) = told ∙ ap is_some is ∙ first_tells found ∙ ap has_some listed in
+    ap (λ b. beq b f.keep) here ∙ is_kept (has_some (extent_list f.expr d)) f.keep
+
+none_and : (a b : Bool) → false ≡ b → false ≡ (a && b)
+none_and true b h = h
+none_and false b h = refl
+
+-- not all pass where one doesn't
+one_fails : (p : FilterTree → Bool) (filters : List Filter) (i : ℕ) (f : Filter) → i < length filters → f ≡ get_or filters i f → p (filter_tree f) ≡ false
+    → false ≡ list_all p (map filter_tree filters)
+one_fails p [] i f inside is fails = absurd (omega (arith, inside))
+one_fails p (g ∷ filters) zero f inside is fails = let first : p (filter_tree g) ≡ false = ap (λ (h : Filter). p (filter_tree h)) (sym is) ∙ fails in rw first refl
+one_fails p (g ∷ filters) (suc i) f inside is fails = none_and (p (filter_tree g)) _ (one_fails p filters i f (omega (arith, inside)) is fails)
+
+pub not_all_pass : (docs read : List Document) (id : ℕ) (filters : List Filter) (i : ℕ) (f : Filter) (passed : Bool) → read ≡ docs → i < length filters → f ≡ get_or filters i f
+    → passed ≡ passes (document_at read id) (filter_tree f) → passed ≡ false → false ≡ list_all (passes (document_at docs id)) (map filter_tree filters)
+not_all_pass docs read id filters i f passed same inside is tested fails =
+    let here : passes (document_at docs id) (filter_tree f) ≡ false = ap (λ (ds : List Document). passes (document_at ds id) (filter_tree f)) (sym same) ∙ sym tested ∙ fails in
+    one_fails (passes (document_at docs id)) filters i f inside is here

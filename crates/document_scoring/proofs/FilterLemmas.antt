@@ -1,8 +1,10 @@
 -- Which documents pass the filters of a query.
-use Rattle.std.proofs.Common.{◌≡◌, ◌<◌, ℕ, zero, suc, Bool, true, false, not, ◌&&◌, if◌then◌else◌, Option, List, [], ◌∷◌, length, map, get_or, slice_get, refl, sym, ap, ◌∙◌, arith}
+use Rattle.std.proofs.Common.{◌≡◌, ◌<◌, ℕ, Bool, true, false, not, if◌then◌else◌, Option, List, [], ◌∷◌, length, map, get_or, slice_get, refl, sym, ap, ◌∙◌, arith}
 use Rattle.std.proofs.Math.Bool.{beq}
 use Rattle.std.specs.List.{list_all}
 use Rattle.std.specs.Option.{is_some}
+use Rattle.std.proofs.lemmas.List.{get_or-map, length-map}
+use Rattle.std.proofs.lemmas.List.Folds.{list_all_at}
 use Rattle.ri_base.specs.Collection.{document_at}
 use Rattle.ri_base.specs.Documents.{Document}
 use Rattle.ri_base.specs.Pair.{Pair}
@@ -28,19 +30,11 @@ passes_is d f found first some told is listed =
     let here : some ≡ has_some (extent_list f.expr d) = told ∙ ap is_some is ∙ first_tells found ∙ ap has_some listed in
     ap (λ b. beq b f.keep) here ∙ is_kept (has_some (extent_list f.expr d)) f.keep
 
-none_and : (a b : Bool) → false ≡ b → false ≡ (a && b)
-none_and true b h = h
-none_and false b h = refl
-
 -- not all pass where one doesn't
-one_fails : (p : FilterTree → Bool) (filters : List Filter) (i : ℕ) (f : Filter) → i < length filters → f ≡ get_or filters i f → p (filter_tree f) ≡ false
-    → false ≡ list_all p (map filter_tree filters)
-one_fails p [] i f inside is fails = absurd (omega (arith, inside))
-one_fails p (g ∷ filters) zero f inside is fails = let first : p (filter_tree g) ≡ false = ap (λ (h : Filter). p (filter_tree h)) (sym is) ∙ fails in rw first refl
-one_fails p (g ∷ filters) (suc i) f inside is fails = none_and (p (filter_tree g)) _ (one_fails p filters i f (omega (arith, inside)) is fails)
-
 pub not_all_pass : (docs read : List Document) (id : ℕ) (filters : List Filter) (i : ℕ) (f : Filter) (passed : Bool) → read ≡ docs → i < length filters → f ≡ get_or filters i f
     → passed ≡ passes (document_at read id) (filter_tree f) → passed ≡ false → false ≡ list_all (passes (document_at docs id)) (map filter_tree filters)
 not_all_pass docs read id filters i f passed same inside is tested fails =
     let here : passes (document_at docs id) (filter_tree f) ≡ false = ap (λ (ds : List Document). passes (document_at ds id) (filter_tree f)) (sym same) ∙ sym tested ∙ fails in
-    one_fails (passes (document_at docs id)) filters i f inside is here
+    let long : length (map filter_tree filters) ≡ length filters = length-map filters filter_tree in
+    let there : get_or (map filter_tree filters) i (filter_tree f) ≡ filter_tree f = get_or-map filter_tree filters i f (filter_tree f) inside ∙ ap filter_tree (sym is) in
+    sym (list_all_at (passes (document_at docs id)) (map filter_tree filters) i (filter_tree f) (omega (arith, long, inside)) (ap (passes (document_at docs id)) there ∙ here))

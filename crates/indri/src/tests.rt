@@ -249,7 +249,7 @@ fn scans(rt: HostRuntime) -> Result<(), Fail> {
 }
 
 /// Queries with a mu of 1.
-static QUERIES: [Row; 11] = [
+static QUERIES: [Row; 15] = [
     (
         "#combine(a)",
         TWO,
@@ -269,6 +269,20 @@ static QUERIES: [Row; 11] = [
         b"1 - -1.923998 d2 0 1\n2 > -2.508960 d1 0 2\n",
     ),
     ("b", TWO, Status::Done, b"1 - -1.169925 d1 0 2\n"),
+    ("#filreq(b a)", TWO, Status::Done, b"1 - -0.847996 d1 0 2\n"),
+    ("#filrej(b a)", TWO, Status::Done, b"1 - -0.263034 d2 0 1\n"),
+    (
+        "#filreq(a #filrej(b a))",
+        TWO,
+        Status::Done,
+        b"1 - -0.263034 d2 0 1\n",
+    ),
+    (
+        "#filreq(#uw5(a b) a)",
+        TWO,
+        Status::Done,
+        b"1 - -0.847996 d1 0 2\n",
+    ),
     ("z", TWO, Status::Done, b""),
     ("a", b"", Status::Done, b""),
     (
@@ -444,7 +458,7 @@ static REFUSED: [(&[&str], Status, &str); 32] = [
         "refused Query NotYetBuilt 0\n",
     ),
     (
-        &[".", "query", "--mu", "1", "#filreq(a b)"],
+        &[".", "query", "--mu", "1", "#filreq(a b.(title))"],
         Status::QueryRefused,
         "refused Query NotYetBuilt 0\n",
     ),

@@ -46,7 +46,7 @@ fn is_plain_belief(x: &Belief) -> bool
 }
 
 #[cycle(plain)]
-#[tactic(auto, using(crate::proofs::PlainLemmas::are_plain_found, crate::proofs::PlainLemmas::are_plain_passed, crate::proofs::PlainLemmas::are_plain_end))]
+#[tactic(auto, using(crate::proofs::PlainLemmas::are_plain_is, std::proofs::lemmas::List::Folds::list_all_at))]
 fn are_plain(all: &[Belief]) -> bool
     ensures { result ≡ are_plain (belief_trees (map belief_tree all.now)) }
 {
@@ -59,7 +59,7 @@ fn are_plain(all: &[Belief]) -> bool
 }
 
 #[cycle(plain)]
-#[tactic(auto, using(crate::proofs::PlainLemmas::are_weighted_plain_found, crate::proofs::PlainLemmas::are_weighted_plain_passed, crate::proofs::PlainLemmas::are_weighted_plain_end))]
+#[tactic(auto, using(crate::proofs::PlainLemmas::are_weighted_plain_is, std::proofs::lemmas::List::Folds::list_all_at))]
 fn are_weighted_plain(all: &[(u64, Belief)]) -> bool
     ensures { result ≡ are_weighted_plain (weighted_trees (map weighted_tree all.now)) }
 {

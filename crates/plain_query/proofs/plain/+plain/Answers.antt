@@ -1,10 +1,15 @@
-use Rattle.std.proofs.Common.{rules, ◌≡◌, true, sym, ◌∙◌}
+use Rattle.std.proofs.Common.{ap, sym, ◌∙◌}
+use Rattle.std.specs.List.{list_all}
+use Rattle.std.proofs.lemmas.List.{take_all}
 use Rattle.ri_base.specs.Query.{belief_tree}
 use Rattle.plain_query.specs.Plain.{is_plain}
-use Rattle.plain_query.proofs.PlainLemmas.{are_weighted_plain_passed}
+use Rattle.plain_query.proofs.PlainLemmas.{are_plain_is, are_weighted_plain_is}
 use Rattle.plain_query.proofs.plain.+plain.Goals as goal
 
-pub are_weighted_plain-loop-x-preserved : goal.are_weighted_plain-loop-x-preserved
-are_weighted_plain-loop-x-preserved t c =
-    let is : is_plain (belief_tree c.loop-x-item.result.1) ≡ true = search rules in
-    sym (are_weighted_plain_passed c.args.all.now c.loop-x.x-index c.loop-x-item.result c.loop-x-test.true c.loop-x-item.is is) ∙ c.loop-x.invariant
+pub are_plain-returns : goal.are_plain-returns
+are_plain-returns t c =
+    sym (are_plain_is c.args.all.now ∙ sym (ap (list_all (λ x. is_plain (belief_tree x))) (take_all c.loop-x.x-index c.args.all.now c.loop-x-test.false)) ∙ c.loop-x.invariant)
+
+pub are_weighted_plain-returns : goal.are_weighted_plain-returns
+are_weighted_plain-returns t c =
+    sym (are_weighted_plain_is c.args.all.now ∙ sym (ap (list_all (λ x. is_plain (belief_tree x.1))) (take_all c.loop-x.x-index c.args.all.now c.loop-x-test.false)) ∙ c.loop-x.invariant)

@@ -9,8 +9,10 @@ ghost use Rattle.plain_query.specs.Checked.{is_plain_checked};
 ghost use Rattle.ranked_output.specs.Texts.{lines_of, lines_text};
 ghost use Rattle.indri_app.specs.Answer.{IsResult, first_lines};
 ghost use Rattle.indri_app.specs.Command.{IsRule};
+ghost use Rattle.indri_app.specs.Priors.{run_priors};
 ghost use Rattle.indri_app.specs.declared.words.TheConstants.{MOST_SHOWN};
 
+use belief_nodes::BeliefNode;
 use full_ranking::{rank, ranking_is_true};
 use memory_index::MemIndex;
 use query_check::Checked;
@@ -44,13 +46,16 @@ pub fn ranking_text(
     kind: RuleKind,
     shown: usize,
     checked: &Checked,
+    plugs: &mut [Box<dyn BeliefNode>],
     index: MemIndex,
 ) -> Result<Vec<u8>, NoMemory>
     requires rule { IsRule kind }
     requires shown { shown ≤ MOST_SHOWN }
     requires plain { is_plain_checked (whole_checked checked.now) ≡ true }
-    ensures { IfOk result (λ text. (ranking : List Hit) × IsResult kind shown (whole_checked checked.now) index.documents ranking
+    requires plugs { map (λ plug. meaning plug) plugs.old ≡ run_priors }
+    ensures text { IfOk result (λ text. (ranking : List Hit) × IsResult kind shown (whole_checked checked.now) index.documents ranking
         × (text.items ≡ lines_text (first_lines shown (whole_checked checked.now) ranking))) }
+    ensures stay { map (λ plug. meaning plug) plugs.new ≡ map (λ plug. meaning plug) plugs.old }
 {
     let RuleKind::Dirichlet { mu } = kind;
     let rule = Rule::new(
@@ -65,6 +70,6 @@ pub fn ranking_text(
         return Err(AllocError);
     };
     ranking_is_true();
-    let hits = rank(alloc, checked, &rule, &mut sealed, shown)?;
+    let hits = rank(alloc, checked, &rule, plugs, &mut sealed, shown)?;
     lines_text(alloc, checked, &hits)
 }

@@ -72,8 +72,13 @@ fn scored<F: Fn(u32, u32, u64, u64) -> Fraction>(
     requires plugs { All (HasPrior (length plugs.old)) (network_tree network.now).leaves }
     requires each { length counts.now ≡ length (network_tree network.now).leaves }
     requires counts { All (λ n. IsLeafCount n) counts.now }
-    ensures row { IfOk result (λ row. row_candidate row ≡ record { docno = docno.now; begin = 0; end = end; beliefs
-        = leaf_fractions rule.now.kind (map (λ plug. meaning plug) plugs.old) docno.now end (network_tree network.now).leaves counts.now (network_tree network.now).stats }) }
+    ensures row { IfOk result (λ row. row_candidate row ≡ record {
+      docno = docno.now;
+      begin = 0;
+      end = end;
+      beliefs
+          = leaf_fractions rule.now.kind (map (λ plug. meaning plug) plugs.old) docno.now end (network_tree network.now).leaves counts.now (network_tree network.now).stats;
+    }) }
     ensures key { IfOk result (IsKeyed (network_tree network.now).tree) }
     ensures stay { map (λ plug. meaning plug) plugs.new ≡ map (λ plug. meaning plug) plugs.old }
 {

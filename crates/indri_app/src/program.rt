@@ -169,7 +169,15 @@ fn query<S: Source, K: Sink>(
         Ok(some_refused) => some_refused,
         Err(fault) => return Err(fault),
     };
-    match write_results(alloc, rule, shown, query, plugs, gatherer.into_index(), sink) {
+    match write_results(
+        alloc,
+        rule,
+        shown,
+        query,
+        plugs,
+        gatherer.into_index(),
+        sink,
+    ) {
         Ok(()) => Ok(some_refused),
         Err(fault) => Err(fault),
     }

@@ -8,4 +8,6 @@ pub mod Sizes
 pub mod Levels
 pub mod Walks
 pub mod LeafBeliefs
+pub mod Greatest
+pub mod Plugs
 mod Vectors

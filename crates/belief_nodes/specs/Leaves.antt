@@ -1,5 +1,5 @@
--- The leaves of a query: what is counted for each, and the ranges of these numbers.
-use Rattle.std.specs.Prelude.{◌≤◌, ◌^◌, Bool, true, false}
+-- The leaves of a query: what is counted for each, the ranges of these numbers, and which priors they name.
+use Rattle.std.specs.Prelude.{ℕ, ◌≤◌, ◌<◌, ◌^◌, ⊤}
 use Rattle.ri_base.specs.declared.hit.LeafStats.{LeafStats}
 use Rattle.query_check.specs.Leaves.{LeafTree, extents, prior}
 use Rattle.belief_nodes.specs.declared.leaf_count.LeafCount.{LeafCount}
@@ -14,7 +14,7 @@ pub record AreLeafStats (stats : LeafStats) : Type 0 where
   pub part : stats.cf ≤ stats.total
   pub few : stats.total ≤ 2 ^ 29
 
--- the leaf is an expression with extents, and no prior
-abbrev pub has_extents : LeafTree → Bool
-has_extents (extents x context) = true
-has_extents (prior n) = false
+-- a prior that the leaf names is one of so many
+abbrev pub HasPrior : ℕ → LeafTree → Type 0
+HasPrior many (extents x context) = ⊤
+HasPrior many (prior n) = n < many

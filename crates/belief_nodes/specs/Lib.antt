@@ -5,5 +5,6 @@ pub mod Keys
 pub mod Leaves
 pub mod Network
 pub mod Order
+pub mod Plugs
 pub mod Priors
 pub mod Products

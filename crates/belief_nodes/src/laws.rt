@@ -4,6 +4,7 @@ ghost use Rattle.ri_base.specs.Ratio.{Ratio, IsBelief};
 ghost use Rattle.ri_base.specs.declared.hit.LeafStats.{LeafStats};
 ghost use Rattle.smoothing.specs.Fractions.{IsMu};
 ghost use Rattle.smoothing.specs.declared.rule.RuleKind.TheVariants.{Dirichlet};
+ghost use Rattle.query_check.specs.Leaves.{LeafTree};
 ghost use Rattle.query_check.specs.Scale.{scale};
 ghost use Rattle.query_check.specs.Trees.{ScaledTree};
 ghost use Rattle.belief_nodes.specs.Fractions.{leaf_fractions};
@@ -11,6 +12,7 @@ ghost use Rattle.log_chain.specs.Score.{score};
 ghost use Rattle.belief_nodes.specs.Keys.{key_at};
 ghost use Rattle.belief_nodes.specs.Leaves.{IsLeafCount, AreLeafStats};
 ghost use Rattle.belief_nodes.specs.Order.{IsGreater, IsSame, IsNear};
+ghost use Rattle.belief_nodes.specs.Priors.{Prior, IsPrior};
 ghost use Rattle.belief_nodes.specs.Products.{product};
 ghost use Rattle.belief_nodes.specs.declared.leaf_count.LeafCount.{LeafCount};
 
@@ -67,9 +69,11 @@ pub fn key_levels()
         → key_at k beliefs t < scale t * 2 ^ (k + 6) }
 {}
 
-/// The beliefs of leaves under Dirichlet smoothing are above 0 and at most 1, and their numbers have 64 bits.
+/// The beliefs of leaves under Dirichlet smoothing are above 0 and at most 1, and their numbers have 64 bits, where those
+/// of the priors are.
 pub fn fractions_are_beliefs()
-    ensures { (mu : ℕ) (counts : List LeafCount) (stats : List LeafStats) → IsMu mu
+    ensures { (mu : ℕ) (priors : List Prior) (docno : List ℕ) (tokens : ℕ) (leaves : List LeafTree)
+        (counts : List LeafCount) (stats : List LeafStats) → IsMu mu → All IsPrior priors
         → All IsLeafCount counts → All AreLeafStats stats
-        → All IsBelief (leaf_fractions (Dirichlet mu) counts stats) }
+        → All IsBelief (leaf_fractions (Dirichlet mu) priors docno tokens leaves counts stats) }
 {}

@@ -1,10 +1,15 @@
-ghost use Rattle.std.specs.Prelude.{◌≡◌, map, IfOk};
+ghost use Rattle.std.specs.Prelude.{◌≡◌, ◌<◌, length, map, IfOk};
+ghost use Rattle.ri_base.specs.Ratio.{ratio_of};
+ghost use Rattle.smoothing.specs.Fractions.{Computes};
+ghost use Rattle.belief_nodes.specs.Fractions.{leaf_fraction};
 ghost use Rattle.query_check.specs.Leaves.{leaf_tree};
 ghost use Rattle.query_check.specs.Trees.{scaled_tree};
 ghost use Rattle.belief_nodes.specs.Kept.{IsNetwork};
+ghost use Rattle.belief_nodes.specs.Leaves.{AreLeafStats, HasPrior, IsLeafCount};
+ghost use Rattle.belief_nodes.specs.Priors.{prior_at, prior_fraction};
 
-use crate::LeafCount;
 use crate::keys::key_of;
+use crate::{BeliefNode, LeafCount};
 use query_check::{Checked, LeafKind, Tree};
 use ri_base::{Docno, Fraction, Fractions, LeafStats, NoMemory, Range};
 use smoothing::Rule;
@@ -21,13 +26,9 @@ pub struct Network {
 }
 
 impl Network {
-    ghost use Rattle.std.specs.Prelude.{◌<◌, ◌^◌, true, length, All};
-    ghost use Rattle.std.specs.List.{list_all};
-    ghost use Rattle.ri_base.specs.Ratio.{ratio_of};
-    ghost use Rattle.smoothing.specs.Fractions.{Computes};
+    ghost use Rattle.std.specs.Prelude.{◌^◌, All};
     ghost use Rattle.belief_nodes.specs.Fractions.{leaf_fractions};
     ghost use Rattle.belief_nodes.specs.Keys.{key};
-    ghost use Rattle.belief_nodes.specs.Leaves.{AreLeafStats, IsLeafCount, has_extents};
     ghost use Rattle.belief_nodes.specs.Network.{network_of, network_tree};
 
     /// The network of a checked query. `stats` has what the collection has of each leaf, in order of leaf numbers.
@@ -70,26 +71,31 @@ impl Network {
         &self.stats
     }
 
-    /// The beliefs of the leaves in one window, in order of their numbers, from their counts there. The docno and the
-    /// length of the document are for priors, which have no belief yet.
+    /// The beliefs of the leaves in one window, in order of their numbers, from their counts there. Those of priors are
+    /// what `plugs`, by their numbers, settle for the docno of the document and its length in tokens.
     pub fn fractions<F: Fn(u32, u32, u64, u64) -> Fraction>(
         &self,
         alloc: Global,
         rule: &Rule<F>,
         counts: &[LeafCount],
-        _docno: &Docno,
-        _len: u32,
+        docno: &Docno,
+        len: u32,
+        plugs: &mut [Box<dyn BeliefNode>],
     ) -> Result<Fractions, NoMemory>
         requires rule { Computes F.pre F.post rule.now.kind rule.now.f }
         requires each { length counts.now ≡ length (network_tree self.now).leaves }
         requires counts { All (λ n. IsLeafCount n) counts.now }
-        requires no_priors { list_all has_extents (network_tree self.now).leaves ≡ true }
-        ensures { IfOk result (λ fractions.
-            map ratio_of fractions ≡ leaf_fractions rule.now.kind counts.now (network_tree self.now).stats) }
+        requires plugs { All (HasPrior (length plugs.old)) (network_tree self.now).leaves }
+        ensures beliefs { IfOk result (λ fractions. map ratio_of fractions
+            ≡ leaf_fractions rule.now.kind (map (λ plug. meaning plug) plugs.old) docno.now len
+            (network_tree self.now).leaves counts.now (network_tree self.now).stats) }
+        ensures stay { map (λ plug. meaning plug) plugs.new ≡ map (λ plug. meaning plug) plugs.old }
     {
         let mut fractions = Vec::with_capacity(alloc, counts.len())?;
-        for (count, stats) in counts.iter().zip(&self.stats) {
-            fractions.push(rule.belief(count.tf, count.len, stats.cf, stats.total))?;
+        for (i, leaf) in self.leaves.iter().enumerate() {
+            let count = counts[i];
+            let stats = self.stats[i];
+            fractions.push(fraction(rule, leaf, count, stats, docno, len, plugs))?;
         }
         Ok(Fractions::of(fractions))
     }
@@ -102,6 +108,46 @@ impl Network {
     {
         key_of(&self.tree, digits)
     }
+}
+
+/// The belief of one leaf.
+fn fraction<F: Fn(u32, u32, u64, u64) -> Fraction>(
+    rule: &Rule<F>,
+    leaf: &LeafKind,
+    count: LeafCount,
+    stats: LeafStats,
+    docno: &Docno,
+    len: u32,
+    plugs: &mut [Box<dyn BeliefNode>],
+) -> Fraction
+    requires rule { Computes F.pre F.post rule.now.kind rule.now.f }
+    requires count { IsLeafCount count }
+    requires stats { AreLeafStats stats }
+    requires plugs { HasPrior (length plugs.old) (leaf_tree leaf.now) }
+    ensures belief { ratio_of result
+        ≡ leaf_fraction rule.now.kind (map (λ plug. meaning plug) plugs.old) docno.now len (leaf_tree leaf.now) count stats }
+    ensures stay { map (λ plug. meaning plug) plugs.new ≡ map (λ plug. meaning plug) plugs.old }
+{
+    match leaf {
+        LeafKind::Extents(..) => rule.belief(count.tf, count.len, stats.cf, stats.total),
+        LeafKind::Prior(number) => settle_at(plugs, *number, docno, len),
+    }
+}
+
+/// What the prior of that number gives to the document.
+fn settle_at(plugs: &mut [Box<dyn BeliefNode>], number: u8, docno: &Docno, len: u32) -> Fraction
+    requires { number < length plugs.old }
+    ensures answer { ratio_of result ≡ prior_fraction (prior_at (map (λ plug. meaning plug) plugs.old) number) docno.now len }
+    ensures stay { map (λ plug. meaning plug) plugs.new ≡ map (λ plug. meaning plug) plugs.old }
+{
+    settle(&mut plugs[number as usize], docno, len)
+}
+
+fn settle(plug: &mut Box<dyn BeliefNode>, docno: &Docno, len: u32) -> Fraction
+    ensures answer { ratio_of result ≡ prior_fraction (meaning plug.old) docno.now len }
+    ensures stays { meaning plug.new ≡ meaning plug.old }
+{
+    plug.settle(docno, len)
 }
 
 fn clone_leaves(alloc: Global, all: &[LeafKind]) -> Result<Vec<LeafKind>, NoMemory>

@@ -1,4 +1,4 @@
-//! Tests of beliefs, logarithms, scores and explained results that were worked out by hand or computed elsewhere. The program itself does nothing.
+//! Tests of beliefs, priors, logarithms, scores and explained results that were worked out by hand or computed elsewhere. The program itself does nothing.
 #![tactic(auto)]
 
 #[cfg(test)]
@@ -7,6 +7,8 @@ mod dirichlet;
 mod explained;
 #[cfg(test)]
 mod logarithms;
+#[cfg(test)]
+mod priors;
 #[cfg(test)]
 mod scores;
 

@@ -4,8 +4,8 @@ use Rattle.std.specs.Bool.{nat_eq, nat_lt}
 use Rattle.std.specs.List.{All, list_all, list_any}
 use Rattle.std.proofs.lemmas.Bool.Decides.{nat_tests}
 use Rattle.std.proofs.lemmas.List.{get_or-map, length-map, map-append, take_more}
-use Rattle.std.proofs.lemmas.List.Elements.{All-get_or, All-head, All-tail, All-weaker}
-use Rattle.std.proofs.lemmas.List.Sums.{AllPass-from_list_all, list_all-from_AllPass}
+use Rattle.std.proofs.lemmas.List.Elements.{All-get_or, All-head, All-tail}
+use Rattle.std.proofs.lemmas.List.Sums.{AllPass-from_list_all}
 use Rattle.ri_base.specs.Documents.{Document}
 use Rattle.ri_base.specs.Expression.{expr_tree}
 use Rattle.ri_base.specs.Pair.{Pair}
@@ -13,11 +13,10 @@ use Rattle.ri_base.specs.declared.expression.ExtentExpr.{ExtentExpr}
 use Rattle.field_extents.specs.Extents.{begin_count, is_inside}
 use Rattle.extent_lists.specs.Pairs.{pair}
 use Rattle.extent_ops.specs.Listed.{extent_list}
-use Rattle.query_check.specs.Leaves.{LeafTree, extents, leaf_tree, prior}
+use Rattle.query_check.specs.Leaves.{LeafTree, leaf_tree}
 use Rattle.query_check.specs.declared.leaf_kind.LeafKind.{LeafKind}
 use Rattle.query_check.specs.declared.leaf_kind.LeafKind.TheVariants.{Extents}
 use Rattle.plain_query.specs.Checked.{is_plain_leaf}
-use Rattle.belief_nodes.specs.Leaves.{has_extents}
 use Rattle.belief_nodes.specs.declared.leaf_count.LeafCount.{LeafCount}
 use Rattle.document_scoring.specs.Candidates.{occurs}
 use Rattle.document_scoring.specs.Counts.{count_of, whole}
@@ -91,12 +90,3 @@ none_occurs (l ∷ ls) d = first (count_of d l).tf _ _ (none_occurs ls d)
     first : (n : ℕ) (a b : Bool) → a ≡ not b → (nat_eq n 0 && a) ≡ not (nat_lt 0 n || b)
     first zero a b e = e
     first (suc n) a b e = grind (arith, nat_tests)
-
-have_extents : (l : LeafTree) → is_plain_leaf l ≡ true → has_extents l ≡ true
-have_extents (extents x None) h = refl
-have_extents (extents x (Some c)) h = refl
-have_extents (prior n) h = cc
-
--- no plain leaf is a prior
-pub no_priors : (leaves : List LeafTree) → list_all is_plain_leaf leaves ≡ true → list_all has_extents leaves ≡ true
-no_priors leaves h = list_all-from_AllPass has_extents leaves (All-weaker (λ l. is_plain_leaf l ≡ true) (λ l. has_extents l ≡ true) have_extents leaves (AllPass-from_list_all is_plain_leaf leaves h))

@@ -9,10 +9,10 @@ use Rattle.ri_base.specs.declared.hit.LeafStats.{LeafStats}
 use Rattle.ri_base.specs.declared.query.Range.{Range}
 use Rattle.extent_ops.specs.Listed.{extent_list}
 use Rattle.smoothing.specs.declared.rule.RuleKind.{RuleKind}
-use Rattle.query_check.specs.Leaves.{LeafTree, extents, prior}
+use Rattle.query_check.specs.Leaves.{LeafTree}
 use Rattle.belief_nodes.specs.Fractions.{leaf_fraction}
 use Rattle.belief_nodes.specs.Network.{NetworkTree}
-use Rattle.belief_nodes.specs.Priors.{Prior, prior_at, prior_fraction}
+use Rattle.belief_nodes.specs.Priors.{Prior}
 use Rattle.windows.specs.Windows.{windows}
 use Rattle.document_scoring.specs.Counts.{count_in}
 
@@ -28,8 +28,7 @@ occurs d w l = nat_lt 0 (count_in d w l).tf
 
 -- the belief of a leaf in the window, by what the collection has of it; that of a prior is the same in each window
 abbrev pub leaf_belief : RuleKind → List Prior → Document → Pair → LeafTree → LeafStats → Ratio
-leaf_belief kind priors d w (extents x c) stats = leaf_fraction kind (count_in d w (extents x c)) stats
-leaf_belief kind priors d w (prior n) stats = prior_fraction (prior_at priors n) d.docno (length d.tokens)
+leaf_belief kind priors d w leaf stats = leaf_fraction kind priors d.docno (length d.tokens) leaf (count_in d w leaf) stats
 
 -- the beliefs of all leaves, in order of their numbers
 abbrev pub beliefs : RuleKind → List Prior → List LeafTree → List LeafStats → Document → Pair → List Ratio

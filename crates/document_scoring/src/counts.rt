@@ -29,7 +29,8 @@ fn begins_in(found: &Extents, length: u32) -> u32
     distinct_begins(found, window).min(length)
 }
 
-/// The counts of a leaf in a document as a whole. The leaf is an expression without a context.
+/// The counts of a leaf in a document as a whole. The leaf is an expression without a context, or a prior, of which nothing
+/// is counted.
 pub fn count_of<P: Postings>(
     alloc: Global,
     leaf: &LeafKind,
@@ -46,7 +47,7 @@ pub fn count_of<P: Postings>(
     ensures store { result ≡ Err SegFault.Store → Rose (P.faults part.old) (P.faults part.new) }
 {
     let LeafKind::Extents(expr, _) = leaf else {
-        unreachable!()
+        return Ok(LeafCount { tf: 0, len: 0 });
     };
     extents_have_one_list();
     let len = part.length(id);
@@ -57,7 +58,7 @@ pub fn count_of<P: Postings>(
     })
 }
 
-/// The counts of all leaves in a document as a whole. Each leaf is an expression without a context.
+/// The counts of all leaves in a document as a whole. Each leaf is an expression without a context or a prior.
 pub fn counts_of<P: Postings>(
     alloc: Global,
     leaves: &[LeafKind],

@@ -54,43 +54,43 @@ plain_leaves q h = (and_parts (is_whole q.range) (list_all is_plain_leaf q.leave
 -- ---- candidates, document by document
 
 -- the candidates among the first i documents
-abbrev pub first_candidates : RuleKind → List FilterTree → NetworkTree → List Document → ℕ → List Candidate
-first_candidates kind filters network docs i = candidates kind [] filters network (take i docs)
+abbrev pub first_candidates : RuleKind → List Prior → List FilterTree → NetworkTree → List Document → ℕ → List Candidate
+first_candidates kind priors filters network docs i = candidates kind priors filters network (take i docs)
 
 document_is : (docs : List Document) (i : ℕ) → i < length docs → document_at docs i ≡ get_or docs i empty_document
 document_is docs i h = ap (λ o. unwrap_or o empty_document) (slice_get-get_or docs i empty_document h)
 
 -- the candidates of documents, and then those of others
-candidates-append : (kind : RuleKind) (filters : List FilterTree) (network : NetworkTree) (docs more : List Document)
-    → candidates kind [] filters network (docs ++ more) ≡ candidates kind [] filters network docs ++ candidates kind [] filters network more
-candidates-append kind filters network docs more =
-    let f : Document → List Candidate = document_candidates kind [] network in
+candidates-append : (kind : RuleKind) (priors : List Prior) (filters : List FilterTree) (network : NetworkTree) (docs more : List Document)
+    → candidates kind priors filters network (docs ++ more) ≡ candidates kind priors filters network docs ++ candidates kind priors filters network more
+candidates-append kind priors filters network docs more =
+    let f : Document → List Candidate = document_candidates kind priors network in
     let p : Document → Bool = λ d. list_all (passes d) filters in
     ap (flat_map f) (filter-append p docs more) ∙ flat_map-append f (filter p docs) (filter p more)
 
-pub next_rows : (kind : RuleKind) (filters : List FilterTree) (network : NetworkTree) (docs read : List Document) (i : ℕ) (rows next : List Row) → i < length docs → read ≡ docs
-    → map row_candidate rows ≡ first_candidates kind filters network docs i → Adds kind [] filters network (document_at read i) rows next
-    → map row_candidate next ≡ first_candidates kind filters network docs (i + 1)
-next_rows kind filters network docs read i rows next inside same so_far adds =
-    let found : List Document → List Candidate = candidates kind [] filters network in
+pub next_rows : (kind : RuleKind) (priors : List Prior) (filters : List FilterTree) (network : NetworkTree) (docs read : List Document) (i : ℕ) (rows next : List Row) → i < length docs → read ≡ docs
+    → map row_candidate rows ≡ first_candidates kind priors filters network docs i → Adds kind priors filters network (document_at read i) rows next
+    → map row_candidate next ≡ first_candidates kind priors filters network docs (i + 1)
+next_rows kind priors filters network docs read i rows next inside same so_far adds =
+    let found : List Document → List Candidate = candidates kind priors filters network in
     let d : Document = get_or docs i empty_document in
     let there : document_at read i ≡ d = ap (λ (ds : List Document). document_at ds i) same ∙ document_is docs i inside in
-    let more : first_candidates kind filters network docs (i + 1) ≡ found (take i docs) ++ found (d ∷ []) =
-    ap found (take_more docs i empty_document inside) ∙ candidates-append kind filters network (take i docs) (d ∷ []) in
+    let more : first_candidates kind priors filters network docs (i + 1) ≡ found (take i docs) ++ found (d ∷ []) =
+    ap found (take_more docs i empty_document inside) ∙ candidates-append kind priors filters network (take i docs) (d ∷ []) in
     ap (map row_candidate) adds.behind
     ∙ map-append row_candidate rows adds.more
     ∙ ap (λ cs. cs ++ map row_candidate adds.more) so_far
     ∙ ap (λ cs. found (take i docs) ++ cs) (adds.candidates ∙ ap (λ (e : Document). found (e ∷ [])) there)
     ∙ sym more
 
-pub next_keys : (kind : RuleKind) (filters : List FilterTree) (network : NetworkTree) (d : Document) (rows next : List Row) → All (IsKeyed network.tree) rows → Adds kind [] filters network d rows next
+pub next_keys : (kind : RuleKind) (priors : List Prior) (filters : List FilterTree) (network : NetworkTree) (d : Document) (rows next : List Row) → All (IsKeyed network.tree) rows → Adds kind priors filters network d rows next
     → All (IsKeyed network.tree) next
-next_keys kind filters network d rows next keys adds =
+next_keys kind priors filters network d rows next keys adds =
     subst (λ (rs : List Row). All (IsKeyed network.tree) rs) (sym adds.behind) (All-append (IsKeyed network.tree) rows adds.more keys adds.keyed)
 
-pub all_candidates : (kind : RuleKind) (filters : List FilterTree) (network : NetworkTree) (docs : List Document) (i : ℕ) (rows : List Row) → length docs ≤ i
-    → map row_candidate rows ≡ first_candidates kind filters network docs i → map row_candidate rows ≡ candidates kind [] filters network docs
-all_candidates kind filters network docs i rows read is = is ∙ ap (candidates kind [] filters network) (take_all i docs read)
+pub all_candidates : (kind : RuleKind) (priors : List Prior) (filters : List FilterTree) (network : NetworkTree) (docs : List Document) (i : ℕ) (rows : List Row) → length docs ≤ i
+    → map row_candidate rows ≡ first_candidates kind priors filters network docs i → map row_candidate rows ≡ candidates kind priors filters network docs
+all_candidates kind priors filters network docs i rows read is = is ∙ ap (candidates kind priors filters network) (take_all i docs read)
 
 -- ---- sorted rows
 
@@ -113,10 +113,10 @@ sorted_hits rows h = λ k d low high.
     let there : get_or (map row_hit rows) (k + 1) d ≡ row_hit (get_or rows (k + 1) r) = get_or-map row_hit rows (k + 1) r d less in
     rw (here, there) (h k r low less)
 
-pub IsRanking-made : (kind : RuleKind) (q : CheckedTree) (docs : List Document) (rows sorted : List Row)
-    → map row_candidate rows ≡ query_candidates kind [] q docs → All (IsKeyed q.tree) rows
-    → IsPermutation rows sorted → IsSortedBy (λ a b. is_lt (row_order a b)) sorted → IsRanking kind [] q docs (map row_hit sorted)
-IsRanking-made kind q docs rows sorted all keys moved up = record {
+pub IsRanking-made : (kind : RuleKind) (priors : List Prior) (q : CheckedTree) (docs : List Document) (rows sorted : List Row)
+    → map row_candidate rows ≡ query_candidates kind priors q docs → All (IsKeyed q.tree) rows
+    → IsPermutation rows sorted → IsSortedBy (λ a b. is_lt (row_order a b)) sorted → IsRanking kind priors q docs (map row_hit sorted)
+IsRanking-made kind priors q docs rows sorted all keys moved up = record {
   all = subst (λ cs. IsPermutation cs (map candidate_of (map row_hit sorted))) all
       (subst (λ cs. IsPermutation (map row_candidate rows) cs) (sym (same_candidates sorted)) (IsPermutation-map row_candidate rows sorted moved));
   keys = All-map (λ hit. hit.key ≡ key_at LAST (hit_beliefs hit) q.tree) row_hit sorted (All-permutation (IsKeyed q.tree) rows sorted moved keys);
@@ -124,19 +124,19 @@ IsRanking-made kind q docs rows sorted all keys moved up = record {
 }
 
 -- by what the network and the index tell, which are those of the query and as they were
-pub IsRanking-rows : (kind : RuleKind) (q : CheckedTree) (filters : List FilterTree) (network : NetworkTree) (stats : List LeafStats) (docs read : List Document) (rows sorted : List Row)
+pub IsRanking-rows : (kind : RuleKind) (priors : List Prior) (q : CheckedTree) (filters : List FilterTree) (network : NetworkTree) (stats : List LeafStats) (docs read : List Document) (rows sorted : List Row)
     → filters ≡ q.filters → network ≡ record { leaves = q.leaves; range = q.range; stats = stats; tree = q.tree } → stats ≡ map (stats_of docs) q.leaves → read ≡ docs
-    → map row_candidate rows ≡ candidates kind [] filters network read → All (IsKeyed network.tree) rows
-    → IsPermutation rows sorted → IsSortedBy (λ a b. is_lt (row_order a b)) sorted → IsRanking kind [] q docs (map row_hit sorted)
-IsRanking-rows kind q filters network stats docs read rows sorted asked is summed same all keys moved up =
+    → map row_candidate rows ≡ candidates kind priors filters network read → All (IsKeyed network.tree) rows
+    → IsPermutation rows sorted → IsSortedBy (λ a b. is_lt (row_order a b)) sorted → IsRanking kind priors q docs (map row_hit sorted)
+IsRanking-rows kind priors q filters network stats docs read rows sorted asked is summed same all keys moved up =
     let seen : network ≡ query_network q docs = is ∙ ap (λ ss. record { leaves = q.leaves; range = q.range; stats = ss; tree = q.tree }) summed in
-    let here : map row_candidate rows ≡ query_candidates kind [] q docs =
+    let here : map row_candidate rows ≡ query_candidates kind priors q docs =
     all
-    ∙ ap (λ (fs : List FilterTree). candidates kind [] fs network read) asked
-    ∙ ap (λ (n : NetworkTree). candidates kind [] q.filters n read) seen
-    ∙ ap (λ (ds : List Document). candidates kind [] q.filters (query_network q docs) ds) same in
+    ∙ ap (λ (fs : List FilterTree). candidates kind priors fs network read) asked
+    ∙ ap (λ (n : NetworkTree). candidates kind priors q.filters n read) seen
+    ∙ ap (λ (ds : List Document). candidates kind priors q.filters (query_network q docs) ds) same in
     let keyed : All (IsKeyed q.tree) rows = subst (λ (n : NetworkTree). All (IsKeyed n.tree) rows) seen keys in
-    IsRanking-made kind q docs rows sorted here keyed moved up
+    IsRanking-made kind priors q docs rows sorted here keyed moved up
 
 -- ---- as many fractions as leaves
 

@@ -11,13 +11,17 @@ use query_check::LeafKind;
 use ri_base::{LeafStats, NoMemory, Postings, Sealed};
 use std::alloc::Global;
 
-/// The sums of a leaf's counts over all documents. An expression without a context counts each of their tokens.
+/// The sums of a leaf's counts over all documents. An expression without a context counts each of their tokens, a prior
+/// none.
 fn stats_of(alloc: Global, leaf: &LeafKind, index: &mut Sealed) -> Result<LeafStats, NoMemory>
     requires { is_plain_leaf (leaf_tree leaf.now) ≡ true }
     ensures stats { IfOk result (λ s. s ≡ stats_of index.old (leaf_tree leaf.now)) }
     ensures range { IfOk result (λ s. AreLeafStats s) }
     ensures same { index.new ≡ index.old }
 {
+    let LeafKind::Extents(..) = leaf else {
+        return Ok(LeafStats { cf: 0, total: 0 });
+    };
     let total = index.token_count();
     let mut cf = 0;
     for id in 0..index.docs() {

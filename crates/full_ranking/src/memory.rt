@@ -1,5 +1,5 @@
 // The scoring of documents of an index in memory, which has no file and no store to fail.
-ghost use Rattle.std.specs.Prelude.{◌≡◌, ◌<◌, true, length, map, [], IfOk, OnOk};
+ghost use Rattle.std.specs.Prelude.{◌≡◌, ◌<◌, true, length, map, All, IfOk, OnOk};
 ghost use Rattle.std.specs.List.{list_all};
 ghost use Rattle.ri_base.specs.Collection.{document_at};
 ghost use Rattle.ri_base.specs.Query.{filter_tree};
@@ -7,12 +7,12 @@ ghost use Rattle.ri_base.specs.declared.query.Range.TheVariants.{Whole};
 ghost use Rattle.smoothing.specs.Fractions.{Computes};
 ghost use Rattle.query_check.specs.Leaves.{leaf_tree};
 ghost use Rattle.plain_query.specs.Checked.{is_plain_leaf};
-ghost use Rattle.belief_nodes.specs.Leaves.{IsLeafCount};
+ghost use Rattle.belief_nodes.specs.Leaves.{HasPrior, IsLeafCount};
 ghost use Rattle.belief_nodes.specs.Network.{network_tree};
 ghost use Rattle.document_scoring.specs.Counts.{count_of};
 ghost use Rattle.document_scoring.specs.Rows.{Adds};
 
-use belief_nodes::{LeafCount, Network};
+use belief_nodes::{BeliefNode, LeafCount, Network};
 use document_scoring::{Row, count_of, score_document};
 use query_check::LeafKind;
 use ri_base::{Filter, Fraction, NoMemory, Sealed, SegFault};
@@ -46,6 +46,7 @@ pub fn score_in_index<F: Fn(u32, u32, u64, u64) -> Fraction>(
     filters: &[Filter],
     network: &Network,
     rule: &Rule<F>,
+    plugs: &mut [Box<dyn BeliefNode>],
     index: &mut Sealed,
     id: u32,
     rows: &mut Vec<Row>,
@@ -54,11 +55,13 @@ pub fn score_in_index<F: Fn(u32, u32, u64, u64) -> Fraction>(
     requires id { id < length index.old }
     requires whole { (network_tree network.now).range ≡ Whole }
     requires plain { list_all is_plain_leaf (network_tree network.now).leaves ≡ true }
+    requires plugs { All (HasPrior (length plugs.old)) (network_tree network.now).leaves }
     ensures adds { OnOk result
-        (Adds rule.now.kind [] (map filter_tree filters.now) (network_tree network.now) (document_at index.old id) rows.old.items rows.new.items) }
+        (Adds rule.now.kind (map (λ plug. meaning plug) plugs.old) (map filter_tree filters.now) (network_tree network.now) (document_at index.old id) rows.old.items rows.new.items) }
+    ensures stay { map (λ plug. meaning plug) plugs.new ≡ map (λ plug. meaning plug) plugs.old }
     ensures same { index.new ≡ index.old }
 {
-    match score_document(alloc, filters, network, rule, index, id, rows) {
+    match score_document(alloc, filters, network, rule, plugs, index, id, rows) {
         Ok(()) => Ok(()),
         Err(SegFault::Memory) => Err(AllocError),
         Err(SegFault::Malformed { .. } | SegFault::Missing { .. } | SegFault::Store) =>

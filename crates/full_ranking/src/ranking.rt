@@ -1,11 +1,12 @@
 // Candidates and their order.
-ghost use Rattle.std.specs.Prelude.{◌≡◌, ◌≤◌, true, [], length, map, All, IfOk};
+ghost use Rattle.std.specs.Prelude.{◌≡◌, ◌≤◌, true, length, map, All, IfOk};
 ghost use Rattle.std.specs.List.{list_all};
 ghost use Rattle.ri_base.specs.Query.{filter_tree};
 ghost use Rattle.ri_base.specs.declared.query.Range.TheVariants.{Whole};
 ghost use Rattle.smoothing.specs.Fractions.{Computes};
 ghost use Rattle.query_check.specs.Answers.{whole_checked};
 ghost use Rattle.plain_query.specs.Checked.{is_plain_checked, is_plain_leaf};
+ghost use Rattle.belief_nodes.specs.Leaves.{HasPrior};
 ghost use Rattle.belief_nodes.specs.Network.{network_tree};
 ghost use Rattle.document_scoring.specs.Candidates.{candidates};
 ghost use Rattle.document_scoring.specs.Rows.{IsKeyed, row_candidate, row_hit};
@@ -13,7 +14,7 @@ ghost use Rattle.full_ranking.specs.Ranking.{IsAnswer};
 
 use crate::counts::all_stats;
 use crate::memory::score_in_index;
-use belief_nodes::Network;
+use belief_nodes::{BeliefNode, Network};
 use document_scoring::Row;
 use query_check::Checked;
 use ri_base::{Filter, Fraction, Hits, NoMemory, Postings, Sealed};
@@ -26,18 +27,21 @@ fn rows_of<F: Fn(u32, u32, u64, u64) -> Fraction>(
     filters: &[Filter],
     network: &Network,
     rule: &Rule<F>,
+    plugs: &mut [Box<dyn BeliefNode>],
     index: &mut Sealed,
 ) -> Result<Vec<Row>, NoMemory>
     requires rule { Computes F.pre F.post rule.now.kind rule.now.f }
     requires whole { (network_tree network.now).range ≡ Whole }
     requires plain { list_all is_plain_leaf (network_tree network.now).leaves ≡ true }
-    ensures rows { IfOk result (λ v. map row_candidate v.items ≡ candidates rule.now.kind [] (map filter_tree filters.now) (network_tree network.now) index.old) }
+    requires plugs { All (HasPrior (length plugs.old)) (network_tree network.now).leaves }
+    ensures rows { IfOk result (λ v. map row_candidate v.items ≡ candidates rule.now.kind (map (λ plug. meaning plug) plugs.old) (map filter_tree filters.now) (network_tree network.now) index.old) }
     ensures keys { IfOk result (λ v. All (IsKeyed (network_tree network.now).tree) v.items) }
+    ensures stay { map (λ plug. meaning plug) plugs.new ≡ map (λ plug. meaning plug) plugs.old }
     ensures same { index.new ≡ index.old }
 {
     let mut rows = Vec::new(alloc);
     for id in 0..index.docs() {
-        score_in_index(alloc, filters, network, rule, index, id, &mut rows)?;
+        score_in_index(alloc, filters, network, rule, plugs, index, id, &mut rows)?;
     }
     Ok(rows)
 }
@@ -54,24 +58,27 @@ fn hits_of(alloc: Global, rows: Vec<Row>) -> Result<Hits, NoMemory>
 }
 
 /// The first hits of the ranking of an index's documents, at most so many, for a checked query. The query is plain: it
-/// ranks whole documents, and has leaves without contexts and no priors.
+/// ranks whole documents, and has leaves without contexts. `plugs` settle its priors by their numbers.
 pub fn rank<F: Fn(u32, u32, u64, u64) -> Fraction>(
     alloc: Global,
     checked: &Checked,
     rule: &Rule<F>,
+    plugs: &mut [Box<dyn BeliefNode>],
     index: &mut Sealed,
     most: usize,
 ) -> Result<Hits, NoMemory>
     requires rule { Computes F.pre F.post rule.now.kind rule.now.f }
     requires plain { is_plain_checked (whole_checked checked.now) ≡ true }
-    ensures ranking { IfOk result (IsAnswer rule.now.kind [] (whole_checked checked.now) index.old most) }
+    requires plugs { All (HasPrior (length plugs.old)) (whole_checked checked.now).leaves }
+    ensures ranking { IfOk result (IsAnswer rule.now.kind (map (λ plug. meaning plug) plugs.old) (whole_checked checked.now) index.old most) }
     ensures few { IfOk result (λ hits. length hits ≤ most) }
     ensures leaves { IfOk result (λ hits. All (λ hit. length hit.fractions ≡ length checked.now.leaves.items) hits) }
+    ensures stay { map (λ plug. meaning plug) plugs.new ≡ map (λ plug. meaning plug) plugs.old }
     ensures same { index.new ≡ index.old }
 {
     let stats = all_stats(alloc, &checked.leaves, index)?;
     let network = Network::new(alloc, checked, &stats)?;
-    let mut rows = rows_of(alloc, &checked.filters, &network, rule, index)?;
+    let mut rows = rows_of(alloc, &checked.filters, &network, rule, plugs, index)?;
     rows.sort_unstable();
     rows.truncate(most);
     hits_of(alloc, rows)

@@ -1,5 +1,6 @@
 // Whole runs of the program's words over sources and sinks in memory.
-use indri_app::{Status, run};
+use crate::run_words;
+use indri_app::Status;
 use ri_base::ArgList;
 use ri_ends::{MemSink, MemSource, SinkFail, Source};
 use std::alloc::Global;
@@ -53,7 +54,7 @@ fn ran(
     fails: &[SinkFail],
 ) -> Result<(Status, Vec<u8>), Fail> {
     let mut sink = MemSink::new(alloc, fails.to_vec(alloc)?);
-    let status = run(alloc, words, source, &mut sink);
+    let status = run_words(alloc, words, source, &mut sink)?;
     Ok((status, sink.bytes().to_vec(alloc)?))
 }
 
@@ -489,7 +490,12 @@ static REFUSED: [(&[&str], Status, &str); 34] = [
     (
         &[".", "query", "--mu", "1", "#prior(length)"],
         Status::QueryRefused,
-        "refused Query NotYetBuilt 0\n",
+        "refused Check NoLeaf\n",
+    ),
+    (
+        &[".", "query", "--mu", "1", "a #prior(x)"],
+        Status::QueryRefused,
+        "refused Check UnknownPrior x\n",
     ),
     (
         &[".", "query", "--mu", "1", "a.(title)"],

@@ -4,6 +4,7 @@ pub mod Command
 pub mod CommandPieces
 pub mod Faults
 pub mod Pieces
+pub mod Priors
 pub mod Runs
 pub mod Scan
 pub mod Shown

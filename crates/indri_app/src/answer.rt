@@ -12,9 +12,11 @@ ghost use Rattle.ranked_output.specs.Marks.{IsScale};
 ghost use Rattle.ranked_output.specs.Texts.{line_of, lines_of};
 ghost use Rattle.indri_app.specs.Answer.{IsResult, first_lines};
 ghost use Rattle.indri_app.specs.Command.{IsRule};
+ghost use Rattle.indri_app.specs.Priors.{run_priors};
 ghost use Rattle.indri_app.specs.Shown.{shown_line, shown_text, told_shown};
 
 use crate::shown::Shown;
+use belief_nodes::BeliefNode;
 use full_ranking::{rank, ranking_is_true};
 use memory_index::MemIndex;
 use query_check::Checked;
@@ -71,13 +73,16 @@ pub fn ranking_text(
     kind: RuleKind,
     shown: &Shown,
     checked: &Checked,
+    plugs: &mut [Box<dyn BeliefNode>],
     index: MemIndex,
 ) -> Result<Vec<u8>, NoMemory>
     requires rule { IsRule kind }
     requires shown { shown.now.count ≤ MAX_RESULTS }
     requires plain { is_plain_checked (whole_checked checked.now) ≡ true }
-    ensures { IfOk result (λ text. (ranking : List Hit) × IsResult kind (told_shown shown.now) (whole_checked checked.now) index.documents ranking
+    requires plugs { map (λ plug. meaning plug) plugs.old ≡ run_priors }
+    ensures text { IfOk result (λ text. (ranking : List Hit) × IsResult kind (told_shown shown.now) (whole_checked checked.now) index.documents ranking
         × (text.items ≡ shown_text (told_labels shown.now.labels) (first_lines shown.now.count (whole_checked checked.now) ranking))) }
+    ensures stay { map (λ plug. meaning plug) plugs.new ≡ map (λ plug. meaning plug) plugs.old }
 {
     let RuleKind::Dirichlet { mu } = kind;
     let rule = Rule::new(
@@ -92,6 +97,6 @@ pub fn ranking_text(
         return Err(AllocError);
     };
     ranking_is_true();
-    let hits = rank(alloc, checked, &rule, &mut sealed, shown.count as usize)?;
+    let hits = rank(alloc, checked, &rule, plugs, &mut sealed, shown.count as usize)?;
     lines_text(alloc, &shown.labels, checked, &hits)
 }

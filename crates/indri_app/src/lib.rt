@@ -7,11 +7,13 @@ mod command;
 mod documents;
 mod fault;
 mod handler;
+mod priors;
 mod program;
 mod reply;
 mod scan;
 mod shown;
 mod status;
 
+pub use priors::length_plug;
 pub use program::run;
 pub use status::Status;

@@ -1,5 +1,5 @@
 // The program's one public call.
-ghost use Rattle.std.specs.Prelude.{◌≡◌, ◌≢◌, ◌≤◌, ◌∷◌, [], IfErr, IfOk, IfSome, IsErrOf, None, Some, true};
+ghost use Rattle.std.specs.Prelude.{◌≡◌, ◌≢◌, ◌≤◌, ◌∷◌, [], IfErr, IfOk, IfSome, IsErrOf, None, Some, map, true};
 ghost use Rattle.plain_query.specs.Checked.{is_plain_checked};
 ghost use Rattle.query_check.specs.Answers.{whole_checked};
 ghost use Rattle.ri_base.specs.Expression.{expr_tree};
@@ -9,6 +9,7 @@ ghost use Rattle.indri_app.specs.Command.{IfAsksFor, IfRefused, IsRule, asked, r
 ghost use Rattle.indri_app.specs.CommandPieces.{Breaks, IsDone, Shows};
 ghost use Rattle.indri_app.specs.Faults.{StaysUnless};
 ghost use Rattle.indri_app.specs.Pieces.{BrokenOff, Finished};
+ghost use Rattle.indri_app.specs.Priors.{run_priors};
 ghost use Rattle.indri_app.specs.Runs.{IsClosed, RunsTo, Tells};
 ghost use Rattle.command_words.specs.declared.words.TheConstants.{MAX_RESULTS};
 ghost use Rattle.indri_app.specs.Shown.{told_shown};
@@ -23,6 +24,7 @@ use crate::fault::Fault;
 use crate::reply::Reply;
 use crate::scan::Scanner;
 use crate::shown::Shown;
+use belief_nodes::BeliefNode;
 use memory_index::MemIndex;
 use query_check::Checked;
 use refusals::{Refusal, line_of};
@@ -110,21 +112,24 @@ fn write_results<K: Sink>(
     rule: RuleKind,
     shown: &Shown,
     query: &Checked,
+    plugs: &mut [Box<dyn BeliefNode>],
     index: MemIndex,
     sink: &mut K,
 ) -> Result<(), Fault>
     requires rule { IsRule rule }
     requires shown { shown.now.count ≤ MAX_RESULTS }
     requires plain { is_plain_checked (whole_checked query.now) ≡ true }
+    requires plugs { map (λ plug. meaning plug) plugs.old ≡ run_priors }
     ensures shown { IfOk result (λ _. Shows rule (told_shown shown.now) (whole_checked query.now) index.documents (λ piece. Finished (piece ∷ []) (K.taken sink.old) (K.taken sink.new))) }
     ensures none { IsErrOf result Fault.Memory → K.taken sink.new ≡ K.taken sink.old }
     ensures front { IsErrOf result Fault.Write → Shows rule (told_shown shown.now) (whole_checked query.now) index.documents (λ piece. BrokenOff (piece ∷ []) (K.taken sink.old) (K.taken sink.new)) }
     ensures no_read { IsErrOf result Fault.Read → ⊥ }
     ensures later { K.faults sink.old ≤ K.faults sink.new }
     ensures cause { IsErrOf result Fault.Write → Rose (K.faults sink.old) (K.faults sink.new) }
+    ensures stay { map (λ plug. meaning plug) plugs.new ≡ map (λ plug. meaning plug) plugs.old }
     ensures same { StaysUnless Fault.Write result (K.faults sink.old) (K.faults sink.new) }
 {
-    match ranking_text(alloc, rule, shown, query, index) {
+    match ranking_text(alloc, rule, shown, query, plugs, index) {
         Ok(text) => Reply::told(text).write(sink),
         Err(_) => Err(Fault::Memory),
     }
@@ -136,12 +141,14 @@ fn query<S: Source, K: Sink>(
     rule: RuleKind,
     shown: &Shown,
     query: &Checked,
+    plugs: &mut [Box<dyn BeliefNode>],
     source: &mut S,
     sink: &mut K,
 ) -> Result<bool, Fault>
     requires rule { IsRule rule }
     requires shown { shown.now.count ≤ MAX_RESULTS }
     requires plain { is_plain_checked (whole_checked query.now) ≡ true }
+    requires plugs { map (λ plug. meaning plug) plugs.old ≡ run_priors }
 
     ensures done { IfOk result (λ refused. IfSome (S.left source.old) (λ bytes. IsDone (rank_by rule (told_shown shown.now) (whole_checked query.now)) bytes refused (K.taken sink.old) (K.taken sink.new))) }
     ensures broken { IfErr result (λ fault. IfSome (S.left source.old) (λ bytes. Breaks fault (rank_by rule (told_shown shown.now) (whole_checked query.now)) bytes (K.taken sink.old) (K.taken sink.new))) }
@@ -154,6 +161,7 @@ fn query<S: Source, K: Sink>(
     ensures write_same { StaysUnless Fault.Write result (K.faults sink.old) (K.faults sink.new) }
     ensures layers { S.layers source.new ≡ S.layers source.old }
     ensures held { S.held source.new ≡ S.held source.old }
+    ensures stay { map (λ plug. meaning plug) plugs.new ≡ map (λ plug. meaning plug) plugs.old }
 {
     let Ok(mut gatherer) = Gatherer::new(alloc) else {
         return Err(Fault::Memory);
@@ -162,7 +170,15 @@ fn query<S: Source, K: Sink>(
         Ok(some_refused) => some_refused,
         Err(fault) => return Err(fault),
     };
-    match write_results(alloc, rule, shown, query, gatherer.into_index(), sink) {
+    match write_results(
+        alloc,
+        rule,
+        shown,
+        query,
+        plugs,
+        gatherer.into_index(),
+        sink,
+    ) {
         Ok(()) => Ok(some_refused),
         Err(fault) => Err(fault),
     }
@@ -172,10 +188,12 @@ fn query<S: Source, K: Sink>(
 fn do_command<S: Source, K: Sink>(
     alloc: Global,
     command: Command,
+    plugs: &mut [Box<dyn BeliefNode>],
     source: &mut S,
     sink: &mut K,
 ) -> Result<bool, Fault>
     requires can { CanRun (told command) }
+    requires plugs { map (λ plug. meaning plug) plugs.old ≡ run_priors }
 
     ensures done { IfOk result (λ refused. IfSome (S.left source.old) (λ bytes. IsDone (told command) bytes refused (K.taken sink.old) (K.taken sink.new))) }
     ensures broken { IfErr result (λ fault. IfSome (S.left source.old) (λ bytes. Breaks fault (told command) bytes (K.taken sink.old) (K.taken sink.new))) }
@@ -188,6 +206,7 @@ fn do_command<S: Source, K: Sink>(
     ensures write_same { StaysUnless Fault.Write result (K.faults sink.old) (K.faults sink.new) }
     ensures layers { S.layers source.new ≡ S.layers source.old }
     ensures held { S.held source.new ≡ S.held source.old }
+    ensures stay { map (λ plug. meaning plug) plugs.new ≡ map (λ plug. meaning plug) plugs.old }
 {
     match command {
         Command::Scan(expr) => scan(alloc, expr, source, sink),
@@ -195,7 +214,7 @@ fn do_command<S: Source, K: Sink>(
             rule,
             shown,
             query: checked,
-        } => query(alloc, rule, &shown, &checked, source, sink),
+        } => query(alloc, rule, &shown, &checked, plugs, source, sink),
     }
 }
 
@@ -203,10 +222,12 @@ fn do_command<S: Source, K: Sink>(
 fn run_command<S: Source, K: Sink>(
     alloc: Global,
     command: Command,
+    plugs: &mut [Box<dyn BeliefNode>],
     source: &mut S,
     sink: &mut K,
 ) -> Status
     requires can { CanRun (told command) }
+    requires plugs { map (λ plug. meaning plug) plugs.old ≡ run_priors }
 
     ensures runs { IfSome (S.left source.old) (λ bytes. RunsTo result (told command) bytes (K.taken sink.old) (K.taken sink.new) (K.faults sink.old) (K.faults sink.new)) }
     ensures command { (result ≢ Status.Usage) × (result ≢ Status.QueryRefused) }
@@ -219,8 +240,9 @@ fn run_command<S: Source, K: Sink>(
     ensures write_same { result ≢ Status.WriteFault → result ≢ Status.ReadFault → K.faults sink.new ≡ K.faults sink.old }
     ensures layers { S.layers source.new ≡ S.layers source.old }
     ensures held { S.held source.new ≡ S.held source.old }
+    ensures stay { map (λ plug. meaning plug) plugs.new ≡ map (λ plug. meaning plug) plugs.old }
 {
-    match do_command(alloc, command, source, sink) {
+    match do_command(alloc, command, plugs, source, sink) {
         Ok(false) => Status::Done,
         Ok(true) => Status::SomeRefused,
         Err(fault) => close(fault, sink),
@@ -228,14 +250,17 @@ fn run_command<S: Source, K: Sink>(
 }
 
 /// Runs the command of the words, which are those behind the program's name. It reads its input from the source and
-/// writes its text to the sink.
+/// writes its text to the sink. `plugs` settle the priors of a query.
 #[tactic(auto, unfolding(crate::specs::Command::usage_line))]
 pub fn run<S: Source, K: Sink>(
     alloc: Global,
     words: &ArgList,
     source: &mut S,
     sink: &mut K,
+    plugs: &mut [Box<dyn BeliefNode>],
 ) -> Status
+    requires plugs { map (λ plug. meaning plug) plugs.old ≡ run_priors }
+
     // A command has written what its status says: all of its pieces, or those before the moment at which it is broken off.
     ensures runs { IfAsksFor (asked words.now) (λ command. IfSome (S.left source.old) (λ bytes.
         RunsTo result command bytes (K.taken sink.old) (K.taken sink.new) (K.faults sink.old) (K.faults sink.new))) }
@@ -256,9 +281,10 @@ pub fn run<S: Source, K: Sink>(
 
     ensures layers { S.layers source.new ≡ S.layers source.old }
     ensures held { S.held source.new ≡ S.held source.old }
+    ensures stay { map (λ plug. meaning plug) plugs.new ≡ map (λ plug. meaning plug) plugs.old }
 {
     match asked_command(alloc, words) {
-        Ok(Some(command)) => run_command(alloc, command, source, sink),
+        Ok(Some(command)) => run_command(alloc, command, plugs, source, sink),
         Ok(None) => tell(sink, USAGE, Status::Usage),
         Err(TextFault::Refused(refusal)) => tell_refusal(alloc, sink, &refusal),
         Err(TextFault::Memory) => Status::Memory,

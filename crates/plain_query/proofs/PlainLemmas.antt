@@ -39,7 +39,7 @@ mutual
   leaves_plain names (combine xs) h = all_plain names xs h
   leaves_plain names (weight xs) h = weighted_plain names xs h
   leaves_plain names (greatest xs) h = all_plain names xs h
-  leaves_plain names (prior f) h = cc
+  leaves_plain names (prior f) h = refl
   leaves_plain names (leaf x None) h = refl
   leaves_plain names (leaf x (Some c)) h = cc
 

@@ -5,12 +5,12 @@ use Rattle.query_check.specs.Check.{CheckedTree}
 use Rattle.query_check.specs.Leaves.{LeafTree, extents, prior}
 use Rattle.plain_query.specs.Plain.{is_whole}
 
--- an expression without a context
+-- an expression without a context, or a prior
 abbrev pub is_plain_leaf : LeafTree → Bool
 is_plain_leaf (extents x None) = true
 is_plain_leaf (extents x (Some c)) = false
-is_plain_leaf (prior n) = false
+is_plain_leaf (prior n) = true
 
--- whole documents, and each leaf an expression without a context
+-- whole documents, and each leaf an expression without a context or a prior
 abbrev pub is_plain_checked : CheckedTree → Bool
 is_plain_checked q = is_whole q.range && list_all is_plain_leaf q.leaves

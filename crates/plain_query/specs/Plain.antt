@@ -1,4 +1,4 @@
--- The queries that are ranked today: documents as a whole, without priors and contexts. Filters may stand round them.
+-- The queries that are ranked today: documents as a whole, without contexts. Filters may stand round them.
 use Rattle.std.specs.Prelude.{ℕ, Bool, true, false, ◌&&◌, List, Option, None, Some}
 use Rattle.ri_base.specs.declared.query.Range.{Range}
 use Rattle.ri_base.specs.declared.query.Range.TheVariants.{Whole, Field, Passages}
@@ -9,12 +9,12 @@ has_no_context None = true
 has_no_context (Some c) = false
 
 unfoldable mutual
-  -- no prior and no context
+  -- no context
   pub is_plain : BeliefTree → Bool
   is_plain (combine xs) = are_plain xs
   is_plain (weight xs) = are_weighted_plain xs
   is_plain (greatest xs) = are_plain xs
-  is_plain (prior f) = false
+  is_plain (prior f) = true
   is_plain (leaf x context) = has_no_context context
 
   pub are_plain : BeliefTrees → Bool

@@ -5,7 +5,7 @@ ghost use Rattle.query_check.specs.Check.{CheckedTree, checks};
 ghost use Rattle.plain_query.specs.Checked.{is_plain_checked};
 ghost use Rattle.plain_query.specs.Plain.{is_plain_query};
 
-/// What the check leaves of a plain query has no context and no prior, and ranks whole documents.
+/// What the check leaves of a plain query has no context, and ranks whole documents.
 pub fn checked_is_plain()
     ensures { (q : QueryTree) (names : List (List ℕ)) (c : CheckedTree) → is_plain_query q ≡ true → checks q names ≡ Ok c
         → is_plain_checked c ≡ true }

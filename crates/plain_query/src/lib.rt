@@ -1,4 +1,4 @@
-//! Which queries are ranked today: those of whole documents, without priors and contexts.
+//! Which queries are ranked today: those of whole documents, without contexts.
 #![tactic(auto)]
 
 mod laws;

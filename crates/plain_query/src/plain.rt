@@ -6,7 +6,7 @@ ghost use Rattle.plain_query.specs.Plain.{are_plain, are_weighted_plain, has_no_
 
 use ri_base::{Belief, Name, Query, Range};
 
-/// Whether a query ranks whole documents and has no prior and no context, children of weight 0 included.
+/// Whether a query ranks whole documents and has no context, children of weight 0 included.
 #[tactic(auto, unfolding(crate::specs::Plain::is_plain))]
 pub fn is_plain(query: &Query) -> bool
     ensures { result ≡ is_plain_query (whole_tree query.now) }
@@ -40,7 +40,7 @@ fn is_plain_belief(x: &Belief) -> bool
     match x {
         Belief::Combine(all) | Belief::Max(all) => are_plain(all),
         Belief::Weight(all) => are_weighted_plain(all),
-        Belief::Prior(_) => false,
+        Belief::Prior(_) => true,
         Belief::Leaf(_, context) => has_no_context(context),
     }
 }

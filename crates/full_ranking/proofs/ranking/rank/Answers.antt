@@ -1,4 +1,4 @@
-use Rattle.std.proofs.Common.{◌≡◌, ◌≤◌, length, map, take, List, [], ap, sym, ◌∙◌}
+use Rattle.std.proofs.Common.{◌≡◌, ◌≤◌, length, map, take, List, ap, subst, sym, ◌∙◌}
 use Rattle.std.specs.List.{All, list_all}
 use Rattle.std.proofs.lemmas.List.{length-map, take-map}
 use Rattle.std.proofs.lemmas.List.Elements.{All-weaker}
@@ -9,6 +9,7 @@ use Rattle.query_check.specs.Answers.{whole_checked}
 use Rattle.query_check.specs.Leaves.{leaf_tree}
 use Rattle.query_check.specs.declared.leaf_kind.LeafKind.{LeafKind}
 use Rattle.plain_query.specs.Checked.{is_plain_leaf}
+use Rattle.belief_nodes.specs.Leaves.{HasPrior}
 use Rattle.belief_nodes.specs.Network.{NetworkTree, network_tree}
 use Rattle.document_scoring.specs.Counts.{stats_of}
 use Rattle.document_scoring.specs.Rows.{row_hit}
@@ -29,10 +30,14 @@ pub rows_of-requires-clause-plain : goal.rows_of-requires-clause-plain
 rows_of-requires-clause-plain g c =
     ap (λ (n : NetworkTree). list_all is_plain_leaf n.leaves) c.in_ok-network.ensures ∙ plain_leaves (whole_checked c.args.checked.now) c.requires.plain
 
+pub rows_of-requires-clause-plugs : goal.rows_of-requires-clause-plugs
+rows_of-requires-clause-plugs g c =
+    subst (λ (n : NetworkTree). All (HasPrior (length c.args.plugs.now)) n.leaves) (sym c.in_ok-network.ensures) c.requires.plugs
+
 ranking : (g : _) (c : After-drop-stats-2 g)
-    → IsRanking c.args.rule.now.kind [] (whole_checked c.args.checked.now) c.args.index.now (map row_hit c.sort_unstable.new.self.items)
+    → IsRanking c.args.rule.now.kind (map (λ b. (goal.BeliefNode-dyn g (b.vtable, b.value)).meaning b.value) c.args.plugs.now) (whole_checked c.args.checked.now) c.args.index.now (map row_hit c.sort_unstable.new.self.items)
 ranking g c =
-    IsRanking-rows c.args.rule.now.kind (whole_checked c.args.checked.now) (map filter_tree c.deref-3.result.now) (network_tree c.in_ok-network.network) c.deref-2.result.now c.args.index.now c.all_stats.new.index c.in_ok-rows.rows.items _
+    IsRanking-rows c.args.rule.now.kind (map (λ b. (goal.BeliefNode-dyn g (b.vtable, b.value)).meaning b.value) c.args.plugs.now) (whole_checked c.args.checked.now) (map filter_tree c.deref-3.result.now) (network_tree c.in_ok-network.network) c.deref-2.result.now c.args.index.now c.all_stats.new.index c.in_ok-rows.rows.items _
     (ap (map filter_tree) c.deref-3.ensures.value) c.in_ok-network.ensures (c.deref-2.ensures.value ∙ c.in_ok-stats.ensures.stats ∙ ap (λ (ls : List LeafKind). map (stats_of c.args.index.now) (map leaf_tree ls)) c.deref.ensures.value) c.in_ok-stats.ensures.same c.in_ok-rows.ensures.rows c.in_ok-rows.ensures.keys
     c.sort_unstable.ensures.permutation c.sort_unstable.ensures.sorted
 
@@ -43,7 +48,7 @@ pub returns-clause-ranking : goal.returns-clause-ranking
 returns-clause-ranking g c =
     let sorted = map row_hit c.sort_unstable.new.self.items in
     IfOk-weaker c.hits_of.result (λ hits. hits ≡ map row_hit c.truncate.new.self.items)
-    (λ hits. IsAnswer c.args.rule.now.kind [] (whole_checked c.args.checked.now) c.args.index.now c.args.most hits)
+    (λ hits. IsAnswer c.args.rule.now.kind (map (λ b. (goal.BeliefNode-dyn g (b.vtable, b.value)).meaning b.value) c.args.plugs.now) (whole_checked c.args.checked.now) c.args.index.now c.args.most hits)
     (λ hits is. (sorted, ranking g c, is ∙ shown g c)) c.hits_of.ensures
 
 pub returns-clause-few : goal.returns-clause-few
@@ -59,4 +64,4 @@ returns-clause-leaves g c =
     let Q : Hit → Type 0 = λ hit. length hit.fractions ≡ length (map leaf_tree leaves) in
     let P : Hit → Type 0 = λ hit. length hit.fractions ≡ length leaves in
     IfOk-weaker c.hits_of.result (λ hits. hits ≡ map row_hit c.truncate.new.self.items) (λ hits. All P hits)
-    (λ hits is. All-weaker Q P (λ hit h. h ∙ long) hits (first_each c.args.rule.now.kind [] (whole_checked c.args.checked.now) c.args.index.now sorted hits c.args.most (ranking g c) (is ∙ shown g c))) c.hits_of.ensures
+    (λ hits is. All-weaker Q P (λ hit h. h ∙ long) hits (first_each c.args.rule.now.kind (map (λ b. (goal.BeliefNode-dyn g (b.vtable, b.value)).meaning b.value) c.args.plugs.now) (whole_checked c.args.checked.now) c.args.index.now sorted hits c.args.most (ranking g c) (is ∙ shown g c))) c.hits_of.ensures

@@ -1,5 +1,5 @@
 // Numbers of the command line.
-ghost use Rattle.std.specs.Prelude.{◌≡◌, ◌≤◌, ◌↔◌, IfSome, IsTrue, option_map};
+ghost use Rattle.std.specs.Prelude.{◌≡◌, ◌≤◌, IfSome, option_map};
 ghost use Rattle.std.specs.List.{list_all};
 ghost use Rattle.ri_base.specs.Ascii.{is_digit};
 ghost use Rattle.command_words.specs.Numbers.{has_number_form, number_or, number_to, starts_with_zero};

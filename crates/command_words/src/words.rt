@@ -1,5 +1,5 @@
 // The commands of the command line.
-ghost use Rattle.std.specs.Prelude.{◌≡◌, ◌≤◌, IfOk, IfSome, Some, drop, map, option_map};
+ghost use Rattle.std.specs.Prelude.{◌≡◌, IfOk, IfSome, Some, drop, map, option_map};
 ghost use Rattle.command_words.specs.Asked.{AreInRange, told_labels, told_words};
 ghost use Rattle.command_words.specs.Given.{told_given};
 ghost use Rattle.command_words.specs.Table.{asks_of, command_by, explain_by, query_by, scan_by};

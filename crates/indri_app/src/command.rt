@@ -1,5 +1,5 @@
 // The command that the words of the command line ask for.
-ghost use Rattle.std.specs.Prelude.{◌≡◌, ◌≤◌, Ok, Err, Result, Some, true, IfOk, IfSome};
+ghost use Rattle.std.specs.Prelude.{◌≡◌, ◌≤◌, Ok, Err, Result, Some, IfOk, IfSome};
 ghost use Rattle.command_words.specs.Asked.{AreInRange, told_words};
 ghost use Rattle.command_words.specs.declared.words.TheConstants.{MAX_RESULTS};
 ghost use Rattle.query_reader.specs.QueryText.{query_text};

@@ -1,7 +1,4 @@
 // How the results of a query are shown.
-ghost use Rattle.std.specs.Prelude.{◌≡◌};
-ghost use Rattle.indri_app.specs.Shown.{shown_for, told_shown};
-ghost use Rattle.command_words.specs.Asked.{told_asked};
 
 /// How results are shown.
 #[derive(Debug, Drop)]

@@ -1,9 +1,7 @@
 // Why a hit has its score: the text of `explain`.
-ghost use Rattle.std.specs.Prelude.{◌≡◌, ◌++◌, ◌∷◌, IfOk, OnOk};
-ghost use Rattle.std.specs.Fmt.{decimal};
+ghost use Rattle.std.specs.Prelude.{◌≡◌, ◌++◌, IfOk, OnOk};
 ghost use Rattle.log_chain.specs.Score.{score};
-ghost use Rattle.ri_base.specs.Expression.{expr_tree};
-ghost use Rattle.query_printer.specs.Printed.{context_text, printed};
+ghost use Rattle.query_printer.specs.Printed.{context_text};
 ghost use Rattle.ranked_output.specs.Explained.{belief_column, counts_columns, explained_text, leaf_text, leaves_text, named_number, place_line, places_text, result_line, scale_line, score_line};
 ghost use Rattle.ranked_output.specs.Marks.{IsScale};
 

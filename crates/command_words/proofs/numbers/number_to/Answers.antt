@@ -1,5 +1,4 @@
-use Rattle.std.proofs.Common.{◌≡◌, ◌<◌, ◌^◌, true, false, arith, rules}
-use Rattle.command_words.specs.Numbers.{has_number_form}
+use Rattle.std.proofs.Common.{rules}
 use Rattle.command_words.proofs.NumberLemmas.{no_number, number_above, number_in, number_unread, number_zero}
 use Rattle.command_words.proofs.numbers.number_to.Goals as goal
 

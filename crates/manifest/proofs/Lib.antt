@@ -1,4 +1,6 @@
 pub mod EntryLemmas
 pub mod EntryLaws
 pub mod ManifestLaws
+pub mod PriorLaws
+pub mod PriorLemmas
 pub mod WritingLemmas

@@ -2,3 +2,5 @@ pub mod Entries
 pub mod Files
 pub mod Fits
 pub mod Spelling
+pub mod Priors
+pub mod PriorFits

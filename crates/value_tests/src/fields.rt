@@ -3,7 +3,7 @@ ghost use Rattle.std.specs.Prelude.{◌≡◌, ◌<◌, ◌≤◌, ◌⊎◌, Al
 ghost use Rattle.ri_base.specs.Documents.{IsBefore};
 ghost use Rattle.field_extents.specs.Extents.{AreInOrder};
 
-use field_extents::{covered, distinct_begins};
+use field_extents::{WindowBegins, WindowCover, covered, distinct_begins};
 use ri_base::{Extent, Extents, FieldSpan, Name, Spans};
 use std::alloc::Global;
 use std::test::Fail;
@@ -116,5 +116,31 @@ fn begins_in_windows(rt: HostRuntime) -> Result<(), Fail> {
         let window = Extent::new(*begin, *end);
         assert_eq!(rt; begins_in(rt.alloc(), &BEGINS, window)?, *count);
     }
+    Ok(())
+}
+
+/// The same windows one behind the other: the second begins between extents, the third inside the second.
+#[test]
+fn begins_in_a_run_of_windows(rt: HostRuntime) -> Result<(), Fail> {
+    let xs = extents(rt.alloc(), &BEGINS)?;
+    let mut begins = WindowBegins::new(&xs);
+    assert_eq!(rt; begins.count(Extent::new(0, 9)), 3);
+    assert_eq!(rt; begins.count(Extent::new(1, 4)), 1);
+    assert_eq!(rt; begins.count(Extent::new(2, 9)), 2);
+    Ok(())
+}
+
+/// A field that reaches over three windows, and others that begin inside them.
+#[test]
+fn positions_in_a_run_of_windows(rt: HostRuntime) -> Result<(), Fail> {
+    let title = name(rt.alloc(), b't')?;
+    let spans = fields(
+        rt.alloc(),
+        &[(b't', 0, 7), (b't', 1, 2), (b'h', 4, 20), (b't', 8, 10)],
+    )?;
+    let mut cover = WindowCover::new(spans.as_slice(), &title);
+    assert_eq!(rt; cover.count(Extent::new(0, 5)), 5);
+    assert_eq!(rt; cover.count(Extent::new(3, 9)), 5);
+    assert_eq!(rt; cover.count(Extent::new(6, 20)), 3);
     Ok(())
 }

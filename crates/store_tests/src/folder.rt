@@ -38,7 +38,7 @@ fn a_folder_keeps_its_files(rt: HostRuntime) -> Result<(), Fail> {
     Ok(())
 }
 
-/// A folder that isn't there has no files, and takes none.
+/// A folder that isn't there has no files and takes none, nor does one that nobody may write.
 static MISSING: [(&str, Call, Answer<'static>); 5] = [
     ("a", Call::Len, Answer::Length(None)),
     ("a", Call::Read(0, 8), Answer::Bytes(b"")),
@@ -53,6 +53,14 @@ fn no_folder(rt: HostRuntime) -> Result<(), Fail> {
     assert_eq!(rt; first_wrong(&mut store, &MISSING), None);
     let mut nowhere = FolderStore::new(&rt, "")?;
     assert!(rt; all_fail(&mut nowhere, "a"));
+    Ok(())
+}
+
+// Linux lets nobody make a file in its folder of processes.
+#[test]
+fn a_folder_that_takes_no_file(rt: HostRuntime) -> Result<(), Fail> {
+    let mut store = FolderStore::new(&rt, "/proc")?;
+    assert_eq!(rt; first_wrong(&mut store, &MISSING), None);
     Ok(())
 }
 

@@ -6,7 +6,7 @@ use Rattle.std.proofs.lemmas.List.{length-map}
 use Rattle.ri_base.specs.declared.fraction.Fraction.{Fraction}
 use Rattle.manifest.specs.PriorFits.{IsPrior}
 use Rattle.file_fields.proofs.Written.{one_written}
-use Rattle.manifest.specs.Priors.{PriorTable, Row, row_of, spelled_row}
+use Rattle.manifest.specs.Priors.{PriorTable, row_of, spelled_row}
 
 pub few_rows : (t : PriorTable) (rows : List (List ℕ × Fraction)) → IsPrior t → map row_of rows ≡ t.rows → length rows < 2 ^ 32
 few_rows t rows fit e = subst (λ n. n < 2 ^ 32) (ap length (sym e) ∙ length-map rows row_of) fit.1.0.0

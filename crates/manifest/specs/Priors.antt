@@ -1,5 +1,5 @@
 -- The file of a prior as its bytes.
-use Rattle.std.specs.Prelude.{ℕ, true, List, [], ◌∷◌, ◌++◌, length, map, Option, None, Some, option_map, Result, Ok, nat_lt, nat_le, ◌==◌, ◌&&◌, if◌then◌else◌, Bool}
+use Rattle.std.specs.Prelude.{ℕ, true, List, [], ◌∷◌, ◌++◌, length, Option, None, Some, Result, Ok, nat_lt, nat_le, ◌==◌, ◌&&◌, if◌then◌else◌, Bool}
 use Rattle.std.specs.Bool.{nat_eq}
 use Rattle.std.specs.Cmp.Lexicographic.{pointwise}
 use Rattle.std.specs.Int.{w32, w64, to_le_bytes}

@@ -2,7 +2,7 @@ use Rattle.std.proofs.Common.{[], map}
 use Rattle.std.proofs.lemmas.List.{map-append}
 use Rattle.std.proofs.lemmas.Result.{err_from_is_err_and}
 use Rattle.file_fields.specs.Reading.{repeat}
-use Rattle.manifest.specs.Priors.{Row, row, row_of}
+use Rattle.manifest.specs.Priors.{row, row_of}
 use Rattle.file_fields.proofs.Loops.{goes_on, ends, is_done}
 use Rattle.manifest.proofs.prior_reading.rows_from.Goals as goal
 

@@ -1,6 +1,6 @@
 use Rattle.std.proofs.Common.{◌≡◌, ◌-◌, [], map}
 use Rattle.file_fields.specs.Reading.{repeat}
-use Rattle.manifest.specs.Priors.{Row, row, row_of}
+use Rattle.manifest.specs.Priors.{row, row_of}
 use Rattle.file_fields.proofs.Loops.{with_front}
 use Rattle.manifest.proofs.prior_reading.rows_from.Given as goal
 

@@ -4,18 +4,16 @@ use ri_base::{Docno, Fraction};
 use std::alloc::Global;
 use std::test::Fail;
 
-/// A docno, a number of tokens, and the fraction's two numbers.
-type Case = (&'static [u8], u32, u64, u64);
-
-// two rows, then documents without one
-static TABLE: [Case; 4] = [
+/// Docnos, numbers of tokens, and what a table with the rows 1/3 and 3/4 and the rest 1/2 settles.
+static TABLE: [(&[u8], u32, u64, u64); 4] = [
     (b"d1", 5, 1, 3),
     (b"d2", 5, 3, 4),
     (b"d3", 5, 1, 2),
     (b"d", 5000, 1, 2),
 ];
 
-static LENGTHS: [Case; 6] = [
+/// What is settled by the steps (100, 1/2) and (1000, 1/1) and the rest 1/4.
+static LENGTHS: [(&[u8], u32, u64, u64); 6] = [
     (b"d1", 0, 1, 4),
     (b"d1", 99, 1, 4),
     (b"d1", 100, 1, 2),
@@ -24,51 +22,65 @@ static LENGTHS: [Case; 6] = [
     (b"d2", 5000, 1, 1),
 ];
 
-fn docno_of(alloc: Global, text: &[u8]) -> Result<Docno, Fail> {
-    Ok(Docno::new(alloc, text)?.ok_or("no docno")?)
+/// What a prior answers to a row.
+fn row<N: BeliefNode>(
+    alloc: Global,
+    prior: &mut N,
+    text: &[u8],
+    f: Fraction,
+) -> Result<Result<(), RowRefused>, Fail> {
+    let docno = Docno::new(alloc, text)?.ok_or("no docno")?;
+    Ok(prior.take_row(alloc, &docno, f))
 }
 
-fn fraction_of(p: u64, q: u64) -> Result<Fraction, Fail> {
-    Ok(Fraction::new(p, q).map_err(|_| "no belief")?)
-}
-
-/// Whether the prior settles each case so.
-fn settles<N: BeliefNode>(alloc: Global, prior: &mut N, cases: &[Case]) -> Result<bool, Fail> {
-    for (text, len, p, q) in cases {
-        let docno = docno_of(alloc, text)?;
-        if prior.settle(&docno, *len) != fraction_of(*p, *q)? {
-            return Ok(false);
-        }
-    }
-    Ok(true)
+/// What a prior settles.
+fn settled<N: BeliefNode>(
+    alloc: Global,
+    prior: &mut N,
+    text: &[u8],
+    len: u32,
+) -> Result<Fraction, Fail> {
+    let docno = Docno::new(alloc, text)?.ok_or("no docno")?;
+    Ok(prior.settle(&docno, len))
 }
 
 #[test]
-fn table(rt: HostRuntime) -> Result<(), Fail> {
+fn a_table(rt: HostRuntime) -> Result<(), Fail> {
     let alloc = rt.alloc();
     let mut table = TablePlug::new(alloc)?;
-    assert!(&rt; table.is_table());
-    assert!(&rt; table.greatest() == fraction_of(1, 1)?);
-    let (first, second) = (docno_of(alloc, b"d1")?, docno_of(alloc, b"d2")?);
-    assert!(&rt; table.take_row(alloc, &first, fraction_of(1, 3)?) == Ok(()));
-    assert!(&rt; table.take_row(alloc, &second, fraction_of(3, 4)?) == Ok(()));
-    assert!(&rt; table.take_row(alloc, &first, fraction_of(1, 1)?) == Err(RowRefused::Repeated));
-    assert!(&rt; table.take_rest(fraction_of(1, 2)?) == Ok(()));
-    assert!(&rt; settles(alloc, &mut table, &TABLE)?);
-    assert!(&rt; table.greatest() == fraction_of(3, 4)?);
+    assert!(rt; table.is_table() && table.greatest() == Fraction { p: 1, q: 1 });
+    let first = row(alloc, &mut table, b"d1", Fraction { p: 1, q: 3 })?;
+    assert!(rt; matches!(&first, Ok(())));
+    let second = row(alloc, &mut table, b"d2", Fraction { p: 3, q: 4 })?;
+    assert!(rt; matches!(&second, Ok(())));
+    let again = row(alloc, &mut table, b"d1", Fraction { p: 1, q: 1 })?;
+    assert!(rt; matches!(&again, Err(RowRefused::Repeated)));
+    let rest = table.take_rest(Fraction { p: 1, q: 2 });
+    assert!(rt; matches!(&rest, Ok(())));
+    for (text, len, p, q) in &TABLE {
+        let f = settled(alloc, &mut table, text, *len)?;
+        assert_eq!(rt; (f.p, f.q), (*p, *q));
+    }
+    assert!(rt; table.greatest() == Fraction { p: 3, q: 4 });
     Ok(())
 }
 
 #[test]
 fn lengths(rt: HostRuntime) -> Result<(), Fail> {
     let alloc = rt.alloc();
-    let steps = vec![in alloc; (100, fraction_of(1, 2)?), (1000, fraction_of(1, 1)?)]?;
-    let mut lengths = LengthPlug::new(steps, fraction_of(1, 4)?);
-    let docno = docno_of(alloc, b"d1")?;
-    assert!(&rt; !lengths.is_table());
-    assert!(&rt; lengths.take_row(alloc, &docno, fraction_of(1, 3)?) == Err(RowRefused::Fixed));
-    assert!(&rt; lengths.take_rest(fraction_of(1, 3)?) == Err(RowRefused::Fixed));
-    assert!(&rt; settles(alloc, &mut lengths, &LENGTHS)?);
-    assert!(&rt; lengths.greatest() == fraction_of(1, 1)?);
+    let steps = vec![in alloc;
+        (100, Fraction { p: 1, q: 2 }),
+        (1000, Fraction { p: 1, q: 1 }),
+    ]?;
+    let mut lengths = LengthPlug::new(steps, Fraction { p: 1, q: 4 });
+    assert!(rt; !lengths.is_table() && lengths.greatest() == Fraction { p: 1, q: 1 });
+    let refused = row(alloc, &mut lengths, b"d1", Fraction { p: 1, q: 3 })?;
+    assert!(rt; matches!(&refused, Err(RowRefused::Fixed)));
+    let rest = lengths.take_rest(Fraction { p: 1, q: 3 });
+    assert!(rt; matches!(&rest, Err(RowRefused::Fixed)));
+    for (text, len, p, q) in &LENGTHS {
+        let f = settled(alloc, &mut lengths, text, *len)?;
+        assert_eq!(rt; (f.p, f.q), (*p, *q));
+    }
     Ok(())
 }

@@ -328,7 +328,7 @@ fn queries(rt: HostRuntime) -> Result<(), Fail> {
 }
 
 /// Words that are no command, and texts that are refused: the words, the status, and what is written.
-static REFUSED: [(&[&str], Status, &str); 32] = [
+static REFUSED: [(&[&str], Status, &str); 33] = [
     (&[], Status::Usage, USAGE),
     (&[".", "query", "--mu", "0", "a"], Status::Usage, USAGE),
     (&[".", "query", "--mu", "01", "a"], Status::Usage, USAGE),

@@ -370,7 +370,7 @@ fn options(rt: HostRuntime) -> Result<(), Fail> {
 }
 
 /// Words that are no command, and texts that are refused: the words, the status, and what is written.
-static REFUSED: [(&[&str], Status, &str); 34] = [
+static REFUSED: [(&[&str], Status, &str); 35] = [
     (&[], Status::Usage, USAGE),
     (&[".", "query", "--run", "mine", "a"], Status::Usage, USAGE),
     (&[".", "explain", "1", "a"], Status::Usage, USAGE),

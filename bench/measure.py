@@ -18,6 +18,9 @@ The inputs are made in a temporary folder, the same ones each time. Without a gr
     windows       one document of 1,000,000 tokens, half of which are words of the windows
     fields        65,535 fields of distinct names, one inside the other; as many of one name, one inside the other and one
                   behind the other, for what lies in them and for windows over them
+    evidence      24 MiB of newswire text: a query with the prior of lengths, and with filters that no document or every
+                  document passes, against the same query without; and filters that are windows over nested fields, of
+                  which the first extent is taken from an iterator
     instructions  machine instructions a byte, counted by cachegrind of valgrind, which must be installed, on 1/4 MiB of
                   newswire and of thin text; and one document of twice the size. They are the same in each run
 
@@ -28,8 +31,8 @@ whole process, so what it holds of the text is counted in it. Below some 5 MiB i
 that starts the program has as much. The status is 1 where a row is above a bound or the program ends with a status that
 isn't expected. Another program than that of ./indri is measured by --program.
 
-No command takes the extents of an expression one by one. The program extent_table does, and compares them with the list
-that these commands take; what they cost isn't measured here.
+A filter takes the first of an expression's extents, one by one. No command takes all of them so: the program extent_table
+does, and compares them with the list that these commands take; what they cost isn't measured here.
 """
 import argparse
 import math
@@ -94,6 +97,16 @@ WINDOW = Bound(12, 80)
 DISTINCT_NAMES = ("x.f9",)
 ONE_NAME = ("x.f", "#any:f", "#uw200000(#any:f y)", "#od200000(#any:f y)", "#od200000(#any:f #any:f)")
 FIELDS = Bound(18, 48)
+
+# A query, and what stands round or beside it: the most times of the query alone.
+ASKED = "#combine(rain launch)"
+EVIDENCE = {
+    "#combine(rain launch #prior(length))": 1.2,
+    "#filreq(nowhere #combine(rain launch))": 1.1,
+    "#filrej(nowhere #combine(rain launch))": 1.2,
+    "#filreq(the #combine(rain launch))": 1.2,
+}
+FILTERS = ("#filreq(#uw200000(#any:f y) x)", "#filreq(#od200000(#any:f y) x)", "#filrej(#od200000(#any:f #any:f) x)")
 
 # Those of `scan` and those of `query`.
 INSTRUCTIONS = {"newswire": (240, 300), "thin": (245, 265)}
@@ -421,6 +434,19 @@ def measure_fields(table):
         measure_texts(table, texts, path, FIELDS, shown)
 
 
+def measure_evidence(table):
+    path = table.folder / "evidence"
+    newswire(path, 24 * MIB)
+    for text, bound in EVIDENCE.items():
+        (alone, _), (taken, _) = table.best(*(Job(table.command("query", asked), path) for asked in (ASKED, text)))
+        ratio = taken / alone
+        table.row(f"query {text}", f"{taken:7.3f} s", table.at_most(f"{ratio:5.2f} times {ASKED}", ratio, bound))
+    one_document(path, nested_fields())
+    for text in FILTERS:
+        _, cells = table.measure(Job(table.command("query", text), path), FIELDS)
+        table.row(f"query {text}, 65,535 fields nested", *cells)
+
+
 def measure_instructions(table):
     if not shutil.which("valgrind"):
         sys.exit("valgrind isn't installed, and the group instructions needs it")
@@ -456,6 +482,7 @@ GROUPS = {
     "many": measure_many,
     "windows": measure_windows,
     "fields": measure_fields,
+    "evidence": measure_evidence,
     "instructions": measure_instructions,
 }
 

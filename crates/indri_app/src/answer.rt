@@ -97,6 +97,13 @@ pub fn ranking_text(
         return Err(AllocError);
     };
     ranking_is_true();
-    let hits = rank(alloc, checked, &rule, plugs, &mut sealed, shown.count as usize)?;
+    let hits = rank(
+        alloc,
+        checked,
+        &rule,
+        plugs,
+        &mut sealed,
+        shown.count as usize,
+    )?;
     lines_text(alloc, &shown.labels, checked, &hits)
 }

@@ -120,7 +120,7 @@ fn changed_bytes(rt: HostRuntime) -> Result<(), Fail> {
 fn raised_bytes(rt: HostRuntime) -> Result<(), Fail> {
     for n in 0..33usize {
         let mut bytes = EMPTY;
-        bytes[n] += 1;
+        bytes[n] = bytes[n].saturating_add(1);
         let found = place_of(rt.alloc(), &bytes)?;
         assert_eq!(rt; found.is_none(), 12 <= n && n < 20, "{n}");
     }

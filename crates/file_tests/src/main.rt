@@ -6,6 +6,8 @@ mod manifests;
 #[cfg(test)]
 mod marks;
 #[cfg(test)]
+mod places;
+#[cfg(test)]
 mod priors;
 #[cfg(test)]
 mod segments;

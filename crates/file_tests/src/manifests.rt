@@ -1,6 +1,6 @@
 // Manifests that were written out by hand.
+use crate::places::fault_place;
 use manifest::{manifest_bytes, read_manifest};
-use ri_base::SegFault;
 use std::alloc::Global;
 use std::process::Abort;
 use std::test::Fail;
@@ -32,14 +32,7 @@ static BEGINS: [usize; 15] = [0, 8, 12, 20, 24, 32, 36, 40, 44, 48, 56, 64, 72, 
 fn again(alloc: Global, bytes: &[u8]) -> Result<Result<Vec<u8>, u64>, Fail> {
     match read_manifest(alloc, bytes) {
         Ok(manifest) => Ok(Ok(manifest_bytes(alloc, &manifest)?.into_vec())),
-        Err(
-            SegFault::Malformed {
-                file: _,
-                part: _,
-                place,
-            },
-        ) => Ok(Err(place)),
-        Err(_) => Err(Fail::from("another fault")),
+        Err(fault) => Ok(Err(fault_place(fault)?)),
     }
 }
 

@@ -1,6 +1,6 @@
 // The file of a prior that was written out by hand.
+use crate::places::fault_place;
 use manifest::{prior_bytes, read_prior};
-use ri_base::SegFault;
 use std::alloc::Global;
 use std::test::Fail;
 
@@ -15,14 +15,7 @@ static BYTES: [u8; 65] = [
 fn again(alloc: Global, bytes: &[u8]) -> Result<Result<Vec<u8>, u64>, Fail> {
     match read_prior(alloc, bytes, 7) {
         Ok(rows) => Ok(Ok(prior_bytes(alloc, &rows)?.into_vec())),
-        Err(
-            SegFault::Malformed {
-                file: _,
-                part: _,
-                place,
-            },
-        ) => Ok(Err(place)),
-        Err(_) => Err(Fail::from("another fault")),
+        Err(fault) => Ok(Err(fault_place(fault)?)),
     }
 }
 

@@ -1,4 +1,5 @@
 // A segment that was written out by hand: `d1` has the tokens `a b`, and `d2` the token `a`.
+use crate::places::fault_place;
 use memory_index::MemIndex;
 use ri_base::{Doc, Docno, FileName, Sealed, SegFault, Spans, Term, Terms};
 use seg_codec::{
@@ -61,14 +62,7 @@ fn the_bytes_of_two_documents(rt: HostRuntime) -> Result<(), Fail> {
 fn place_of<T: Drop>(found: Result<T, SegFault>) -> Result<Result<T, u64>, Fail> {
     match found {
         Ok(value) => Ok(Ok(value)),
-        Err(
-            SegFault::Malformed {
-                file: _,
-                part: _,
-                place,
-            },
-        ) => Ok(Err(place)),
-        Err(_) => Err(Fail::from("another fault")),
+        Err(fault) => Ok(Err(fault_place(fault)?)),
     }
 }
 

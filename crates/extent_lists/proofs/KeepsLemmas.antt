@@ -8,6 +8,6 @@ pub Keeps-then : {S : Type 0} (documents : S → List Document) (faults : S → 
 Keeps-then documents faults sound quiet law r s t h k = record {
   documents_stay = k.documents_stay ∙ h.documents_stay;
   no_fault_lost = omega (arith, h.no_fault_lost, k.no_fault_lost);
-  sound_stays = (λ u. k.sound_stays.0 (h.sound_stays.0 u), λ u. h.sound_stays.1 (k.sound_stays.1 u));
+  sound_stays = λ u. k.sound_stays (h.sound_stays u);
   stays_quiet = law r s t h.stays_quiet k.stays_quiet;
 }

@@ -21,7 +21,7 @@ use Rattle.ri_base.proofs.ListLemmas.{All-drop_within, All-take_within, Contains
 
 -- ---- the places in a document
 
-IsRisingFrom : ℕ → List ℕ → Type 0
+pub IsRisingFrom : ℕ → List ℕ → Type 0
 IsRisingFrom low [] = ⊤
 IsRisingFrom low (x ∷ xs) = (low ≤ x) × IsRisingFrom (x + 1) xs
 
@@ -30,7 +30,7 @@ unfolding IsRisingFrom
 IsRisingFrom-lower low high [] le up = tt
 IsRisingFrom-lower low high (x ∷ xs) le up = (omega (arith, up.0), up.1)
 
-places_from-rises : (i : ℕ) (t : List ℕ) (xs : List (List ℕ)) → IsRisingFrom i (places_from i t xs)
+pub places_from-rises : (i : ℕ) (t : List ℕ) (xs : List (List ℕ)) → IsRisingFrom i (places_from i t xs)
 unfolding IsRisingFrom
 places_from-rises i t [] = tt
 places_from-rises i t (x ∷ xs) = by (bytes_eq x t) (places_from-rises (i + 1) t xs)
@@ -53,7 +53,7 @@ pub places-rise : (t : List ℕ) (d : Document) → IsStrictlyIncreasing (places
 unfolding places
 places-rise t d = IsStrictlyIncreasing-rises 0 (places_from 0 t d.tokens) (places_from-rises 0 t d.tokens)
 
-places_from-below : (i : ℕ) (t : List ℕ) (xs : List (List ℕ)) → All (λ p. p < i + length xs) (places_from i t xs)
+pub places_from-below : (i : ℕ) (t : List ℕ) (xs : List (List ℕ)) → All (λ p. p < i + length xs) (places_from i t xs)
 places_from-below i t [] = All-nil (λ p. p < i + 0)
 places_from-below i t (x ∷ xs) =
     let Q : ℕ → Type 0 = λ p. p < i + length (x ∷ xs) in
@@ -71,7 +71,7 @@ places-below t d = All-weaker (λ p. p < 0 + length d.tokens) (λ p. p < length 
 
 -- ---- the places in one document, among postings
 
-places_at-append : (id : ℕ) (xs ys : List Place) → places_at id (xs ++ ys) ≡ places_at id xs ++ places_at id ys
+pub places_at-append : (id : ℕ) (xs ys : List Place) → places_at id (xs ++ ys) ≡ places_at id xs ++ places_at id ys
 places_at-append id [] ys = refl
 places_at-append id (x ∷ xs) ys = by (x.id == id) (places_at-append id xs ys)
   where
@@ -137,11 +137,11 @@ places_at-searched id first count ps rest is below within low high =
 -- ---- the postings of a term
 
 -- ids that don't fall, from low on
-DontFallFrom : ℕ → List Place → Type 0
+pub DontFallFrom : ℕ → List Place → Type 0
 DontFallFrom low [] = ⊤
 DontFallFrom low (p ∷ ps) = (low ≤ p.id) × DontFallFrom p.id ps
 
-DontFallFrom-lower : (low high : ℕ) (ps : List Place) → low ≤ high → DontFallFrom high ps → DontFallFrom low ps
+pub DontFallFrom-lower : (low high : ℕ) (ps : List Place) → low ≤ high → DontFallFrom high ps → DontFallFrom low ps
 unfolding DontFallFrom
 DontFallFrom-lower low high [] le up = tt
 DontFallFrom-lower low high (p ∷ ps) le up = (omega (arith, up.0), up.1)
@@ -151,18 +151,18 @@ unfolding DontFallFrom
 DontFallFrom-places low id [] rest le up = DontFallFrom-lower low id rest le up
 DontFallFrom-places low id (x ∷ xs) rest le up = (le, DontFallFrom-places id id xs rest (omega arith) up)
 
-postings_from-rise : (id : ℕ) (t : List ℕ) (docs : List Document) → DontFallFrom id (postings_from id t docs)
+pub postings_from-rise : (id : ℕ) (t : List ℕ) (docs : List Document) → DontFallFrom id (postings_from id t docs)
 unfolding DontFallFrom
 postings_from-rise id t [] = tt
 postings_from-rise id t (d ∷ docs) =
     DontFallFrom-places id id (places t d) (postings_from (id + 1) t docs) (omega arith) (DontFallFrom-lower id (id + 1) (postings_from (id + 1) t docs) (omega arith) (postings_from-rise (id + 1) t docs))
 
-all_from : (low : ℕ) (ps : List Place) → DontFallFrom low ps → All (λ p. low ≤ p.id) ps
+pub all_from : (low : ℕ) (ps : List Place) → DontFallFrom low ps → All (λ p. low ≤ p.id) ps
 unfolding DontFallFrom
 all_from low [] up = All-nil (λ p. low ≤ p.id)
 all_from low (p ∷ ps) up = All-cons (λ p. low ≤ p.id) p ps up.0 (all_from low ps (DontFallFrom-lower low p.id ps up.0 up.1))
 
-IsNonDecreasingBy-from : (low : ℕ) (ps : List Place) → DontFallFrom low ps → IsNonDecreasingBy (λ p. p.id) ps
+pub IsNonDecreasingBy-from : (low : ℕ) (ps : List Place) → DontFallFrom low ps → IsNonDecreasingBy (λ p. p.id) ps
 unfolding DontFallFrom
 IsNonDecreasingBy-from low [] up i j d le inside = absurd (omega (arith, inside))
 IsNonDecreasingBy-from low (p ∷ ps) up zero zero d le inside = omega arith
@@ -175,28 +175,28 @@ pub postings_of-rise : (t : List ℕ) (docs : List Document) → IsNonDecreasing
 unfolding postings_of
 postings_of-rise t docs = IsNonDecreasingBy-from 0 (postings_from 0 t docs) (postings_from-rise 0 t docs)
 
-made_own : (id : ℕ) (xs : List ℕ) → places_at id (map (λ p. record { id = id; at = p }) xs) ≡ xs
+pub made_own : (id : ℕ) (xs : List ℕ) → places_at id (map (λ p. record { id = id; at = p }) xs) ≡ xs
 made_own id [] = refl
 made_own id (x ∷ xs) =
     let test : (id == id) ≡ true = grind arith in
     let rest = places_at id (map (λ p. record { id = id; at = p }) xs) in
     ap (λ b. cond b (x ∷ rest) rest) test ∙ ap (λ l. x ∷ l) (made_own id xs)
 
-made_other : (i id : ℕ) (xs : List ℕ) → i ≢ id → places_at id (map (λ p. record { id = i; at = p }) xs) ≡ []
+pub made_other : (i id : ℕ) (xs : List ℕ) → i ≢ id → places_at id (map (λ p. record { id = i; at = p }) xs) ≡ []
 made_other i id [] differ = refl
 made_other i id (x ∷ xs) differ =
     let test : (i == id) ≡ false = grind arith in
     let rest = places_at id (map (λ p. record { id = i; at = p }) xs) in
     ap (λ b. cond b (x ∷ rest) rest) test ∙ made_other i id xs differ
 
-later : (i id : ℕ) (t : List ℕ) (docs : List Document) → id < i → places_at id (postings_from i t docs) ≡ []
+pub later : (i id : ℕ) (t : List ℕ) (docs : List Document) → id < i → places_at id (postings_from i t docs) ≡ []
 later i id t [] h = refl
 later i id t (d ∷ docs) h =
     let differ : i ≢ id = λ e. omega (arith, e) in
     places_at-append id (map (λ p. record { id = i; at = p }) (places t d)) (postings_from (i + 1) t docs)
     ∙ ap (λ l. l ++ places_at id (postings_from (i + 1) t docs)) (made_other i id (places t d) differ) ∙ later (i + 1) id t docs (omega arith)
 
-at_from : (i n id : ℕ) (t : List ℕ) (docs : List Document) → id ≡ i + n → n < length docs → places_at id (postings_from i t docs) ≡ places t (document_at docs n)
+pub at_from : (i n id : ℕ) (t : List ℕ) (docs : List Document) → id ≡ i + n → n < length docs → places_at id (postings_from i t docs) ≡ places t (document_at docs n)
 at_from i n id t [] e h = absurd (omega arith)
 at_from i zero id t (d ∷ docs) e h =
     let is : id ≡ i = omega arith in
@@ -216,7 +216,7 @@ places_at-postings id t docs h = at_from 0 id id t docs (omega arith) h
 
 -- ---- a term that no document has
 
-none_from : (i : ℕ) (t : List ℕ) (xs : List (List ℕ)) → (Contains xs t → ⊥) → places_from i t xs ≡ []
+pub none_from : (i : ℕ) (t : List ℕ) (xs : List (List ℕ)) → (Contains xs t → ⊥) → places_from i t xs ≡ []
 none_from i t [] none = refl
 none_from i t (x ∷ xs) none = by (bytes_eq x t) refl (none_from (i + 1) t xs (λ c. none (Contains-later x xs t c)))
   where
@@ -224,7 +224,7 @@ none_from i t (x ∷ xs) none = by (bytes_eq x t) refl (none_from (i + 1) t xs (
     by true e r = absurd (none (subst (Contains (x ∷ xs)) ((bytes_eq-Decides x t).0 e) (Contains-here x xs)))
     by false e r = r
 
-occurs_at : (id : ℕ) (t : List ℕ) (docs : List Document) → id < length docs → Contains (document_at docs id).tokens t → Occurs t docs
+pub occurs_at : (id : ℕ) (t : List ℕ) (docs : List Document) → id < length docs → Contains (document_at docs id).tokens t → Occurs t docs
 occurs_at id t [] h c = absurd (omega arith)
 occurs_at zero t (d ∷ docs) h c = inl c
 occurs_at (suc id) t (d ∷ docs) h c = inr (occurs_at id t docs (omega arith) c)

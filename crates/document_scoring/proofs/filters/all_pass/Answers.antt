@@ -5,4 +5,4 @@ pub returns-then-not-branch-clause-exact : goal.returns-then-not-branch-clause-e
 returns-then-not-branch-clause-exact g c = λ sound.
     not_all_pass (g.P.Postings.documents c.args.part.now) (g.P.Postings.documents c.loop-filter.part) c.args.id c.args.filters.now c.loop-filter.filter-index c.filter-item.result
     c.in_ok-passes.field-0 c.loop-filter.invariant.keeps.documents_stay c.loop-filter-test.true c.filter-item.is
-    (c.in_ok-passes.ensures.exact (c.loop-filter.invariant.keeps.sound_stays.0 sound)) c.if-not-branch.true
+    (c.in_ok-passes.ensures.exact (c.loop-filter.invariant.keeps.sound_stays sound)) c.if-not-branch.true

@@ -23,7 +23,7 @@ pub returns-then-none_occurs-clause-exact : goal.returns-then-none_occurs-clause
 returns-then-none_occurs-clause-exact g c = λ sound.
     let d = document_at (g.P.Postings.documents c.args.part.now) c.args.id in
     let keeps = c.in_ok-all_pass.ensures.keeps in
-    let exact = rw keeps.documents_stay at (c.in_ok-counts.ensures.exact (keeps.sound_stays.0 sound)) in
+    let exact = rw keeps.documents_stay at (c.in_ok-counts.ensures.exact (keeps.sound_stays sound)) in
     without_leaves c.args.rule.now.kind (map (λ b. (goal.BeliefNode-dyn g (b.vtable, b.value)).meaning b.value) c.args.plugs.now) (map filter_tree c.args.filters.now) (network_tree c.args.network.now) d c.deref.result.now c.args.rows.now.items c.requires.whole
     (c.deref.ensures.value ∙ exact ∙ ap (map (count_of d)) c.leaves.ensures)
     (sym c.none_occurs.ensures ∙ c.if-none_occurs.true)
@@ -32,7 +32,7 @@ pub returns-clause-exact : goal.returns-clause-exact
 returns-clause-exact g c = λ sound.
     let docs = g.P.Postings.documents c.args.part.now in
     let keeps = c.in_ok-all_pass.ensures.keeps in
-    let exact = rw keeps.documents_stay at (c.in_ok-counts.ensures.exact (keeps.sound_stays.0 sound)) in
+    let exact = rw keeps.documents_stay at (c.in_ok-counts.ensures.exact (keeps.sound_stays sound)) in
     let counted = c.deref-2.ensures.value ∙ exact ∙ ap (map (count_of (document_at docs c.args.id))) c.leaves.ensures in
     let some : list_all (λ (count : LeafCount). count.tf == 0) c.deref-2.result.now ≡ false =
     ap (list_all (λ (count : LeafCount). count.tf == 0)) (c.deref-2.ensures.value ∙ sym c.deref.ensures.value) ∙ sym c.none_occurs.ensures ∙ c.if-none_occurs.false in

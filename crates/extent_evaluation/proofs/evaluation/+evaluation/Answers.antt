@@ -20,7 +20,7 @@ all_evaluated-loop-x-preserved g t c =
     record {
       keeps = Keeps-then _ _ _ _ g.met.P.Postings.quiet_then _ _ _ c.loop-x.invariant.keeps c.evaluated.ensures.keeps;
       listed = λ sound.
-          let listed = rw c.loop-x.invariant.keeps.documents_stay at (c.in_ok-found.ensures.exact (c.loop-x.invariant.keeps.sound_stays.0 sound)) in
+          let listed = rw c.loop-x.invariant.keeps.documents_stay at (c.in_ok-found.ensures.exact (c.loop-x.invariant.keeps.sound_stays sound)) in
           rw pushed (AreListed-more _ _ _ _ _ _ c.loop-x-test.true c.x-item.is (c.loop-x.invariant.listed sound) listed);
       ascending = rw pushed (All-push IsAscending c.loop-x.lists.items c.in_ok-found.found c.loop-x.invariant.ascending c.in_ok-found.ensures.ascending);
     }

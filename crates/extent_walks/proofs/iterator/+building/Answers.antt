@@ -18,7 +18,7 @@ group_of-loop-x-preserved g t c =
     record {
       keeps = Keeps-then _ _ _ _ g.met.P.Postings.quiet_then _ _ _ c.loop-x.invariant.keeps c.walk_of.ensures.keeps;
       gives = λ sound.
-          let here = rw c.loop-x.invariant.keeps.documents_stay at (c.in_ok-walk.ensures.exact (c.loop-x.invariant.keeps.sound_stays.0 sound)) in
+          let here = rw c.loop-x.invariant.keeps.documents_stay at (c.in_ok-walk.ensures.exact (c.loop-x.invariant.keeps.sound_stays sound)) in
           rw pushed (GiveEach-more d _ _ _ c.loop-x.out.items c.new.result c.loop-x-test.true c.x-item.is (c.loop-x.invariant.gives sound) (rw c.new.ensures.walk here));
       kept = rw pushed (AreKept-push c.loop-x.out.items c.new.result c.loop-x.invariant.kept c.new.ensures.kept);
     }

@@ -1,6 +1,6 @@
 use Rattle.std.proofs.Common.{◌≡◌, ◌+◌, ◌<◌, ◌≤◌, ◌^◌, length, false, List}
 use Rattle.std.specs.Io.KnownBytes.{prepend_known}
-use Rattle.trec_reader.specs.Ahead.{most_of}
+use Rattle.read_ahead.specs.Ahead.{most_of}
 use Rattle.trec_reader.specs.declared.document.RawDoc.{RawDoc}
 use Rattle.indri_app.specs.Pieces.{Finished, some_refused}
 use Rattle.indri_app.specs.Work.{behind_all, document_pieces}

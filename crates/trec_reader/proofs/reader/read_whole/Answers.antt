@@ -1,6 +1,9 @@
 use Rattle.std.proofs.Common.{rules, ◌≡◌, subst}
-use Rattle.trec_reader.specs.Ahead.{Steps}
-use Rattle.trec_reader.proofs.StepsLemmas.{steps_ahead, steps_then}
+use Rattle.read_ahead.specs.Ahead.{Steps}
+use Rattle.read_ahead.proofs.StepsLemmas.{steps_ahead, steps_then}
+use Rattle.std.proofs.lemmas.Result.{err_from_is_err_and}
+use Rattle.trec_reader.specs.Read.{document_at}
+use Rattle.trec_reader.proofs.Faults.{fault_gives, fault_rose, fault_stays}
 use Rattle.trec_reader.proofs.reader.read_whole.Goals as goal
 
 pub returns-in-Some-clause-steps : goal.returns-in-Some-clause-steps
@@ -18,3 +21,18 @@ windows-preserved g c =
     let same : c.if-ended.ahead ≡ c.windows.ahead = search rules in
     let steps = steps_then g.S.Source.left g.S.Source.layers g.S.Source.held g.S.Source.faults g.S.Source.can_give _ _ _ _ _ _ c.windows.invariant.3 (subst (λ a. Steps g.S.Source.left g.S.Source.layers g.S.Source.held g.S.Source.faults g.S.Source.can_give a c.fill.new.self c.windows.source c.fill.new.source) same c.fill.ensures.steps) in
     (search rules, search rules, search rules, steps, search rules, search rules, search rules, search rules)
+
+pub returns-in_err-ended-clause-read : goal.returns-in_err-ended-clause-read
+returns-in_err-ended-clause-read g c =
+    let p = err_from_is_err_and c.from_residual.result c.from_residual.ensures.1 in
+    rw p.1 (fault_gives document_at c.in_err-ended.field-0.0 p.0 _ _ _ p.2)
+
+pub returns-in_err-ended-clause-failed : goal.returns-in_err-ended-clause-failed
+returns-in_err-ended-clause-failed g c =
+    let p = err_from_is_err_and c.from_residual.result c.from_residual.ensures.1 in
+    rw p.1 (fault_rose c.in_err-ended.field-0.0 p.0 _ _ p.2 (rw c.windows.invariant.5 at c.in_err-ended.ensures.failed))
+
+pub returns-in_err-ended-clause-none : goal.returns-in_err-ended-clause-none
+returns-in_err-ended-clause-none g c =
+    let p = err_from_is_err_and c.from_residual.result c.from_residual.ensures.1 in
+    rw p.1 (fault_stays c.in_err-ended.field-0.0 p.0 _ _ p.2 (rw c.windows.invariant.5 at c.in_err-ended.ensures.none))

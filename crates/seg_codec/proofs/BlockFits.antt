@@ -1,5 +1,5 @@
 -- the block of rising postings of one range keeps what a block keeps
-use Rattle.std.proofs.Common.{◌≡◌, ◌≢◌, ◌<◌, ◌≤◌, ℕ, suc, ◌+◌, ◌-◌, ◌*◌, ◌/◌, ◌^◌, List, [], ◌∷◌, ◌++◌, length, map, Bool, true, false, cond, eqb, ◌&&◌, nat_lt, nat_le, refl, sym, ap, subst, ◌∙◌, arith}
+use Rattle.std.proofs.Common.{◌≡◌, ◌≢◌, ◌<◌, ◌≤◌, ℕ, ◌+◌, ◌-◌, ◌*◌, ◌/◌, ◌^◌, List, [], ◌∷◌, length, map, Bool, true, false, cond, eqb, ◌&&◌, nat_lt, nat_le, refl, sym, ap, subst, ◌∙◌, arith}
 use Rattle.std.specs.Int.{w32, to_le_bytes}
 use Rattle.std.specs.List.{flat_map}
 use Rattle.std.proofs.lemmas.Bool.{and_from, and_parts, eqb-true, eqb-false, leb-true, le-leb, lt-ltb, ltb-true}
@@ -7,14 +7,14 @@ use Rattle.std.proofs.lemmas.List.{length-append, length-map}
 use Rattle.std.proofs.lemmas.List.Concat.{flat_map-cons}
 use Rattle.file_fields.specs.Reading.{AllFit}
 use Rattle.ri_base.specs.declared.places.Place.{Place}
-use Rattle.seg_codec.specs.Blocks.{is_local, tokens_of}
-use Rattle.seg_codec.specs.Fits.{FitBlock, FitPlaces, FitsBlockEntry, FitsId, FitsPlace, place_rule}
-use Rattle.seg_codec.specs.Segment.{ahead, block_entry_of, block_of, cut, first, id_of, range_of}
+use Rattle.seg_codec.specs.Blocks.{tokens_of}
+use Rattle.seg_codec.specs.Fits.{FitBlock, FitPlaces, FitsBlockEntry, FitsId, FitsPlace}
+use Rattle.seg_codec.specs.Segment.{ahead, block_entry_of, cut, id_of}
 use Rattle.seg_codec.specs.Spelling.{block_bytes, spelled_block_entry}
 use Rattle.seg_codec.specs.declared.blocks.BlockEntry.{BlockEntry}
 use Rattle.seg_codec.specs.declared.documents.Entry.{Entry}
 use Rattle.seg_codec.proofs.CutLemmas.{cut_shape, cut_some}
-use Rattle.seg_codec.proofs.RisingPlaces.{AreOf, Follows, IsRange, Rise, Rise-lower}
+use Rattle.seg_codec.proofs.RisingPlaces.{AreOf, Rise, Rise-lower}
 
 -- ---- the places of a document
 

@@ -1,14 +1,13 @@
 -- the dictionary of documents keeps what a dictionary keeps
-use Rattle.std.proofs.Common.{◌≡◌, ◌<◌, ◌≤◌, ◌⊎◌, ℕ, zero, suc, ◌+◌, ◌*◌, ◌/◌, ◌^◌, List, [], ◌∷◌, ◌++◌, length, get_or, map, Bool, true, false, cond, ◌&&◌, nat_lt, nat_le, refl, sym, ap, subst, ◌∙◌, inl, inr, arith}
-use Rattle.std.specs.Prelude.{◌==◌, IsTrue}
+use Rattle.std.proofs.Common.{◌≡◌, ◌<◌, ◌≤◌, ℕ, zero, suc, ◌+◌, ◌*◌, ◌/◌, ◌^◌, List, [], ◌∷◌, ◌++◌, length, get_or, map, Bool, true, false, cond, nat_lt, nat_le, refl, sym, ap, subst, ◌∙◌, inl, inr, arith}
 use Rattle.std.specs.Cmp.Lexicographic.{slice_cmp}
 use Rattle.std.specs.Int.{w32, to_le_bytes}
-use Rattle.std.specs.List.{All, AllByRecursion, AllPairs, Contains, flat_map, sum_by}
+use Rattle.std.specs.List.{All, AllByRecursion, AllPairs, flat_map}
 use Rattle.std.specs.List.Sorted.{IsStrictlySortedBy}
 use Rattle.std.specs.Ordering.{is_eq, match_ordering, nat_cmp}
 use Rattle.std.specs.Str.{bytes_eq}
 use Rattle.std.specs.declared.cmp.Ordering.TheVariants.{Less}
-use Rattle.std.proofs.lemmas.Bool.{and_from, eq-eqb, le-leb, leb-true, lt-ltb, and_parts}
+use Rattle.std.proofs.lemmas.Bool.{and_from, eq-eqb, le-leb, lt-ltb}
 use Rattle.std.proofs.lemmas.Cmp.{nat_list_cmp_total, tied_itself}
 use Rattle.std.proofs.lemmas.List.{length-append, length-map}
 use Rattle.std.proofs.lemmas.List.Concat.{flat_map-cons}
@@ -23,14 +22,12 @@ use Rattle.ri_base.specs.Places.{places, places_from, postings_from, postings_of
 use Rattle.ri_base.specs.Text.{is_term}
 use Rattle.ri_base.specs.Vocabulary.{IsTermBefore, Occurs, vocabulary_of}
 use Rattle.ri_base.specs.declared.places.Place.{Place}
-use Rattle.ri_base.specs.declared.text.TheConstants.{TERM_BYTES}
-use Rattle.ri_base.proofs.ListLemmas.{Contains-here, Contains-later, Contains-none}
 use Rattle.ri_base.proofs.VocabularyLemmas.{IsVocabulary-vocabulary_of}
 use Rattle.seg_codec.specs.Blocks.{tokens_of}
-use Rattle.seg_codec.specs.Dictionary.{Behind, BehindTerm, behind, behind_term, end_of, end_of_all}
-use Rattle.seg_codec.specs.Fits.{FitBlockPlaces, FitDictionary, FitTerms, FitsBlockPlace, FitsTermBlocks, length_rule, range_rule}
-use Rattle.seg_codec.specs.Part.{IsFormed, IsPart}
-use Rattle.seg_codec.specs.Segment.{all_blocks, block_of, blocks_at, blocks_of, cut, dictionary_size, entry_of, first, header_of, index, placed, range_of, term_blocks_of, term_size}
+use Rattle.seg_codec.specs.Dictionary.{behind, behind_term, end_of, end_of_all}
+use Rattle.seg_codec.specs.Fits.{FitDictionary, FitsBlockPlace, FitsTermBlocks, range_rule}
+use Rattle.seg_codec.specs.Part.{IsFormed}
+use Rattle.seg_codec.specs.Segment.{all_blocks, block_of, blocks_at, blocks_of, cut, dictionary_size, entry_of, header_of, index, placed, range_of, term_blocks_of, term_size}
 use Rattle.seg_codec.specs.Spelling.{dictionary_bytes, spelled_place, spelled_term}
 use Rattle.seg_codec.specs.declared.dictionary.BlockPlace.{BlockPlace}
 use Rattle.seg_codec.specs.declared.dictionary.TermBlocks.{TermBlocks}
@@ -38,7 +35,7 @@ use Rattle.seg_codec.specs.declared.documents.Entry.{Entry}
 use Rattle.seg_codec.proofs.Appends.{length-placed}
 use Rattle.seg_codec.proofs.BlockFits.{block_short}
 use Rattle.seg_codec.proofs.CutLemmas.{cut_some}
-use Rattle.seg_codec.proofs.RisingPlaces.{AreOf, IsRange, Ranges, Rise, cut_ranges, postings_rise, ranges_few}
+use Rattle.seg_codec.proofs.RisingPlaces.{Ranges, cut_ranges, postings_rise, ranges_few}
 
 -- ---- the blocks of a term
 

@@ -1,5 +1,5 @@
 -- the documents part of documents keeps what a documents part keeps
-use Rattle.std.proofs.Common.{◌≡◌, ◌<◌, ◌≤◌, ◌⊎◌, ℕ, zero, suc, ◌+◌, ◌^◌, List, [], ◌∷◌, ◌++◌, length, get_or, map, Bool, true, false, ◌&&◌, ◌||◌, nat_lt, nat_le, refl, sym, ap, subst, ◌∙◌, inl, inr, arith}
+use Rattle.std.proofs.Common.{◌≡◌, ◌<◌, ◌≤◌, ℕ, zero, suc, ◌+◌, ◌^◌, List, [], ◌∷◌, length, map, true, false, ◌&&◌, nat_lt, nat_le, refl, sym, ap, subst, ◌∙◌, inl, inr, arith}
 use Rattle.std.specs.Prelude.{◌==◌, IsTrue, sum_by}
 use Rattle.std.specs.Bool.{nat_eq}
 use Rattle.std.specs.Cmp.Lexicographic.{pointwise, slice_cmp}
@@ -7,7 +7,7 @@ use Rattle.std.specs.List.{All, AllByRecursion, AllPairs, Contains, list_all}
 use Rattle.std.specs.List.Sorted.{IsStrictlySortedBy}
 use Rattle.std.specs.Ordering.{is_eq, match_ordering, nat_cmp}
 use Rattle.std.specs.declared.cmp.Ordering.TheVariants.{Less}
-use Rattle.std.proofs.lemmas.Bool.{and_from, and_parts, eq-eqb, le-leb, leb-true, lt-ltb, or_left, or_right}
+use Rattle.std.proofs.lemmas.Bool.{and_from, and_parts, eq-eqb, le-leb, lt-ltb, or_left, or_right}
 use Rattle.std.proofs.lemmas.Cmp.{nat_list_cmp_total, tied_itself}
 use Rattle.std.proofs.lemmas.List.{get_or_past, length-map}
 use Rattle.std.proofs.lemmas.List.Elements.{All-contains, All-contains_itself, All-head, All-tail, All-weaker, Contains-append_left, Contains-append_right, Contains-append_cases, recursion_from_All}
@@ -17,13 +17,13 @@ use Rattle.file_fields.specs.Fields.{is_before}
 use Rattle.file_fields.specs.Reading.{AllFit}
 use Rattle.ri_base.specs.Collection.{field_names, names_of, token_count}
 use Rattle.ri_base.specs.Documents.{Document, Field, IsBefore, IsDocument}
-use Rattle.ri_base.specs.Text.{is_docno, is_docno_byte, is_name, is_name_byte, starts_with_letter}
-use Rattle.ri_base.specs.declared.limits.TheConstants.{MAX_DOC_FIELDS, MAX_DOC_TOKENS}
+use Rattle.ri_base.specs.Text.{is_docno_byte, is_name, is_name_byte, starts_with_letter}
+use Rattle.ri_base.specs.declared.limits.TheConstants.{MAX_DOC_TOKENS}
 use Rattle.ri_base.specs.declared.text.TheConstants.{DOCNO_BYTES, NAME_BYTES}
 use Rattle.ri_base.proofs.ListLemmas.{Contains-cases, Contains-none}
 use Rattle.seg_codec.specs.Blocks.{tokens_of}
-use Rattle.seg_codec.specs.Documents.{are_whole, first_row, is_behind, named, names_in_order}
-use Rattle.seg_codec.specs.Fits.{FitDocuments, FitEntries, FitFields, FitNames, FitRows, FitsEntry, FitsName, FitsRow, end_rule, length_rule}
+use Rattle.seg_codec.specs.Documents.{first_row, is_behind, named, names_in_order}
+use Rattle.seg_codec.specs.Fits.{FitDocuments, FitFields, FitsEntry, FitsName, FitsRow, end_rule, length_rule}
 use Rattle.seg_codec.specs.Part.{IsFormed, IsPart}
 use Rattle.seg_codec.specs.Segment.{entry_of, header_of}
 use Rattle.seg_codec.specs.Spelling.{number_of, numbered}

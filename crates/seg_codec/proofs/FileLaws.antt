@@ -1,12 +1,12 @@
 -- a file whose parts keep their grammar, and whose postings are those of documents, is the segment of these documents
-use Rattle.std.proofs.Common.{◌≡◌, ◌<◌, ◌≤◌, ℕ, suc, ◌+◌, ◌-◌, ◌*◌, List, [], ◌∷◌, ◌++◌, length, map, take, drop, Bool, true, ◌&&◌, nat_le, Result, Ok, Err, refl, sym, ap, subst, ◌∙◌, append_assoc, arith}
+use Rattle.std.proofs.Common.{◌≡◌, ◌<◌, ◌≤◌, ℕ, ◌+◌, ◌-◌, List, [], ◌∷◌, ◌++◌, length, map, take, drop, nat_le, Result, Ok, Err, refl, sym, ap, subst, ◌∙◌, arith}
 use Rattle.std.specs.Prelude.{◌==◌, sum_by}
 use Rattle.std.specs.Bool.{nat_eq}
 use Rattle.std.specs.Cmp.Lexicographic.{pointwise}
 use Rattle.std.specs.List.{flat_map}
 use Rattle.std.proofs.Math.Seq.{take-add}
 use Rattle.std.proofs.lemmas.Bool.{and_parts, eqb-true, leb-true}
-use Rattle.std.proofs.lemmas.List.{drop-drop, length-append, length-drop, length-map, length-take, take_all}
+use Rattle.std.proofs.lemmas.List.{drop-drop, length-drop, length-map, length-take, take_all}
 use Rattle.std.proofs.lemmas.List.Concat.{flat_map-cons}
 use Rattle.file_fields.specs.Reading.{AllFit}
 use Rattle.file_fields.proofs.Codec.{IsBytes, IsBytes-drop, IsBytes-take}
@@ -17,12 +17,12 @@ use Rattle.ri_base.specs.Vocabulary.{vocabulary_of}
 use Rattle.ri_base.specs.declared.places.Place.{Place}
 use Rattle.ri_base.specs.declared.seg_fault.PartName.{PartName}
 use Rattle.seg_codec.specs.Blocks.{block}
-use Rattle.seg_codec.specs.Dictionary.{Behind, BehindTerm, behind, behind_term, end_of, end_of_all}
+use Rattle.seg_codec.specs.Dictionary.{BehindTerm, behind, behind_term, end_of, end_of_all}
 use Rattle.seg_codec.specs.Documents.{names_in_order}
 use Rattle.seg_codec.specs.Fits.{FitBlock, FitDictionary, FitDocuments, FitsBlockPlace, FitsHeader, FitsTermBlocks}
 use Rattle.seg_codec.specs.Segment.{all_blocks, block_of, blocks_at, blocks_of, cut, dictionary_at, dictionary_size, entry_of, first, header_of, index, placed, range_of, segment, term_blocks_of}
 use Rattle.seg_codec.specs.Spelling.{block_bytes, dictionary_bytes, documents_bytes, header_bytes}
-use Rattle.seg_codec.specs.Whole.{ArePlaced, Fault, Whole, all_postings, and_then, between, block_bytes_in, block_in, block_postings, dictionary_in, docs_told, documents_in, grammar, header_in, in_part, term_postings}
+use Rattle.seg_codec.specs.Whole.{Fault, Whole, all_postings, and_then, between, block_bytes_in, block_in, block_postings, dictionary_in, docs_told, documents_in, grammar, header_in, in_part, term_postings}
 use Rattle.seg_codec.specs.declared.blocks.BlockEntry.{BlockEntry}
 use Rattle.seg_codec.specs.declared.dictionary.BlockPlace.{BlockPlace}
 use Rattle.seg_codec.specs.declared.dictionary.TermBlocks.{TermBlocks}

@@ -1,11 +1,10 @@
 -- what was read of blocks is cut into these blocks
-use Rattle.std.proofs.Common.{◌≡◌, ◌<◌, ◌≤◌, ℕ, suc, ◌+◌, ◌-◌, ◌*◌, ◌/◌, List, [], ◌∷◌, ◌++◌, length, map, take, drop, Bool, true, false, cond, eqb, ◌&&◌, nat_lt, nat_le, Result, Ok, Err, refl, sym, ap, subst, ◌∙◌, append_assoc, arith}
+use Rattle.std.proofs.Common.{◌≡◌, ◌<◌, ◌≤◌, ℕ, ◌+◌, ◌-◌, ◌*◌, ◌/◌, List, [], ◌∷◌, ◌++◌, length, map, true, false, eqb, nat_le, refl, sym, ap, ◌∙◌, arith}
 use Rattle.std.specs.List.{flat_map}
-use Rattle.std.proofs.lemmas.Bool.{and_parts, eq-eqb, eqb-true, leb-true, ltb-true, ne_eqb}
-use Rattle.std.proofs.lemmas.List.Concat.{flat_map-cons}
+use Rattle.std.proofs.lemmas.Bool.{and_parts, eq-eqb, ne_eqb}
 use Rattle.file_fields.specs.Reading.{AllFit}
 use Rattle.ri_base.specs.declared.places.Place.{Place}
-use Rattle.seg_codec.specs.Fits.{FitBlock, FitPlaces, FitsBlockEntry, FitsId}
+use Rattle.seg_codec.specs.Fits.{FitBlock, FitsBlockEntry, FitsId}
 use Rattle.seg_codec.specs.Segment.{ahead, block_entry_of, block_of, cut, first, id_of, range_of}
 use Rattle.seg_codec.specs.Spelling.{block_bytes}
 use Rattle.seg_codec.specs.Whole.{block_postings, entry_postings}

@@ -1,14 +1,13 @@
 -- the parts of the segment of documents are read as the documents' parts
-use Rattle.std.proofs.Common.{◌≡◌, ◌<◌, ◌≤◌, ℕ, suc, ◌+◌, ◌^◌, List, [], ◌∷◌, ◌++◌, length, map, Bool, true, ◌&&◌, nat_le, Ok, refl, sym, ap, subst, ◌∙◌, arith}
+use Rattle.std.proofs.Common.{◌≡◌, ◌<◌, ◌≤◌, ℕ, suc, ◌+◌, ◌^◌, List, [], ◌∷◌, ◌++◌, length, map, nat_le, refl, sym, subst, arith}
 use Rattle.std.specs.Prelude.{◌==◌}
 use Rattle.std.specs.BTreeSet.{insert_key}
 use Rattle.std.specs.Cmp.Lexicographic.{slice_cmp}
-use Rattle.std.specs.List.{flat_map}
 use Rattle.std.specs.Ordering.{match_ordering, nat_cmp}
 use Rattle.std.specs.declared.cmp.Ordering.{Ordering}
 use Rattle.std.specs.declared.cmp.Ordering.TheVariants.{Less, Equal, Greater}
 use Rattle.std.proofs.lemmas.Bool.{and_from, eq-eqb, le-leb}
-use Rattle.std.proofs.lemmas.List.{length-append, length-map}
+use Rattle.std.proofs.lemmas.List.{length-append}
 use Rattle.std.proofs.lemmas.List.Sums.{sum_by-cons}
 use Rattle.ri_base.specs.Collection.{token_count}
 use Rattle.ri_base.specs.Documents.{Document}
@@ -16,19 +15,17 @@ use Rattle.ri_base.specs.Places.{postings_of}
 use Rattle.ri_base.specs.Vocabulary.{vocabulary_of, with_terms}
 use Rattle.ri_base.specs.declared.limits.TheConstants.{MAX_HELD_TOKENS, MAX_PART_DOCS, MAX_PART_NAMES}
 use Rattle.ri_base.specs.declared.places.Place.{Place}
-use Rattle.seg_codec.specs.Blocks.{block, tokens_of}
-use Rattle.seg_codec.specs.Dictionary.{dictionary}
-use Rattle.seg_codec.specs.Documents.{documents, names_in_order}
+use Rattle.seg_codec.specs.Blocks.{tokens_of}
+use Rattle.seg_codec.specs.Documents.{names_in_order}
 use Rattle.seg_codec.specs.Fits.{FitBlock, FitDictionary, FitDocuments, FitsHeader}
-use Rattle.seg_codec.specs.Headers.{header}
 use Rattle.seg_codec.specs.Part.{IsPart}
-use Rattle.seg_codec.specs.Segment.{all_blocks, block_entry_of, block_of, blocks_at, cut, dictionary_at, dictionary_size, entry_of, first, header_of, id_of, index, range_of, segment}
-use Rattle.seg_codec.specs.Spelling.{block_bytes, dictionary_bytes, documents_bytes, header_bytes}
+use Rattle.seg_codec.specs.Segment.{all_blocks, block_entry_of, blocks_at, cut, dictionary_at, entry_of, first, header_of, id_of, index, range_of, segment}
+use Rattle.seg_codec.specs.Spelling.{dictionary_bytes, documents_bytes, header_bytes}
 use Rattle.seg_codec.proofs.BlockFits.{block_fits}
 use Rattle.seg_codec.proofs.DictionaryFits.{dictionary_fits, dictionary_length}
 use Rattle.seg_codec.proofs.DocumentFits.{documents_fit, tokens_small}
 use Rattle.seg_codec.proofs.NameLemmas.{names_counted}
-use Rattle.seg_codec.proofs.RisingPlaces.{IsRange, Ranges, cut_ranges, postings_rise}
+use Rattle.seg_codec.proofs.RisingPlaces.{Ranges, cut_ranges, postings_rise}
 
 -- ---- there are no more terms than tokens
 

@@ -1,22 +1,22 @@
 -- the fields of a document that was read are those of a document
-use Rattle.std.proofs.Common.{◌≡◌, ◌<◌, ◌≤◌, ◌⊎◌, ℕ, zero, suc, ◌+◌, List, [], ◌∷◌, length, get_or, map, Bool, true, ◌&&◌, ◌||◌, nat_lt, nat_le, refl, sym, ap, subst, ◌∙◌, inl, inr, arith}
+use Rattle.std.proofs.Common.{◌≡◌, ◌<◌, ◌≤◌, ℕ, zero, suc, List, [], ◌∷◌, length, get_or, map, true, ◌&&◌, ◌||◌, nat_lt, nat_le, ap, subst, inl, inr, arith}
 use Rattle.std.specs.Prelude.{◌==◌, IfOk, Result, Ok, Err}
 use Rattle.std.specs.Cmp.Lexicographic.{slice_cmp}
-use Rattle.std.specs.List.{All, AllByRecursion, AllPairs}
+use Rattle.std.specs.List.{All, AllPairs}
 use Rattle.std.specs.List.Sorted.{IsStrictlySortedBy}
 use Rattle.std.specs.Ordering.{nat_cmp}
 use Rattle.std.specs.declared.cmp.Ordering.TheVariants.{Less}
 use Rattle.std.proofs.lemmas.Bool.{and_parts, eqb-true, leb-true, ltb-true, or_cases}
 use Rattle.std.proofs.lemmas.Bool.Decides.{nat_tests}
 use Rattle.std.proofs.lemmas.List.{length-map}
-use Rattle.std.proofs.lemmas.List.Elements.{All-cons, All-from_recursion, All-nil, All-weaker}
+use Rattle.std.proofs.lemmas.List.Elements.{All-cons, All-nil, All-weaker}
 use Rattle.std.proofs.lemmas.Map.Keys.{Less-from_sorted}
 use Rattle.file_fields.specs.Reading.{AllFit}
-use Rattle.ri_base.specs.Documents.{AreFields, Field, IsBefore}
+use Rattle.ri_base.specs.Documents.{Field, IsBefore}
 use Rattle.ri_base.specs.declared.limits.TheConstants.{MAX_DOC_TOKENS}
 use Rattle.ri_base.specs.declared.seg_fault.SegFault.{SegFault}
 use Rattle.seg_codec.specs.Documents.{first_row, is_behind, named, names_in_order}
-use Rattle.seg_codec.specs.Fits.{FitDocuments, FitFields, FitsEntry, FitsRow, end_rule}
+use Rattle.seg_codec.specs.Fits.{FitDocuments, FitFields, FitsEntry, FitsRow}
 use Rattle.seg_codec.specs.Spelling.{documents_bytes, number_of, numbered}
 use Rattle.seg_codec.specs.Whole.{IsSound}
 use Rattle.seg_codec.specs.declared.documents.Entry.{Entry}

@@ -1,4 +1,4 @@
-use Rattle.std.proofs.Common.{◌≡◌, [], List, ℕ, get_or, sym, subst}
+use Rattle.std.proofs.Common.{◌≡◌, [], List, ℕ, get_or, subst}
 use Rattle.std.specs.Prelude.{IsTrue}
 use Rattle.std.specs.List.{All}
 use Rattle.std.proofs.lemmas.List.{get_or_read, take_all}

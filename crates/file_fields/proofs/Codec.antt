@@ -14,10 +14,10 @@ use Rattle.file_fields.specs.Spelling.{spelled_text}
 pub record IsBytes (bytes : List ℕ) : Type 0 where
   pub small : (i : ℕ) → get_or bytes i 0 < 256
 
-IsBytes-drop : (n : ℕ) (bytes : List ℕ) → IsBytes bytes → IsBytes (drop n bytes)
+pub IsBytes-drop : (n : ℕ) (bytes : List ℕ) → IsBytes bytes → IsBytes (drop n bytes)
 IsBytes-drop n bytes h = record { small = λ i. rw get_or-drop (h.small (n + i)) }
 
-IsBytes-take : (n : ℕ) (bytes : List ℕ) → IsBytes bytes → IsBytes (take n bytes)
+pub IsBytes-take : (n : ℕ) (bytes : List ℕ) → IsBytes bytes → IsBytes (take n bytes)
 IsBytes-take n bytes h = record { small = small }
   where
     small : (i : ℕ) → get_or (take n bytes) i 0 < 256

@@ -1,6 +1,7 @@
 // Fields behind the bytes that are written.
-ghost use Rattle.std.specs.Prelude.{◌≡◌, ◌<◌, ◌++◌, length, OnOk};
+ghost use Rattle.std.specs.Prelude.{◌≡◌, ◌<◌, ◌++◌, length, IsTrue, OnOk};
 ghost use Rattle.std.specs.Int.{w16, w32, w64, to_le_bytes};
+ghost use Rattle.ri_base.specs.Text.{is_docno, is_name, is_term};
 ghost use Rattle.file_fields.specs.Spelling.{spelled_text};
 
 use ri_base::{Docno, Name, NoMemory, Term};
@@ -38,21 +39,24 @@ fn put_text(out: &mut Vec<u8>, text: &[u8]) -> Result<(), NoMemory>
 
 #[tactic(auto, using(crate::proofs::TextLemmas::short_docno))]
 pub fn put_docno(out: &mut Vec<u8>, docno: &Docno) -> Result<(), NoMemory>
-    ensures { OnOk result (out.new.items ≡ out.old.items ++ spelled_text docno.now) }
+    ensures written { OnOk result (out.new.items ≡ out.old.items ++ spelled_text docno.now) }
+    ensures form { IsTrue (is_docno docno.now) }
 {
     put_text(out, docno.as_bytes())
 }
 
 #[tactic(auto, using(crate::proofs::TextLemmas::short_term))]
 pub fn put_term(out: &mut Vec<u8>, term: &Term) -> Result<(), NoMemory>
-    ensures { OnOk result (out.new.items ≡ out.old.items ++ spelled_text term.now) }
+    ensures written { OnOk result (out.new.items ≡ out.old.items ++ spelled_text term.now) }
+    ensures form { IsTrue (is_term term.now) }
 {
     put_text(out, term.as_bytes())
 }
 
 #[tactic(auto, using(crate::proofs::TextLemmas::short_name))]
 pub fn put_name(out: &mut Vec<u8>, name: &Name) -> Result<(), NoMemory>
-    ensures { OnOk result (out.new.items ≡ out.old.items ++ spelled_text name.now) }
+    ensures written { OnOk result (out.new.items ≡ out.old.items ++ spelled_text name.now) }
+    ensures form { IsTrue (is_name name.now) }
 {
     put_text(out, name.as_bytes())
 }

@@ -1,4 +1,8 @@
 // A segment that was written out by hand: `d1` has the tokens `a b`, and `d2` the token `a`.
+ghost use Rattle.std.specs.Prelude.{◌≤◌, length, IfOk, OnOk};
+ghost use Rattle.ri_base.specs.Collection.{name_count};
+ghost use Rattle.ri_base.specs.declared.limits.TheConstants.{MAX_PART_DOCS, MAX_PART_NAMES};
+
 use crate::places::fault_place;
 use memory_index::MemIndex;
 use ri_base::{Doc, Docno, FileName, Sealed, SegFault, Spans, Term, Terms};
@@ -29,10 +33,15 @@ fn doc(alloc: Global, docno: &str, words: &str) -> Result<Doc, Fail> {
     Ok(Doc::new(alloc, docno, tokens, Spans::new(alloc))?)
 }
 
-fn put(alloc: Global, index: &mut MemIndex, docno: &str, words: &str) -> Result<(), Fail> {
+fn put(alloc: Global, index: &mut MemIndex, docno: &str, words: &str) -> Result<(), Fail>
+    ensures { OnOk result (name_count index.new.documents ≤ MAX_PART_NAMES) }
+{
     let doc = doc(alloc, docno, words)?;
     if index.token_count() + u64::from(doc.len()) > 67_108_864 {
         return Err(Fail::from("too many tokens"));
+    }
+    if index.names_with(&doc) > 65_536 {
+        return Err(Fail::from("too many names"));
     }
     match index.add(alloc, &doc) {
         Ok(_) => Ok(()),
@@ -40,10 +49,16 @@ fn put(alloc: Global, index: &mut MemIndex, docno: &str, words: &str) -> Result<
     }
 }
 
-fn sealed(alloc: Global) -> Result<Sealed, Fail> {
+fn sealed(alloc: Global) -> Result<Sealed, Fail>
+    ensures few { IfOk result (λ s. length s ≤ MAX_PART_DOCS) }
+    ensures named { IfOk result (λ s. name_count s ≤ MAX_PART_NAMES) }
+{
     let mut index = MemIndex::new(alloc, 10)?;
     put(alloc, &mut index, "d1", "a b")?;
     put(alloc, &mut index, "d2", "a")?;
+    if index.len() > 10 {
+        return Err(Fail::from("too many documents"));
+    }
     match index.seal(alloc) {
         Ok(sealed) => Ok(sealed),
         Err(_) => Err(Fail::from("not sealed")),
@@ -153,10 +168,42 @@ fn changed_headers(rt: HostRuntime) -> Result<(), Fail> {
     Ok(())
 }
 
+/// A place of the header, the number of four bytes that stands there, the number of documents that the call is told, and the
+/// place of the fault, if there is one: each limit, and one past it.
+static LIMITS: [(usize, u32, u32, Option<u64>); 6] = [
+    (12, 1_048_576, 1_048_576, None),
+    (12, 1_048_577, 1_048_577, Some(12)),
+    (16, 67_108_864, 2, None),
+    (16, 67_108_865, 2, Some(16)),
+    (28, 65_536, 2, None),
+    (28, 65_537, 2, Some(28)),
+];
+
+#[test]
+fn limits_of_headers(rt: HostRuntime) -> Result<(), Fail> {
+    for (at, number, docs, place) in &LIMITS {
+        let mut bytes = BYTES;
+        if *at >= 60 {
+            return Err(Fail::from("no such byte"));
+        }
+        let [a, b, c, d] = number.to_le_bytes();
+        bytes[*at] = a;
+        bytes[*at + 1] = b;
+        bytes[*at + 2] = c;
+        bytes[*at + 3] = d;
+        let found = place_of(read_header(&bytes[..64], FileName::Segment(1), *docs, 155))?;
+        assert_eq!(rt; found.err(), *place, "{number}");
+    }
+    Ok(())
+}
+
 /// A byte of the block of `a`, what stands there instead, and the place of the fault.
-static BLOCKS: [(usize, u8, u64); 6] = [
+static BLOCKS: [(usize, u8, u64); 9] = [
     (126, 0, 126),
     (126, 3, 145),
+    (126, 65, 126),
+    (127, 2, 127),
+    (127, 64, 127),
     (127, 1, 136),
     (128, 0, 128),
     (132, 2, 132),

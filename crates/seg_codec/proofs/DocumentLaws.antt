@@ -79,7 +79,7 @@ not_same a b e = sym (is_eq-slice_cmp a b) ∙ ap is_eq e
 same_itself : (a : List ℕ) → bytes_eq a a ≡ true
 same_itself a = sym (is_eq-slice_cmp a a) ∙ ap is_eq (tied_itself nat_list_cmp_total a)
 
-number_of-place : (names : List (List ℕ)) (k : ℕ) → IsRising names → k < length names → number_of names (get_or names k []) ≡ k
+pub number_of-place : (names : List (List ℕ)) (k : ℕ) → IsRising names → k < length names → number_of names (get_or names k []) ≡ k
 unfolding IsStrictlySortedBy
 number_of-place [] k up lt = absurd (omega arith)
 number_of-place (n ∷ names) zero up lt = rw (same_itself n) refl

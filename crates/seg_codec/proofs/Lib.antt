@@ -7,3 +7,16 @@ pub mod HeaderLaws
 pub mod CutLemmas
 pub mod Appends
 pub mod DropLemmas
+pub mod RisingPlaces
+pub mod BlockFits
+pub mod DictionaryFits
+pub mod NameLemmas
+pub mod DocumentFits
+pub mod SegmentLaws
+pub mod PartLemmas
+pub mod WholeLemmas
+pub mod SoundLemmas
+pub mod GroupLemmas
+pub mod FileLaws
+pub mod SpreadLaws
+pub mod ReadRise

@@ -5,3 +5,5 @@ pub mod Blocks
 pub mod Headers
 pub mod Segment
 pub mod Fits
+pub mod Part
+pub mod Whole

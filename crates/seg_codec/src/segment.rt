@@ -1,10 +1,17 @@
 // The bytes of a segment.
-ghost use Rattle.std.specs.Prelude.{◌≡◌, ◌<◌, ◌≤◌, ◌+◌, ◌*◌, ◌++◌, ◌∷◌, [], length, map, IfOk, OnOk, IfSome};
+ghost use Rattle.std.specs.Prelude.{◌≡◌, ◌<◌, ◌≤◌, ◌+◌, ◌*◌, ◌++◌, ◌∷◌, [], length, map, IsTrue, IfOk, OnOk, IfSome, OnSome};
 ghost use Rattle.std.specs.Int.{w16, w32, w64, to_le_bytes};
-ghost use Rattle.std.specs.List.{flat_map};
+ghost use Rattle.std.specs.Cmp.Lexicographic.{slice_cmp};
+ghost use Rattle.std.specs.List.{All, flat_map};
+ghost use Rattle.std.specs.List.Sorted.{IsStrictlySortedBy};
+ghost use Rattle.std.specs.Ordering.{nat_cmp};
+ghost use Rattle.ri_base.specs.Collection.{name_count, token_count};
+ghost use Rattle.ri_base.specs.Text.{is_docno, is_name, is_term};
 ghost use Rattle.ri_base.specs.Vocabulary.{vocabulary_of};
 ghost use Rattle.file_fields.specs.Spelling.{spelled_text};
+ghost use Rattle.ri_base.specs.declared.limits.TheConstants.{MAX_HELD_TOKENS, MAX_PART_DOCS, MAX_PART_NAMES};
 ghost use Rattle.seg_codec.specs.Documents.{names_in_order};
+ghost use Rattle.seg_codec.specs.Part.{HasDocno, IsPart};
 ghost use Rattle.seg_codec.specs.Segment.{all_blocks, dictionary_size, entry_of, header_of, index, segment, term_size};
 ghost use Rattle.seg_codec.specs.Spelling.{dictionary_bytes, documents_bytes, header_bytes, number_of, numbered, spelled_entry, spelled_row, spelled_rows};
 
@@ -29,21 +36,19 @@ fn names_of(alloc: Global, sealed: &Sealed) -> Result<Vec<Name>, NoMemory>
     listed(alloc, names)
 }
 
-/// The place of a name among the names.
+/// The place of a name among the names, which rise; their number where it isn't one of them.
 fn number_of(names: &[Name], name: &Name) -> usize
+    requires { IsStrictlySortedBy (slice_cmp nat_cmp) names.now }
     ensures { result ≡ number_of names.now name.now }
 {
-    let mut number = 0;
-    for n in names {
-        if n == name {
-            return number;
-        }
-        number += 1;
+    match names.binary_search(name) {
+        Ok(number) => number,
+        Err(_) => names.len(),
     }
-    number
 }
 
 fn put_row(out: &mut Vec<u8>, names: &[Name], field: &FieldSpan) -> Result<(), NoMemory>
+    requires { IsStrictlySortedBy (slice_cmp nat_cmp) names.now }
     ensures { OnOk result (out.new.items ≡ out.old.items ++ spelled_row (numbered names.now field.now)) }
 {
     let Ok(name) = u16::try_from(number_of(names, field.name())) else {
@@ -56,6 +61,7 @@ fn put_row(out: &mut Vec<u8>, names: &[Name], field: &FieldSpan) -> Result<(), N
 }
 
 fn put_rows(out: &mut Vec<u8>, names: &[Name], fields: &[FieldSpan]) -> Result<(), NoMemory>
+    requires { IsStrictlySortedBy (slice_cmp nat_cmp) names.now }
     ensures { OnOk result (out.new.items ≡ out.old.items ++ spelled_rows (map (numbered names.now) fields.now)) }
 {
     let Ok(count) = u16::try_from(fields.len()) else {
@@ -75,7 +81,9 @@ fn put_entry(
     tokens: u32,
     fields: &[FieldSpan],
 ) -> Result<(), NoMemory>
-    ensures { OnOk result (out.new.items ≡ out.old.items ++ spelled_entry names.now (record { docno = docno.now; tokens = tokens; fields = fields.now })) }
+    requires { IsStrictlySortedBy (slice_cmp nat_cmp) names.now }
+    ensures written { OnOk result (out.new.items ≡ out.old.items ++ spelled_entry names.now (record { docno = docno.now; tokens = tokens; fields = fields.now })) }
+    ensures form { IsTrue (is_docno docno.now) }
 {
     put_docno(out, docno)?;
     put_u32(out, tokens)?;
@@ -83,7 +91,8 @@ fn put_entry(
 }
 
 fn put_names(out: &mut Vec<u8>, names: &[Name]) -> Result<(), NoMemory>
-    ensures { OnOk result (out.new.items ≡ out.old.items ++ flat_map spelled_text names.now) }
+    ensures written { OnOk result (out.new.items ≡ out.old.items ++ flat_map spelled_text names.now) }
+    ensures formed { OnOk result (All (λ n. IsTrue (is_name n)) names.now) }
 {
     for name in names {
         put_name(out, name)?;
@@ -92,7 +101,9 @@ fn put_names(out: &mut Vec<u8>, names: &[Name]) -> Result<(), NoMemory>
 }
 
 fn put_entries(out: &mut Vec<u8>, names: &[Name], sealed: &Sealed) -> Result<(), NoMemory>
-    ensures { OnOk result (out.new.items ≡ out.old.items ++ flat_map (spelled_entry names.now) (map entry_of sealed.now)) }
+    requires { IsStrictlySortedBy (slice_cmp nat_cmp) names.now }
+    ensures written { OnOk result (out.new.items ≡ out.old.items ++ flat_map (spelled_entry names.now) (map entry_of sealed.now)) }
+    ensures formed { OnOk result (All HasDocno sealed.now) }
 {
     for id in 0..sealed.docs() {
         put_entry(
@@ -109,7 +120,9 @@ fn put_entries(out: &mut Vec<u8>, names: &[Name], sealed: &Sealed) -> Result<(),
 /// The documents part, for these names.
 fn documents_of(alloc: Global, names: &[Name], sealed: &Sealed) -> Result<Vec<u8>, NoMemory>
     requires { names.now ≡ names_in_order (map entry_of sealed.now) }
-    ensures { IfOk result (λ v. v.items ≡ documents_bytes (map entry_of sealed.now)) }
+    ensures written { IfOk result (λ v. v.items ≡ documents_bytes (map entry_of sealed.now)) }
+    ensures formed { OnOk result (All HasDocno sealed.now) }
+    ensures named { OnOk result (All (λ n. IsTrue (is_name n)) (names_in_order (map entry_of sealed.now))) }
 {
     let mut out = Vec::new(alloc);
     put_names(&mut out, names)?;
@@ -150,6 +163,7 @@ fn put_terms(
 ) -> Result<(), NoMemory>
     ensures dictionary { OnOk result (dictionary.new.items ≡ dictionary.old.items ++ dictionary_bytes (index place (vocabulary_of sealed.now) sealed.now)) }
     ensures blocks { OnOk result (blocks.new.items ≡ blocks.old.items ++ all_blocks (vocabulary_of sealed.now) sealed.now) }
+    ensures formed { OnOk result (All (λ t. IsTrue (is_term t)) (vocabulary_of sealed.now)) }
 {
     let vocabulary = sealed.vocabulary().as_slice();
     let mut at = place;
@@ -205,7 +219,8 @@ fn header_for(
     requires documents { documents ≡ length (documents_bytes (map entry_of sealed.now)) }
     requires blocks { blocks ≡ length (all_blocks (vocabulary_of sealed.now) sealed.now) }
     requires size { size ≡ dictionary_size (vocabulary_of sealed.now) sealed.now }
-    ensures { IfSome result (λ h. h ≡ header_of sealed.now) }
+    ensures header { IfSome result (λ h. h ≡ header_of sealed.now) }
+    ensures short { OnSome result (token_count sealed.now ≤ MAX_HELD_TOKENS) }
 {
     let dictionary_at = 64u64.checked_add(documents as u64)?;
     let blocks_at = dictionary_at.checked_add(size)?;
@@ -229,9 +244,13 @@ fn header_for(
 }
 
 /// The segment of the documents.
-#[tactic(auto, unfolding(crate::specs::Segment::segment))]
+#[tactic(auto, unfolding(crate::specs::Segment::segment), using(crate::proofs::PartLemmas::part_of))]
 pub fn seg_bytes(alloc: Global, sealed: &Sealed) -> Result<Bytes, NoMemory>
-    ensures { IfOk result (λ b. b ≡ segment sealed.now) }
+    requires few { length sealed.now ≤ MAX_PART_DOCS }
+    requires named { name_count sealed.now ≤ MAX_PART_NAMES }
+    ensures written { IfOk result (λ b. b ≡ segment sealed.now) }
+    // The documents are some that have a segment, so it is one that is read.
+    ensures part { OnOk result (IsPart sealed.now) }
 {
     let names = names_of(alloc, sealed)?;
     let documents = documents_of(alloc, &names, sealed)?;

@@ -1,7 +1,8 @@
 // The bytes of postings: blocks, and the dictionary's entry of a term.
-ghost use Rattle.std.specs.Prelude.{◌≡◌, ◌<◌, ◌≤◌, ◌+◌, ◌*◌, ◌++◌, ◌∷◌, [], length, map, IfOk, OnOk, IfSome, IfNone};
+ghost use Rattle.std.specs.Prelude.{◌≡◌, ◌<◌, ◌≤◌, ◌+◌, ◌*◌, ◌++◌, ◌∷◌, [], length, map, IfOk, IsTrue, OnOk, IfSome, IfNone};
 ghost use Rattle.std.specs.Int.{w32, w64, to_le_bytes};
 ghost use Rattle.std.specs.List.{flat_map};
+ghost use Rattle.ri_base.specs.Text.{is_term};
 ghost use Rattle.seg_codec.specs.Segment.{block_entry_of, block_of, blocks_of, cut, id_of, placed, range_of, run, first, term_blocks_of, term_size};
 ghost use Rattle.seg_codec.specs.Spelling.{spelled_block_entry, spelled_place, spelled_term, block_bytes};
 
@@ -219,6 +220,7 @@ pub fn put_term_blocks(
     ensures dictionary { OnOk result (dictionary.new.items ≡ dictionary.old.items ++ spelled_term (term_blocks_of place term.now postings.now)) }
     ensures blocks { OnOk result (blocks.new.items ≡ blocks.old.items ++ blocks_of postings.now) }
     ensures behind { IfOk result (λ n. n ≡ place + length (blocks_of postings.now)) }
+    ensures form { OnOk result (IsTrue (is_term term.now)) }
 {
     let Ok(count) = u32::try_from(count_ranges(postings)) else {
         return Err(AllocError);

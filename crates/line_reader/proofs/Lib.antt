@@ -1,4 +1,4 @@
 pub mod LineForm
 pub mod LineLemmas
-mod SkipLemmas
+pub mod SkipLemmas
 mod TextLemmas

@@ -1,0 +1,4 @@
+pub mod DigitLemmas
+pub mod FirstByte
+mod PartLemmas
+pub mod Splits

@@ -1,0 +1,3 @@
+mod TableForm
+mod TableLemmas
+mod TextLemmas

@@ -1,0 +1,3 @@
+mod BlockLemmas
+mod ItemLemmas
+mod ScriptForm

@@ -1,0 +1,5 @@
+pub mod Form
+pub mod Held
+pub mod Items
+pub mod Script
+pub mod State

@@ -1,0 +1,35 @@
+use Rattle.std.proofs.Common.{◌≡◌, List, Option, Some, Contains, IfSome, inl, inr, refl, sym, subst, rules}
+use Rattle.seg_codec.specs.declared.blocks.BlockEntry.{BlockEntry}
+use Rattle.disk_index.specs.Cache.{AllKept, KeptBlock}
+use Rattle.disk_index.proofs.CacheLemmas.{fetched}
+use Rattle.disk_index.proofs.cache.BlockCache.fetch.Goals as goal
+use Rattle.disk_index.proofs.cache.BlockCache.fetch.Goals.{in-Ok, in_default-share}
+
+pub returns-in_err-block-clause-cache : goal.returns-in_err-block-clause-cache
+returns-in_err-block-clause-cache g c = record { each = λ e h. inl (subst (λ (l : List KeptBlock). Contains l e) c.self.view_is (c.in_err-block.ensures.stay e h)) }
+
+pub returns-in-Some-clause-cache : goal.returns-in-Some-clause-cache
+returns-in-Some-clause-cache g c = record { each = λ e h. inl (subst (λ (l : List KeptBlock). Contains l e) c.self.view_is (c.in_ok-block.ensures.stay e h)) }
+
+pub returns-in-Some-clause-exact : goal.returns-in-Some-clause-exact
+returns-in-Some-clause-exact g c = λ f told backed.
+    let es = c.self.inside.kept.entries in
+    let found : Contains es (c.args.key, c.in-Some.block) = subst (λ (o : Option (List BlockEntry)). IfSome o (λ b. Contains es (c.args.key, b))) c.in-Some.is c.in_ok-block.ensures.found in
+    backed f refl (c.args.key, c.in-Some.block) (subst (λ (l : List KeptBlock). Contains l (c.args.key, c.in-Some.block)) c.self.view_is found)
+
+pub returns-in_err-block-2-clause-cache : goal.returns-in_err-block-2-clause-cache
+returns-in_err-block-2-clause-cache g c = record { each = λ e h. inl (subst (λ (l : List KeptBlock). Contains l e) c.self.view_is (c.in_ok-block.ensures.stay e h)) }
+
+pub returns-clause-exact : goal.returns-clause-exact
+returns-clause-exact g c = λ f told backed. c.in_ok-block-2.ensures.exact f told
+
+pub returns-clause-cache : goal.returns-clause-cache
+returns-clause-cache g c =
+    let now = c.args.self.now in
+    let mid = c.kept_at.new.kept.entries in
+    let stay : AllKept now mid = λ e h. subst (λ (l : List KeptBlock). Contains l e) c.self.view_is (c.in_ok-block.ensures.stay e h) in
+    elim c.match-share.branch [
+      | in-Ok w ↦ fetched (g.T.Store.files c.args.store.now) c.args.key now mid c.match-share.self c.in_ok-block-2.block w.in-Ok.shared stay
+          (λ e h. w.keep.ensures e (subst (λ (l : List KeptBlock). Contains l e) w.self-is h)) w.in-Ok.ensures c.in_ok-block-2.ensures.exact
+      | in_default-share w ↦ record { each = λ e h. inl (stay e (subst (λ (l : List KeptBlock). Contains l e) w.self-is h)) }
+    ]

@@ -1,0 +1,37 @@
+use Rattle.std.proofs.Common.{◌≡◌, ◌<◌, ℕ, List, All, IsTrue, length, ap, sym, subst, ◌∙◌, arith, rules}
+use Rattle.std.specs.List.Sorted.{IsStrictlyIncreasing}
+use Rattle.std.proofs.lemmas.Result.{err_from_is_err_and}
+use Rattle.ri_base.specs.Collection.{document_at}
+use Rattle.ri_base.specs.Places.{places}
+use Rattle.ri_base.proofs.PlacesLemmas.{places-below, places-rise}
+use Rattle.disk_index.specs.Blocks.{places_of, told_file}
+use Rattle.disk_index.specs.Reads.{rebuilt}
+use Rattle.disk_index.proofs.EntryLemmas.{places_of-block}
+use Rattle.disk_index.proofs.RebuiltLemmas.{backed-laid, inside-docs, reads-backed}
+use Rattle.disk_index.proofs.index.DiskIndex.counted_positions.Goals as goal
+
+pub returns-in_err-block-clause-honest : goal.returns-in_err-block-clause-honest
+returns-in_err-block-clause-honest g c = λ docs b backed.
+    let p = err_from_is_err_and c.from_residual.result c.from_residual.ensures.1 in
+    rw (p.1, p.2) (c.in_err-block.ensures.honest docs b)
+
+pub returns-then-not-are_places-clause-honest : goal.returns-then-not-are_places-clause-honest
+returns-then-not-are_places-clause-honest g c = λ docs b backed.
+    let id = c.args.id in
+    let t = c.args.term.now in
+    let told = g.T.Store.files c.args.store.now in
+    let inside : id < length docs = inside-docs c.args.self.now docs id (backed-laid told c.args.self.now docs b).outlines c.requires.id in
+    let all : c.places-places.result.now ≡ places t (document_at docs id) = c.places-places.ensures ∙ ap (places_of id) (c.in_ok-block.ensures.exact docs b backed) ∙ places_of-block t id docs inside in
+    let size : length (document_at docs id).tokens ≡ c.length.result =
+    sym (c.length.ensures.exact (told_file told c.args.self.now.number) ∙ ap (λ ds. length (document_at ds id).tokens) (reads-backed told c.args.self.now docs b)) in
+    let rises : IsStrictlyIncreasing c.places-places.result.now = subst IsStrictlyIncreasing (sym all) (places-rise t (document_at docs id)) in
+    let below : All (λ p. p < c.length.result) c.places-places.result.now =
+    subst (λ (l : List ℕ). All (λ p. p < c.length.result) l) (sym all) (subst (λ n. All (λ p. p < n) (places t (document_at docs id))) size (places-below t (document_at docs id))) in
+    let yes : IsTrue c.are_places.result = c.are_places.ensures.all rises below in
+    search (rules, yes)
+
+pub returns-clause-exact : goal.returns-clause-exact
+returns-clause-exact g c = λ docs b backed.
+    let told = g.T.Store.files c.args.store.now in
+    let inside : c.args.id < length docs = inside-docs c.args.self.now docs c.args.id (backed-laid told c.args.self.now docs b).outlines c.requires.id in
+    c.in_ok-positions_of.ensures ∙ c.places-places.ensures ∙ ap (places_of c.args.id) (c.in_ok-block.ensures.exact docs b backed) ∙ places_of-block c.args.term.now c.args.id docs inside

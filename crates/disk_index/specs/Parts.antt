@@ -1,0 +1,50 @@
+-- What a part reads as, together with the files, and when it is backed.
+use Rattle.std.specs.Prelude.{◌≡◌, ◌≤◌, ℕ, List, length, Option}
+use Rattle.ri_base.specs.Documents.{Document}
+use Rattle.store_ends.specs.Files.{Files, IsQuiet}
+use Rattle.disk_index.specs.Blocks.{told_file}
+use Rattle.disk_index.specs.Cache.{CacheKeeps, KeptBlock}
+use Rattle.disk_index.specs.Kept.{Kept}
+use Rattle.disk_index.specs.Reads.{IsBacked, rebuilt}
+use Rattle.disk_index.specs.declared.part.Part.{Part}
+use Rattle.disk_index.specs.declared.part.Part.TheVariants.{Memory, Disk}
+
+-- where the documents of a part are
+pub data Source : Type 0 where
+  InMemory : List Document → Source
+  OnDisk : Kept → Source
+
+abbrev pub source_of : Part → Source
+source_of (Memory sealed) = InMemory sealed.value
+source_of (Disk index) = OnDisk index.value
+
+-- the documents of a part; one on disk is read together with its file
+abbrev pub reads : Option Files → Source → List Document
+reads told (InMemory docs) = docs
+reads told (OnDisk kept) = rebuilt kept (told_file told kept.number)
+
+-- how many documents it has, whatever the files are
+abbrev pub size : Source → ℕ
+size (InMemory docs) = length docs
+size (OnDisk kept) = length kept.outlines
+
+-- the part has the file of this number
+abbrev pub IsFileOf : Source → ℕ → Type 0
+IsFileOf (InMemory docs) n = ⊥
+IsFileOf (OnDisk kept) n = n ≡ kept.number
+
+-- its file is told and there, and is the segment of just the documents of which it keeps docnos, lengths, fields and dictionary
+abbrev pub IsPartBacked : Option Files → Source → Type 0
+IsPartBacked told (InMemory docs) = Unit {0}
+IsPartBacked told (OnDisk kept) = (docs : List Document) × IsBacked told kept docs
+
+-- A reader's second state differs from the first by no more than reading may change: the part is the same, store and cache stand
+-- behind the same references, the store is as a reading call leaves it, and the cache has nothing new but blocks of the part's file.
+pub record IsQuietReader {S : Type 0} (files : S → Option Files) (layers : S → Option (List Files)) (clock : S → ℕ) (since : S → ℕ → Files → Type 0)
+    (longest : S → ℕ) (held : S → List ℕ) (faults : S → ℕ) (p q : Source) (sn sm cn cm : ℕ) (s t : S) (c d : List KeptBlock) : Type 0 where
+  pub same_part : q ≡ p
+  pub same_store : sm ≡ sn
+  pub same_cache : cm ≡ cn
+  pub store : IsQuiet files layers clock since longest held s t
+  pub no_fault_lost : faults s ≤ faults t
+  pub cache : CacheKeeps (files s) (IsFileOf p) c d

@@ -1,0 +1,56 @@
+-- What reading leaves holds of a state and itself, and over two steps.
+use Rattle.std.proofs.Common.{◌≡◌, ◌≤◌, ℕ, List, Option, Some, Contains, ◌⊎◌, inl, inr, refl, sym, subst, ◌∙◌, arith}
+use Rattle.store_ends.specs.Files.{Files, IsQuiet}
+use Rattle.disk_index.specs.Cache.{CacheKeeps, IsCacheBacked, KeptBlock}
+use Rattle.disk_index.specs.Parts.{IsFileOf, IsQuietReader, Source}
+
+pub CacheKeeps-same : (told : Option Files) (IsOwn : ℕ → Type 0) (c : List KeptBlock) → CacheKeeps told IsOwn c c
+CacheKeeps-same told IsOwn c = record { each = λ e h. inl h }
+
+pub CacheKeeps-then : (told : Option Files) (IsOwn : ℕ → Type 0) (c d k : List KeptBlock) → CacheKeeps told IsOwn c d → CacheKeeps told IsOwn d k → CacheKeeps told IsOwn c k
+CacheKeeps-then told IsOwn c d k a b = record { each = λ e h. elim (b.each e h) [ inl was ↦ a.each e was | inr new ↦ inr new ] }
+
+-- two calls in a row over a store whose files stay
+pub CacheKeeps-after : (f g : Option Files) (IsOwn : ℕ → Type 0) (c d k : List KeptBlock) → g ≡ f → CacheKeeps f IsOwn c d → CacheKeeps g IsOwn d k → CacheKeeps f IsOwn c k
+CacheKeeps-after f g IsOwn c d k same a b = CacheKeeps-then f IsOwn c d k a (subst (λ (x : Option Files). CacheKeeps x IsOwn d k) same b)
+
+-- a backed cache stays backed, whether the part is or not
+pub IsCacheBacked-kept : (told : Option Files) (IsOwn : ℕ → Type 0) (c d : List KeptBlock) → CacheKeeps told IsOwn c d → IsCacheBacked told c → IsCacheBacked told d
+IsCacheBacked-kept told IsOwn c d keeps backed files is e h = elim (keeps.each e h) [ inl was ↦ backed files is e was | inr new ↦ new.1 files is ]
+
+module _ {S : Type 0} (files : S → Option Files) (layers : S → Option (List Files)) (clock : S → ℕ) (since : S → ℕ → Files → Type 0) (longest : S → ℕ) (held : S → List ℕ) (faults : S → ℕ) where
+  pub IsQuiet-same : (s : S) → IsQuiet files layers clock since longest held s s
+  IsQuiet-same s = record { same_files = refl; same_layers = refl; same_clock = refl; same_longest = refl; same_held = refl; no_more = λ t f h. h }
+
+  pub IsQuiet-then : (r s t : S) → IsQuiet files layers clock since longest held r s → IsQuiet files layers clock since longest held s t → IsQuiet files layers clock since longest held r t
+  IsQuiet-then r s t a b = record {
+    same_files = b.same_files ∙ a.same_files;
+    same_layers = b.same_layers ∙ a.same_layers;
+    same_clock = b.same_clock ∙ a.same_clock;
+    same_longest = b.same_longest ∙ a.same_longest;
+    same_held = b.same_held ∙ a.same_held;
+    no_more = λ n f h. a.no_more n f (b.no_more n f h);
+  }
+
+  pub IsQuietReader-same : (p : Source) (sn cn : ℕ) (s : S) (c : List KeptBlock) → IsQuietReader files layers clock since longest held faults p p sn sn cn cn s s c c
+  IsQuietReader-same p sn cn s c = record {
+    same_part = refl;
+    same_store = refl;
+    same_cache = refl;
+    store = IsQuiet-same s;
+    no_fault_lost = omega arith;
+    cache = CacheKeeps-same (files s) (IsFileOf p) c;
+  }
+
+  pub IsQuietReader-then : (p q u : Source) (sn sm so cn cm co : ℕ) (r s t : S) (c d k : List KeptBlock)
+      → IsQuietReader files layers clock since longest held faults p q sn sm cn cm r s c d → IsQuietReader files layers clock since longest held faults q u sm so cm co s t d k
+      → IsQuietReader files layers clock since longest held faults p u sn so cn co r t c k
+  IsQuietReader-then p q u sn sm so cn cm co r s t c d k a b = record {
+    same_part = b.same_part ∙ a.same_part;
+    same_store = b.same_store ∙ a.same_store;
+    same_cache = b.same_cache ∙ a.same_cache;
+    store = IsQuiet-then r s t a.store b.store;
+    no_fault_lost = omega (arith, a.no_fault_lost, b.no_fault_lost);
+    cache = CacheKeeps-after (files r) (files s) (IsFileOf p) c d k a.store.same_files a.cache
+        (subst (λ (x : Source). CacheKeeps (files s) (IsFileOf x) d k) a.same_part b.cache);
+  }

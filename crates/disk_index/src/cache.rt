@@ -1,0 +1,119 @@
+// Blocks that were read, kept for a while.
+ghost use Rattle.std.specs.Prelude.{◌≡◌, ◌<◌, ◌≤◌, ◌+◌, ◌^◌, ◌⊎◌, ◌↔◌, List, [], Some, Err, IsTrue, IfOk, IfErr, IfSome, length};
+ghost use Rattle.std.specs.List.{Contains};
+ghost use Rattle.ri_base.specs.Keeps.{Rose};
+ghost use Rattle.store_ends.specs.Files.{Files, IsQuiet};
+ghost use Rattle.seg_codec.specs.declared.blocks.BlockEntry.{BlockEntry};
+ghost use Rattle.disk_index.specs.Blocks.{IsBlockFault, IsBlockIn};
+ghost use Rattle.disk_index.specs.Cache.{AllKept, CacheKeeps, IsCacheBacked};
+
+use crate::Block;
+use crate::reading::read_block;
+use lru::LruCache;
+use ri_base::{NoMemory, SegFault};
+use seg_codec::Documents;
+use std::alloc::Global;
+use std::marker::Model;
+use std::num::NonZeroUsize;
+use store_ends::Store;
+
+/// Where a block was read: the number of its file, its range of 64 ids, its place in the file and its length.
+#[derive(Clone, Copy, Debug, PartialEq, Eq, Hash)]
+pub struct BlockKey {
+    pub number: u64,
+    pub range: u32,
+    pub place: u64,
+    pub length: u32,
+}
+
+/// Blocks that were read, as many as it has slots, seen as the list of them with their keys. Of a full cache the block that wasn't
+/// asked for for the longest time makes room.
+#[derive(Drop)]
+pub struct BlockCache {
+    kept: LruCache<BlockKey, Block>,
+}
+
+impl Model for BlockCache {
+    ghost use Rattle.std.specs.Prelude.{List};
+    ghost use Rattle.seg_codec.specs.declared.blocks.BlockEntry.{BlockEntry};
+    ghost use Rattle.disk_index.specs.declared.cache.BlockKey.{BlockKey};
+
+    ghost Value = { List (BlockKey × List BlockEntry) };
+
+    ghost view = { λ c. c.kept.entries };
+}
+
+impl BlockCache {
+    /// No block, with room for so many.
+    pub fn new(alloc: Global, slots: NonZeroUsize) -> Result<BlockCache, NoMemory>
+        ensures { IfOk result (λ c. c ≡ []) }
+    {
+        Ok(BlockCache {
+            kept: LruCache::sparse(alloc, slots)?,
+        })
+    }
+
+    /// How many blocks are kept.
+    pub fn len(&self) -> usize
+        ensures { result ≡ length self.now }
+    {
+        self.kept.len()
+    }
+
+    pub fn is_empty(&self) -> bool
+        ensures { IsTrue result ↔ (self.now ≡ []) }
+    {
+        self.kept.is_empty()
+    }
+
+    /// The block of this key, of a segment with these documents: as it is kept, or read and kept from now on. Where there is no
+    /// memory to keep it, it is handed out all the same.
+    pub(crate) fn fetch<T: Store>(
+        &mut self,
+        alloc: Global,
+        store: &mut T,
+        key: BlockKey,
+        documents: &Documents,
+    ) -> Result<Block, SegFault>
+        requires { key.place + key.length < 2 ^ 64 }
+        ensures exact { (f : Files) → T.files store.old ≡ Some f → IsCacheBacked (Some f) self.old → IfOk result (IsBlockIn f key) }
+        ensures fault { (f : Files) → T.files store.old ≡ Some f → IfErr result (IsBlockFault f key documents.now) }
+        ensures cache { CacheKeeps (T.files store.old) (λ n. n ≡ key.number) self.old self.new }
+        ensures quiet { IsQuiet T.files T.layers T.clock T.since T.longest T.held store.old store.new }
+        ensures later { T.faults store.old ≤ T.faults store.new }
+        ensures store { result ≡ Err SegFault.Store → Rose (T.faults store.old) (T.faults store.new) }
+    {
+        if let Some(block) = kept_at(&mut self.kept, key)? {
+            return Ok(block);
+        }
+        let block = read_block(alloc, store, key, documents)?;
+        if let Ok(shared) = block.share() {
+            keep(&mut self.kept, key, shared);
+        }
+        Ok(block)
+    }
+}
+
+/// The block of this key, where it is kept.
+fn kept_at(kept: &mut LruCache<BlockKey, Block>, key: BlockKey) -> Result<Option<Block>, NoMemory>
+    ensures stay { AllKept kept.old.entries kept.new.entries }
+    ensures found { IfOk result (λ found. IfSome found (λ b. Contains kept.old.entries (key, b))) }
+{
+    match kept.get(&key) {
+        Some(block) => shared(block),
+        None => Ok(None),
+    }
+}
+
+fn shared(block: &Block) -> Result<Option<Block>, NoMemory>
+    ensures { IfOk result (λ b. b ≡ Some block.now) }
+{
+    Ok(Some(block.share()?))
+}
+
+/// Keeps the block, where memory allows it.
+fn keep(kept: &mut LruCache<BlockKey, Block>, key: BlockKey, block: Block)
+    ensures { (e : BlockKey × List BlockEntry) → Contains kept.new.entries e → Contains kept.old.entries e ⊎ (e ≡ (key, block)) }
+{
+    let _ = kept.put(key, block);
+}

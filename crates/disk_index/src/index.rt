@@ -1,0 +1,251 @@
+// A part of the collection that lies in a file.
+ghost use Rattle.std.specs.Prelude.{◌≡◌, ◌≤◌, ◌<◌, ◌+◌, ◌^◌, ℕ, List, Some, Err, IfOk, IfErr, IfSome, MatchOption, if◌then◌else◌, length, slice_index_or, IsTrue, is_some};
+ghost use Rattle.std.specs.List.{All};
+ghost use Rattle.std.specs.List.Sorted.{IsStrictlyIncreasing};
+ghost use Rattle.std.specs.Option.{option_map};
+ghost use Rattle.ri_base.specs.Collection.{document_at};
+ghost use Rattle.ri_base.specs.Documents.{Document, IsDocument};
+ghost use Rattle.ri_base.specs.Faults.{IsOutside};
+ghost use Rattle.ri_base.specs.Keeps.{Rose};
+ghost use Rattle.ri_base.specs.Places.{places};
+ghost use Rattle.ri_base.specs.declared.limits.TheConstants.{MAX_DOC_TOKENS};
+ghost use Rattle.store_ends.specs.Files.{Files, IsQuiet};
+ghost use Rattle.disk_index.specs.Blocks.{IsBlockFault, block_of, file_of};
+ghost use Rattle.disk_index.specs.Cache.{CacheKeeps, IsCacheBacked};
+ghost use Rattle.disk_index.specs.Kept.{IsOutline, key_of, place_of};
+ghost use Rattle.disk_index.specs.Opening.{IsOpenFault, IsOpened};
+ghost use Rattle.disk_index.specs.Reads.{IsBacked, rebuilt};
+
+use crate::lookup::place_of;
+use crate::opening::read_kept;
+use crate::{Block, BlockCache, BlockKey};
+use ri_base::{Docno, FieldSpan, FileName, NoMemory, PartName, Positions, SegFault, Steps, Term};
+use seg_codec::{Dictionary, Documents, Entry};
+use std::alloc::Global;
+use std::marker::{Brand, Model};
+use std::sync::ledger::{Blank, Ledger};
+use store_ends::Store;
+
+/// A part of the collection that lies in a file: the number of the file, and its documents without their tokens and its dictionary,
+/// as they are kept. No places are kept; they are read block by block.
+#[derive(Drop)]
+pub struct DiskIndex {
+    number: u64,
+    documents: Documents,
+    dictionary: Dictionary,
+}
+
+impl Model for DiskIndex {
+    ghost use Rattle.disk_index.specs.Kept.{Kept, AreKept};
+
+    ghost Value = { Kept };
+
+    ghost view = { λ x. record { number = x.number; outlines = x.documents; dictionary = x.dictionary } };
+
+    ghost invariant = { λ x. AreKept x.documents x.dictionary };
+}
+
+impl DiskIndex {
+    /// The segment of so many documents in the file of this number. Its header, its documents and its dictionary are read.
+    pub fn open<T: Store>(
+        alloc: Global,
+        store: &mut T,
+        number: u64,
+        docs: u32,
+    ) -> Result<DiskIndex, SegFault>
+        ensures number { IfOk result (λ x. x.number ≡ number) }
+        ensures found { (f : Files) → T.files store.old ≡ Some f → IfOk result (IsOpened (file_of f number) docs) }
+        ensures fault { (f : Files) → T.files store.old ≡ Some f → IfErr result (IsOpenFault f number docs) }
+        ensures quiet { IsQuiet T.files T.layers T.clock T.since T.longest T.held store.old store.new }
+        ensures later { T.faults store.old ≤ T.faults store.new }
+        ensures store { result ≡ Err SegFault.Store → Rose (T.faults store.old) (T.faults store.new) }
+    {
+        let (documents, dictionary) = read_kept(alloc, store, number, docs)?;
+        Ok(DiskIndex {
+            number,
+            documents,
+            dictionary,
+        })
+    }
+
+    /// How many documents there are.
+    pub fn docs(&self) -> u32
+        ensures size { result ≡ length self.now.outlines }
+        ensures documents { (file : List ℕ) → result ≡ length (rebuilt self.now file) }
+    {
+        self.documents.as_slice().len() as u32
+    }
+
+    /// What is kept of the document.
+    fn entry(&self, id: u32) -> &Entry
+        requires { id < length self.now.outlines }
+        ensures is { result.now ≡ slice_index_or self.now.outlines id result.now }
+        ensures kept { IsOutline result.now }
+    {
+        let entries = self.documents.as_slice();
+        &entries[id as usize]
+    }
+
+    pub fn docno(&self, id: u32) -> &Docno
+        requires { id < length self.now.outlines }
+        ensures { (file : List ℕ) → result.now ≡ (document_at (rebuilt self.now file) id).docno }
+    {
+        &self.entry(id).docno
+    }
+
+    /// How many tokens the document has.
+    pub fn length(&self, id: u32) -> u32
+        requires { id < length self.now.outlines }
+        ensures exact { (file : List ℕ) → result ≡ length (document_at (rebuilt self.now file) id).tokens }
+        ensures most { result ≤ MAX_DOC_TOKENS }
+    {
+        self.entry(id).tokens
+    }
+
+    /// The fields of the document, by begin, end and name.
+    pub fn spans(&self, id: u32) -> &[FieldSpan]
+        requires { id < length self.now.outlines }
+        ensures exact { (file : List ℕ) → result.now ≡ (document_at (rebuilt self.now file) id).fields }
+        ensures form { (file : List ℕ) → IsDocument (document_at (rebuilt self.now file) id).tokens result.now }
+    {
+        self.entry(id).fields.as_slice()
+    }
+
+    /// Where the term's block for the range stands.
+    fn key(&self, term: &Term, range: u32) -> Option<BlockKey>
+        ensures key { result ≡ option_map (key_of self.now.number range) (place_of self.now.dictionary term.now range) }
+        ensures fits { IfSome result (λ key. key.place + key.length < 2 ^ 64) }
+    {
+        match place_of(self.dictionary.as_slice(), term, range) {
+            Some(found) => Some(BlockKey {
+                number: self.number,
+                range,
+                place: found.place,
+                length: found.length,
+            }),
+            None => None,
+        }
+    }
+
+    /// The places of the term in the documents with the ids from `64 * range` on, 64 at most.
+    pub fn block<T: Store, L: Ledger>(
+        &self,
+        alloc: Global,
+        store: &mut T,
+        cache: &mut BlockCache,
+        term: &Term,
+        range: u32,
+        blocks: &mut Steps<L>,
+    ) -> Result<Block, SegFault>
+        ensures exact { (docs : List Document) → IsBacked (T.files store.old) self.now docs → IsCacheBacked (T.files store.old) cache.old
+            → IfOk result (λ b. b ≡ block_of term.now range docs) }
+        ensures honest { (docs : List Document) → IsBacked (T.files store.old) self.now docs → IfErr result IsOutside }
+        ensures fault { (f : Files) → T.files store.old ≡ Some f → MatchOption (place_of self.now.dictionary term.now range)
+            (IfErr result IsOutside) (λ p. IfErr result (IsBlockFault f (key_of self.now.number range p) self.now.outlines)) }
+
+        // One step where the dictionary has such a block, whether it is kept or read.
+        ensures steps { blocks.new ≡ blocks.old + (if is_some (place_of self.now.dictionary term.now range) then 1 else 0) }
+
+        ensures cache { CacheKeeps (T.files store.old) (λ n. n ≡ self.now.number) cache.old cache.new }
+        ensures quiet { IsQuiet T.files T.layers T.clock T.since T.longest T.held store.old store.new }
+        ensures later { T.faults store.old ≤ T.faults store.new }
+        ensures store { result ≡ Err SegFault.Store → Rose (T.faults store.old) (T.faults store.new) }
+    {
+        match self.key(term, range) {
+            None => Ok(Block::empty(alloc)?),
+            Some(key) => {
+                blocks.tick();
+                cache.fetch(alloc, store, key, &self.documents)
+            }
+        }
+    }
+
+    /// The places of the term in the document, in order.
+    pub fn positions<T: Store>(
+        &self,
+        alloc: Global,
+        store: &mut T,
+        cache: &mut BlockCache,
+        term: &Term,
+        id: u32,
+    ) -> Result<Positions, SegFault>
+        requires { id < length self.now.outlines }
+        ensures exact { (docs : List Document) → IsBacked (T.files store.old) self.now docs → IsCacheBacked (T.files store.old) cache.old
+            → IfOk result (λ ps. ps ≡ places term.now (document_at docs id)) }
+        ensures honest { (docs : List Document) → IsBacked (T.files store.old) self.now docs → IsCacheBacked (T.files store.old) cache.old
+            → IfErr result IsOutside }
+        ensures rising { IfOk result IsStrictlyIncreasing }
+        ensures below { (file : List ℕ) → IfOk result (All (λ p. p < length (document_at (rebuilt self.now file) id).tokens)) }
+        ensures cache { CacheKeeps (T.files store.old) (λ n. n ≡ self.now.number) cache.old cache.new }
+        ensures quiet { IsQuiet T.files T.layers T.clock T.since T.longest T.held store.old store.new }
+        ensures later { T.faults store.old ≤ T.faults store.new }
+        ensures store { result ≡ Err SegFault.Store → Rose (T.faults store.old) (T.faults store.new) }
+    {
+        self.counted_positions::<T, Brand>(alloc, store, cache, term, id, Blank::new(1))
+    }
+
+    /// The same, by a counter of its own.
+    fn counted_positions<T: Store, L: Ledger>(
+        &self,
+        alloc: Global,
+        store: &mut T,
+        cache: &mut BlockCache,
+        term: &Term,
+        id: u32,
+        blank: Blank,
+    ) -> Result<Positions, SegFault>
+        requires id { id < length self.now.outlines }
+        requires name { blank.name ≡ L.name }
+        requires parts { blank.parts ≡ L.parts }
+        requires some { 0 < blank.parts }
+        ensures exact { (docs : List Document) → IsBacked (T.files store.old) self.now docs → IsCacheBacked (T.files store.old) cache.old
+            → IfOk result (λ ps. ps ≡ places term.now (document_at docs id)) }
+        ensures honest { (docs : List Document) → IsBacked (T.files store.old) self.now docs → IsCacheBacked (T.files store.old) cache.old
+            → IfErr result IsOutside }
+        ensures rising { IfOk result IsStrictlyIncreasing }
+        ensures below { (file : List ℕ) → IfOk result (All (λ p. p < length (document_at (rebuilt self.now file) id).tokens)) }
+        ensures cache { CacheKeeps (T.files store.old) (λ n. n ≡ self.now.number) cache.old cache.new }
+        ensures quiet { IsQuiet T.files T.layers T.clock T.since T.longest T.held store.old store.new }
+        ensures later { T.faults store.old ≤ T.faults store.new }
+        ensures store { result ≡ Err SegFault.Store → Rose (T.faults store.old) (T.faults store.new) }
+    {
+        let mut blocks = Steps::<L>::new(blank);
+        let block = self.block(alloc, store, cache, term, id / 64, &mut blocks)?;
+        let places = block.places(id);
+        if !are_places(places, self.length(id)) {
+            return Err(SegFault::Malformed {
+                file: FileName::Segment(self.number),
+                part: PartName::Block,
+                place: self.block_place(term, id / 64),
+            });
+        }
+        Ok(positions_of(alloc, places)?)
+    }
+
+    /// Where the term's block for the range stands in the file.
+    fn block_place(&self, term: &Term, range: u32) -> u64 {
+        self.key(term, range).map_or(0, |key| key.place)
+    }
+}
+
+fn positions_of(alloc: Global, places: &[u32]) -> Result<Positions, NoMemory>
+    ensures { IfOk result (λ ps. ps ≡ places.now) }
+{
+    Ok(Positions::of(places.to_vec(alloc)?))
+}
+
+/// Whether these are rising places of a document of this size.
+fn are_places(places: &[u32], size: u32) -> bool
+    ensures rising { IsTrue result → IsStrictlyIncreasing places.now }
+    ensures below { IsTrue result → All (λ p. p < size) places.now }
+    ensures all { IsStrictlyIncreasing places.now → All (λ p. p < size) places.now → IsTrue result }
+{
+    let mut i = 0;
+    while i < places.len() {
+        if places[i] >= size || (i + 1 < places.len() && places[i] >= places[i + 1]) {
+            return false;
+        }
+        i += 1;
+    }
+    true
+}

@@ -1,0 +1,55 @@
+// Looking a term and a range up in a dictionary.
+ghost use Rattle.std.specs.Prelude.{◌≡◌, ◌<◌, ◌==◌, Some, None, length, IfSome, IfNone};
+ghost use Rattle.std.specs.Cmp.Lexicographic.{slice_cmp};
+ghost use Rattle.std.specs.Ordering.{nat_cmp};
+ghost use Rattle.std.specs.List.{All, AllPairs, find};
+ghost use Rattle.std.specs.Option.{option_map, option_copied};
+ghost use Rattle.std.specs.Str.{bytes_eq};
+ghost use Rattle.ri_base.specs.Vocabulary.{IsTermBefore};
+ghost use Rattle.disk_index.specs.Kept.{ArePlaces, place_of};
+
+use ri_base::Term;
+use seg_codec::{BlockPlace, TermBlocks};
+use std::cmp::Ordering;
+
+/// The term with its blocks.
+fn blocks_of<'a>(dictionary: &'a [TermBlocks], term: &Term) -> Option<&'a TermBlocks>
+    requires { AllPairs (λ a b. IsTermBefore a.term b.term) dictionary.now }
+    ensures { option_copied result ≡ find (λ t. bytes_eq t.term term.now) dictionary.now }
+{
+    match dictionary.binary_search_by(
+        |t: &TermBlocks| -> Ordering
+            ensures { result ≡ slice_cmp nat_cmp t.now.term term.entry.now }
+        { t.term.cmp(term) },
+    ) {
+        Ok(rank) => Some(&dictionary[rank]),
+        Err(_) => None,
+    }
+}
+
+/// The block of the range.
+fn block_in(blocks: &[BlockPlace], range: u32) -> Option<BlockPlace>
+    requires { AllPairs (λ a b. a.range < b.range) blocks.now }
+    ensures { result ≡ find (λ b. b.range == range) blocks.now }
+{
+    match blocks.binary_search_by(
+        |b: &BlockPlace| -> Ordering
+            ensures { result ≡ nat_cmp b.now.range range }
+        { b.range.cmp(&range) },
+    ) {
+        Ok(rank) => Some(blocks[rank]),
+        Err(_) => None,
+    }
+}
+
+/// Where the block of the term for the range stands.
+pub(crate) fn place_of(dictionary: &[TermBlocks], term: &Term, range: u32) -> Option<BlockPlace>
+    requires terms { AllPairs (λ a b. IsTermBefore a.term b.term) dictionary.now }
+    requires places { All ArePlaces dictionary.now }
+    ensures { result ≡ place_of dictionary.now term.now range }
+{
+    match blocks_of(dictionary, term) {
+        Some(found) => block_in(found.blocks.as_slice(), range),
+        None => None,
+    }
+}

@@ -1,0 +1,102 @@
+// Reading what is kept of a segment's file.
+ghost use Rattle.std.specs.Prelude.{◌≡◌, ◌≤◌, ◌<◌, ℕ, List, Some, Ok, Err, IfOk, IfErr};
+ghost use Rattle.std.specs.List.{All, AllPairs};
+ghost use Rattle.ri_base.specs.Keeps.{Rose};
+ghost use Rattle.ri_base.specs.Vocabulary.{IsTermBefore};
+ghost use Rattle.store_ends.specs.Files.{Files, IsQuiet};
+ghost use Rattle.seg_codec.specs.Dictionary.{dictionary};
+ghost use Rattle.seg_codec.specs.Documents.{documents};
+ghost use Rattle.seg_codec.specs.declared.documents.Entry.{Entry};
+ghost use Rattle.disk_index.specs.Blocks.{file_of};
+ghost use Rattle.disk_index.specs.Kept.{AreKept, ArePlaces, IsOutline};
+ghost use Rattle.disk_index.specs.Opening.{AreInOrder, IsOpenFault, IsOpened, dictionary_in, documents_in, header_in};
+
+use crate::reading::{file_length, read_bytes};
+use ri_base::{FileName, SegFault};
+use seg_codec::{Dictionary, Documents, Header, read_dictionary, read_documents, read_header};
+use std::alloc::Global;
+use store_ends::Store;
+
+const HEADER_LENGTH: usize = 64;
+
+/// The header of the file, of a segment of so many documents.
+fn header_of<T: Store>(
+    alloc: Global,
+    store: &mut T,
+    number: u64,
+    docs: u32,
+) -> Result<Header, SegFault>
+    ensures in_order { IfOk result AreInOrder }
+    ensures found { (f : Files) → T.files store.old ≡ Some f → IfOk result (λ h. header_in (file_of f number) docs ≡ Ok h) }
+    ensures fault { (f : Files) → T.files store.old ≡ Some f → IfErr result (IsOpenFault f number docs) }
+    ensures quiet { IsQuiet T.files T.layers T.clock T.since T.longest T.held store.old store.new }
+    ensures later { T.faults store.old ≤ T.faults store.new }
+    ensures store { result ≡ Err SegFault.Store → Rose (T.faults store.old) (T.faults store.new) }
+{
+    let size = file_length(store, number)?;
+    let bytes = read_bytes(alloc, store, number, 0, HEADER_LENGTH)?;
+    read_header(&bytes, FileName::Segment(number), docs, size)
+}
+
+/// The documents part of the file with this header.
+fn documents_of<T: Store>(
+    alloc: Global,
+    store: &mut T,
+    number: u64,
+    header: &Header,
+) -> Result<Documents, SegFault>
+    requires { AreInOrder header.now }
+    ensures kept { IfOk result (All IsOutline) }
+    ensures found { (f : Files) → T.files store.old ≡ Some f → IfOk result (λ es. documents header.now (documents_in (file_of f number) header.now) ≡ Ok es) }
+    ensures fault { (f : Files) (docs : ℕ) → T.files store.old ≡ Some f → header_in (file_of f number) docs ≡ Ok header.now → IfErr result (IsOpenFault f number docs) }
+    ensures quiet { IsQuiet T.files T.layers T.clock T.since T.longest T.held store.old store.new }
+    ensures later { T.faults store.old ≤ T.faults store.new }
+    ensures store { result ≡ Err SegFault.Store → Rose (T.faults store.old) (T.faults store.new) }
+{
+    let count = (header.dictionary_at - header.documents_at) as usize;
+    let bytes = read_bytes(alloc, store, number, header.documents_at, count)?;
+    read_documents(alloc, &bytes, FileName::Segment(number), header)
+}
+
+/// The dictionary of the file with this header.
+fn dictionary_of<T: Store>(
+    alloc: Global,
+    store: &mut T,
+    number: u64,
+    header: &Header,
+) -> Result<Dictionary, SegFault>
+    requires { AreInOrder header.now }
+    ensures terms { IfOk result (AllPairs (λ a b. IsTermBefore a.term b.term)) }
+    ensures places { IfOk result (All ArePlaces) }
+    ensures found { (f : Files) → T.files store.old ≡ Some f → IfOk result (λ ts. dictionary header.now (dictionary_in (file_of f number) header.now) ≡ Ok ts) }
+    ensures fault { (f : Files) (docs : ℕ) (es : List Entry) → T.files store.old ≡ Some f → header_in (file_of f number) docs ≡ Ok header.now
+        → documents header.now (documents_in (file_of f number) header.now) ≡ Ok es → IfErr result (IsOpenFault f number docs) }
+    ensures quiet { IsQuiet T.files T.layers T.clock T.since T.longest T.held store.old store.new }
+    ensures later { T.faults store.old ≤ T.faults store.new }
+    ensures store { result ≡ Err SegFault.Store → Rose (T.faults store.old) (T.faults store.new) }
+{
+    let count = (header.blocks_at - header.dictionary_at) as usize;
+    let bytes = read_bytes(alloc, store, number, header.dictionary_at, count)?;
+    read_dictionary(alloc, &bytes, FileName::Segment(number), header)
+}
+
+/// The documents without their tokens, and the dictionary, of the segment of so many documents in the file of this number.
+pub(crate) fn read_kept<T: Store>(
+    alloc: Global,
+    store: &mut T,
+    number: u64,
+    docs: u32,
+) -> Result<(Documents, Dictionary), SegFault>
+    ensures kept { IfOk result (λ x. AreKept x.0 x.1) }
+    ensures found { (f : Files) → T.files store.old ≡ Some f
+        → IfOk result (λ x. IsOpened (file_of f number) docs (record { number = number; outlines = x.0; dictionary = x.1 })) }
+    ensures fault { (f : Files) → T.files store.old ≡ Some f → IfErr result (IsOpenFault f number docs) }
+    ensures quiet { IsQuiet T.files T.layers T.clock T.since T.longest T.held store.old store.new }
+    ensures later { T.faults store.old ≤ T.faults store.new }
+    ensures store { result ≡ Err SegFault.Store → Rose (T.faults store.old) (T.faults store.new) }
+{
+    let header = header_of(alloc, store, number, docs)?;
+    let documents = documents_of(alloc, store, number, &header)?;
+    let dictionary = dictionary_of(alloc, store, number, &header)?;
+    Ok((documents, dictionary))
+}

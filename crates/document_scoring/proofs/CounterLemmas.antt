@@ -37,8 +37,8 @@ IsBegun-later p q s later h = record { some = h.some; passed = BeginBefore-later
 
 pub IsReady-later : (p q : ℕ) (c : Counter) → p ≤ q → IsReady p c → IsReady q c
 IsReady-later p q (counter.Plain s) later h = IsBegun-later p q s later h
-IsReady-later p q (counter.Inside s f) later h =
-    record { extents = IsBegun-later p q s later h.extents; fields = BeginBy-later p q f later h.fields; few = h.few }
+IsReady-later p q (counter.Inside c) later h =
+    record { extents = IsBegun-later p q c.begins later h.extents; fields = BeginBy-later p q c.cover later h.fields; few = h.few }
 IsReady-later p q counter.Prior later h = tt
 
 pub AreReady-later : (p q : ℕ) (cs : List Counter) → p ≤ q → All (IsReady p) cs → All (IsReady q) cs
@@ -87,12 +87,12 @@ begun_inside_next p s t f g h same passed fields name by_there = record {
 
 within : (p : ℕ) (c : Counter) (w : Pair) → IsReady p c → (counter_count w c).tf ≤ (counter_count w c).len
 within p (counter.Plain s) w h = begin_count-le s.extents w h.some
-within p (counter.Inside s f) w h = h.few w
+within p (counter.Inside c) w h = h.few w
 within p counter.Prior w h = omega arith
 
 short : (c : Counter) (w : Pair) → w.end ≤ MAX_DOC_TOKENS → (counter_count w c).len ≤ 2 ^ 20
 short (counter.Plain s) w h = omega (arith, h)
-short (counter.Inside s f) w h = omega (arith, h, covered_count-le f.fields f.name w)
+short (counter.Inside c) w h = omega (arith, h, covered_count-le c.cover.fields c.cover.name w)
 short counter.Prior w h = omega arith
 
 pub count_range : (p : ℕ) (c : Counter) (w : Pair) → w.end ≤ MAX_DOC_TOKENS → IsReady p c → IsLeafCount (counter_count w c)
@@ -106,7 +106,7 @@ count_ranges p cs w h ready =
 
 pub count_none : (p : ℕ) (c : Counter) → IsReady p c → record { tf = 0; len = 0 } ≡ counter_count (pair 0 0) c
 count_none p (counter.Plain s) h = ap (λ n. record { tf = n; len = 0 }) (sym (begin_count_none s.extents h.some))
-count_none p (counter.Inside s f) h = ap (λ n. record { tf = n; len = 0 }) (sym (begin_count_none s.extents h.extents.some))
+count_none p (counter.Inside c) h = ap (λ n. record { tf = n; len = 0 }) (sym (begin_count_none c.begins.extents h.extents.some))
 count_none p counter.Prior h = refl
 
 -- ---- as many counters as leaves
@@ -117,16 +117,14 @@ equally_long f g xs ys same = sym (length-map xs f) ∙ ap length same ∙ lengt
 
 -- ---- a document as a whole
 
-pub whole_is : (docs read : List Document) (id : ℕ) (leaf : LeafTree) (fields : List Field) (n : ℕ) (c : Counter) (found : LeafExtents) (count : LeafCount)
-    → read ≡ docs → fields ≡ (document_at read id).fields → n ≡ length (document_at read id).tokens → count ≡ counter_count (pair 0 n) c
-    → ((w : Pair) → counter_count w c ≡ found_count fields w found) → ((w : Pair) → found_count (document_at docs id).fields w found ≡ count_in (document_at docs id) w leaf)
-    → count ≡ count_of (document_at docs id) leaf
-whole_is docs read id leaf fields n c found count same fields_are long counted held exact =
+pub whole_is : (docs read : List Document) (id : ℕ) (leaf : LeafTree) (fields : List Field) (n : ℕ) (found : LeafExtents) (count : LeafCount)
+    → read ≡ docs → fields ≡ (document_at read id).fields → n ≡ length (document_at read id).tokens → count ≡ found_count fields (pair 0 n) found
+    → ((w : Pair) → found_count (document_at docs id).fields w found ≡ count_in (document_at docs id) w leaf) → count ≡ count_of (document_at docs id) leaf
+whole_is docs read id leaf fields n found count same fields_are long counted exact =
     let d : Document = document_at docs id in
     let here : fields ≡ d.fields = fields_are ∙ ap (λ (ds : List Document). (document_at ds id).fields) same in
     let tokens : n ≡ length d.tokens = long ∙ ap (λ (ds : List Document). length (document_at ds id).tokens) same in
     counted
-    ∙ held (pair 0 n)
     ∙ ap (λ (fs : List Field). found_count fs (pair 0 n) found) here
     ∙ exact (pair 0 n)
     ∙ ap (λ m. count_in d (pair 0 m) leaf) tokens

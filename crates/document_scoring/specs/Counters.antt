@@ -28,10 +28,14 @@ IsFound fields (extents.Plain xs) = AreInOrder xs
 IsFound fields (extents.Inside xs name) = AreInOrder xs × IsFewer xs fields name.now
 IsFound fields extents.Prior = Unit {0}
 
+-- the counts in a window of extents, by the fields in which they lie
+abbrev pub inside_count : Pair → PassedExtents → PassedFields → LeafCount
+inside_count w s f = record { tf = begin_count s.extents w; len = covered_count f.fields f.name w }
+
 -- the counts in a window of what a counter holds
 abbrev pub counter_count : Pair → Counter → LeafCount
 counter_count w (counter.Plain s) = record { tf = begin_count s.extents w; len = w.end - w.begin }
-counter_count w (counter.Inside s f) = record { tf = begin_count s.extents w; len = covered_count f.fields f.name w }
+counter_count w (counter.Inside c) = inside_count w c.begins c.cover
 counter_count w counter.Prior = record { tf = 0; len = 0 }
 
 -- extents that have a token each, of which those that are passed begin before the position
@@ -48,5 +52,5 @@ pub record IsBegunInside (position : ℕ) (s : PassedExtents) (f : PassedFields)
 -- a counter may count in windows from this position on
 abbrev pub IsReady : ℕ → Counter → Type 0
 IsReady position (counter.Plain s) = IsBegun position s
-IsReady position (counter.Inside s f) = IsBegunInside position s f
+IsReady position (counter.Inside c) = IsBegunInside position c.begins c.cover
 IsReady position counter.Prior = Unit {0}

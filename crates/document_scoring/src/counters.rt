@@ -1,9 +1,11 @@
 // What is counted of the leaves of a query in windows one behind the other.
-ghost use Rattle.std.specs.Prelude.{◌≡◌, map, All, AllPairs, IfOk};
+ghost use Rattle.std.specs.Prelude.{◌≡◌, ◌≤◌, map, All, AllPairs, IfOk};
 ghost use Rattle.ri_base.specs.Documents.{IsBefore};
 ghost use Rattle.ri_base.specs.Pair.{Pair};
+ghost use Rattle.ri_base.specs.declared.limits.TheConstants.{MAX_DOC_TOKENS};
 ghost use Rattle.extent_lists.specs.Pairs.{pair};
-ghost use Rattle.document_scoring.specs.Counters.{IsFound, IsReady, counter_count, found_count};
+ghost use Rattle.belief_nodes.specs.Leaves.{IsLeafCount};
+ghost use Rattle.document_scoring.specs.Counters.{IsBegunInside, IsFound, IsReady, counter_count, found_count, inside_count};
 
 use crate::found::LeafExtents;
 use belief_nodes::LeafCount;
@@ -17,14 +19,36 @@ pub enum Counter<'a> {
     /// Extents, and all tokens.
     Plain(WindowBegins<'a>),
     /// Extents that lie in fields of a name, and the tokens that these fields cover.
-    Inside(WindowBegins<'a>, WindowCover<'a>),
+    Inside(InsideCounter<'a>),
     /// Nothing, of a prior.
     Prior,
 }
 
+/// Extents that lie in fields of a name, and the fields of their document.
+#[derive(Drop)]
+pub struct InsideCounter<'a> {
+    begins: WindowBegins<'a>,
+    cover: WindowCover<'a>,
+}
+
+impl<'a> InsideCounter<'a> {
+    /// The counts in a window. No window may begin before one that was asked for earlier.
+    fn count(&mut self, window: Extent) -> LeafCount
+        requires { IsBegunInside window.begin self.old.begins self.old.cover }
+        ensures exact { result ≡ inside_count window self.old.begins self.old.cover }
+        ensures same { (w : Pair) → inside_count w self.new.begins self.new.cover ≡ inside_count w self.old.begins self.old.cover }
+        ensures ready { IsBegunInside window.begin self.new.begins self.new.cover }
+    {
+        LeafCount {
+            tf: self.begins.count(window),
+            len: self.cover.count(window),
+        }
+    }
+}
+
 impl<'a> Counter<'a> {
     /// Before the first window of a document with these fields.
-    pub fn new(found: &'a LeafExtents<'a>, spans: &'a [FieldSpan]) -> Counter<'a>
+    pub fn new(found: &'a LeafExtents<'_>, spans: &'a [FieldSpan]) -> Counter<'a>
         requires fields { AllPairs IsBefore spans.now }
         requires found { IsFound spans.now found.now }
         ensures exact { (w : Pair) → counter_count w result ≡ found_count spans.now w found.now }
@@ -32,9 +56,10 @@ impl<'a> Counter<'a> {
     {
         match found {
             LeafExtents::Plain(xs) => Counter::Plain(WindowBegins::new(xs)),
-            LeafExtents::Inside(xs, name) => {
-                Counter::Inside(WindowBegins::new(xs), WindowCover::new(spans, name))
-            }
+            LeafExtents::Inside(xs, name) => Counter::Inside(InsideCounter {
+                begins: WindowBegins::new(xs),
+                cover: WindowCover::new(spans, name),
+            }),
             LeafExtents::Prior => Counter::Prior,
         }
     }
@@ -51,16 +76,13 @@ impl<'a> Counter<'a> {
                 tf: begins.count(window),
                 len: window.end() - window.begin(),
             },
-            Counter::Inside(begins, cover) => LeafCount {
-                tf: begins.count(window),
-                len: cover.count(window),
-            },
+            Counter::Inside(inside) => inside.count(window),
             Counter::Prior => LeafCount { tf: 0, len: 0 },
         }
     }
 
     /// The counts in a document of so many tokens as a whole, before the first window.
-    pub fn count_whole(&mut self, tokens: u32) -> LeafCount
+    fn count_whole(&mut self, tokens: u32) -> LeafCount
         requires { IsReady 0 self.old }
         ensures { result ≡ counter_count (pair 0 tokens) self.old }
     {
@@ -72,10 +94,22 @@ impl<'a> Counter<'a> {
     }
 }
 
+/// The counts of what is found of a leaf in a document with these fields and so many tokens, as a whole.
+pub fn whole_count(found: &LeafExtents<'_>, spans: &[FieldSpan], tokens: u32) -> LeafCount
+    requires fields { AllPairs IsBefore spans.now }
+    requires found { IsFound spans.now found.now }
+    requires few { tokens ≤ MAX_DOC_TOKENS }
+    ensures exact { result ≡ found_count spans.now (pair 0 tokens) found.now }
+    ensures range { IsLeafCount result }
+{
+    let mut counter = Counter::new(found, spans);
+    counter.count_whole(tokens)
+}
+
 /// The counters of what is found of all leaves in a document with these fields.
 pub fn counters_of<'a>(
     alloc: Global,
-    found: &'a [LeafExtents<'a>],
+    found: &'a [LeafExtents<'_>],
     spans: &'a [FieldSpan],
 ) -> Result<Vec<Counter<'a>>, NoMemory>
     requires fields { AllPairs IsBefore spans.now }

@@ -8,7 +8,7 @@ ghost use Rattle.belief_nodes.specs.Leaves.{IsLeafCount};
 ghost use Rattle.document_scoring.specs.Candidates.{some_occurs};
 ghost use Rattle.document_scoring.specs.Counts.{count_of};
 
-use crate::counters::Counter;
+use crate::counters::whole_count;
 use crate::found::found_of;
 use belief_nodes::LeafCount;
 use query_check::LeafKind;
@@ -31,8 +31,7 @@ pub fn count_of<P: Postings>(
     ensures store { result ≡ Err SegFault.Store → Rose (P.faults part.old) (P.faults part.new) }
 {
     let found = found_of(alloc, leaf, part, id)?;
-    let mut counter = Counter::new(&found, part.spans(id));
-    Ok(counter.count_whole(part.length(id)))
+    Ok(whole_count(&found, part.spans(id), part.length(id)))
 }
 
 /// Whether some leaf occurs.

@@ -15,15 +15,15 @@ returns-in-None-clause-exact g c = λ sound w.
     let listed = c.extents_have_one_list.ensures.only_one (expr_tree c.in-Extents.expr) d c.in_ok-found.found (c.in_ok-found.ensures.exact sound) in
     plain_is c.args.leaf.now c.in-Extents.expr c.in-Extents.context d w c.in_ok-found.found c.in-Extents.is c.in-None.is listed
 
-pub returns-in-Some-clause-exact : goal.returns-in-Some-clause-exact
-returns-in-Some-clause-exact g c = λ sound w.
+pub returns-clause-exact : goal.returns-clause-exact
+returns-clause-exact g c = λ sound w.
     let d = document_at (g.P.Postings.documents c.args.part.now) c.args.id in
     let listed = c.extents_have_one_list.ensures.only_one (expr_tree c.in-Extents.expr) d c.in_ok-found.found (c.in_ok-found.ensures.exact sound) in
     let fields = c.spans.ensures.exact ∙ ap (λ (ds : List Document). (document_at ds c.args.id).fields) c.in_ok-found.ensures.keeps.documents_stay in
-    inside_is c.args.leaf.now c.in-Extents.expr c.in-Extents.context c.in-Some.name d c.spans.result.now w c.in_ok-found.found c.in_ok-kept.kept c.in-Extents.is c.in-Some.is listed fields c.in_ok-kept.ensures.exact
+    inside_is c.args.leaf.now c.in-Extents.expr c.in-Extents.context c.in-Some.name d c.spans.result.now w c.in_ok-found.found c.in_ok-kept-in-Some.kept c.in-Extents.is c.in-Some.is listed fields c.in_ok-kept-in-Some.ensures.exact
 
-pub returns-in-Some-clause-found : goal.returns-in-Some-clause-found
-returns-in-Some-clause-found g c =
+pub returns-clause-found : goal.returns-clause-found
+returns-clause-found g c =
     let d = document_at (g.P.Postings.documents c.args.part.now) c.args.id in
     let fields = c.spans.ensures.exact ∙ ap (λ (ds : List Document). (document_at ds c.args.id).fields) c.in_ok-found.ensures.keeps.documents_stay in
-    inside_found c.in_ok-found.found c.in_ok-kept.kept c.spans.result.now d.fields c.in-Some.name c.in_ok-found.ensures.order c.in_ok-kept.ensures.exact c.in_ok-kept.ensures.few fields
+    inside_found c.in_ok-found.found c.in_ok-kept-in-Some.kept c.spans.result.now d.fields c.in-Some.name c.in_ok-found.ensures.order c.in_ok-kept-in-Some.ensures.exact c.in_ok-kept-in-Some.ensures.few fields

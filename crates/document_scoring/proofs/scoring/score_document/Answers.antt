@@ -13,3 +13,6 @@ pub returns-then-not-branch-clause-exact : goal.returns-then-not-branch-clause-e
 returns-then-not-branch-clause-exact g c = λ sound.
     not_passed c.args.rule.now.kind (map (λ b. (goal.BeliefNode-dyn g (b.vtable, b.value)).meaning b.value) c.args.plugs.now) (map filter_tree c.args.filters.now) (network_tree c.args.network.now) (document_at (g.P.Postings.documents c.args.part.now) c.args.id)
     c.in_ok-all_pass.field-0 c.args.rows.now.items (c.in_ok-all_pass.ensures.exact sound) c.if-not-branch.true
+
+pub returns-clause-exact : goal.returns-clause-exact
+returns-clause-exact g c = ?

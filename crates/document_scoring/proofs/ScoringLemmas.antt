@@ -1,11 +1,12 @@
 -- The windows of a document as the candidates that they are.
-use Rattle.std.proofs.Common.{◌≡◌, ℕ, Bool, true, false, ◌||◌, List, [], ◌∷◌, ◌++◌, length, map, filter, flat_map, zip, refl, sym, ap, ◌∙◌, arith, append-nil, append_assoc}
+use Rattle.std.proofs.Common.{◌≡◌, ℕ, Bool, true, false, ◌||◌, List, [], ◌∷◌, ◌++◌, length, map, filter, flat_map, zip, refl, sym, ap, subst, ◌∙◌, arith, append-nil, append_assoc}
 use Rattle.std.specs.Bool.{nat_lt}
 use Rattle.std.specs.List.{list_all, list_any}
 use Rattle.std.proofs.lemmas.List.{length-map, map-append}
 use Rattle.std.proofs.lemmas.List.Elements.{All-append, All-cons, All-nil, filter-append, filter_agree}
 use Rattle.log_chain.specs.Chain.{chain}
 use Rattle.log_chain.specs.declared.chain.TheConstants.{LAST}
+use Rattle.ri_base.specs.Collection.{document_at}
 use Rattle.ri_base.specs.Documents.{Document, Field}
 use Rattle.ri_base.specs.Pair.{Pair}
 use Rattle.ri_base.specs.Query.{FilterTree}
@@ -21,7 +22,9 @@ use Rattle.belief_nodes.specs.Priors.{Prior}
 use Rattle.belief_nodes.specs.declared.leaf_count.LeafCount.{LeafCount}
 use Rattle.windows.specs.Windows.{windows}
 use Rattle.document_scoring.specs.Candidates.{Candidate, beliefs, candidate, document_candidates, occurs, passes, some_occurs}
+use Rattle.document_scoring.specs.Counters.{found_count}
 use Rattle.document_scoring.specs.Counts.{count_in}
+use Rattle.document_scoring.specs.declared.found.LeafExtents.{LeafExtents}
 use Rattle.document_scoring.specs.Rows.{Adds, AddsWindows, IsKeyed, row_candidate, window_candidate}
 use Rattle.document_scoring.specs.declared.scoring.Row.{Row}
 
@@ -171,3 +174,13 @@ adds_document kind priors filters network d docno tokens fields counts rows next
       candidates = all ∙ sym (one_kept (document_candidates kind priors network) (λ e. list_all (passes e) filters) d passed);
       keyed = h.keyed;
     }
+
+-- what is found in a document counts as the definition says, by the fields that the part lends of it later
+pub counted_is : (docs read last : List Document) (id : ℕ) (w : Pair) (fields : List Field) (found items : List LeafExtents) (leaves asked : List LeafTree) → read ≡ docs → last ≡ docs → fields ≡ (document_at last id).fields → found ≡ items
+    → map (found_count (document_at read id).fields w) items ≡ map (count_in (document_at read id) w) asked → asked ≡ leaves → map (found_count fields w) found ≡ map (count_in (document_at docs id) w) leaves
+counted_is docs read last id w fields found items leaves asked same later fields_are found_is h is =
+    let d : Document = document_at docs id in
+    ap (λ (fs : List Field). map (found_count fs w) found) (fields_are ∙ ap (λ (ds : List Document). (document_at ds id).fields) later)
+    ∙ ap (map (found_count d.fields w)) found_is
+    ∙ subst (λ (ds : List Document). map (found_count (document_at ds id).fields w) items ≡ map (count_in (document_at ds id) w) asked) same h
+    ∙ ap (map (count_in d w)) is

@@ -151,18 +151,11 @@ fn score_found<F: Fn(u32, u32, u64, u64) -> Fraction>(
         (AddsWindows rule.now.kind (map (λ plug. meaning plug) plugs.old) (network_tree network.now) docno.now tokens (λ w. map (found_count spans.now w) found.now) (windows (network_tree network.now).range tokens spans.now) rows.old.items rows.new.items) }
     ensures stay { map (λ plug. meaning plug) plugs.new ≡ map (λ plug. meaning plug) plugs.old }
 {
-    let mut counters = counters_of(alloc, found, spans)?;
+    let mut all = counters_of(alloc, found, spans)?;
+    let counters = all.as_mut_slice();
     for window in Contexts::new(network.range(), tokens, spans) {
         score_window(
-            alloc,
-            network,
-            rule,
-            plugs,
-            docno,
-            tokens,
-            &mut counters,
-            window,
-            rows,
+            alloc, network, rule, plugs, docno, tokens, counters, window, rows,
         )?;
     }
     Ok(())

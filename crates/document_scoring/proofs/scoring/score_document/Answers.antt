@@ -2,11 +2,10 @@ use Rattle.std.proofs.Common.{List, length, map, ap, sym, ◌∙◌}
 use Rattle.ri_base.specs.Collection.{document_at}
 use Rattle.ri_base.specs.Documents.{Document}
 use Rattle.ri_base.specs.Query.{filter_tree}
-use Rattle.query_check.specs.Leaves.{LeafTree, leaf_tree}
+use Rattle.query_check.specs.Leaves.{leaf_tree}
 use Rattle.belief_nodes.specs.Network.{network_tree}
 use Rattle.document_scoring.specs.Counters.{found_count}
-use Rattle.document_scoring.specs.Counts.{count_in}
-use Rattle.document_scoring.proofs.ScoringLemmas.{adds_document, not_passed}
+use Rattle.document_scoring.proofs.ScoringLemmas.{adds_document, counted_is, not_passed}
 use Rattle.document_scoring.proofs.scoring.score_document.Goals as goal
 
 pub returns-then-not-branch-clause-exact : goal.returns-then-not-branch-clause-exact
@@ -15,4 +14,21 @@ returns-then-not-branch-clause-exact g c = λ sound.
     c.in_ok-all_pass.field-0 c.args.rows.now.items (c.in_ok-all_pass.ensures.exact sound) c.if-not-branch.true
 
 pub returns-clause-exact : goal.returns-clause-exact
-returns-clause-exact g c = ?
+returns-clause-exact g c = λ sound.
+    let docs = g.P.Postings.documents c.args.part.now in
+    let read = g.P.Postings.documents c.all_pass.new.part in
+    let last = g.P.Postings.documents c.all_found.new.part in
+    let id = c.args.id in
+    let pass = c.in_ok-all_pass.ensures.keeps in
+    let keeps = c.in_ok-found.ensures.keeps in
+    let later = keeps.documents_stay ∙ pass.documents_stay in
+    let priors = map (λ b. (goal.BeliefNode-dyn g (b.vtable, b.value)).meaning b.value) c.args.plugs.now in
+    let network = network_tree c.args.network.now in
+    adds_document c.args.rule.now.kind priors (map filter_tree c.args.filters.now) network (document_at docs id) c.docno.result.now c.length.result c.spans.result.now (λ w. map (found_count c.spans.result.now w) c.deref.result.now) c.args.rows.now.items c.score_found.new.rows.items
+    (sym (c.in_ok-all_pass.ensures.exact sound) ∙ c.if-not-branch.false)
+    (c.docno.ensures ∙ ap (λ (ds : List Document). (document_at ds id).docno) later)
+    (c.length.ensures.exact ∙ ap (λ (ds : List Document). length (document_at ds id).tokens) later)
+    (c.spans.ensures.exact ∙ ap (λ (ds : List Document). (document_at ds id).fields) later)
+    (λ w. counted_is docs read last id w c.spans.result.now c.deref.result.now c.in_ok-found.found.items network.leaves (map leaf_tree c.leaves.result.now) pass.documents_stay later c.spans.ensures.exact c.deref.ensures.value
+    (c.in_ok-found.ensures.exact (pass.sound_stays.0 sound) w) c.leaves.ensures)
+    c.in_ok-score_found.ensures.adds

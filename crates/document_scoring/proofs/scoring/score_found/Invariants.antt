@@ -14,7 +14,7 @@ invariant-loop-window g l = record {
   split : l.yielded ++ l.window-iterator ≡ windows (network_tree l.network).range l.tokens l.spans;
   order : AreRising l.window-iterator;
   within : All (λ w. w.end ≤ l.tokens) l.window-iterator;
-  ready : All (λ w. All (IsReady w.begin) l.counters.items) l.window-iterator;
-  same : (w : Pair) → map (counter_count w) l.counters.items ≡ map (found_count l.spans w) l.fn.found;
+  ready : All (λ w. All (IsReady w.begin) l.counters) l.window-iterator;
+  same : (w : Pair) → map (counter_count w) l.counters ≡ map (found_count l.spans w) l.fn.found;
   adds : AddsWindows l.rule.kind (map (λ b. (goal.BeliefNode-dyn g (b.vtable, b.value)).meaning b.value) l.initial.plugs) (network_tree l.network) l.docno l.tokens (λ w. map (found_count l.spans w) l.fn.found) l.yielded l.fn.rows.items l.rows.items;
 }

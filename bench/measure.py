@@ -18,6 +18,8 @@ The inputs are made in a temporary folder, the same ones each time. Without a gr
     windows       one document of 1,000,000 tokens, half of which are words of the windows
     fields        65,535 fields of distinct names, one inside the other; as many of one name, one inside the other and one
                   behind the other, for what lies in them and for windows over them
+    parts         passages of one document of 1,000,000 tokens, against the query of whole documents; and 65,535 fields as
+                  results, nested and in a row, with a context and without, in seconds
     evidence      24 MiB of newswire text: a query with the prior of lengths, and with filters that no document or every
                   document passes, against the same query without; and filters that are windows over nested fields, of
                   which the first extent is taken from an iterator
@@ -97,6 +99,12 @@ WINDOW = Bound(12, 80)
 DISTINCT_NAMES = ("x.f9",)
 ONE_NAME = ("x.f", "#any:f", "#uw200000(#any:f y)", "#od200000(#any:f y)", "#od200000(#any:f #any:f)")
 FIELDS = Bound(18, 48)
+
+# Beliefs in passages, against the same in whole documents; and in fields.
+PASSAGES = ("a b", "w17 w42", "#1(a b) #uw8(a c)")
+PASSAGES_TO_WHOLE = 3
+IN_FIELDS = ("x", "x y", "x.(f)")
+FIELDS_SECONDS = 1
 
 # A query, and what stands round or beside it: the most times of the query alone.
 ASKED = "#combine(rain launch)"
@@ -434,6 +442,23 @@ def measure_fields(table):
         measure_texts(table, texts, path, FIELDS, shown)
 
 
+def measure_parts(table):
+    path = table.folder / "parts"
+    one_document(path, in_lines(mixed(1_000_000)))
+    for beliefs in PASSAGES:
+        asked = (f"#combine({beliefs})", f"#combine[passage100:50]({beliefs})")
+        (whole, _), (taken, peak) = table.best(*(Job(table.command("query", text), path) for text in asked))
+        ratio = table.at_most(f"{taken / whole:5.2f} times {asked[0]}", taken / whole, PASSAGES_TO_WHOLE)
+        table.row(f"query {asked[1]}", f"{taken:7.3f} s", ratio, f"peak {peak:4.0f} MiB")
+    for document, shown in ((nested_fields(), "nested"), (flat_fields(), "in a row")):
+        one_document(path, document)
+        for beliefs in IN_FIELDS:
+            text = f"#combine[f]({beliefs})"
+            [(taken, peak)] = table.best(Job(table.command("query", text), path))
+            seconds = table.at_most(f"{taken:7.3f} s", taken, FIELDS_SECONDS)
+            table.row(f"query {text}, 65,535 fields {shown}", seconds, f"peak {peak:4.0f} MiB")
+
+
 def measure_evidence(table):
     path = table.folder / "evidence"
     newswire(path, 24 * MIB)
@@ -482,6 +507,7 @@ GROUPS = {
     "many": measure_many,
     "windows": measure_windows,
     "fields": measure_fields,
+    "parts": measure_parts,
     "evidence": measure_evidence,
     "instructions": measure_instructions,
 }

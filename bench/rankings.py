@@ -3,9 +3,9 @@
 
 usage: bench/rankings.py
 
-It reads the cases in bench/rankings.cases and writes their lines to bench/rankings.lines. `.ci/examples` runs the program
-on the cases and compares what it writes with these lines. So it does with bench/rankings.windows, which has ranges and
-contexts, and bench/rankings.windows.lines. Nothing runs the program on those yet, since it refuses such queries today.
+It reads the cases in bench/rankings.cases and writes their lines to bench/rankings.lines, and those of
+bench/rankings.windows, which have ranges and contexts, to bench/rankings.windows.lines. `.ci/examples` runs the program on
+the cases and compares what it writes with these lines.
 
 A case is some lines, and the line `query` ends it:
 

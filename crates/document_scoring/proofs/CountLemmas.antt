@@ -1,25 +1,81 @@
--- Counts of leaves in a document as a whole.
-use Rattle.std.proofs.Common.{◌≡◌, ◌<◌, ◌≤◌, ◌+◌, ◌-◌, ℕ, zero, suc, min, max, Bool, true, false, not, ◌&&◌, ◌||◌, List, [], ◌∷◌, ◌++◌, length, map, filter, take, Option, None, Some, get_or, refl, sym, ap, ◌∙◌, arith}
-use Rattle.std.specs.Bool.{nat_eq, nat_lt}
-use Rattle.std.specs.List.{All, list_all, list_any}
+-- What is found of leaves in a document, and what is counted of them.
+use Rattle.std.proofs.Common.{◌≡◌, ◌<◌, ◌≤◌, ◌+◌, ◌-◌, ℕ, false, List, [], ◌∷◌, ◌++◌, length, map, filter, take, Option, None, Some, get_or, refl, sym, ap, subst, ◌∙◌, arith}
+use Rattle.std.specs.List.{All}
 use Rattle.std.proofs.lemmas.Bool.Decides.{nat_tests}
 use Rattle.std.proofs.lemmas.List.{get_or-map, length-map, map-append, take_more}
-use Rattle.std.proofs.lemmas.List.Elements.{All-get_or, All-head, All-tail}
-use Rattle.std.proofs.lemmas.List.Sums.{AllPass-from_list_all}
-use Rattle.ri_base.specs.Documents.{Document}
+use Rattle.std.proofs.lemmas.List.Elements.{All-head, All-tail}
+use Rattle.ri_base.specs.Collection.{document_at}
+use Rattle.ri_base.specs.Documents.{Document, Field}
 use Rattle.ri_base.specs.Expression.{expr_tree}
 use Rattle.ri_base.specs.Pair.{Pair}
 use Rattle.ri_base.specs.declared.expression.ExtentExpr.{ExtentExpr}
-use Rattle.field_extents.specs.Extents.{begin_count, is_inside}
+use Rattle.field_extents.specs.Extents.{AreInOrder, begin_count, is_inside}
+use Rattle.field_extents.specs.Fields.{covered_count, lies_in_some}
+use Rattle.field_extents.proofs.Laws.{AreInOrder-filter}
 use Rattle.extent_lists.specs.Pairs.{pair}
 use Rattle.extent_ops.specs.Listed.{extent_list}
 use Rattle.query_check.specs.Leaves.{LeafTree, leaf_tree}
 use Rattle.query_check.specs.declared.leaf_kind.LeafKind.{LeafKind}
-use Rattle.query_check.specs.declared.leaf_kind.LeafKind.TheVariants.{Extents}
-use Rattle.plain_query.specs.Checked.{is_plain_leaf}
-use Rattle.belief_nodes.specs.declared.leaf_count.LeafCount.{LeafCount}
-use Rattle.document_scoring.specs.Candidates.{occurs}
-use Rattle.document_scoring.specs.Counts.{count_of, whole}
+use Rattle.query_check.specs.declared.leaf_kind.LeafKind.TheVariants.{Extents, Prior}
+use Rattle.document_scoring.specs.Counters.{IsFewer, IsFound, found_count}
+use Rattle.document_scoring.specs.Counts.{count_in}
+use Rattle.document_scoring.specs.declared.found.LeafExtents.{LeafExtents}
+
+-- ---- what is found of one leaf
+
+pub prior_is : (leaf : LeafKind) (n : ℕ) (d : Document) (w : Pair) → leaf ≡ Prior n → record { tf = 0; len = 0 } ≡ count_in d w (leaf_tree leaf)
+prior_is leaf n d w is = sym (ap (λ (l : LeafKind). count_in d w (leaf_tree l)) is)
+
+-- an expression without a context
+pub plain_is : (leaf : LeafKind) (expr : ExtentExpr) (context : Option (List ℕ)) (d : Document) (w : Pair) (found : List Pair) → leaf ≡ Extents expr context → context ≡ None
+    → found ≡ extent_list (expr_tree expr) d → record { tf = begin_count found w; len = w.end - w.begin } ≡ count_in d w (leaf_tree leaf)
+plain_is leaf expr context d w found is none listed =
+    let whole : leaf ≡ Extents expr None = is ∙ ap (Extents expr) none in
+    ap (λ xs. record { tf = begin_count xs w; len = w.end - w.begin }) listed ∙ sym (ap (λ (l : LeafKind). count_in d w (leaf_tree l)) whole)
+
+-- an expression with a context
+pub inside_is : (leaf : LeafKind) (expr : ExtentExpr) (context : Option (List ℕ)) (name : List ℕ) (d : Document) (fields : List Field) (w : Pair) (found kept : List Pair) → leaf ≡ Extents expr context → context ≡ Some name
+    → found ≡ extent_list (expr_tree expr) d → fields ≡ d.fields → kept ≡ filter (lies_in_some fields name) found
+    → record { tf = begin_count kept w; len = covered_count d.fields name w } ≡ count_in d w (leaf_tree leaf)
+inside_is leaf expr context name d fields w found kept is some listed same kept_is =
+    let whole : leaf ≡ Extents expr (Some name) = is ∙ ap (Extents expr) some in
+    let here : kept ≡ filter (lies_in_some d.fields name) (extent_list (expr_tree expr) d) =
+    kept_is ∙ ap (λ (fs : List Field). filter (lies_in_some fs name) found) same ∙ ap (filter (lies_in_some d.fields name)) listed in
+    ap (λ xs. record { tf = begin_count xs w; len = covered_count d.fields name w }) here ∙ sym (ap (λ (l : LeafKind). count_in d w (leaf_tree l)) whole)
+
+-- the extents in fields of a name, and that no more of them begin than these fields cover
+pub inside_found : (found kept : List Pair) (fields same : List Field) (name : List ℕ) → AreInOrder found → kept ≡ filter (lies_in_some fields name) found
+    → ((w : Pair) → begin_count kept w ≤ covered_count fields name w) → fields ≡ same → AreInOrder kept × IsFewer kept same name
+inside_found found kept fields same name in_order is few here =
+    (subst AreInOrder (sym is) (AreInOrder-filter (lies_in_some fields name) found in_order), λ w. subst (λ (fs : List Field). begin_count kept w ≤ covered_count fs name w) here (few w))
+
+-- ---- one more element in two lists that two functions take to the same
+
+pub next_same : {X Y Z : Type 0} (f : X → Z) (g : Y → Z) (xs : List X) (ys : List Y) (i : ℕ) (x : X) (y : Y) → i < length ys → y ≡ get_or ys i y
+    → map f xs ≡ map g (take i ys) → f x ≡ g y → map f (xs ++ x ∷ []) ≡ map g (take (i + 1) ys)
+next_same f g xs ys i x y inside is so_far here =
+    let more : take (i + 1) ys ≡ take i ys ++ y ∷ [] = take_more ys i y inside ∙ ap (λ e. take i ys ++ e ∷ []) (sym is) in
+    map-append f xs (x ∷ [])
+    ∙ ap (λ zs. zs ++ f x ∷ []) so_far
+    ∙ ap (λ z. map g (take i ys) ++ z ∷ []) here
+    ∙ sym (ap (map g) more ∙ map-append g (take i ys) (y ∷ []))
+
+-- one more of what a function takes a list to
+pub next_counted : {X Y : Type 0} (f : X → Y) (xs : List X) (all counts : List Y) (i : ℕ) (x : X) (n : Y) → i < length xs → x ≡ get_or xs i x → map f xs ≡ all → counts ≡ take i all → n ≡ f x → counts ++ n ∷ [] ≡ take (i + 1) all
+next_counted f xs all counts i x n inside is same so_far here =
+    let long : length all ≡ length xs = sym (ap length same) ∙ length-map xs f in
+    let there : get_or all i n ≡ n = ap (λ ns. get_or ns i n) (sym same) ∙ get_or-map f xs i x n inside ∙ ap f (sym is) ∙ sym here in
+    ap (λ ns. ns ++ n ∷ []) so_far ∙ sym (take_more all i n (omega (arith, long, inside)) ∙ ap (λ m. take i all ++ m ∷ []) there)
+
+-- what is found in a document is found in it as it was before
+pub found_stays : (docs read : List Document) (id : ℕ) (w : Pair) (leaf : LeafTree) (x : LeafExtents) → read ≡ docs → found_count (document_at read id).fields w x ≡ count_in (document_at read id) w leaf
+    → found_count (document_at docs id).fields w x ≡ count_in (document_at docs id) w leaf
+found_stays docs read id w leaf x same h = subst (λ (ds : List Document). found_count (document_at ds id).fields w x ≡ count_in (document_at ds id) w leaf) same h
+
+pub IsFound-stays : (docs read : List Document) (id : ℕ) (x : LeafExtents) → read ≡ docs → IsFound (document_at read id).fields x → IsFound (document_at docs id).fields x
+IsFound-stays docs read id x same h = subst (λ (ds : List Document). IsFound (document_at ds id).fields x) same h
+
+-- ---- a document without tokens
 
 outside : (x : Pair) → x.begin < x.end → is_inside (pair 0 0) x ≡ false
 outside x h = grind (arith, nat_tests)
@@ -30,63 +86,6 @@ nothing_inside (x ∷ xs) h =
     let some : x.begin < x.end = All-head (λ (y : Pair). y.begin < y.end) x xs h in
     rw (outside x some) (nothing_inside xs (All-tail (λ (y : Pair). y.begin < y.end) x xs h))
 
--- no extent begins in a document without tokens
-begin_count_none : (xs : List Pair) → All (λ x. x.begin < x.end) xs → begin_count xs (pair 0 0) ≡ 0
+-- no extent begins in it
+pub begin_count_none : (xs : List Pair) → All (λ x. x.begin < x.end) xs → begin_count xs (pair 0 0) ≡ 0
 begin_count_none xs h = rw (nothing_inside xs h) refl
-
--- a window over all tokens, where a document without tokens has one all the same
-pub begin_count_within : (xs : List Pair) (n : ℕ) (window : Pair) (found least : ℕ) → All (λ x. x.begin < x.end) xs → window ≡ pair 0 (max n 1)
-    → found ≡ begin_count xs window → found ≤ window.end - window.begin → least ≡ min found n → least ≡ begin_count xs (pair 0 n)
-begin_count_within xs zero window found least some w is few l = let none = begin_count_none xs some in omega (arith, l, none)
-begin_count_within xs (suc n) window found least some w is few l =
-    let long : max (suc n) 1 ≡ suc n = omega arith in
-    let same : window ≡ pair 0 (suc n) = w ∙ ap (pair 0) long in
-    let end : window.end ≡ suc n = ap (λ (p : Pair). p.end) same in
-    let here : least ≡ found = omega (arith, l, few, end) in
-    here ∙ is ∙ ap (begin_count xs) same
-
--- what is counted of an expression without a context
-pub count_is : (leaf : LeafKind) (expr : ExtentExpr) (context : Option (List ℕ)) (d : Document) (found : List Pair) (tf len : ℕ) → leaf ≡ Extents expr context
-    → is_plain_leaf (leaf_tree leaf) ≡ true → found ≡ extent_list (expr_tree expr) d → tf ≡ begin_count found (pair 0 len) → len ≡ length d.tokens
-    → record { tf = tf; len = len } ≡ count_of d (leaf_tree leaf)
-count_is leaf expr None d found tf len is plain listed counted long =
-    let here : tf ≡ begin_count (extent_list (expr_tree expr) d) (whole d) =
-    counted ∙ ap (λ xs. begin_count xs (pair 0 len)) listed ∙ ap (λ n. begin_count (extent_list (expr_tree expr) d) (pair 0 n)) long in
-    let words : len ≡ length d.tokens - 0 = omega (arith, long) in
-    ap (λ n. record { tf = n; len = len }) here
-    ∙ ap (λ n. record { tf = begin_count (extent_list (expr_tree expr) d) (whole d); len = n }) words
-    ∙ sym (ap (λ (l : LeafKind). count_of d (leaf_tree l)) is)
-count_is leaf expr (Some c) d found tf len is plain listed counted long =
-    let never : false ≡ true = sym (ap (λ (l : LeafKind). is_plain_leaf (leaf_tree l)) is) ∙ plain in
-    cc
-
--- the counts with those of one more leaf
-pub next_counts : (d : Document) (leaves : List LeafKind) (i : ℕ) (leaf : LeafKind) (n : LeafCount) (counts next : List LeafCount) → i < length leaves → leaf ≡ get_or leaves i leaf
-    → counts ≡ map (count_of d) (map leaf_tree (take i leaves)) → n ≡ count_of d (leaf_tree leaf) → next ≡ counts ++ n ∷ []
-    → next ≡ map (count_of d) (map leaf_tree (take (i + 1) leaves))
-next_counts d leaves i leaf n counts next inside is so_far here pushed =
-    let more : take (i + 1) leaves ≡ take i leaves ++ leaf ∷ [] = take_more leaves i leaf inside ∙ ap (λ (l : LeafKind). take i leaves ++ l ∷ []) (sym is) in
-    pushed
-    ∙ ap (λ cs. cs ++ n ∷ []) so_far
-    ∙ ap (λ m. map (count_of d) (map leaf_tree (take i leaves)) ++ m ∷ []) here
-    ∙ sym (ap (λ (ls : List LeafKind). map (count_of d) (map leaf_tree ls)) more
-    ∙ ap (map (count_of d)) (map-append leaf_tree (take i leaves) (leaf ∷ []))
-    ∙ map-append (count_of d) (map leaf_tree (take i leaves)) (leaf_tree leaf ∷ []))
-
--- each leaf of a list of plain ones is plain
-pub plain_at : (leaves : List LeafKind) (i : ℕ) (leaf : LeafKind) → list_all is_plain_leaf (map leaf_tree leaves) ≡ true → i < length leaves
-    → leaf ≡ get_or leaves i leaf → is_plain_leaf (leaf_tree leaf) ≡ true
-plain_at leaves i leaf all inside is =
-    let long : length (map leaf_tree leaves) ≡ length leaves = length-map leaves leaf_tree in
-    let there : is_plain_leaf (get_or (map leaf_tree leaves) i (leaf_tree leaf)) ≡ true =
-    All-get_or (λ l. is_plain_leaf l ≡ true) (map leaf_tree leaves) i (leaf_tree leaf) (omega (arith, long)) (AllPass-from_list_all is_plain_leaf (map leaf_tree leaves) all) in
-    ap (λ (l : LeafKind). is_plain_leaf (leaf_tree l)) is ∙ sym (ap is_plain_leaf (get_or-map leaf_tree leaves i leaf (leaf_tree leaf) inside)) ∙ there
-
--- no leaf occurs in a document where each count is 0
-pub none_occurs : (leaves : List LeafTree) (d : Document) → list_all (λ c. nat_eq c.tf 0) (map (count_of d) leaves) ≡ not (list_any (occurs d (whole d)) leaves)
-none_occurs [] d = refl
-none_occurs (l ∷ ls) d = first (count_of d l).tf _ _ (none_occurs ls d)
-  where
-    first : (n : ℕ) (a b : Bool) → a ≡ not b → (nat_eq n 0 && a) ≡ not (nat_lt 0 n || b)
-    first zero a b e = e
-    first (suc n) a b e = grind (arith, nat_tests)

@@ -1,21 +1,18 @@
--- A document as a whole as the candidate that it is.
-use Rattle.std.proofs.Common.{◌≡◌, ℕ, Bool, true, false, not, ◌==◌, if◌then◌else◌, List, [], ◌∷◌, ◌++◌, length, map, filter, flat_map, zip, refl, sym, ap, ◌∙◌, arith, append-nil}
+-- The windows of a document as the candidates that they are.
+use Rattle.std.proofs.Common.{◌≡◌, ℕ, Bool, true, false, ◌||◌, List, [], ◌∷◌, ◌++◌, length, map, filter, flat_map, zip, refl, sym, ap, subst, ◌∙◌, arith, append-nil, append_assoc}
 use Rattle.std.specs.Bool.{nat_lt}
 use Rattle.std.specs.List.{list_all, list_any}
-use Rattle.std.proofs.lemmas.Bool.Decides.{nat_tests}
-use Rattle.std.proofs.lemmas.List.{length-map}
-use Rattle.std.proofs.lemmas.List.Elements.{All-cons, All-nil}
+use Rattle.std.proofs.lemmas.List.{length-map, map-append}
+use Rattle.std.proofs.lemmas.List.Elements.{All-append, All-cons, All-nil, filter-append, filter_agree}
 use Rattle.log_chain.specs.Chain.{chain}
 use Rattle.log_chain.specs.declared.chain.TheConstants.{LAST}
 use Rattle.ri_base.specs.Collection.{document_at}
-use Rattle.ri_base.specs.Documents.{Document}
+use Rattle.ri_base.specs.Documents.{Document, Field}
 use Rattle.ri_base.specs.Pair.{Pair}
 use Rattle.ri_base.specs.Query.{FilterTree}
 use Rattle.ri_base.specs.Ratio.{Ratio, ratio_of}
 use Rattle.ri_base.specs.declared.fraction.Fraction.{Fraction}
 use Rattle.ri_base.specs.declared.hit.LeafStats.{LeafStats}
-use Rattle.ri_base.specs.declared.query.Range.{Range}
-use Rattle.ri_base.specs.declared.query.Range.TheVariants.{Whole}
 use Rattle.smoothing.specs.declared.rule.RuleKind.{RuleKind}
 use Rattle.query_check.specs.Leaves.{LeafTree}
 use Rattle.belief_nodes.specs.Fractions.{leaf_fraction, leaf_fractions}
@@ -23,11 +20,13 @@ use Rattle.belief_nodes.specs.Keys.{digits_at}
 use Rattle.belief_nodes.specs.Network.{NetworkTree}
 use Rattle.belief_nodes.specs.Priors.{Prior}
 use Rattle.belief_nodes.specs.declared.leaf_count.LeafCount.{LeafCount}
-use Rattle.document_scoring.specs.Candidates.{Candidate, beliefs, candidate, candidates, document_candidates, found_windows, occurs, passes}
-use Rattle.document_scoring.specs.Counts.{count_in, count_of, whole}
-use Rattle.document_scoring.specs.Rows.{Adds, IsKeyed, row_candidate}
+use Rattle.windows.specs.Windows.{windows}
+use Rattle.document_scoring.specs.Candidates.{Candidate, beliefs, candidate, document_candidates, occurs, passes, some_occurs}
+use Rattle.document_scoring.specs.Counters.{found_count}
+use Rattle.document_scoring.specs.Counts.{count_in}
+use Rattle.document_scoring.specs.declared.found.LeafExtents.{LeafExtents}
+use Rattle.document_scoring.specs.Rows.{Adds, AddsWindows, IsKeyed, row_candidate, window_candidate}
 use Rattle.document_scoring.specs.declared.scoring.Row.{Row}
-use Rattle.document_scoring.proofs.CountLemmas.{none_occurs}
 
 -- ---- as many fractions as leaves
 
@@ -69,31 +68,6 @@ pub fractions_are : (kind : RuleKind) (priors : List Prior) (d : Document) (w : 
 fractions_are kind priors d w leaves counts stats is =
     ap (λ (ns : List LeafCount). leaf_fractions kind priors d.docno (length d.tokens) leaves ns stats) is ∙ told kind priors d w leaves stats
 
--- ---- the window of a document as a whole
-
-none_left : (b : Bool) (p : Pair → Bool) (w : Pair) → p w ≡ false → filter p (if b then w ∷ [] else []) ≡ []
-none_left true p w h = rw h refl
-none_left false p w h = refl
-
-one_left : (b : Bool) (p : Pair → Bool) (w : Pair) → b ≡ true → p w ≡ true → filter p (if b then w ∷ [] else []) ≡ w ∷ []
-one_left true p w e h = rw h refl
-one_left false p w e h = cc
-
-none_begun : (b : Bool) (p : Pair → Bool) (w : Pair) → b ≡ false → filter p (if b then w ∷ [] else []) ≡ []
-none_begun true p w e = cc
-none_begun false p w e = refl
-
-no_window : (leaves : List LeafTree) (d : Document) → length d.tokens ≡ 0 → found_windows leaves Whole d ≡ []
-no_window leaves d none =
-    none_begun (nat_lt 0 (length d.tokens)) (λ w. list_any (occurs d w) leaves) (whole d) (grind (arith, nat_tests))
-
-no_leaf : (leaves : List LeafTree) (d : Document) → list_any (occurs d (whole d)) leaves ≡ false → found_windows leaves Whole d ≡ []
-no_leaf leaves d h = none_left (nat_lt 0 (length d.tokens)) (λ w. list_any (occurs d w) leaves) (whole d) h
-
-some_leaf : (leaves : List LeafTree) (d : Document) → (length d.tokens == 0) ≡ false → list_any (occurs d (whole d)) leaves ≡ true → found_windows leaves Whole d ≡ whole d ∷ []
-some_leaf leaves d long h =
-    one_left (nat_lt 0 (length d.tokens)) (λ w. list_any (occurs d w) leaves) (whole d) (grind (arith, nat_tests)) h
-
 -- ---- the filters
 
 one_kept : {X Y : Type 0} (f : X → List Y) (p : X → Bool) (x : X) → p x ≡ true → flat_map f (filter p (x ∷ [])) ≡ f x
@@ -102,72 +76,111 @@ one_kept f p x h = rw h (append-nil (f x))
 one_dropped : {X Y : Type 0} (f : X → List Y) (p : X → Bool) (x : X) → p x ≡ false → flat_map f (filter p (x ∷ [])) ≡ []
 one_dropped f p x h = rw h refl
 
-none_of_one : {X Y : Type 0} (f : X → List Y) (p : X → Bool) (x : X) (b : Bool) → p x ≡ b → f x ≡ [] → flat_map f (filter p (x ∷ [])) ≡ []
-none_of_one f p x true h none = one_kept f p x h ∙ none
-none_of_one f p x false h none = one_dropped f p x h
+-- ---- functions that agree
 
--- ---- rows
+pub map_agree : {X Y : Type 0} (f g : X → Y) → ((x : X) → f x ≡ g x) → (xs : List X) → map f xs ≡ map g xs
+map_agree f g e [] = refl
+map_agree f g e (x ∷ xs) =
+    let here = e x in
+    let rest = map_agree f g e xs in
+    cc
 
-adds_none : (kind : RuleKind) (priors : List Prior) (filters : List FilterTree) (network : NetworkTree) (d : Document) (rows : List Row) → candidates kind priors filters network (d ∷ []) ≡ []
-    → Adds kind priors filters network d rows rows
-adds_none kind priors filters network d rows none = record {
-  more = [];
-  behind = sym (append-nil rows);
-  candidates = sym none;
-  keyed = All-nil (IsKeyed network.tree);
-}
+list_any-map : {X Y : Type 0} (p : Y → Bool) (f : X → Y) (xs : List X) → list_any p (map f xs) ≡ list_any (λ x. p (f x)) xs
+list_any-map p f [] = refl
+list_any-map p f (x ∷ xs) = ap (λ b. p (f x) || b) (list_any-map p f xs)
 
--- no window is left, whether the document passes or not
-adds_no_window : (kind : RuleKind) (priors : List Prior) (filters : List FilterTree) (network : NetworkTree) (d : Document) (rows : List Row) → network.range ≡ Whole → found_windows network.leaves Whole d ≡ []
-    → Adds kind priors filters network d rows rows
-adds_no_window kind priors filters network d rows range none =
-    let windows : document_candidates kind priors network d ≡ [] = ap (map (candidate kind priors network d)) (ap (λ (r : Range). found_windows network.leaves r d) range ∙ none) in
-    adds_none kind priors filters network d rows (none_of_one (document_candidates kind priors network) (λ e. list_all (passes e) filters) d (list_all (passes d) filters) refl windows)
+-- ---- the rows of windows
 
-pub without_tokens : (kind : RuleKind) (priors : List Prior) (filters : List FilterTree) (network : NetworkTree) (d : Document) (end : ℕ) (rows : List Row) → network.range ≡ Whole → end ≡ length d.tokens → end ≡ 0
-    → Adds kind priors filters network d rows rows
-without_tokens kind priors filters network d end rows range long none = adds_no_window kind priors filters network d rows range (no_window network.leaves d (sym long ∙ none))
+module _ (kind : RuleKind) (priors : List Prior) (network : NetworkTree) (docno : List ℕ) (tokens : ℕ) where
+  pub no_window : (counts : Pair → List LeafCount) (rows : List Row) → AddsWindows kind priors network docno tokens counts [] rows rows
+  no_window counts rows = record { more = []; behind = sym (append-nil rows); candidates = refl; keyed = All-nil (IsKeyed network.tree) }
+
+  pub window_left_out : (counts : Pair → List LeafCount) (w : Pair) (rows : List Row) → some_occurs (counts w) ≡ false → AddsWindows kind priors network docno tokens counts (w ∷ []) rows rows
+  window_left_out counts w rows none = record {
+    more = [];
+    behind = sym (append-nil rows);
+    candidates = rw none refl;
+    keyed = All-nil (IsKeyed network.tree);
+  }
+
+  pub window_added : (counts : Pair → List LeafCount) (w : Pair) (rows next : List Row) (row : Row) → some_occurs (counts w) ≡ true → row_candidate row ≡ window_candidate kind priors network docno tokens (counts w) w
+      → IsKeyed network.tree row → next ≡ rows ++ row ∷ [] → AddsWindows kind priors network docno tokens counts (w ∷ []) rows next
+  window_added counts w rows next row some is keyed pushed = record {
+    more = row ∷ [];
+    behind = pushed;
+    candidates = rw some (ap (λ (c : Candidate). c ∷ []) is);
+    keyed = All-cons (IsKeyed network.tree) row [] keyed (All-nil (IsKeyed network.tree));
+  }
+
+  -- the rows of windows, and then those of others
+  pub more_windows : (counts : Pair → List LeafCount) (ws vs : List Pair) (before mid now : List Row) → AddsWindows kind priors network docno tokens counts ws before mid → AddsWindows kind priors network docno tokens counts vs mid now
+      → AddsWindows kind priors network docno tokens counts (ws ++ vs) before now
+  more_windows counts ws vs before mid now h k =
+      let f : Pair → Candidate = λ w. window_candidate kind priors network docno tokens (counts w) w in
+      let p : Pair → Bool = λ w. some_occurs (counts w) in
+      let parts : map row_candidate (h.more ++ k.more) ≡ map f (filter p ws) ++ map f (filter p vs) =
+      map-append row_candidate h.more k.more ∙ ap (λ cs. cs ++ map row_candidate k.more) h.candidates ∙ ap (λ cs. map f (filter p ws) ++ cs) k.candidates in
+      let all : map f (filter p (ws ++ vs)) ≡ map f (filter p ws) ++ map f (filter p vs) = ap (map f) (filter-append p ws vs) ∙ map-append f (filter p ws) (filter p vs) in
+      record {
+        more = h.more ++ k.more;
+        behind = k.behind ∙ ap (λ (rs : List Row). rs ++ k.more) h.behind ∙ append_assoc before h.more k.more;
+        candidates = parts ∙ sym all;
+        keyed = All-append (IsKeyed network.tree) h.more k.more h.keyed k.keyed;
+      }
+
+  -- by counts that are the same in each window
+  pub same_windows : (f g : Pair → List LeafCount) (ws : List Pair) (before now : List Row) → ((w : Pair) → f w ≡ g w) → AddsWindows kind priors network docno tokens f ws before now → AddsWindows kind priors network docno tokens g ws before now
+  same_windows f g ws before now agree h = record {
+    more = h.more;
+    behind = h.behind;
+    candidates = h.candidates
+        ∙ ap (map (λ w. window_candidate kind priors network docno tokens (f w) w)) (filter_agree (λ w. some_occurs (f w)) (λ w. some_occurs (g w)) (λ w. ap some_occurs (agree w)) ws)
+        ∙ map_agree (λ w. window_candidate kind priors network docno tokens (f w) w) (λ w. window_candidate kind priors network docno tokens (g w) w) (λ w. ap (λ (ns : List LeafCount). window_candidate kind priors network docno tokens ns w) (agree w)) (filter (λ w. some_occurs (g w)) ws);
+    keyed = h.keyed;
+  }
+
+-- ---- the rows of a document
 
 pub not_passed : (kind : RuleKind) (priors : List Prior) (filters : List FilterTree) (network : NetworkTree) (d : Document) (passed : Bool) (rows : List Row) → passed ≡ list_all (passes d) filters → passed ≡ false
     → Adds kind priors filters network d rows rows
-not_passed kind priors filters network d passed rows is not_so =
-    adds_none kind priors filters network d rows (one_dropped (document_candidates kind priors network) (λ e. list_all (passes e) filters) d (sym is ∙ not_so))
+not_passed kind priors filters network d passed rows is not_so = record {
+  more = [];
+  behind = sym (append-nil rows);
+  candidates = sym (one_dropped (document_candidates kind priors network) (λ e. list_all (passes e) filters) d (sym is ∙ not_so));
+  keyed = All-nil (IsKeyed network.tree);
+}
 
-negated : (a b : Bool) → a ≡ not b → a ≡ true → b ≡ false
-negated a true e h = cc
-negated a false e h = refl
-
-affirmed : (a b : Bool) → a ≡ not b → a ≡ false → b ≡ true
-affirmed a true e h = refl
-affirmed a false e h = cc
-
-pub without_leaves : (kind : RuleKind) (priors : List Prior) (filters : List FilterTree) (network : NetworkTree) (d : Document) (counts : List LeafCount) (rows : List Row) → network.range ≡ Whole → counts ≡ map (count_of d) network.leaves
-    → list_all (λ count. count.tf == 0) counts ≡ true → Adds kind priors filters network d rows rows
-without_leaves kind priors filters network d counts rows range is none =
-    let tested : list_all (λ (count : LeafCount). count.tf == 0) counts ≡ not (list_any (occurs d (whole d)) network.leaves) =
-    ap (list_all (λ (count : LeafCount). count.tf == 0)) is ∙ none_occurs network.leaves d in
-    adds_no_window kind priors filters network d rows range (no_leaf network.leaves d (negated _ _ tested none))
-
-pub with_leaves : (kind : RuleKind) (priors : List Prior) (filters : List FilterTree) (network : NetworkTree) (docs read : List Document) (i : ℕ) (counts : List LeafCount) (docno : List ℕ) (end : ℕ) (rows next : List Row) (row : Row)
-    → list_all (passes (document_at docs i)) filters ≡ true → read ≡ docs → network.range ≡ Whole → counts ≡ map (count_of (document_at docs i)) network.leaves
-    → list_all (λ count. count.tf == 0) counts ≡ false → docno ≡ (document_at read i).docno → end ≡ length (document_at docs i).tokens → (end == 0) ≡ false
-    → row_candidate row ≡ record { docno = docno; begin = 0; end = end; beliefs = leaf_fractions kind priors docno end network.leaves counts network.stats } → IsKeyed network.tree row → next ≡ rows ++ row ∷ []
-    → Adds kind priors filters network (document_at docs i) rows next
-with_leaves kind priors filters network docs read i counts docno end rows next row passed same range counted some named long begun is keyed pushed =
-    let d : Document = document_at docs i in
-    let tested : list_all (λ (count : LeafCount). count.tf == 0) counts ≡ not (list_any (occurs d (whole d)) network.leaves) =
-    ap (list_all (λ (count : LeafCount). count.tf == 0)) counted ∙ none_occurs network.leaves d in
-    let name : docno ≡ d.docno = named ∙ ap (λ (ds : List Document). (document_at ds i).docno) same in
-    let tokens : (length d.tokens == 0) ≡ false = ap (λ n. n == 0) (sym long) ∙ begun in
-    let window = ap (λ (r : Range). found_windows network.leaves r d) range ∙ some_leaf network.leaves d tokens (affirmed _ _ tested some) in
-    let told_by : row_candidate row ≡ candidate kind priors network d (whole d) =
-    is
-    ∙ ap (λ n. record { docno = n; begin = 0; end = end; beliefs = leaf_fractions kind priors n end network.leaves counts network.stats }) name
-    ∙ ap (λ n. record { docno = d.docno; begin = 0; end = n; beliefs = leaf_fractions kind priors d.docno n network.leaves counts network.stats }) long
-    ∙ ap (λ rs. record { docno = d.docno; begin = 0; end = length d.tokens; beliefs = rs }) (fractions_are kind priors d (whole d) network.leaves counts network.stats counted) in
+-- the windows of a document that passes, by the counts of the definition, are its candidates
+pub adds_document : (kind : RuleKind) (priors : List Prior) (filters : List FilterTree) (network : NetworkTree) (d : Document) (docno : List ℕ) (tokens : ℕ) (fields : List Field) (counts : Pair → List LeafCount) (rows next : List Row)
+    → list_all (passes d) filters ≡ true → docno ≡ d.docno → tokens ≡ length d.tokens → fields ≡ d.fields → ((w : Pair) → counts w ≡ map (count_in d w) network.leaves)
+    → AddsWindows kind priors network docno tokens counts (windows network.range tokens fields) rows next → Adds kind priors filters network d rows next
+adds_document kind priors filters network d docno tokens fields counts rows next passed named long same counted h =
+    let ws : List Pair = windows network.range (length d.tokens) d.fields in
+    let found : Pair → Bool = λ w. list_any (occurs d w) network.leaves in
+    let here : windows network.range tokens fields ≡ ws = ap (λ n. windows network.range n fields) long ∙ ap (windows network.range (length d.tokens)) same in
+    let tested : (w : Pair) → some_occurs (counts w) ≡ found w = λ w. ap some_occurs (counted w) ∙ list_any-map (λ (n : LeafCount). nat_lt 0 n.tf) (count_in d w) network.leaves in
+    let told_by : (w : Pair) → window_candidate kind priors network docno tokens (counts w) w ≡ candidate kind priors network d w = λ w.
+    ap (λ n. window_candidate kind priors network n tokens (counts w) w) named
+    ∙ ap (λ n. window_candidate kind priors network d.docno n (counts w) w) long
+    ∙ ap (λ rs. record { docno = d.docno; begin = w.begin; end = w.end; beliefs = rs }) (fractions_are kind priors d w network.leaves (counts w) network.stats (counted w)) in
+    let all : map row_candidate h.more ≡ document_candidates kind priors network d =
+    h.candidates
+    ∙ ap (λ vs. map (λ w. window_candidate kind priors network docno tokens (counts w) w) (filter (λ w. some_occurs (counts w)) vs)) here
+    ∙ ap (map (λ w. window_candidate kind priors network docno tokens (counts w) w)) (filter_agree (λ w. some_occurs (counts w)) found tested ws)
+    ∙ map_agree (λ w. window_candidate kind priors network docno tokens (counts w) w) (candidate kind priors network d) told_by (filter found ws) in
     record {
-      more = row ∷ [];
-      behind = pushed;
-      candidates = ap (λ (c : Candidate). c ∷ []) told_by ∙ sym (one_kept (document_candidates kind priors network) (λ e. list_all (passes e) filters) d passed ∙ ap (map (candidate kind priors network d)) window);
-      keyed = All-cons (IsKeyed network.tree) row [] keyed (All-nil (IsKeyed network.tree));
+      more = h.more;
+      behind = h.behind;
+      candidates = all ∙ sym (one_kept (document_candidates kind priors network) (λ e. list_all (passes e) filters) d passed);
+      keyed = h.keyed;
     }
+
+-- what is found in a document counts as the definition says, by the fields that the part lends of it later
+pub counted_is : (docs read last : List Document) (id : ℕ) (w : Pair) (fields : List Field) (found items : List LeafExtents) (leaves asked : List LeafTree) → read ≡ docs → last ≡ docs → fields ≡ (document_at last id).fields → found ≡ items
+    → map (found_count (document_at read id).fields w) items ≡ map (count_in (document_at read id) w) asked → asked ≡ leaves → map (found_count fields w) found ≡ map (count_in (document_at docs id) w) leaves
+counted_is docs read last id w fields found items leaves asked same later fields_are found_is h is =
+    let d : Document = document_at docs id in
+    ap (λ (fs : List Field). map (found_count fs w) found) (fields_are ∙ ap (λ (ds : List Document). (document_at ds id).fields) later)
+    ∙ ap (map (found_count d.fields w)) found_is
+    ∙ subst (λ (ds : List Document). map (found_count (document_at ds id).fields w) items ≡ map (count_in (document_at ds id) w) asked) same h
+    ∙ ap (map (count_in d w)) is

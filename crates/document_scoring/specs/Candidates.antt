@@ -13,6 +13,7 @@ use Rattle.query_check.specs.Leaves.{LeafTree}
 use Rattle.belief_nodes.specs.Fractions.{leaf_fraction}
 use Rattle.belief_nodes.specs.Network.{NetworkTree}
 use Rattle.belief_nodes.specs.Priors.{Prior}
+use Rattle.belief_nodes.specs.declared.leaf_count.LeafCount.{LeafCount}
 use Rattle.windows.specs.Windows.{windows}
 use Rattle.document_scoring.specs.Counts.{count_in}
 
@@ -25,6 +26,10 @@ pub record Candidate : Type 0 where
 -- a leaf occurs in the window; a prior doesn't
 abbrev pub occurs : Document → Pair → LeafTree → Bool
 occurs d w l = nat_lt 0 (count_in d w l).tf
+
+-- some leaf has an occurrence
+abbrev pub some_occurs : List LeafCount → Bool
+some_occurs counts = list_any (λ count. nat_lt 0 count.tf) counts
 
 -- the belief of a leaf in the window, by what the collection has of it; that of a prior is the same in each window
 abbrev pub leaf_belief : RuleKind → List Prior → Document → Pair → LeafTree → LeafStats → Ratio

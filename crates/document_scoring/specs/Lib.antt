@@ -1,3 +1,4 @@
 pub mod Candidates
+pub mod Counters
 pub mod Counts
 pub mod Rows

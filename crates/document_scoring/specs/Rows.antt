@@ -1,16 +1,19 @@
 -- A row of a ranking as the hit and the candidate that it stands for, and the rows of a document.
-use Rattle.std.specs.Prelude.{◌≡◌, ◌++◌, ◌∷◌, [], All, List, map}
+use Rattle.std.specs.Prelude.{◌≡◌, ◌++◌, ◌∷◌, ℕ, [], All, List, filter, map}
 use Rattle.log_chain.specs.declared.chain.TheConstants.{LAST}
 use Rattle.ri_base.specs.Documents.{Document}
+use Rattle.ri_base.specs.Pair.{Pair}
 use Rattle.ri_base.specs.Query.{FilterTree}
 use Rattle.ri_base.specs.Ratio.{ratio_of}
 use Rattle.ri_base.specs.declared.hit.Hit.{Hit}
 use Rattle.smoothing.specs.declared.rule.RuleKind.{RuleKind}
 use Rattle.query_check.specs.Trees.{ScaledTree}
+use Rattle.belief_nodes.specs.Fractions.{leaf_fractions}
 use Rattle.belief_nodes.specs.Keys.{key_at}
 use Rattle.belief_nodes.specs.Network.{NetworkTree}
 use Rattle.belief_nodes.specs.Priors.{Prior}
-use Rattle.document_scoring.specs.Candidates.{Candidate, candidates}
+use Rattle.belief_nodes.specs.declared.leaf_count.LeafCount.{LeafCount}
+use Rattle.document_scoring.specs.Candidates.{Candidate, candidates, some_occurs}
 use Rattle.document_scoring.specs.declared.scoring.Row.{Row}
 
 abbrev pub row_hit : Row → Hit
@@ -28,4 +31,22 @@ pub record Adds (kind : RuleKind) (priors : List Prior) (filters : List FilterTr
   pub more : List Row
   pub behind : now ≡ before ++ more
   pub candidates : map row_candidate more ≡ candidates kind priors filters network (d ∷ [])
+  pub keyed : All (IsKeyed network.tree) more
+
+-- a window as a candidate, by the counts of the leaves in it
+abbrev pub window_candidate : RuleKind → List Prior → NetworkTree → List ℕ → ℕ → List LeafCount → Pair → Candidate
+window_candidate kind priors network docno tokens counts w = record {
+  docno = docno;
+  begin = w.begin;
+  end = w.end;
+  beliefs = leaf_fractions kind priors docno tokens network.leaves counts network.stats;
+}
+
+-- behind the rows of before stand those of the windows in which some leaf occurs, in their order, in a document of this
+-- docno and so many tokens, by the counts of the leaves in each window
+pub record AddsWindows (kind : RuleKind) (priors : List Prior) (network : NetworkTree) (docno : List ℕ) (tokens : ℕ) (counts : Pair → List LeafCount) (windows : List Pair) (before now : List Row) : Type 0 where
+  pub more : List Row
+  pub behind : now ≡ before ++ more
+  pub candidates : map row_candidate more
+      ≡ map (λ w. window_candidate kind priors network docno tokens (counts w) w) (filter (λ w. some_occurs (counts w)) windows)
   pub keyed : All (IsKeyed network.tree) more

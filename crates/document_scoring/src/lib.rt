@@ -1,11 +1,13 @@
 //! The scoring of one document of any part of a collection: whether it passes the query's filters, the counts of the
-//! query's leaves in it, and the document as a candidate with its beliefs and its key.
+//! query's leaves in its windows, and the windows as candidates with their beliefs and their keys.
 #![tactic(auto)]
 
+mod counters;
 mod counts;
 mod digits;
 mod filters;
+mod found;
 mod scoring;
 
-pub use counts::{count_of, counts_of};
+pub use counts::count_of;
 pub use scoring::{Row, score_document};

@@ -62,7 +62,9 @@ impl<'a> WindowBegins<'a> {
     /// Before the first window.
     pub fn new(xs: &'a Extents) -> WindowBegins<'a>
         requires { AreInOrder xs.now }
-        ensures { result ≡ record { extents = xs.now; passed = 0 } }
+        ensures exact { result ≡ record { extents = xs.now; passed = 0 } }
+        // Each extent has a token, as its type keeps it.
+        ensures some { All (λ x. x.begin < x.end) xs.now }
     {
         let extents = xs.as_slice();
         prove!(have_tokens(extents));

@@ -4,7 +4,6 @@ use Rattle.std.specs.List.{All, list_all}
 use Rattle.std.specs.List.Sorted.{IsPermutation, IsSortedBy}
 use Rattle.std.specs.Ordering.{is_lt, nat_cmp, ordering_then}
 use Rattle.std.specs.declared.cmp.Ordering.{Ordering}
-use Rattle.std.proofs.lemmas.Bool.{and_parts}
 use Rattle.std.proofs.lemmas.Bool.Decides.{nat_tests}
 use Rattle.std.proofs.lemmas.Grind.{flat_map-append}
 use Rattle.std.proofs.lemmas.List.{get_or-map, length-map, length-take, map-append, take_all, take_more}
@@ -19,14 +18,10 @@ use Rattle.ri_base.specs.Query.{FilterTree}
 use Rattle.ri_base.specs.Ratio.{ratio_of}
 use Rattle.ri_base.specs.declared.hit.Hit.{Hit}
 use Rattle.ri_base.specs.declared.hit.LeafStats.{LeafStats}
-use Rattle.ri_base.specs.declared.query.Range.{Range}
-use Rattle.ri_base.specs.declared.query.Range.TheVariants.{Whole, Field, Passages}
 use Rattle.smoothing.specs.declared.rule.RuleKind.{RuleKind}
 use Rattle.query_check.specs.Check.{CheckedTree}
 use Rattle.query_check.specs.Leaves.{LeafTree}
 use Rattle.query_check.specs.Scale.{scale}
-use Rattle.plain_query.specs.Checked.{is_plain_checked, is_plain_leaf}
-use Rattle.plain_query.specs.Plain.{is_whole}
 use Rattle.belief_nodes.specs.Keys.{key_at}
 use Rattle.belief_nodes.specs.Network.{NetworkTree}
 use Rattle.belief_nodes.specs.Priors.{Prior}
@@ -37,19 +32,6 @@ use Rattle.document_scoring.specs.Rows.{Adds, IsKeyed, row_candidate, row_hit}
 use Rattle.document_scoring.specs.declared.scoring.Row.{Row}
 use Rattle.document_scoring.proofs.ScoringLemmas.{joined_length}
 use Rattle.full_ranking.specs.Ranking.{IsRanking, candidate_of, hit_order, query_candidates, query_network}
-
--- ---- a plain query
-
-whole_is : (r : Range) → is_whole r ≡ true → r ≡ Whole
-whole_is Whole h = refl
-whole_is (Field f) h = cc
-whole_is (Passages width every) h = cc
-
-pub plain_range : (q : CheckedTree) → is_plain_checked q ≡ true → q.range ≡ Whole
-plain_range q h = whole_is q.range (and_parts (is_whole q.range) (list_all is_plain_leaf q.leaves) h).0
-
-pub plain_leaves : (q : CheckedTree) → is_plain_checked q ≡ true → list_all is_plain_leaf q.leaves ≡ true
-plain_leaves q h = (and_parts (is_whole q.range) (list_all is_plain_leaf q.leaves) h).1
 
 -- ---- candidates, document by document
 

@@ -1,32 +1,29 @@
 // How often the leaves of a query occur in all documents.
-ghost use Rattle.std.specs.Prelude.{◌≡◌, true, map, All, IfOk};
-ghost use Rattle.std.specs.List.{list_all};
+ghost use Rattle.std.specs.Prelude.{◌≡◌, map, All, IfOk};
 ghost use Rattle.query_check.specs.Leaves.{leaf_tree};
-ghost use Rattle.plain_query.specs.Checked.{is_plain_leaf};
 ghost use Rattle.belief_nodes.specs.Leaves.{AreLeafStats};
 ghost use Rattle.document_scoring.specs.Counts.{stats_of};
 
 use crate::memory::count_in_index;
 use query_check::LeafKind;
+use ri_base::limits::MAX_HELD_TOKENS;
 use ri_base::{LeafStats, NoMemory, Postings, Sealed};
 use std::alloc::Global;
 
-/// The sums of a leaf's counts over all documents. An expression without a context counts each of their tokens, a prior
-/// none.
+/// The sums of a leaf's counts over all documents.
 fn stats_of(alloc: Global, leaf: &LeafKind, index: &mut Sealed) -> Result<LeafStats, NoMemory>
-    requires { is_plain_leaf (leaf_tree leaf.now) ≡ true }
     ensures stats { IfOk result (λ s. s ≡ stats_of index.old (leaf_tree leaf.now)) }
     ensures range { IfOk result (λ s. AreLeafStats s) }
     ensures same { index.new ≡ index.old }
 {
-    let LeafKind::Extents(..) = leaf else {
-        return Ok(LeafStats { cf: 0, total: 0 });
-    };
-    let total = index.token_count();
+    // a leaf counts no token twice, so its sums stay below this
+    prove!(index.token_count() <= MAX_HELD_TOKENS);
     let mut cf = 0;
+    let mut total = 0;
     for id in 0..index.docs() {
         let count = count_in_index(alloc, leaf, index, id)?;
         cf += u64::from(count.tf);
+        total += u64::from(count.len);
     }
     Ok(LeafStats { cf, total })
 }
@@ -37,7 +34,6 @@ pub fn all_stats(
     leaves: &[LeafKind],
     index: &mut Sealed,
 ) -> Result<Vec<LeafStats>, NoMemory>
-    requires { list_all is_plain_leaf (map leaf_tree leaves.now) ≡ true }
     ensures stats { IfOk result (λ v. v.items ≡ map (stats_of index.old) (map leaf_tree leaves.now)) }
     ensures range { IfOk result (λ v. All (λ s. AreLeafStats s) v.items) }
     ensures same { index.new ≡ index.old }

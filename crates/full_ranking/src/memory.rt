@@ -1,12 +1,9 @@
 // The scoring of documents of an index in memory, which has no file and no store to fail.
 ghost use Rattle.std.specs.Prelude.{◌≡◌, ◌<◌, true, length, map, All, IfOk, OnOk};
-ghost use Rattle.std.specs.List.{list_all};
 ghost use Rattle.ri_base.specs.Collection.{document_at};
-ghost use Rattle.ri_base.specs.Query.{filter_tree};
-ghost use Rattle.ri_base.specs.declared.query.Range.TheVariants.{Whole};
+ghost use Rattle.ri_base.specs.Query.{filter_tree, is_range};
 ghost use Rattle.smoothing.specs.Fractions.{Computes};
 ghost use Rattle.query_check.specs.Leaves.{leaf_tree};
-ghost use Rattle.plain_query.specs.Checked.{is_plain_leaf};
 ghost use Rattle.belief_nodes.specs.Leaves.{HasPrior, IsLeafCount};
 ghost use Rattle.belief_nodes.specs.Network.{network_tree};
 ghost use Rattle.document_scoring.specs.Counts.{count_of};
@@ -26,8 +23,7 @@ pub fn count_in_index(
     index: &mut Sealed,
     id: u32,
 ) -> Result<LeafCount, NoMemory>
-    requires id { id < length index.old }
-    requires plain { is_plain_leaf (leaf_tree leaf.now) ≡ true }
+    requires { id < length index.old }
     ensures count { IfOk result (λ n. n ≡ count_of (document_at index.old id) (leaf_tree leaf.now)) }
     ensures range { IfOk result (λ n. IsLeafCount n) }
     ensures same { index.new ≡ index.old }
@@ -53,8 +49,7 @@ pub fn score_in_index<F: Fn(u32, u32, u64, u64) -> Fraction>(
 ) -> Result<(), NoMemory>
     requires rule { Computes F.pre F.post rule.now.kind rule.now.f }
     requires id { id < length index.old }
-    requires whole { (network_tree network.now).range ≡ Whole }
-    requires plain { list_all is_plain_leaf (network_tree network.now).leaves ≡ true }
+    requires range { is_range (network_tree network.now).range ≡ true }
     requires plugs { All (HasPrior (length plugs.old)) (network_tree network.now).leaves }
     ensures adds { OnOk result
         (Adds rule.now.kind (map (λ plug. meaning plug) plugs.old) (map filter_tree filters.now) (network_tree network.now) (document_at index.old id) rows.old.items rows.new.items) }

@@ -1,11 +1,8 @@
 // Candidates and their order.
 ghost use Rattle.std.specs.Prelude.{◌≡◌, ◌≤◌, true, length, map, All, IfOk};
-ghost use Rattle.std.specs.List.{list_all};
-ghost use Rattle.ri_base.specs.Query.{filter_tree};
-ghost use Rattle.ri_base.specs.declared.query.Range.TheVariants.{Whole};
+ghost use Rattle.ri_base.specs.Query.{filter_tree, is_range};
 ghost use Rattle.smoothing.specs.Fractions.{Computes};
 ghost use Rattle.query_check.specs.Answers.{whole_checked};
-ghost use Rattle.plain_query.specs.Checked.{is_plain_checked, is_plain_leaf};
 ghost use Rattle.belief_nodes.specs.Leaves.{HasPrior};
 ghost use Rattle.belief_nodes.specs.Network.{network_tree};
 ghost use Rattle.document_scoring.specs.Candidates.{candidates};
@@ -21,7 +18,7 @@ use ri_base::{Filter, Fraction, Hits, NoMemory, Postings, Sealed};
 use smoothing::Rule;
 use std::alloc::Global;
 
-/// The candidates of all documents that pass the filters, in order of ids.
+/// The candidates of all documents that pass the filters, in order of ids and of their windows.
 fn rows_of<F: Fn(u32, u32, u64, u64) -> Fraction>(
     alloc: Global,
     filters: &[Filter],
@@ -31,8 +28,7 @@ fn rows_of<F: Fn(u32, u32, u64, u64) -> Fraction>(
     index: &mut Sealed,
 ) -> Result<Vec<Row>, NoMemory>
     requires rule { Computes F.pre F.post rule.now.kind rule.now.f }
-    requires whole { (network_tree network.now).range ≡ Whole }
-    requires plain { list_all is_plain_leaf (network_tree network.now).leaves ≡ true }
+    requires range { is_range (network_tree network.now).range ≡ true }
     requires plugs { All (HasPrior (length plugs.old)) (network_tree network.now).leaves }
     ensures rows { IfOk result (λ v. map row_candidate v.items ≡ candidates rule.now.kind (map (λ plug. meaning plug) plugs.old) (map filter_tree filters.now) (network_tree network.now) index.old) }
     ensures keys { IfOk result (λ v. All (IsKeyed (network_tree network.now).tree) v.items) }
@@ -57,8 +53,8 @@ fn hits_of(alloc: Global, rows: Vec<Row>) -> Result<Hits, NoMemory>
     Ok(Hits::of(hits))
 }
 
-/// The first hits of the ranking of an index's documents, at most so many, for a checked query. The query is plain: it
-/// ranks whole documents, and has leaves without contexts. `plugs` settle its priors by their numbers.
+/// The first hits of the ranking of an index's documents, at most so many, for a checked query: documents, fields of a
+/// name or passages, as its range says. `plugs` settle its priors by their numbers.
 pub fn rank<F: Fn(u32, u32, u64, u64) -> Fraction>(
     alloc: Global,
     checked: &Checked,
@@ -68,7 +64,6 @@ pub fn rank<F: Fn(u32, u32, u64, u64) -> Fraction>(
     most: usize,
 ) -> Result<Hits, NoMemory>
     requires rule { Computes F.pre F.post rule.now.kind rule.now.f }
-    requires plain { is_plain_checked (whole_checked checked.now) ≡ true }
     requires plugs { All (HasPrior (length plugs.old)) (whole_checked checked.now).leaves }
     ensures ranking { IfOk result (IsAnswer rule.now.kind (map (λ plug. meaning plug) plugs.old) (whole_checked checked.now) index.old most) }
     ensures few { IfOk result (λ hits. length hits ≤ most) }

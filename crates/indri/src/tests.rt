@@ -250,7 +250,7 @@ fn scans(rt: HostRuntime) -> Result<(), Fail> {
 }
 
 /// Queries with a mu of 1.
-static QUERIES: [Row; 15] = [
+static QUERIES: [Row; 18] = [
     (
         "#combine(a)",
         TWO,
@@ -283,6 +283,24 @@ static QUERIES: [Row; 15] = [
         TWO,
         Status::Done,
         b"1 - -0.847996 d1 0 2\n",
+    ),
+    (
+        "#combine[t](a)",
+        b"<DOC><DOCNO>d1</DOCNO><t>a b</t><t>a</t></DOC>",
+        Status::Done,
+        b"1 - -0.263034 d1 2 3\n2 > -0.847996 d1 0 2\n",
+    ),
+    (
+        "#filrej(#band(a b) #combine[passage4:2](a))",
+        b"<DOC><DOCNO>d1</DOCNO>a c a c a</DOC><DOC><DOCNO>d2</DOCNO>a b</DOC>",
+        Status::Done,
+        b"1 - -0.347923 d1 4 5\n2 > -0.637429 d1 2 5\n3 > -0.959358 d1 0 4\n",
+    ),
+    (
+        "a dog.(title)",
+        TWO,
+        Status::Done,
+        b"1 - -0.631517 d2 0 1\n2 > -0.923998 d1 0 2\n",
     ),
     ("z", TWO, Status::Done, b""),
     ("a", b"", Status::Done, b""),
@@ -370,7 +388,7 @@ fn options(rt: HostRuntime) -> Result<(), Fail> {
 }
 
 /// Words that are no command, and texts that are refused: the words, the status, and what is written.
-static REFUSED: [(&[&str], Status, &str); 35] = [
+static REFUSED: [(&[&str], Status, &str); 32] = [
     (&[], Status::Usage, USAGE),
     (&[".", "query", "--run", "mine", "a"], Status::Usage, USAGE),
     (&[".", "explain", "1", "a"], Status::Usage, USAGE),
@@ -496,21 +514,6 @@ static REFUSED: [(&[&str], Status, &str); 35] = [
         &[".", "query", "--mu", "1", "a #prior(x)"],
         Status::QueryRefused,
         "refused Check UnknownPrior x\n",
-    ),
-    (
-        &[".", "query", "--mu", "1", "a.(title)"],
-        Status::QueryRefused,
-        "refused Query NotYetBuilt 0\n",
-    ),
-    (
-        &[".", "query", "--mu", "1", "#combine[title](a)"],
-        Status::QueryRefused,
-        "refused Query NotYetBuilt 0\n",
-    ),
-    (
-        &[".", "query", "--mu", "1", "#filreq(a b.(title))"],
-        Status::QueryRefused,
-        "refused Query NotYetBuilt 0\n",
     ),
 ];
 

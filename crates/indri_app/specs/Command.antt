@@ -1,5 +1,5 @@
 -- The command that the words of the command line ask for.
-use Rattle.std.specs.Prelude.{List, [], codes, Option, None, Some, Result, Ok, Err, ℕ, option_and_then, if◌then◌else◌}
+use Rattle.std.specs.Prelude.{List, [], codes, Option, None, Some, Result, Ok, Err, ℕ, option_and_then}
 use Rattle.command_words.specs.Table.{Asks, asks_of, explain, query, scan}
 use Rattle.ri_base.specs.Expression.{ExprTree}
 use Rattle.ri_base.specs.Query.{QueryTree}
@@ -8,10 +8,8 @@ use Rattle.smoothing.specs.declared.rule.RuleKind.{RuleKind}
 use Rattle.smoothing.specs.declared.rule.RuleKind.TheVariants.{Dirichlet}
 use Rattle.query_reader.specs.QueryText.{expr_text, query_text}
 use Rattle.query_reader.specs.declared.fault.QueryKind.{QueryKind}
-use Rattle.query_reader.specs.declared.fault.QueryKind.TheVariants.{NotYetBuilt}
 use Rattle.query_check.specs.Check.{CheckedTree, checks}
 use Rattle.query_check.specs.declared.fault.CheckFault.{CheckFault}
-use Rattle.plain_query.specs.Plain.{is_plain_query}
 use Rattle.refusals.specs.declared.refusal.Refusal.{Refusal}
 use Rattle.refusals.specs.declared.refusal.Refusal.TheVariants as refusal
 use Rattle.indri_app.specs.Shown.{Shown, shown_for}
@@ -34,9 +32,8 @@ abbrev pub query_checked : RuleKind → Shown → Result CheckedTree CheckFault 
 query_checked rule shown (Ok q) = Ok (rank_by rule shown q)
 query_checked rule shown (Err fault) = Err (refusal.Check fault)
 
--- a query of another form than those that are ranked today is refused before it is checked
 abbrev pub query_read : RuleKind → Shown → Result QueryTree (QueryKind × ℕ) → Result Command Refusal
-query_read rule shown (Ok q) = if is_plain_query q then query_checked rule shown (checks q []) else Err (refusal.Text NotYetBuilt 0)
+query_read rule shown (Ok q) = query_checked rule shown (checks q [])
 query_read rule shown (Err fault) = Err (refusal.Text fault.0 fault.1)
 
 -- the command, or the refusal of its text. `explain` isn't built yet.

@@ -1,7 +1,6 @@
 -- The command that a text is read as.
-use Rattle.std.specs.Prelude.{◌≡◌, ◌≤◌, true, Option, None, Some, Result, Ok, Err}
+use Rattle.std.specs.Prelude.{◌≡◌, ◌≤◌, Option, None, Some, Result, Ok, Err}
 use Rattle.command_words.specs.declared.words.TheConstants.{MAX_RESULTS}
-use Rattle.plain_query.specs.Checked.{is_plain_checked}
 use Rattle.query_check.specs.Answers.{whole_checked}
 use Rattle.query_reader.specs.declared.fault.QueryFault.{QueryFault}
 use Rattle.query_reader.specs.declared.fault.QueryFault.TheVariants as text
@@ -19,10 +18,10 @@ abbrev pub told : Command → Asked
 told (Scan expr) = scan_for (expr_tree expr)
 told (Query rule shown query) = rank_by rule (told_shown shown) (whole_checked query)
 
--- The rule's numbers are in their ranges, and so is how many results are shown; and the query is of a form that is ranked today.
+-- The rule's numbers are in their ranges, and so is how many results are shown.
 abbrev pub CanRun : Asked → Type 0
 CanRun (scan_for x) = Unit {0}
-CanRun (rank_by rule shown q) = IsRule rule × (shown.count ≤ MAX_RESULTS) × (is_plain_checked q ≡ true)
+CanRun (rank_by rule shown q) = IsRule rule × (shown.count ≤ MAX_RESULTS)
 
 -- why there is no command of a text that isn't read
 abbrev pub text_fault : QueryFault → TextFault

@@ -7,7 +7,6 @@ ghost use Rattle.smoothing.specs.Counts.{AreCounts};
 ghost use Rattle.smoothing.specs.Fractions.{IsMu, dirichlet};
 ghost use Rattle.ri_base.specs.Ratio.{ratio_of};
 ghost use Rattle.query_check.specs.Answers.{whole_checked};
-ghost use Rattle.plain_query.specs.Checked.{is_plain_checked};
 ghost use Rattle.ranked_output.specs.Marks.{IsScale};
 ghost use Rattle.ranked_output.specs.Texts.{line_of, lines_of};
 ghost use Rattle.indri_app.specs.Answer.{IsResult, first_lines};
@@ -78,7 +77,6 @@ pub fn ranking_text(
 ) -> Result<Vec<u8>, NoMemory>
     requires rule { IsRule kind }
     requires shown { shown.now.count ≤ MAX_RESULTS }
-    requires plain { is_plain_checked (whole_checked checked.now) ≡ true }
     requires plugs { map (λ plug. meaning plug) plugs.old ≡ run_priors }
     ensures text { IfOk result (λ text. (ranking : List Hit) × IsResult kind (told_shown shown.now) (whole_checked checked.now) index.documents ranking
         × (text.items ≡ shown_text (told_labels shown.now.labels) (first_lines shown.now.count (whole_checked checked.now) ranking))) }

@@ -9,9 +9,8 @@ ghost use Rattle.indri_app.specs.Told.{CanRun, Reads, text_fault, told};
 
 use crate::shown::Shown;
 use command_words::{Words, read_words};
-use plain_query::{checked_is_plain, is_plain};
 use query_check::{CheckFault, Checked, check};
-use query_reader::{QueryFault, QueryKind, read_expr, read_query};
+use query_reader::{QueryFault, read_expr, read_query};
 use refusals::Refusal;
 use ri_base::{ArgList, ExtentExpr};
 use smoothing::RuleKind;
@@ -46,7 +45,7 @@ fn text_fault(fault: QueryFault) -> TextFault
     }
 }
 
-/// The command of a query, where it is of a form that is ranked today.
+/// The command of a query.
 fn read_ranked(
     alloc: Global,
     rule: RuleKind,
@@ -62,13 +61,6 @@ fn read_ranked(
         Ok(query) => query,
         Err(fault) => return Err(text_fault(fault)),
     };
-    if !is_plain(&query) {
-        return Err(TextFault::Refused(Refusal::Text {
-            kind: QueryKind::NotYetBuilt,
-            place: 0,
-        }));
-    }
-    checked_is_plain();
     match check(alloc, query, &[]) {
         Ok(query) => Ok(Some(Command::Query { rule, shown, query })),
         Err(CheckFault::Memory) => Err(TextFault::Memory),

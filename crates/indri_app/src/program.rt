@@ -1,6 +1,5 @@
 // The program's one public call.
 ghost use Rattle.std.specs.Prelude.{◌≡◌, ◌≢◌, ◌≤◌, ◌∷◌, [], IfErr, IfOk, IfSome, IsErrOf, None, Some, map, true};
-ghost use Rattle.plain_query.specs.Checked.{is_plain_checked};
 ghost use Rattle.query_check.specs.Answers.{whole_checked};
 ghost use Rattle.ri_base.specs.Expression.{expr_tree};
 ghost use Rattle.ri_ends.specs.Causes.{Rose};
@@ -118,7 +117,6 @@ fn write_results<K: Sink>(
 ) -> Result<(), Fault>
     requires rule { IsRule rule }
     requires shown { shown.now.count ≤ MAX_RESULTS }
-    requires plain { is_plain_checked (whole_checked query.now) ≡ true }
     requires plugs { map (λ plug. meaning plug) plugs.old ≡ run_priors }
     ensures shown { IfOk result (λ _. Shows rule (told_shown shown.now) (whole_checked query.now) index.documents (λ piece. Finished (piece ∷ []) (K.taken sink.old) (K.taken sink.new))) }
     ensures none { IsErrOf result Fault.Memory → K.taken sink.new ≡ K.taken sink.old }
@@ -147,7 +145,6 @@ fn query<S: Source, K: Sink>(
 ) -> Result<bool, Fault>
     requires rule { IsRule rule }
     requires shown { shown.now.count ≤ MAX_RESULTS }
-    requires plain { is_plain_checked (whole_checked query.now) ≡ true }
     requires plugs { map (λ plug. meaning plug) plugs.old ≡ run_priors }
 
     ensures done { IfOk result (λ refused. IfSome (S.left source.old) (λ bytes. IsDone (rank_by rule (told_shown shown.now) (whole_checked query.now)) bytes refused (K.taken sink.old) (K.taken sink.new))) }

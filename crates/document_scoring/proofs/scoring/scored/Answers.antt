@@ -11,5 +11,5 @@ pub key-requires-clause-each : goal.key-requires-clause-each
 key-requires-clause-each g c =
     let digits = c.deref.ensures.value ∙ c.in_ok-digits.ensures.values ∙ ap (λ (fs : List Fraction). digits_at LAST (map ratio_of fs)) c.as_slice.ensures in
     let priors = map (λ b. (goal.BeliefNode-dyn g (b.vtable, b.value)).meaning b.value) c.args.plugs.now in
-    digits_length c.args.rule.now.kind priors _ c.args.end (map leaf_tree c.args.network.now.leaves.items) c.args.counts.now c.args.network.now.stats.items c.in_ok-fractions.fractions _
+    digits_length c.args.rule.now.kind priors _ c.args.tokens (map leaf_tree c.args.network.now.leaves.items) c.args.counts.now c.args.network.now.stats.items c.in_ok-fractions.fractions _
     c.args.network.now.kept.each c.requires.each c.in_ok-fractions.ensures.beliefs digits

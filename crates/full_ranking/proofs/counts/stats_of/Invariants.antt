@@ -7,5 +7,6 @@ abbrev pub invariant-loop-id : goal.invariant-loop-id
 invariant-loop-id l = record {
   same : l.index ≡ l.fn.index;
   cf : l.cf ≡ sum_by (whole_tf (leaf_tree l.leaf)) (take l.id l.fn.index);
-  part : l.cf ≤ sum_by (whole_len (leaf_tree l.leaf)) (take l.id l.fn.index);
+  total : l.total ≡ sum_by (whole_len (leaf_tree l.leaf)) (take l.id l.fn.index);
+  part : l.cf ≤ l.total;
 }

@@ -1,34 +1,25 @@
 use Rattle.std.proofs.Common.{◌≡◌, ◌≤◌, length, map, take, List, ap, subst, sym, ◌∙◌}
-use Rattle.std.specs.List.{All, list_all}
+use Rattle.std.specs.List.{All}
 use Rattle.std.proofs.lemmas.List.{length-map, take-map}
 use Rattle.std.proofs.lemmas.List.Elements.{All-weaker}
 use Rattle.std.proofs.lemmas.Result.{IfOk-weaker}
-use Rattle.ri_base.specs.Query.{filter_tree}
+use Rattle.ri_base.specs.Query.{filter_tree, is_range}
 use Rattle.ri_base.specs.declared.hit.Hit.{Hit}
 use Rattle.query_check.specs.Answers.{whole_checked}
 use Rattle.query_check.specs.Leaves.{leaf_tree}
 use Rattle.query_check.specs.declared.leaf_kind.LeafKind.{LeafKind}
-use Rattle.plain_query.specs.Checked.{is_plain_leaf}
 use Rattle.belief_nodes.specs.Leaves.{HasPrior}
 use Rattle.belief_nodes.specs.Network.{NetworkTree, network_tree}
 use Rattle.document_scoring.specs.Counts.{stats_of}
 use Rattle.document_scoring.specs.Rows.{row_hit}
 use Rattle.full_ranking.specs.Ranking.{IsAnswer, IsRanking}
-use Rattle.full_ranking.proofs.RankingLemmas.{IsRanking-rows, first_each, first_few, plain_leaves, plain_range}
+use Rattle.full_ranking.proofs.RankingLemmas.{IsRanking-rows, first_each, first_few}
 use Rattle.full_ranking.proofs.ranking.rank.Goals as goal
 use Rattle.full_ranking.proofs.ranking.rank.Goals.{After-drop-stats-2}
 
-pub all_stats-requires : goal.all_stats-requires
-all_stats-requires g c =
-    ap (λ (ls : List LeafKind). list_all is_plain_leaf (map leaf_tree ls)) c.deref.ensures.value ∙ plain_leaves (whole_checked c.args.checked.now) c.requires.plain
-
-pub rows_of-requires-clause-whole : goal.rows_of-requires-clause-whole
-rows_of-requires-clause-whole g c =
-    ap (λ (n : NetworkTree). n.range) c.in_ok-network.ensures ∙ plain_range (whole_checked c.args.checked.now) c.requires.plain
-
-pub rows_of-requires-clause-plain : goal.rows_of-requires-clause-plain
-rows_of-requires-clause-plain g c =
-    ap (λ (n : NetworkTree). list_all is_plain_leaf n.leaves) c.in_ok-network.ensures ∙ plain_leaves (whole_checked c.args.checked.now) c.requires.plain
+pub rows_of-requires-clause-range : goal.rows_of-requires-clause-range
+rows_of-requires-clause-range g c =
+    ap (λ (n : NetworkTree). is_range n.range) c.in_ok-network.ensures ∙ c.args.checked.now.kept.within.sound_range
 
 pub rows_of-requires-clause-plugs : goal.rows_of-requires-clause-plugs
 rows_of-requires-clause-plugs g c =

@@ -443,7 +443,11 @@ static REFUSED: [(&[&str], Status, &str); 37] = [
     (&[], Status::Usage, USAGE),
     (&[".", "query", "--run", "mine", "a"], Status::Usage, USAGE),
     (&[".", "explain", "0", "a"], Status::Usage, USAGE),
-    (&[".", "explain", "--k", "1", "1", "a"], Status::Usage, USAGE),
+    (
+        &[".", "explain", "--k", "1", "1", "a"],
+        Status::Usage,
+        USAGE,
+    ),
     (
         &[".", "explain", "1", "#1(a"],
         Status::QueryRefused,

@@ -2,7 +2,9 @@
 ghost use Rattle.std.specs.Prelude.{◌≡◌, true, map, IfOk};
 ghost use Rattle.query_check.specs.Answers.{whole_checked};
 ghost use Rattle.plain_query.specs.Checked.{is_plain_checked};
+ghost use Rattle.result_explanation.specs.Sound.{AreSound};
 ghost use Rattle.indri_app.specs.Answer.{IsAnswerPiece};
+ghost use Rattle.indri_app.specs.Collection.{docnos_of};
 ghost use Rattle.indri_app.specs.Command.{IsRule};
 ghost use Rattle.indri_app.specs.Priors.{run_priors};
 ghost use Rattle.indri_app.specs.Shown.{told_shown};
@@ -32,6 +34,8 @@ pub fn answer(
     requires shown { IsShowable (told_shown shown.now) }
     requires plain { is_plain_checked (whole_checked checked.now) ≡ true }
     requires plugs { map (λ plug. meaning plug) plugs.old ≡ run_priors }
+    requires paired { gathered.docnos.keys ≡ docnos_of gathered.index.documents }
+    requires sound { AreSound gathered.index.documents }
     ensures reply { IfOk result (IsAnswerPiece kind (told_shown shown.now) (whole_checked checked.now) gathered.index.documents) }
     ensures stay { map (λ plug. meaning plug) plugs.new ≡ map (λ plug. meaning plug) plugs.old }
 {

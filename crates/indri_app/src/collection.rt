@@ -37,8 +37,6 @@ fn add(alloc: Global, index: &mut MemIndex, doc: &Doc) -> Result<(), NoMemory>
 pub struct Gathered {
     pub index: MemIndex,
     pub docnos: IndexSet<Docno>,
-    pub ghost paired: { docnos.keys ≡ docnos_of index.documents },
-    pub ghost sound: { AreSound index.documents },
 }
 
 /// Takes documents into an index.
@@ -64,7 +62,9 @@ impl Gatherer {
     /// The documents that were taken.
     pub fn into_gathered(self) -> Gathered
         requires { ⟦<Gatherer as Handler>⟧.is_whole self }
-        ensures { ⟦<Gatherer as Handler>⟧.work self ≡ collecting result.index.documents }
+        ensures work { ⟦<Gatherer as Handler>⟧.work self ≡ collecting result.index.documents }
+        ensures paired { result.docnos.keys ≡ docnos_of result.index.documents }
+        ensures sound { AreSound result.index.documents }
     {
         let Gatherer { index, docnos } = self;
         Gathered { index, docnos }

@@ -5,6 +5,8 @@ ghost use Rattle.query_check.specs.Answers.{whole_checked};
 ghost use Rattle.ri_base.specs.Expression.{expr_tree};
 ghost use Rattle.ri_ends.specs.Causes.{Rose};
 ghost use Rattle.refusals.specs.Lines.{line_of};
+ghost use Rattle.result_explanation.specs.Sound.{AreSound};
+ghost use Rattle.indri_app.specs.Collection.{docnos_of};
 ghost use Rattle.indri_app.specs.Command.{IfAsksFor, IfRefused, IsRule, asked, rank_by, scan_for, usage_line};
 ghost use Rattle.indri_app.specs.CommandPieces.{Breaks, IsDone, Shows};
 ghost use Rattle.indri_app.specs.Faults.{StaysUnless};
@@ -117,6 +119,8 @@ fn write_answer<K: Sink>(
     requires shown { IsShowable (told_shown shown.now) }
     requires plain { is_plain_checked (whole_checked query.now) ≡ true }
     requires plugs { map (λ plug. meaning plug) plugs.old ≡ run_priors }
+    requires paired { gathered.docnos.keys ≡ docnos_of gathered.index.documents }
+    requires sound { AreSound gathered.index.documents }
     ensures shown { IfOk result (λ refused. Shows rule (told_shown shown.now) (whole_checked query.now) gathered.index.documents (λ piece. (piece.is_refusal ≡ refused) × Finished (piece ∷ []) (K.taken sink.old) (K.taken sink.new))) }
     ensures none { IsErrOf result Fault.Memory → K.taken sink.new ≡ K.taken sink.old }
     ensures front { IsErrOf result Fault.Write → Shows rule (told_shown shown.now) (whole_checked query.now) gathered.index.documents (λ piece. BrokenOff (piece ∷ []) (K.taken sink.old) (K.taken sink.new)) }

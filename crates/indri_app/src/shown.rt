@@ -9,5 +9,7 @@ pub enum Shown {
         labels: Option<(String, String)>,
     },
     /// Why the result of this rank, counted from 1, has its score.
-    Explanation { rank: u32 },
+    Explanation {
+        rank: u32,
+    },
 }

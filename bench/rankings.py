@@ -1,5 +1,5 @@
 #!/usr/bin/env python3
-"""What `query` must print for a table of rankings, worked out apart from the program.
+"""What `query` and `explain` must print for a table of rankings, worked out apart from the program.
 
 usage: bench/rankings.py
 
@@ -11,6 +11,7 @@ A case is some lines, and the line `query` ends it:
 
     # what the case shows
     mu 7                                              where it isn't 2500
+    explain 2                                         where the result of this rank is explained, and none is ranked
     text <DOC><DOCNO>d1</DOCNO>a b</DOC>              TREC text, as many lines as wanted; each has a line feed behind it
     query #combine(a b)
 
@@ -78,6 +79,7 @@ def check(statement, holds):
 class Case:
     mu: int = 2500
     text: str = ""
+    rank: int | None = None
 
 
 # TREC text: start and end tags without attributes, comments, entity references and words of ASCII.
@@ -707,6 +709,48 @@ def ranking(query, documents, mu):
         yield f"{i + 1} {mark} {shown_score} {line.document.docno} {line.window[0]} {line.window[1]}"
 
 
+def printed(expr):
+    """An expression as it is printed: words between quotes, one space between arguments."""
+    kind, *rest = expr
+    if kind == "word":
+        return '"{}"'.format(rest[0].replace('"', '""'))
+    if kind == "any":
+        return f"#any:{rest[0]}"
+    if kind == "in":
+        return f"{printed(rest[0])}.{rest[1]}"
+    name = {"od": "#", "uw": "#uw"}.get(kind)
+    arguments = " ".join(map(printed, rest if name is None else rest[1:]))
+    return f"#{kind}({arguments})" if name is None else f"{name}{rest[0]}({arguments})"
+
+
+def leaf_lines(number, leaf, candidate, documents, fraction):
+    """A leaf with its counts in the window and in the collection and its belief, and the extents behind its counts."""
+    belief = "{}/{}".format(*fraction)
+    if isinstance(leaf, Prior):
+        return [f"prior {number} length belief {belief}"]
+    document, window = candidate.document, candidate.window
+    context = "" if leaf.context is None else f".({leaf.context})"
+    counts = occurrences(leaf, document, window), positions(leaf, document, window), *sums_of(leaf, documents)
+    shown = "tf {} len {} cf {} total {}".format(*counts)
+    found = sorted(x for x in extents(leaf.expr, document) if is_inside(x, window) and is_in_context(x, leaf.context, document))
+    return [f"leaf {number} {printed(leaf.expr)}{context} {shown} belief {belief}", *(f"at {b} {e}" for b, e in found)]
+
+
+def explanation(query, documents, mu, rank):
+    """Why the result of a rank has its score."""
+    e = scale(query.tree)
+    ordered = sorted(candidates(query, documents, mu), key=Candidate.order)
+    if rank > len(ordered):
+        return ["refused NoSuchRank q"]
+    line = ordered[rank - 1]
+    lines = [f"result {rank} {line.document.docno} {line.window[0]} {line.window[1]}", f"scale {e}"]
+    for i, (leaf, fraction) in enumerate(zip(leaves_of(query.tree), line.fractions)):
+        lines += leaf_lines(i + 1, leaf, line, documents, fraction)
+    score = line.key * MILLION // (e << LEVEL)
+    check_score(line, score, e)
+    return [*lines, f"score -{score // MILLION}.{score % MILLION:06}"]
+
+
 def fault(query):
     """What the check of a query finds first, if anything."""
     if not has_weights(query.tree):
@@ -724,7 +768,10 @@ def answer(case, text):
         return [f"refused Check {found}", "status 2"]
     query = Query(query.filters, query.ranked, reduced(query.tree))
     documents, refusals = read(case.text)
-    return [*refusals, *ranking(query, documents, case.mu), f"status {3 if refusals else 0}"]
+    if case.rank is None:
+        return [*refusals, *ranking(query, documents, case.mu), f"status {3 if refusals else 0}"]
+    lines = explanation(query, documents, case.mu, case.rank)
+    return [*refusals, *lines, f"status {3 if refusals or lines[0].startswith('refused ') else 0}"]
 
 
 def lines_of(text):
@@ -735,6 +782,8 @@ def lines_of(text):
         word, _, rest = line.partition(" ")
         if word == "mu":
             case.mu = int(rest)
+        elif word == "explain":
+            case.rank = int(rest)
         elif word == "text":
             case.text += rest + "\n"
         elif word == "query":

@@ -27,4 +27,4 @@ pub record IsInRange (asked : Asked) : Type 0 where
 abbrev pub AreInRange : Words → Type 0
 AreInRange (Scan text) = Unit {0}
 AreInRange (Query asked) = IsInRange asked
-AreInRange (Explain rank asked) = IsInRange asked
+AreInRange (Explain rank asked) = (1 ≤ rank) × (rank ≤ MAX_RESULTS) × IsInRange asked

@@ -6,5 +6,6 @@ mod laws;
 mod memory;
 mod ranking;
 
+pub use counts::all_stats;
 pub use laws::ranking_is_true;
 pub use ranking::rank;

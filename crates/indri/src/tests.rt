@@ -387,11 +387,90 @@ fn options(rt: HostRuntime) -> Result<(), Fail> {
     Ok(())
 }
 
+/// A rank, a query with a mu of 1, its input, its status, and what is written of the result of that rank.
+static EXPLAINED: [(&str, &str, &[u8], Status, &[u8]); 8] = [
+    (
+        "1",
+        "a",
+        TWO,
+        Status::Done,
+        b"result 1 d2 0 1\nscale 1\nleaf 1 \"a\" tf 1 len 1 cf 2 total 3 belief 10/12\nat 0 1\nscore -0.263034\n",
+    ),
+    (
+        "2",
+        "a",
+        TWO,
+        Status::Done,
+        b"result 2 d1 0 2\nscale 1\nleaf 1 \"a\" tf 1 len 2 cf 2 total 3 belief 10/18\nat 0 1\nscore -0.847996\n",
+    ),
+    (
+        "3",
+        "a",
+        TWO,
+        Status::SomeRefused,
+        b"refused NoSuchRank q\n",
+    ),
+    (
+        "1",
+        "a",
+        b"",
+        Status::SomeRefused,
+        b"refused NoSuchRank q\n",
+    ),
+    (
+        "2",
+        "a b",
+        TWO,
+        Status::Done,
+        b"result 2 d2 0 1\nscale 2\nleaf 1 \"a\" tf 1 len 1 cf 2 total 3 belief 10/12\nat 0 1\nleaf 2 \"b\" tf 0 len 1 cf 1 total 3 belief 2/12\nscore -1.423998\n",
+    ),
+    (
+        "1",
+        "a #prior(length)",
+        TWO,
+        Status::Done,
+        b"result 1 d2 0 1\nscale 2\nleaf 1 \"a\" tf 1 len 1 cf 2 total 3 belief 10/12\nat 0 1\nprior 2 length belief 1/4\nscore -1.131517\n",
+    ),
+    (
+        "1",
+        "#1(a b)",
+        TWO,
+        Status::Done,
+        b"result 1 d1 0 2\nscale 1\nleaf 1 #1(\"a\" \"b\") tf 1 len 2 cf 1 total 3 belief 8/18\nat 0 2\nscore -1.169925\n",
+    ),
+    (
+        "1",
+        "a",
+        b"<DOC><DOCNO>d1</DOCNO>a b</DOC><DOC><DOCNO>d1</DOCNO>a</DOC><DOC><DOCNO>d2</DOCNO>a</DOC>x",
+        Status::SomeRefused,
+        b"refused Repeated d1\nrefused NotADoc 89\nresult 1 d2 0 1\nscale 1\nleaf 1 \"a\" tf 1 len 1 cf 2 total 3 belief 10/12\nat 0 1\nscore -0.263034\n",
+    ),
+];
+
+#[test]
+fn explained(rt: HostRuntime) -> Result<(), Fail> {
+    for (rank, text, input, status, lines) in &EXPLAINED {
+        let texts = [".", "explain", *rank, "--mu=1", *text];
+        assert_ends(&rt, rt.alloc(), case_of(&texts, input, 64), *status, lines)?;
+    }
+    Ok(())
+}
+
 /// Words that are no command, and texts that are refused: the words, the status, and what is written.
-static REFUSED: [(&[&str], Status, &str); 32] = [
+static REFUSED: [(&[&str], Status, &str); 34] = [
     (&[], Status::Usage, USAGE),
     (&[".", "query", "--run", "mine", "a"], Status::Usage, USAGE),
-    (&[".", "explain", "1", "a"], Status::Usage, USAGE),
+    (&[".", "explain", "0", "a"], Status::Usage, USAGE),
+    (
+        &[".", "explain", "--k", "1", "1", "a"],
+        Status::Usage,
+        USAGE,
+    ),
+    (
+        &[".", "explain", "1", "#1(a"],
+        Status::QueryRefused,
+        "refused Query Expected 4\n",
+    ),
     (&[".", "query", "--mu", "0", "a"], Status::Usage, USAGE),
     (&[".", "query", "--mu", "01", "a"], Status::Usage, USAGE),
     (

@@ -1,5 +1,5 @@
 -- The first results of a ranking.
-use Rattle.std.proofs.Common.{ℕ, ◌≡◌, true, List, [], ◌∷◌, arith, take, drop, map, Result, Ok, Err, ap, sym, ◌∙◌, subst}
+use Rattle.std.proofs.Common.{ℕ, ◌≡◌, true, List, [], ◌∷◌, arith, take, drop, map, Option, Result, Ok, Err, ap, sym, ◌∙◌, subst}
 use Rattle.std.specs.Prelude.{All, IfOk}
 use Rattle.std.proofs.lemmas.Bool.{and_parts}
 use Rattle.std.proofs.lemmas.Bool.Decides.{nat_tests}
@@ -15,23 +15,22 @@ use Rattle.ranked_output.specs.Texts.{lines_of}
 use Rattle.true_order.specs.Ranked.{hit_beliefs}
 use Rattle.true_order.specs.TrueOrder.{IsTrueOrder}
 use Rattle.full_ranking.specs.Ranking.{IsRanking}
-use Rattle.indri_app.specs.Answer.{IsResult, first_lines}
+use Rattle.indri_app.specs.Answer.{IsAnswerPiece, IsResult, first_lines}
+use Rattle.indri_app.specs.Pieces.{told_piece}
 use Rattle.indri_app.specs.Priors.{run_priors}
-use Rattle.indri_app.specs.Shown.{Shown, shown_text}
+use Rattle.indri_app.specs.Shown.{results, shown_text}
 
 pub ok_then : {X E : Type 0} {P Q : X → Type 0} (r : Result X E) → IfOk r P → ((x : X) → P x → Q x) → IfOk r Q
 ok_then (Ok x) h f = f x h
 ok_then (Err e) h f = tt
 
--- the first hits of a ranking and their lines
-pub result_lines : (rule : RuleKind) (shown : Shown) (q : CheckedTree) (docs : List Document) (ranking hits : List Hit) (text : List ℕ) → q.scale ≡ scale q.tree → IsRanking rule run_priors q docs ranking
-    → IsTrueOrder q.tree (lines_of (scale q.tree) (take shown.count ranking)) (map hit_beliefs (drop shown.count ranking))
-    → hits ≡ take shown.count ranking → text ≡ shown_text shown.labels (lines_of q.scale hits)
-    → (x : List Hit) × IsResult rule shown q docs x × (text ≡ shown_text shown.labels (first_lines shown.count q x))
-result_lines rule shown q docs ranking hits text whole ranked order first is =
-    let k = shown.count in
+-- the lines of the first hits of a ranking
+pub result_piece : (rule : RuleKind) (k : ℕ) (labels : Option (List ℕ × List ℕ)) (q : CheckedTree) (docs : List Document) (ranking hits : List Hit) (text : List ℕ) → q.scale ≡ scale q.tree → IsRanking rule run_priors q docs ranking
+    → IsTrueOrder q.tree (lines_of (scale q.tree) (take k ranking)) (map hit_beliefs (drop k ranking))
+    → hits ≡ take k ranking → text ≡ shown_text labels (lines_of q.scale hits) → IsAnswerPiece rule (results k labels) q docs (told_piece text)
+result_piece rule k labels q docs ranking hits text whole ranked order first is =
     let sorted : IsTrueOrder q.tree (lines_of q.scale (take k ranking)) (map hit_beliefs (drop k ranking)) = subst (λ (e : ℕ). IsTrueOrder q.tree (lines_of e (take k ranking)) (map hit_beliefs (drop k ranking))) (sym whole) order in
-    (ranking, record { ranked = ranked; order = sorted }, is ∙ ap (λ hs. shown_text shown.labels (lines_of q.scale hs)) first)
+    (ranking, record { ranked = ranked; order = sorted }, ap told_piece (is ∙ ap (λ hs. shown_text labels (lines_of q.scale hs)) first))
 
 -- a prior that a leaf of a checked query names is one of nine
 pub nine_priors : (leaves : List LeafTree) → are_sound_leaves leaves ≡ true → All (HasPrior 9) leaves

@@ -10,10 +10,10 @@ use Rattle.ri_ends.specs.Causes.{Rose}
 use Rattle.query_check.specs.Check.{CheckedTree}
 use Rattle.smoothing.specs.declared.rule.RuleKind.{RuleKind}
 use Rattle.trec_reader.specs.Read.{read}
-use Rattle.indri_app.specs.Answer.{IsResult}
+use Rattle.indri_app.specs.Answer.{IsAnswerPiece}
 use Rattle.refusals.specs.declared.refusal.Refusal.{Refusal}
 use Rattle.indri_app.specs.Command.{Command, IfAsksFor, rank_by, scan_for}
-use Rattle.indri_app.specs.CommandPieces.{Breaks, IsDone, Shows, documents_of, ranked_documents, read_pieces, result_piece}
+use Rattle.indri_app.specs.CommandPieces.{Breaks, IsDone, Shows, documents_of, ranked_documents, read_pieces}
 use Rattle.indri_app.specs.Faults.{IsBroken}
 use Rattle.indri_app.specs.Pieces.{BrokenOff, Finished, Piece, StoppedBetween, some_refused}
 use Rattle.indri_app.specs.Shown.{Shown}
@@ -23,7 +23,7 @@ use Rattle.indri_app.specs.declared.fault.Fault.{Fault}
 use Rattle.indri_app.specs.declared.fault.Fault.TheVariants as fault
 use Rattle.indri_app.specs.declared.status.Status.{Status}
 use Rattle.indri_app.specs.declared.status.Status.TheVariants as status
-use Rattle.indri_app.proofs.Joining.{Finished-then, broken-then, refused-append, stopped_first}
+use Rattle.indri_app.proofs.Joining.{Finished-then, broken-then, refused-append, refused-one, stopped_first}
 
 -- the whole of a line
 pub line_whole : (before now : Option (List ℕ)) (line : List ℕ) (count_before count_now : ℕ) → now ≡ append_known before line → WritesLine before now line count_before count_now
@@ -57,10 +57,6 @@ scan_broken (Err e) left x w before now same b = scan-broken left e x before now
 
 -- ---- a query
 
-or-false : (b : Bool) → (b || false) ≡ b
-or-false true = refl
-or-false false = refl
-
 query-broken-at : (e : Fault) (rule : RuleKind) (k : Shown) (q : CheckedTree) (bytes : List ℕ) (before now : Option (List ℕ)) → IsBroken e (read_pieces (rank_by rule k q) bytes) before now → Breaks e (rank_by rule k q) bytes before now
 query-broken-at fault.Read rule k q bytes before now b = b
 query-broken-at fault.Write rule k q bytes before now b = inl b
@@ -79,25 +75,24 @@ query-first (Some bytes) rule k q before now same = stopped_first (read_pieces (
 ranked-are : (bytes : List ℕ) (w : Work) (docs : List Document) → w ≡ behind_all (collecting []) (read bytes).0 → w ≡ collecting docs → docs ≡ ranked_documents bytes
 ranked-are bytes w docs e same = ap documents_of (sym same ∙ e)
 
-pub query-done : (left : Option (List ℕ)) (rule : RuleKind) (k : Shown) (q : CheckedTree) (w : Work) (docs : List Document) (refused : Bool) (before mid now : Option (List ℕ)) → IfSome left (λ bytes. refused ≡ some_refused (input_pieces (collecting []) (read bytes)))
-    → IfSome left (λ bytes. w ≡ behind_all (collecting []) (read bytes).0) → w ≡ collecting docs → IfSome left (λ bytes. Finished (input_pieces (collecting []) (read bytes)) before mid) → Shows rule k q docs (λ piece. Finished (piece ∷ []) mid now)
-    → IfSome left (λ bytes. IsDone (rank_by rule k q) bytes refused before now)
-query-done None rule k q w docs refused before mid now r e same f shows = tt
-query-done (Some bytes) rule k q w docs refused before mid now r e same f (ranking, is, last) =
+pub query-done : (left : Option (List ℕ)) (rule : RuleKind) (k : Shown) (q : CheckedTree) (w : Work) (docs : List Document) (refused last_refused : Bool) (before mid now : Option (List ℕ)) → IfSome left (λ bytes. refused ≡ some_refused (input_pieces (collecting []) (read bytes)))
+    → IfSome left (λ bytes. w ≡ behind_all (collecting []) (read bytes).0) → w ≡ collecting docs → IfSome left (λ bytes. Finished (input_pieces (collecting []) (read bytes)) before mid) → Shows rule k q docs (λ piece. (piece.is_refusal ≡ last_refused) × Finished (piece ∷ []) mid now)
+    → IfSome left (λ bytes. IsDone (rank_by rule k q) bytes (refused || last_refused) before now)
+query-done None rule k q w docs refused last_refused before mid now r e same f shows = tt
+query-done (Some bytes) rule k q w docs refused last_refused before mid now r e same f (piece, is, told, last) =
     let pieces = read_pieces (rank_by rule k q) bytes in
-    let piece = result_piece k q ranking in
-    let there : IsResult rule k q (ranked_documents bytes) ranking = subst (λ (ds : List Document). IsResult rule k q ds ranking) (ranked-are bytes w docs e same) is in
-    (pieces ++ piece ∷ [], (ranking, there, refl), refused-append pieces (piece ∷ []) ∙ or-false (some_refused pieces) ∙ sym r, Finished-then pieces (piece ∷ []) before mid now f last)
+    let there : IsAnswerPiece rule k q (ranked_documents bytes) piece = subst (λ (ds : List Document). IsAnswerPiece rule k q ds piece) (ranked-are bytes w docs e same) is in
+    let here : some_refused (piece ∷ []) ≡ last_refused = refused-one piece ∙ told in
+    (pieces ++ piece ∷ [], (piece, there, refl), refused-append pieces (piece ∷ []) ∙ ap (λ b. some_refused pieces || b) here ∙ ap (λ b. b || last_refused) (sym r), Finished-then pieces (piece ∷ []) before mid now f last)
 
 query-cut : (left : Option (List ℕ)) (rule : RuleKind) (k : Shown) (q : CheckedTree) (w : Work) (docs : List Document) (before mid now : Option (List ℕ))
     → IfSome left (λ bytes. w ≡ behind_all (collecting []) (read bytes).0) → w ≡ collecting docs → IfSome left (λ bytes. Finished (input_pieces (collecting []) (read bytes)) before mid) → Shows rule k q docs (λ piece. BrokenOff (piece ∷ []) mid now)
     → IfSome left (λ bytes. Breaks fault.Write (rank_by rule k q) bytes before now)
 query-cut None rule k q w docs before mid now e same f shows = tt
-query-cut (Some bytes) rule k q w docs before mid now e same f (ranking, is, last) =
+query-cut (Some bytes) rule k q w docs before mid now e same f (piece, is, last) =
     let pieces = read_pieces (rank_by rule k q) bytes in
-    let piece = result_piece k q ranking in
-    let there : IsResult rule k q (ranked_documents bytes) ranking = subst (λ (ds : List Document). IsResult rule k q ds ranking) (ranked-are bytes w docs e same) is in
-    inr (pieces ++ piece ∷ [], (ranking, there, refl), broken-then fault.Write pieces (piece ∷ []) before mid now f last)
+    let there : IsAnswerPiece rule k q (ranked_documents bytes) piece = subst (λ (ds : List Document). IsAnswerPiece rule k q ds piece) (ranked-are bytes w docs e same) is in
+    inr (pieces ++ piece ∷ [], (piece, there, refl), broken-then fault.Write pieces (piece ∷ []) before mid now f last)
 
 -- nothing is written of the results
 query-none : (left : Option (List ℕ)) (rule : RuleKind) (k : Shown) (q : CheckedTree) (before mid now : Option (List ℕ))

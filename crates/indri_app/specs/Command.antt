@@ -1,5 +1,5 @@
 -- The command that the words of the command line ask for.
-use Rattle.std.specs.Prelude.{List, [], codes, Option, None, Some, Result, Ok, Err, ℕ, option_and_then}
+use Rattle.std.specs.Prelude.{List, [], codes, Option, None, Some, Result, Ok, Err, ℕ, option_map}
 use Rattle.command_words.specs.Table.{Asks, asks_of, explain, query, scan}
 use Rattle.ri_base.specs.Expression.{ExprTree}
 use Rattle.ri_base.specs.Query.{QueryTree}
@@ -12,10 +12,10 @@ use Rattle.query_check.specs.Check.{CheckedTree, checks}
 use Rattle.query_check.specs.declared.fault.CheckFault.{CheckFault}
 use Rattle.refusals.specs.declared.refusal.Refusal.{Refusal}
 use Rattle.refusals.specs.declared.refusal.Refusal.TheVariants as refusal
-use Rattle.indri_app.specs.Shown.{Shown, shown_for}
+use Rattle.indri_app.specs.Shown.{Shown, explanation, shown_for}
 
 -- a command whose text has no fault: the scan for an expression, or the ranking by a checked query under a rule of
--- smoothing, whose results are shown so
+-- smoothing, of which this is shown
 pub data Command : Type 0 where
   scan_for : ExprTree → Command
   rank_by : RuleKind → Shown → CheckedTree → Command
@@ -36,15 +36,15 @@ abbrev pub query_read : RuleKind → Shown → Result QueryTree (QueryKind × �
 query_read rule shown (Ok q) = query_checked rule shown (checks q [])
 query_read rule shown (Err fault) = Err (refusal.Text fault.0 fault.1)
 
--- the command, or the refusal of its text. `explain` isn't built yet.
-abbrev pub command_of : Asks → Option (Result Command Refusal)
-command_of (scan text) = Some (scan_read (expr_text text))
-command_of (query question) = Some (query_read (Dirichlet question.mu) (shown_for question) (query_text question.text))
-command_of (explain rank question) = None
+-- the command, or the refusal of its text
+abbrev pub command_of : Asks → Result Command Refusal
+command_of (scan text) = scan_read (expr_text text)
+command_of (query question) = query_read (Dirichlet question.mu) (shown_for question) (query_text question.text)
+command_of (explain rank question) = query_read (Dirichlet question.mu) (explanation rank) (query_text question.text)
 
 -- what the words ask for: nothing, where they are no command; a command; or the refusal of its text
 abbrev pub asked : List (List ℕ) → Option (Result Command Refusal)
-asked words = option_and_then command_of (asks_of words)
+asked words = option_map command_of (asks_of words)
 
 -- P holds of the command, where the words ask for one
 abbrev pub IfAsksFor : Option (Result Command Refusal) → (Command → Type 0) → Type 0

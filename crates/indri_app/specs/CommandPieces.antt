@@ -1,14 +1,13 @@
 -- The pieces of a command.
-use Rattle.std.specs.Prelude.{◌≡◌, ◌⊎◌, ℕ, Bool, false, List, [], ◌∷◌, ◌++◌, Option}
+use Rattle.std.specs.Prelude.{◌≡◌, ◌⊎◌, ℕ, Bool, List, [], ◌∷◌, ◌++◌, Option}
 use Rattle.ri_base.specs.Documents.{Document}
-use Rattle.ri_base.specs.declared.hit.Hit.{Hit}
 use Rattle.smoothing.specs.declared.rule.RuleKind.{RuleKind}
 use Rattle.trec_reader.specs.Read.{read}
 use Rattle.query_check.specs.Check.{CheckedTree}
-use Rattle.indri_app.specs.Answer.{IsResult, first_lines}
+use Rattle.indri_app.specs.Answer.{IsAnswerPiece}
 use Rattle.indri_app.specs.Command.{Command, rank_by, scan_for}
 use Rattle.indri_app.specs.Pieces.{BrokenOff, Finished, Piece, StoppedBetween, some_refused}
-use Rattle.indri_app.specs.Shown.{Shown, shown_text}
+use Rattle.indri_app.specs.Shown.{Shown}
 use Rattle.indri_app.specs.Work.{Work, behind_all, collecting, input_pieces, scanning}
 use Rattle.indri_app.specs.declared.fault.Fault.{Fault}
 use Rattle.indri_app.specs.declared.fault.Fault.TheVariants.{Memory, Read, Write}
@@ -31,15 +30,11 @@ documents_of (collecting docs) = docs
 abbrev pub ranked_documents : List ℕ → List Document
 ranked_documents bytes = documents_of (behind_all (collecting []) (read bytes).0)
 
--- the first results of a query in one piece
-abbrev pub result_piece : Shown → CheckedTree → List Hit → Piece
-result_piece shown q ranking = record { text = shown_text shown.labels (first_lines shown.count q ranking); is_refusal = false }
-
--- P holds of the piece of the first results of a ranking of these documents.
+-- P holds of the piece that answers a query over these documents.
 abbrev pub Shows : RuleKind → Shown → CheckedTree → List Document → (Piece → Type 0) → Type 0
-Shows rule shown q docs P = (ranking : List Hit) × IsResult rule shown q docs ranking × P (result_piece shown q ranking)
+Shows rule shown q docs P = (piece : Piece) × IsAnswerPiece rule shown q docs piece × P piece
 
--- These are all pieces of a command. The last one of a query is that of a ranking.
+-- These are all pieces of a command. The last one of a query is its answer.
 abbrev pub ArePieces : Command → List ℕ → List Piece → Type 0
 ArePieces (scan_for x) bytes pieces = pieces ≡ read_pieces (scan_for x) bytes
 ArePieces (rank_by rule shown q) bytes pieces =

@@ -1,5 +1,5 @@
 -- What a command writes, piece by piece.
-use Rattle.std.specs.Prelude.{ℕ, ◌≡◌, ◌⊎◌, ◌<◌, Bool, List, ◌++◌, Option, take, length}
+use Rattle.std.specs.Prelude.{ℕ, ◌≡◌, ◌⊎◌, ◌<◌, Bool, false, List, ◌++◌, Option, take, length}
 use Rattle.std.specs.List.{flat_map, list_any}
 use Rattle.std.specs.Io.KnownBytes.{append_known}
 
@@ -7,6 +7,10 @@ use Rattle.std.specs.Io.KnownBytes.{append_known}
 pub record Piece : Type 0 where
   pub text : List ℕ
   pub is_refusal : Bool
+
+-- a text that says what was asked for
+abbrev pub told_piece : List ℕ → Piece
+told_piece text = record { text = text; is_refusal = false }
 
 abbrev pub text_of : List Piece → List ℕ
 text_of pieces = flat_map (λ p. p.text) pieces

@@ -1,21 +1,24 @@
--- How the results of a query are shown, and the lines that show them.
+-- What is shown of a ranking, and the lines that show its results.
 use Rattle.std.specs.Prelude.{ℕ, ◌+◌, List, [], ◌∷◌, ◌++◌, Option, None, Some}
 use Rattle.command_words.specs.Asked.{told_labels}
 use Rattle.command_words.specs.Table.{Question}
 use Rattle.ranked_output.specs.Texts.{Line, line_text, trec_text}
 use Rattle.indri_app.specs.declared.shown.Shown.{Shown as Form}
+use Rattle.indri_app.specs.declared.shown.Shown.TheVariants.{Explanation, Results}
 
--- how many results are shown at most, and the topic and the run where they are written as lines of a run
-pub record Shown : Type 0 where
-  pub count : ℕ
-  pub labels : Option (List ℕ × List ℕ)
+-- its first results, so many at most, as result lines or as lines of a run of this topic; or why the result of a rank has
+-- its score
+pub data Shown : Type 0 where
+  results : ℕ → Option (List ℕ × List ℕ) → Shown
+  explanation : ℕ → Shown
 
 abbrev pub told_shown : Form → Shown
-told_shown shown = record { count = shown.count; labels = told_labels shown.labels }
+told_shown (Results count labels) = results count (told_labels labels)
+told_shown (Explanation rank) = explanation rank
 
 -- what a question asks for
 abbrev pub shown_for : Question → Shown
-shown_for question = record { count = question.k; labels = question.labels }
+shown_for question = results question.k question.labels
 
 -- a line as a result line, or as a line of a run of this topic
 abbrev pub shown_line : Option (List ℕ × List ℕ) → ℕ → Line → List ℕ

@@ -3,6 +3,7 @@ ghost use Rattle.std.specs.Prelude.{◌≡◌, ◌++◌, ◌∷◌, [], false, I
 ghost use Rattle.ri_base.specs.declared.limits.TheConstants.{MAX_PART_DOCS};
 ghost use Rattle.refusals.specs.declared.refusal.CollectionKind.{CollectionKind};
 ghost use Rattle.refusals.specs.declared.refusal.Refusal.TheVariants.{Collection};
+ghost use Rattle.result_explanation.specs.Sound.{AreSound};
 ghost use Rattle.indri_app.specs.Collection.{accepted, docnos_of, documents_with, is_full};
 ghost use Rattle.indri_app.specs.Work.{behind, collected, collecting, pieces_in, refusal_piece, replies};
 
@@ -31,6 +32,13 @@ fn add(alloc: Global, index: &mut MemIndex, doc: &Doc) -> Result<(), NoMemory>
     }
 }
 
+/// Documents that were taken, and their docnos by their ids.
+#[derive(Drop)]
+pub struct Gathered {
+    pub index: MemIndex,
+    pub docnos: IndexSet<Docno>,
+}
+
 /// Takes documents into an index.
 #[derive(Drop)]
 pub struct Gatherer {
@@ -51,11 +59,15 @@ impl Gatherer {
         })
     }
 
-    /// The index of the documents.
-    pub fn into_index(self) -> MemIndex
-        ensures { ⟦<Gatherer as Handler>⟧.work self ≡ collecting result.documents }
+    /// The documents that were taken.
+    pub fn into_gathered(self) -> Gathered
+        requires { ⟦<Gatherer as Handler>⟧.is_whole self }
+        ensures work { ⟦<Gatherer as Handler>⟧.work self ≡ collecting result.index.documents }
+        ensures paired { result.docnos.keys ≡ docnos_of result.index.documents }
+        ensures sound { AreSound result.index.documents }
     {
-        self.index
+        let Gatherer { index, docnos } = self;
+        Gathered { index, docnos }
     }
 
     /// The refusal of a document that the collection doesn't take.
@@ -101,7 +113,7 @@ impl Gatherer {
 impl Handler for Gatherer {
     ghost work = { λ g. collecting g.index.documents };
 
-    ghost is_whole = { λ g. (g.docnos.keys ≡ docnos_of g.index.documents) × (g.index.most ≡ MAX_PART_DOCS) };
+    ghost is_whole = { λ g. (g.docnos.keys ≡ docnos_of g.index.documents) × (g.index.most ≡ MAX_PART_DOCS) × AreSound g.index.documents };
 
     #[tactic(auto, unfolding(crate::specs::Work::behind, crate::specs::Work::replies))]
     fn take(&mut self, alloc: Global, document: RawDoc) -> Result<Option<Reply>, NoMemory> {

@@ -1,11 +1,10 @@
 // The command that the words of the command line ask for.
-ghost use Rattle.std.specs.Prelude.{◌≡◌, ◌≤◌, Ok, Err, Result, Some, IfOk, IfSome};
+ghost use Rattle.std.specs.Prelude.{◌≡◌, Ok, Err, Result, Some, IfOk, IfSome};
 ghost use Rattle.command_words.specs.Asked.{AreInRange, told_words};
-ghost use Rattle.command_words.specs.declared.words.TheConstants.{MAX_RESULTS};
 ghost use Rattle.query_reader.specs.QueryText.{query_text};
 ghost use Rattle.indri_app.specs.Command.{IsRule, asked, command_of, query_read};
 ghost use Rattle.indri_app.specs.Shown.{told_shown};
-ghost use Rattle.indri_app.specs.Told.{CanRun, Reads, text_fault, told};
+ghost use Rattle.indri_app.specs.Told.{CanRun, IsReadAs, IsShowable, Reads, text_fault, told};
 
 use crate::shown::Shown;
 use command_words::{Words, read_words};
@@ -21,7 +20,7 @@ use std::alloc::Global;
 pub enum Command {
     /// The extents of an expression in each document of the input.
     Scan(ExtentExpr),
-    /// The first results of a query over the documents of the input.
+    /// The ranking of the documents of the input for a query, and what is shown of it.
     Query {
         rule: RuleKind,
         shown: Shown,
@@ -51,43 +50,47 @@ fn read_ranked(
     rule: RuleKind,
     shown: Shown,
     text: &str,
-) -> Result<Option<Command>, TextFault>
+) -> Result<Command, TextFault>
     requires rule { IsRule rule }
-    requires shown { shown.count ≤ MAX_RESULTS }
-    ensures read { Reads result (Some (query_read rule (told_shown shown) (query_text text.now))) }
-    ensures can { IfOk result (λ found. IfSome found (λ command. CanRun (told command))) }
+    requires shown { IsShowable (told_shown shown) }
+    ensures read { IsReadAs result (query_read rule (told_shown shown) (query_text text.now)) }
+    ensures can { IfOk result (λ command. CanRun (told command)) }
 {
     let query = match read_query(alloc, text) {
         Ok(query) => query,
         Err(fault) => return Err(text_fault(fault)),
     };
     match check(alloc, query, &[]) {
-        Ok(query) => Ok(Some(Command::Query { rule, shown, query })),
+        Ok(query) => Ok(Command::Query { rule, shown, query }),
         Err(CheckFault::Memory) => Err(TextFault::Memory),
         Err(fault) => Err(TextFault::Refused(Refusal::Check(fault))),
     }
 }
 
-/// The command of what is asked for. `None` says that it isn't built yet.
-fn read_command(alloc: Global, words: Words) -> Result<Option<Command>, TextFault>
+/// The command of what is asked for.
+fn read_command(alloc: Global, words: Words) -> Result<Command, TextFault>
     requires ranges { AreInRange words }
-    ensures read { Reads result (command_of (told_words words)) }
-    ensures can { IfOk result (λ found. IfSome found (λ command. CanRun (told command))) }
+    ensures read { IsReadAs result (command_of (told_words words)) }
+    ensures can { IfOk result (λ command. CanRun (told command)) }
 {
     match words {
         Words::Scan(text) => match read_expr(alloc, &text) {
-            Ok(expr) => Ok(Some(Command::Scan(expr))),
+            Ok(expr) => Ok(Command::Scan(expr)),
             Err(fault) => Err(text_fault(fault)),
         },
         Words::Query(asked) => {
             let rule = RuleKind::Dirichlet { mu: asked.mu };
-            let shown = Shown {
+            let shown = Shown::Results {
                 count: asked.k,
                 labels: asked.trec,
             };
             read_ranked(alloc, rule, shown, &asked.text)
         }
-        Words::Explain(..) => Ok(None),
+        Words::Explain(rank, asked) => {
+            let rule = RuleKind::Dirichlet { mu: asked.mu };
+            let shown = Shown::Explanation { rank };
+            read_ranked(alloc, rule, shown, &asked.text)
+        }
     }
 }
 
@@ -97,7 +100,10 @@ pub fn asked_command(alloc: Global, words: &ArgList) -> Result<Option<Command>, 
     ensures can { IfOk result (λ found. IfSome found (λ command. CanRun (told command))) }
 {
     match read_words(alloc, words) {
-        Ok(Some(words)) => read_command(alloc, words),
+        Ok(Some(words)) => match read_command(alloc, words) {
+            Ok(command) => Ok(Some(command)),
+            Err(fault) => Err(fault),
+        },
         Ok(None) => Ok(None),
         Err(_) => Err(TextFault::Memory),
     }

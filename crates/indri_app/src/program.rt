@@ -4,27 +4,26 @@ ghost use Rattle.query_check.specs.Answers.{whole_checked};
 ghost use Rattle.ri_base.specs.Expression.{expr_tree};
 ghost use Rattle.ri_ends.specs.Causes.{Rose};
 ghost use Rattle.refusals.specs.Lines.{line_of};
+ghost use Rattle.result_explanation.specs.Sound.{AreSound};
+ghost use Rattle.indri_app.specs.Collection.{docnos_of};
 ghost use Rattle.indri_app.specs.Command.{IfAsksFor, IfRefused, IsRule, asked, rank_by, scan_for, usage_line};
 ghost use Rattle.indri_app.specs.CommandPieces.{Breaks, IsDone, Shows};
 ghost use Rattle.indri_app.specs.Faults.{StaysUnless};
 ghost use Rattle.indri_app.specs.Pieces.{BrokenOff, Finished};
 ghost use Rattle.indri_app.specs.Priors.{run_priors};
 ghost use Rattle.indri_app.specs.Runs.{IsClosed, RunsTo, Tells};
-ghost use Rattle.command_words.specs.declared.words.TheConstants.{MAX_RESULTS};
 ghost use Rattle.indri_app.specs.Shown.{told_shown};
-ghost use Rattle.indri_app.specs.Told.{CanRun, told};
+ghost use Rattle.indri_app.specs.Told.{CanRun, IsShowable, told};
 
 use crate::Status;
-use crate::answer::ranking_text;
-use crate::collection::Gatherer;
+use crate::answer::answer;
+use crate::collection::{Gathered, Gatherer};
 use crate::command::{Command, TextFault, asked_command};
 use crate::documents::take_documents;
 use crate::fault::Fault;
-use crate::reply::Reply;
 use crate::scan::Scanner;
 use crate::shown::Shown;
 use belief_nodes::BeliefNode;
-use memory_index::MemIndex;
 use query_check::Checked;
 use refusals::{Refusal, line_of};
 use ri_base::{ArgList, ExtentExpr};
@@ -105,31 +104,36 @@ fn scan<S: Source, K: Sink>(
     take_documents(alloc, &mut scanner, source, sink)
 }
 
-/// Writes the first results of an index's documents in one piece.
-fn write_results<K: Sink>(
+/// Writes the answer of a query over the documents in one piece. The answer is whether that is a refusal.
+fn write_answer<K: Sink>(
     alloc: Global,
     rule: RuleKind,
     shown: &Shown,
     query: &Checked,
     plugs: &mut [Box<dyn BeliefNode>],
-    index: MemIndex,
+    gathered: Gathered,
     sink: &mut K,
-) -> Result<(), Fault>
+) -> Result<bool, Fault>
     requires rule { IsRule rule }
-    requires shown { shown.now.count ≤ MAX_RESULTS }
+    requires shown { IsShowable (told_shown shown.now) }
     requires plugs { map (λ plug. meaning plug) plugs.old ≡ run_priors }
-    ensures shown { IfOk result (λ _. Shows rule (told_shown shown.now) (whole_checked query.now) index.documents (λ piece. Finished (piece ∷ []) (K.taken sink.old) (K.taken sink.new))) }
+    requires paired { gathered.docnos.keys ≡ docnos_of gathered.index.documents }
+    requires sound { AreSound gathered.index.documents }
+    ensures shown { IfOk result (λ refused. Shows rule (told_shown shown.now) (whole_checked query.now) gathered.index.documents (λ piece. (piece.is_refusal ≡ refused) × Finished (piece ∷ []) (K.taken sink.old) (K.taken sink.new))) }
     ensures none { IsErrOf result Fault.Memory → K.taken sink.new ≡ K.taken sink.old }
-    ensures front { IsErrOf result Fault.Write → Shows rule (told_shown shown.now) (whole_checked query.now) index.documents (λ piece. BrokenOff (piece ∷ []) (K.taken sink.old) (K.taken sink.new)) }
+    ensures front { IsErrOf result Fault.Write → Shows rule (told_shown shown.now) (whole_checked query.now) gathered.index.documents (λ piece. BrokenOff (piece ∷ []) (K.taken sink.old) (K.taken sink.new)) }
     ensures no_read { IsErrOf result Fault.Read → ⊥ }
     ensures later { K.faults sink.old ≤ K.faults sink.new }
     ensures cause { IsErrOf result Fault.Write → Rose (K.faults sink.old) (K.faults sink.new) }
     ensures stay { map (λ plug. meaning plug) plugs.new ≡ map (λ plug. meaning plug) plugs.old }
     ensures same { StaysUnless Fault.Write result (K.faults sink.old) (K.faults sink.new) }
 {
-    match ranking_text(alloc, rule, shown, query, plugs, index) {
-        Ok(text) => Reply::told(text).write(sink),
-        Err(_) => Err(Fault::Memory),
+    let Ok(reply) = answer(alloc, rule, shown, query, plugs, gathered) else {
+        return Err(Fault::Memory);
+    };
+    match reply.write(sink) {
+        Ok(()) => Ok(reply.is_refusal()),
+        Err(fault) => Err(fault),
     }
 }
 
@@ -144,7 +148,7 @@ fn query<S: Source, K: Sink>(
     sink: &mut K,
 ) -> Result<bool, Fault>
     requires rule { IsRule rule }
-    requires shown { shown.now.count ≤ MAX_RESULTS }
+    requires shown { IsShowable (told_shown shown.now) }
     requires plugs { map (λ plug. meaning plug) plugs.old ≡ run_priors }
 
     ensures done { IfOk result (λ refused. IfSome (S.left source.old) (λ bytes. IsDone (rank_by rule (told_shown shown.now) (whole_checked query.now)) bytes refused (K.taken sink.old) (K.taken sink.new))) }
@@ -167,16 +171,16 @@ fn query<S: Source, K: Sink>(
         Ok(some_refused) => some_refused,
         Err(fault) => return Err(fault),
     };
-    match write_results(
+    match write_answer(
         alloc,
         rule,
         shown,
         query,
         plugs,
-        gatherer.into_index(),
+        gatherer.into_gathered(),
         sink,
     ) {
-        Ok(()) => Ok(some_refused),
+        Ok(refused) => Ok(some_refused || refused),
         Err(fault) => Err(fault),
     }
 }

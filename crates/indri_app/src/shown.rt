@@ -1,10 +1,15 @@
-// How the results of a query are shown.
+// What is shown of a ranking.
 
-/// How results are shown.
+/// What is shown of a ranking.
 #[derive(Debug, Drop)]
-pub struct Shown {
-    /// How many of them, at most.
-    pub count: u32,
-    /// The topic and the run, where they are written as lines of a run.
-    pub labels: Option<(String, String)>,
+pub enum Shown {
+    /// Its first results, `count` of them at most, as lines of a run where there are a topic and a run.
+    Results {
+        count: u32,
+        labels: Option<(String, String)>,
+    },
+    /// Why the result of this rank, counted from 1, has its score.
+    Explanation {
+        rank: u32,
+    },
 }

@@ -72,3 +72,4 @@ line_of (refusal.Collection kind docno) = named_line (collection_name kind) docn
 line_of (refusal.Input why) = input_line why
 line_of (refusal.Text kind place) = placed_line (kind_name kind) place
 line_of (refusal.Check why) = named_line (codes "Check") (check_name why)
+line_of (refusal.NoSuchRank query) = named_line (codes "NoSuchRank") query

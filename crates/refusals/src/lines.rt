@@ -123,5 +123,6 @@ pub fn line_of(alloc: Global, refusal: &Refusal) -> Result<Vec<u8>, NoMemory>
             let name = check_name(alloc, fault)?;
             named_line(alloc, b"Check", &name)
         }
+        Refusal::NoSuchRank { query } => named_line(alloc, b"NoSuchRank", query.as_bytes()),
     }
 }

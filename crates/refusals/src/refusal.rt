@@ -1,7 +1,7 @@
 // Why something is refused.
 use query_check::CheckFault;
 use query_reader::QueryKind;
-use ri_base::Docno;
+use ri_base::{Docno, Name};
 use tokens::TokenRefusal;
 use trec_reader::TrecRefusal;
 
@@ -27,4 +27,6 @@ pub enum Refusal {
     Text { kind: QueryKind, place: usize },
     /// A query whose text can be read.
     Check(CheckFault),
+    /// The rank of a result that the query of this name doesn't have.
+    NoSuchRank { query: Name },
 }

@@ -2,19 +2,19 @@ use Rattle.std.proofs.Common.{Err, ap}
 use Rattle.indri_app.proofs.Ending.{query-broken, query-broken-last, query-done}
 use Rattle.indri_app.proofs.program.query.Goals as goal
 
-pub returns-in-Ok-write_results-clause-done : goal.returns-in-Ok-write_results-clause-done
-returns-in-Ok-write_results-clause-done g c =
+pub returns-in-Ok-write_answer-clause-done : goal.returns-in-Ok-write_answer-clause-done
+returns-in-Ok-write_answer-clause-done g c =
     let refused = rw c.in-Ok.ensures.work at c.in-Ok-take_documents.ensures.refused in
     let behind = rw c.in-Ok.ensures.work at c.in-Ok-take_documents.ensures.behind in
     let finished = rw c.in-Ok.ensures.work at c.in-Ok-take_documents.ensures.finished in
-    query-done _ _ _ _ _ _ _ _ _ _ refused behind c.into_index.ensures finished c.in-Ok-write_results.ensures.shown
+    query-done _ _ _ _ _ _ _ _ _ _ _ refused behind c.into_gathered.ensures.work finished c.in-Ok-write_answer.ensures.shown
 
-pub returns-in-Err-write_results-clause-broken : goal.returns-in-Err-write_results-clause-broken
-returns-in-Err-write_results-clause-broken g c =
+pub returns-in-Err-write_answer-clause-broken : goal.returns-in-Err-write_answer-clause-broken
+returns-in-Err-write_answer-clause-broken g c =
     let behind = rw c.in-Ok.ensures.work at c.in-Ok-take_documents.ensures.behind in
     let finished = rw c.in-Ok.ensures.work at c.in-Ok-take_documents.ensures.finished in
-    let results = c.in-Err-write_results.ensures in
-    query-broken-last c.in-Err-write_results.fault _ _ _ _ _ _ _ _ _ behind c.into_index.ensures finished (λ same. results.no_read (ap Err same)) (λ same. results.front (ap Err same)) (λ same. results.none (ap Err same))
+    let results = c.in-Err-write_answer.ensures in
+    query-broken-last c.in-Err-write_answer.fault _ _ _ _ _ _ _ _ _ behind c.into_gathered.ensures.work finished (λ same. results.no_read (ap Err same)) (λ same. results.front (ap Err same)) (λ same. results.none (ap Err same))
 
 pub returns-in-Err-clause-broken : goal.returns-in-Err-clause-broken
 returns-in-Err-clause-broken g c =

@@ -3,7 +3,7 @@ use Rattle.std.specs.Option.{option_copied}
 use Rattle.command_words.specs.Asked.{told_labels}
 use Rattle.ranked_output.specs.Texts.{lines_behind, lines_of}
 use Rattle.indri_app.specs.Shown.{shown_from, shown_text}
-use Rattle.indri_app.proofs.answer.lines_text.Given as goal
+use Rattle.indri_app.proofs.results.lines_text.Given as goal
 
 -- the text so far, and that of the hits that are left
 abbrev pub invariant-loop-hit : goal.invariant-loop-hit

@@ -1,0 +1,10 @@
+//! Why a result has its score: each leaf of the query with its counts, its belief and the extents behind them.
+#![tactic(auto)]
+
+mod counted;
+mod explanation;
+mod laws;
+mod leaf;
+
+pub use explanation::explain;
+pub use laws::candidates_are_of_documents;

@@ -20,6 +20,6 @@ returns-in_err-fill-clause-steps g c = steps_then g.S.Source.left g.S.Source.lay
 pub returns-then-missing-eq0-clause-steps : goal.returns-then-missing-eq0-clause-steps
 returns-then-missing-eq0-clause-steps g c =
     elim c.then-missing-eq0.branch [
-      then-missing-eq0-via-then-missing-eq0 w ↦ rw (w.ahead-is, w.source-is) (steps_then g.S.Source.left g.S.Source.layers g.S.Source.held g.S.Source.faults g.S.Source.can_give _ _ _ _ _ _ c.pieces.invariant.steps (steps_within g.S.Source.left g.S.Source.layers g.S.Source.held g.S.Source.faults g.S.Source.can_give _ _ c.pieces.missing c.advance_within-missing.result c.pieces.source c.advance_within-missing.ensures.rest c.advance_within-missing.ensures.missing c.advance_within-missing.ensures.offset))
+      | then-missing-eq0-via-then-missing-eq0 w ↦ rw (w.ahead-is, w.source-is) (steps_then g.S.Source.left g.S.Source.layers g.S.Source.held g.S.Source.faults g.S.Source.can_give _ _ _ _ _ _ c.pieces.invariant.steps (steps_within g.S.Source.left g.S.Source.layers g.S.Source.held g.S.Source.faults g.S.Source.can_give _ _ c.pieces.missing c.advance_within-missing.result c.pieces.source c.advance_within-missing.ensures.rest c.advance_within-missing.ensures.missing c.advance_within-missing.ensures.offset))
       | then-missing-eq0-via-else-missing-eq0+in_ok-fill+then-branch w ↦ rw (w.ahead-is, w.source-is) (steps_then g.S.Source.left g.S.Source.layers g.S.Source.held g.S.Source.faults g.S.Source.can_give _ _ _ _ _ _ c.pieces.invariant.steps (steps_then g.S.Source.left g.S.Source.layers g.S.Source.held g.S.Source.faults g.S.Source.can_give _ _ _ _ _ _ (steps_within g.S.Source.left g.S.Source.layers g.S.Source.held g.S.Source.faults g.S.Source.can_give _ _ c.pieces.missing c.advance_within-missing.result c.pieces.source c.advance_within-missing.ensures.rest c.advance_within-missing.ensures.missing c.advance_within-missing.ensures.offset) w.in_ok-fill.ensures.steps))
     ]

@@ -1,0 +1,7 @@
+mod FormLemmas
+mod KeptLemmas
+mod LineLemmas
+mod NumberLemmas
+mod RowsLemmas
+mod SortedLemmas
+mod StayLemmas

@@ -1,0 +1,4 @@
+pub mod Form
+pub mod Numbers
+pub mod Row
+pub mod Rows

@@ -168,35 +168,6 @@ fn changed_headers(rt: HostRuntime) -> Result<(), Fail> {
     Ok(())
 }
 
-/// A place of the header, the number of four bytes that stands there, the number of documents that the call is told, and the
-/// place of the fault, if there is one: each limit, and one past it.
-static LIMITS: [(usize, u32, u32, Option<u64>); 6] = [
-    (12, 1_048_576, 1_048_576, None),
-    (12, 1_048_577, 1_048_577, Some(12)),
-    (16, 67_108_864, 2, None),
-    (16, 67_108_865, 2, Some(16)),
-    (28, 65_536, 2, None),
-    (28, 65_537, 2, Some(28)),
-];
-
-#[test]
-fn limits_of_headers(rt: HostRuntime) -> Result<(), Fail> {
-    for (at, number, docs, place) in &LIMITS {
-        let mut bytes = BYTES;
-        if *at >= 60 {
-            return Err(Fail::from("no such byte"));
-        }
-        let [a, b, c, d] = number.to_le_bytes();
-        bytes[*at] = a;
-        bytes[*at + 1] = b;
-        bytes[*at + 2] = c;
-        bytes[*at + 3] = d;
-        let found = place_of(read_header(&bytes[..64], FileName::Segment(1), *docs, 155))?;
-        assert_eq!(rt; found.err(), *place, "{number}");
-    }
-    Ok(())
-}
-
 /// A byte of the block of `a`, what stands there instead, and the place of the fault.
 static BLOCKS: [(usize, u8, u64); 9] = [
     (126, 0, 126),

@@ -1,5 +1,5 @@
 -- What the cache of blocks keeps after a call.
-use Rattle.std.proofs.Common.{◌≡◌, ℕ, Bool, true, ◌⊎◌, inl, inr, List, Contains, Option, Some, None, Result, Ok, Err, OnOk, OnErr, IfOk, IfSome, refl, sym, ap, subst, ◌∙◌, ◌-◌}
+use Rattle.std.proofs.Common.{◌≡◌, ℕ, Bool, true, ◌⊎◌, inl, inr, List, Contains, Option, Some, None, Result, Ok, Err, OnOk, OnErr, IfOk, IfSome, sym, ap, subst, ◌∙◌}
 use Rattle.store_ends.specs.Files.{Files}
 use Rattle.seg_codec.specs.declared.blocks.BlockEntry.{BlockEntry}
 use Rattle.disk_index.specs.Blocks.{IsBlockIn}

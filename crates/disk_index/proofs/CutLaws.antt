@@ -1,5 +1,5 @@
 -- Postings cut into blocks, and blocks cut into documents.
-use Rattle.std.proofs.Common.{◌≡◌, ◌≢◌, ◌<◌, ◌≤◌, ℕ, zero, suc, ◌+◌, ◌-◌, ◌*◌, ◌/◌, ◌==◌, eqb, List, [], ◌∷◌, ◌++◌, length, take, drop, map, Bool, true, false, cond, ◌⊎◌, inl, inr, refl, sym, ap, subst, ◌∙◌, append_assoc, arith, length-drop}
+use Rattle.std.proofs.Common.{◌≡◌, ◌≢◌, ◌<◌, ◌≤◌, ℕ, ◌+◌, ◌*◌, ◌==◌, eqb, List, [], ◌∷◌, ◌++◌, length, take, drop, map, Bool, true, false, cond, inl, inr, refl, sym, ap, ◌∙◌, append_assoc, arith}
 use Rattle.std.proofs.lemmas.Bool.{cases_lt, eq-eqb, ne_eqb}
 use Rattle.std.specs.List.{All}
 use Rattle.std.proofs.lemmas.List.{length-take, take-append-drop, drop-drop, drop_all}
@@ -8,7 +8,7 @@ use Rattle.ri_base.specs.Documents.{Document}
 use Rattle.ri_base.specs.Places.{places, postings_from}
 use Rattle.ri_base.specs.declared.places.Place.{Place}
 use Rattle.ri_base.proofs.PlacesLemmas.{all_from, postings_from-rise}
-use Rattle.seg_codec.specs.Segment.{ahead, block_entry_of, cut, first, id_of, range_of, run}
+use Rattle.seg_codec.specs.Segment.{ahead, block_entry_of, cut, first, id_of, range_of}
 use Rattle.seg_codec.specs.declared.blocks.BlockEntry.{BlockEntry}
 use Rattle.seg_codec.proofs.CutLemmas.{cut_front}
 use Rattle.disk_index.specs.Blocks.{entries_from, entry_of_places}

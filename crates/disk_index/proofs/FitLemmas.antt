@@ -1,5 +1,5 @@
 -- The block of a term in documents is one that a segment of them may have.
-use Rattle.std.proofs.Common.{◌≡◌, ◌<◌, ◌≤◌, ℕ, zero, suc, ◌+◌, ◌-◌, ◌*◌, ◌^◌, List, [], ◌∷◌, ◌++◌, length, take, drop, map, get_or, Bool, true, false, cond, ltb, leb, ◌&&◌, refl, sym, ap, subst, ◌∙◌, arith, length-drop, length-append}
+use Rattle.std.proofs.Common.{◌≡◌, ◌<◌, ◌≤◌, ℕ, zero, suc, ◌+◌, ◌-◌, ◌*◌, ◌^◌, List, [], ◌∷◌, ◌++◌, length, take, drop, map, Bool, true, false, cond, ltb, leb, refl, sym, ap, subst, ◌∙◌, arith, length-drop}
 use Rattle.std.specs.Str.{bytes_eq}
 use Rattle.std.proofs.lemmas.Bool.{le-leb, lt-ltb}
 use Rattle.std.proofs.lemmas.List.{length-map, length-take}
@@ -7,10 +7,9 @@ use Rattle.ri_base.specs.Collection.{document_at}
 use Rattle.ri_base.specs.Documents.{Document}
 use Rattle.ri_base.specs.Places.{places, places_from}
 use Rattle.file_fields.specs.Reading.{AllFit}
-use Rattle.seg_codec.specs.Blocks.{is_local, tokens_of}
-use Rattle.seg_codec.specs.Fits.{FitBlock, FitPlaces, FitsBlockEntry, FitsId, FitsPlace, place_rule}
+use Rattle.seg_codec.specs.Blocks.{tokens_of}
+use Rattle.seg_codec.specs.Fits.{FitBlock, FitPlaces, FitsBlockEntry, FitsId, FitsPlace}
 use Rattle.seg_codec.specs.Segment.{entry_of}
-use Rattle.seg_codec.specs.declared.blocks.BlockEntry.{BlockEntry}
 use Rattle.seg_codec.specs.declared.documents.Entry.{Entry}
 use Rattle.disk_index.specs.Blocks.{block_of, entries_from, entry_of_places}
 use Rattle.disk_index.proofs.EntryLemmas.{document_at-range}

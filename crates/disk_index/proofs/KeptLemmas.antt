@@ -1,5 +1,5 @@
 -- What was read of a segment keeps what a part on disk keeps.
-use Rattle.std.proofs.Common.{◌≡◌, ◌<◌, ◌≤◌, ◌⊎◌, ℕ, zero, suc, ◌+◌, ◌^◌, ◌&&◌, ◌||◌, ◌==◌, eqb, ltb, leb, List, [], ◌∷◌, length, map, get_or, Bool, true, false, Result, Ok, Err, IfOk, refl, sym, ap, subst, ◌∙◌, inl, inr, arith}
+use Rattle.std.proofs.Common.{◌≡◌, ◌<◌, ◌≤◌, ◌⊎◌, ℕ, zero, suc, ◌+◌, ◌^◌, ◌&&◌, ◌||◌, ◌==◌, ltb, leb, List, [], ◌∷◌, length, map, get_or, Bool, true, false, Result, Ok, Err, IfOk, refl, ap, subst, ◌∙◌, inl, inr, arith}
 use Rattle.std.specs.Cmp.Lexicographic.{slice_cmp}
 use Rattle.std.specs.List.{All, AllByRecursion, AllPairs}
 use Rattle.std.specs.List.Sorted.{IsStrictlySortedBy}
@@ -14,12 +14,11 @@ use Rattle.std.proofs.lemmas.Map.Keys.{Less-from_sorted}
 use Rattle.ri_base.specs.Documents.{AreFields, Field, IsBefore}
 use Rattle.ri_base.specs.Vocabulary.{IsTermBefore}
 use Rattle.ri_base.specs.declared.seg_fault.SegFault.{SegFault}
-use Rattle.ri_base.specs.declared.limits.TheConstants.{MAX_DOC_FIELDS, MAX_DOC_TOKENS}
 use Rattle.file_fields.specs.Fields.{is_before}
 use Rattle.file_fields.specs.Reading.{AllFit}
 use Rattle.seg_codec.specs.Dictionary.{Behind, BehindTerm, behind, behind_term, end_of, end_of_all}
 use Rattle.seg_codec.specs.Documents.{first_row, is_behind, named, names_in_order}
-use Rattle.seg_codec.specs.Fits.{FitDictionary, FitDocuments, FitFields, FitsBlockPlace, FitsEntry, FitsHeader, FitsName, FitsRow, FitsTermBlocks, range_rule}
+use Rattle.seg_codec.specs.Fits.{FitDictionary, FitDocuments, FitFields, FitsBlockPlace, FitsEntry, FitsHeader, FitsName, FitsRow, FitsTermBlocks}
 use Rattle.seg_codec.specs.Spelling.{dictionary_bytes, documents_bytes, numbered}
 use Rattle.seg_codec.specs.declared.dictionary.BlockPlace.{BlockPlace}
 use Rattle.seg_codec.specs.declared.dictionary.TermBlocks.{TermBlocks}

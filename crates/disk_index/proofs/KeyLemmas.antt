@@ -1,5 +1,5 @@
 -- What the dictionary says of a block of a backed part.
-use Rattle.std.proofs.Common.{◌≡◌, ◌<◌, ◌≤◌, ◌+◌, ◌-◌, ◌*◌, ◌^◌, ◌==◌, ℕ, zero, suc, Bool, true, false, cond, List, [], ◌∷◌, ◌++◌, length, map, take, drop, Option, Some, None, Result, Ok, Err, IfOk, IfErr, IfSome, Contains, inl, inr, refl, sym, ap, subst, ◌∙◌, arith, length-drop}
+use Rattle.std.proofs.Common.{◌≡◌, ◌<◌, ◌+◌, ◌*◌, ◌^◌, ◌==◌, ℕ, suc, Bool, true, false, cond, List, [], ◌∷◌, ◌++◌, length, map, take, drop, Option, Some, None, Result, Ok, Err, IfOk, IfErr, Contains, inl, inr, refl, sym, ap, subst, ◌∙◌, arith, length-drop}
 use Rattle.std.specs.List.{All, find}
 use Rattle.std.specs.Option.{MatchOption, option_and_then, option_map}
 use Rattle.std.specs.Str.{bytes_eq}
@@ -30,7 +30,7 @@ use Rattle.disk_index.specs.Names.{segment_name}
 use Rattle.disk_index.specs.Reads.{IsBacked}
 use Rattle.disk_index.specs.declared.cache.BlockKey.{BlockKey}
 use Rattle.disk_index.proofs.EntryLemmas.{document_at-range}
-use Rattle.disk_index.proofs.SegmentLaws.{HasBlocks, IsHere, IsLaid, StandsAt}
+use Rattle.disk_index.proofs.SegmentLaws.{HasBlocks, IsLaid, StandsAt}
 use Rattle.disk_index.proofs.LookupLemmas.{find-has}
 use Rattle.disk_index.proofs.RebuiltLemmas.{backed-laid}
 use Rattle.disk_index.proofs.SameBlock.{same_block}

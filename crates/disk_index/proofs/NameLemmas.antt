@@ -1,5 +1,5 @@
 -- Names of segments are ASCII and have 20 bytes.
-use Rattle.std.proofs.Common.{◌≡◌, ℕ, zero, suc, ◌<◌, ◌/◌, ◌%◌, List, [], ◌∷◌, ◌++◌, length, refl, ap, arith, rules, IsAscii, codes, length-append}
+use Rattle.std.proofs.Common.{◌≡◌, ℕ, zero, suc, ◌<◌, ◌/◌, ◌%◌, [], ◌∷◌, length, refl, ap, arith, rules, IsAscii, codes, length-append}
 use Rattle.std.proofs.lemmas.Str.{IsAscii-append}
 use Rattle.std.proofs.lemmas.Str.Ascii.{IsAscii-nil, IsAscii-cons}
 use Rattle.disk_index.specs.Names.{digit, hex, segment_name}

@@ -1,5 +1,5 @@
 -- What a store's answers say of a segment's file.
-use Rattle.std.proofs.Common.{◌≡◌, ◌+◌, ◌-◌, ℕ, List, [], length, take, drop, Option, Some, None, Result, Ok, Err, IfErr, refl, sym, ap, subst, ◌∙◌}
+use Rattle.std.proofs.Common.{◌≡◌, ◌+◌, ◌-◌, ℕ, List, [], length, take, drop, Option, Some, None, Result, Ok, Err, refl, sym, ap, subst, ◌∙◌}
 use Rattle.std.specs.Option.{IfSome, option_map, unwrap_or}
 use Rattle.ri_base.specs.declared.seg_fault.FileName.TheVariants.{Segment}
 use Rattle.ri_base.specs.declared.seg_fault.PartName.TheVariants as parts

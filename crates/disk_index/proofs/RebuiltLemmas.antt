@@ -1,5 +1,5 @@
 -- What is kept, read together with a file.
-use Rattle.std.proofs.Common.{◌≡◌, ◌<◌, ◌≤◌, ℕ, zero, suc, ◌+◌, ◌/◌, ◌==◌, ◌||◌, List, [], ◌∷◌, length, map, get_or, Bool, true, false, cond, Option, Some, None, Contains, inl, inr, ◌⊎◌, refl, sym, ap, subst, ◌∙◌, arith}
+use Rattle.std.proofs.Common.{◌≡◌, ◌<◌, ◌≤◌, ℕ, zero, suc, ◌+◌, ◌/◌, ◌==◌, ◌||◌, List, [], ◌∷◌, length, map, get_or, Bool, true, false, cond, Option, Some, None, Contains, inl, inr, refl, sym, ap, subst, ◌∙◌, arith}
 use Rattle.std.specs.List.{All, find}
 use Rattle.std.specs.Option.{option_map_or, unwrap_or}
 use Rattle.std.specs.Result.{result_unwrap_or}
@@ -10,7 +10,6 @@ use Rattle.std.proofs.lemmas.Slice.Eq.{bytes_eq-Decides}
 use Rattle.ri_base.specs.Collection.{document_at, empty_document}
 use Rattle.ri_base.specs.Documents.{AreFields, Document, IsDocument}
 use Rattle.ri_base.specs.Places.{places, places_from}
-use Rattle.ri_base.specs.Vocabulary.{Occurs}
 use Rattle.ri_base.specs.declared.limits.TheConstants.{MAX_DOC_TOKENS}
 use Rattle.ri_base.proofs.ListLemmas.{Contains-cases}
 use Rattle.ri_base.proofs.PlacesLemmas.{occurs_at}
@@ -23,8 +22,7 @@ use Rattle.seg_codec.specs.declared.dictionary.TermBlocks.{TermBlocks}
 use Rattle.seg_codec.specs.declared.documents.Entry.{Entry}
 use Rattle.seg_codec.proofs.BlockLaws.{block_again}
 use Rattle.disk_index.specs.Blocks.{block_of, file_of, places_of, told_file}
-use Rattle.disk_index.specs.Kept.{IsOutline, Kept, kept_of, place_in}
-use Rattle.disk_index.specs.Names.{segment_name}
+use Rattle.disk_index.specs.Kept.{IsOutline, Kept, place_in}
 use Rattle.disk_index.specs.Parts.{Source, InMemory, OnDisk, reads, size}
 use Rattle.disk_index.specs.Reads.{IsBacked, documents_from, entries_in, entries_of, is_member, rebuilt, term_at, terms_from}
 use Rattle.disk_index.proofs.EntryLemmas.{document_at-get_or, places_of-block}

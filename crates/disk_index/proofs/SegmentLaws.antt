@@ -1,12 +1,11 @@
 -- Where the blocks of a segment stand.
-use Rattle.std.proofs.Common.{◌≡◌, ◌≢◌, ◌<◌, ◌≤◌, ℕ, zero, suc, ◌+◌, ◌-◌, ◌*◌, ◌/◌, ◌==◌, List, [], ◌∷◌, ◌++◌, length, take, drop, map, sum_by, Bool, true, false, cond, Option, Some, None, Contains, refl, sym, ap, subst, ◌∙◌, append_assoc, arith, length-append}
+use Rattle.std.proofs.Common.{◌≡◌, ◌<◌, ℕ, zero, suc, ◌+◌, ◌*◌, ◌==◌, List, [], ◌∷◌, ◌++◌, length, take, drop, map, true, false, cond, Option, Some, None, Contains, refl, sym, ap, subst, ◌∙◌, append_assoc, arith, length-append}
 use Rattle.std.specs.List.{All, find, flat_map}
 use Rattle.std.proofs.lemmas.Bool.{eq-eqb, ne_eqb}
-use Rattle.std.proofs.lemmas.List.{append-nil, drop-drop, drop_at, length-map, take_at}
+use Rattle.std.proofs.lemmas.List.{append-nil, drop-drop, drop_at, take_at}
 use Rattle.std.proofs.lemmas.List.Concat.{flat_map-cons}
 use Rattle.std.proofs.lemmas.List.Elements.{All-cons, All-nil}
 use Rattle.std.proofs.lemmas.List.Sums.{sum_by-cons}
-use Rattle.ri_base.specs.Collection.{document_at}
 use Rattle.ri_base.specs.Documents.{Document}
 use Rattle.ri_base.specs.Places.{postings_of}
 use Rattle.ri_base.specs.Vocabulary.{Occurs, vocabulary_of}
@@ -21,7 +20,7 @@ use Rattle.seg_codec.specs.declared.dictionary.BlockPlace.{BlockPlace}
 use Rattle.seg_codec.specs.declared.dictionary.TermBlocks.{TermBlocks}
 use Rattle.seg_codec.specs.declared.documents.Entry.{Entry}
 use Rattle.seg_codec.proofs.CutLemmas.{cut_front}
-use Rattle.disk_index.specs.Blocks.{block_of, entries_from}
+use Rattle.disk_index.specs.Blocks.{block_of}
 use Rattle.disk_index.specs.Kept.{Kept, kept_of, place_in}
 use Rattle.disk_index.proofs.CutLaws.{PartsOther, Same, cut-append, cut-other, entries-cut, postings_behind, postings_behind-none, postings_behind-other, postings_behind-split, postings_in, postings_in-range}
 use Rattle.disk_index.proofs.FitLemmas.{AreShort, block_of-fits}

@@ -1,10 +1,9 @@
 -- Blocks: as a list of documents has them, and as a file has them.
-use Rattle.std.specs.Prelude.{◌≡◌, ℕ, ◌+◌, ◌-◌, ◌*◌, ◌==◌, List, [], ◌∷◌, ◌++◌, Option, Some, None, length, take, drop, unwrap_or, Ok, Err}
+use Rattle.std.specs.Prelude.{◌≡◌, ℕ, ◌+◌, ◌-◌, ◌*◌, ◌==◌, List, [], ◌∷◌, ◌++◌, Option, Some, None, length, take, drop, unwrap_or, Err}
 use Rattle.std.specs.List.{find}
 use Rattle.std.specs.Option.{option_map_or}
 use Rattle.ri_base.specs.Documents.{Document}
 use Rattle.ri_base.specs.Places.{places}
-use Rattle.ri_base.specs.declared.seg_fault.FileName.{FileName}
 use Rattle.ri_base.specs.declared.seg_fault.FileName.TheVariants.{Segment}
 use Rattle.ri_base.specs.declared.seg_fault.PartName.TheVariants as parts
 use Rattle.ri_base.specs.declared.seg_fault.SegFault.{SegFault}

@@ -1,5 +1,5 @@
 -- What reading leaves holds of a state and itself, and over two steps.
-use Rattle.std.proofs.Common.{◌≡◌, ◌≤◌, ℕ, List, Option, Some, Contains, ◌⊎◌, inl, inr, refl, sym, subst, ◌∙◌, arith}
+use Rattle.std.proofs.Common.{◌≡◌, ℕ, List, Option, inl, inr, refl, subst, ◌∙◌, arith}
 use Rattle.store_ends.specs.Files.{Files, IsQuiet}
 use Rattle.disk_index.specs.Cache.{CacheKeeps, IsCacheBacked, KeptBlock}
 use Rattle.disk_index.specs.Parts.{IsFileOf, IsQuietReader, Source}

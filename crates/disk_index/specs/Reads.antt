@@ -1,5 +1,5 @@
 -- What a part on disk reads as, together with its file.
-use Rattle.std.specs.Prelude.{◌≡◌, ℕ, zero, suc, ◌+◌, ◌/◌, ◌==◌, Bool, false, ◌||◌, List, [], ◌∷◌, Option, Some, None, Result, Ok, Err, take, drop}
+use Rattle.std.specs.Prelude.{◌≡◌, ℕ, zero, suc, ◌+◌, ◌/◌, ◌==◌, Bool, false, ◌||◌, List, [], ◌∷◌, Option, Some, take, drop}
 use Rattle.std.specs.List.{All, find}
 use Rattle.std.specs.Option.{option_map_or}
 use Rattle.std.specs.Result.{result_unwrap_or}
@@ -11,7 +11,7 @@ use Rattle.seg_codec.specs.declared.blocks.BlockEntry.{BlockEntry}
 use Rattle.seg_codec.specs.declared.dictionary.BlockPlace.{BlockPlace}
 use Rattle.seg_codec.specs.declared.dictionary.TermBlocks.{TermBlocks}
 use Rattle.seg_codec.specs.declared.documents.Entry.{Entry}
-use Rattle.disk_index.specs.Blocks.{file_of, places_of}
+use Rattle.disk_index.specs.Blocks.{places_of}
 use Rattle.disk_index.specs.Kept.{Kept, kept_of, place_in}
 use Rattle.disk_index.specs.Names.{segment_name}
 

@@ -1,4 +1,4 @@
-use Rattle.std.proofs.Common.{◌≡◌, List, Contains, sym, subst, arith, rules}
+use Rattle.std.proofs.Common.{◌≡◌, List, Contains, sym, subst, arith}
 use Rattle.lru.proofs.CallerLemmas.{Contains-lookup}
 use Rattle.seg_codec.specs.declared.blocks.BlockEntry.{BlockEntry}
 use Rattle.disk_index.specs.declared.cache.BlockKey.{BlockKey}

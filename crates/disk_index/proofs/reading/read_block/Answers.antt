@@ -1,8 +1,5 @@
-use Rattle.std.proofs.Common.{◌≡◌, List, Option, sym, ap, subst, ◌∙◌}
-use Rattle.seg_codec.specs.declared.blocks.BlockEntry.{BlockEntry}
-use Rattle.disk_index.specs.Blocks.{IsBlockIn}
 use Rattle.std.proofs.lemmas.Result.{err_from_is_err_and}
-use Rattle.disk_index.proofs.ReadingLemmas.{block-fault, block-read_fault}
+use Rattle.disk_index.proofs.ReadingLemmas.{block-read_fault}
 use Rattle.disk_index.proofs.reading.read_block.Goals as goal
 
 pub returns-in_err-bytes-clause-fault : goal.returns-in_err-bytes-clause-fault

@@ -1,4 +1,4 @@
-use Rattle.std.proofs.Common.{◌≡◌, List, Option, Some, Contains, IfSome, inl, inr, refl, sym, subst, rules}
+use Rattle.std.proofs.Common.{List, Option, Contains, IfSome, inl, refl, subst}
 use Rattle.seg_codec.specs.declared.blocks.BlockEntry.{BlockEntry}
 use Rattle.disk_index.specs.Cache.{AllKept, KeptBlock}
 use Rattle.disk_index.proofs.CacheLemmas.{fetched}

@@ -1,11 +1,10 @@
-use Rattle.std.proofs.Common.{◌≡◌, ◌<◌, ℕ, List, All, IsTrue, length, ap, sym, subst, ◌∙◌, arith, rules}
+use Rattle.std.proofs.Common.{◌≡◌, ◌<◌, ℕ, List, All, IsTrue, length, ap, sym, subst, ◌∙◌, rules}
 use Rattle.std.specs.List.Sorted.{IsStrictlyIncreasing}
 use Rattle.std.proofs.lemmas.Result.{err_from_is_err_and}
 use Rattle.ri_base.specs.Collection.{document_at}
 use Rattle.ri_base.specs.Places.{places}
 use Rattle.ri_base.proofs.PlacesLemmas.{places-below, places-rise}
 use Rattle.disk_index.specs.Blocks.{places_of, told_file}
-use Rattle.disk_index.specs.Reads.{rebuilt}
 use Rattle.disk_index.proofs.EntryLemmas.{places_of-block}
 use Rattle.disk_index.proofs.RebuiltLemmas.{backed-laid, inside-docs, reads-backed}
 use Rattle.disk_index.proofs.index.DiskIndex.counted_positions.Goals as goal

@@ -1,4 +1,4 @@
-use Rattle.std.proofs.Common.{◌≡◌, sym, ap, ◌∙◌}
+use Rattle.std.proofs.Common.{sym, ap, ◌∙◌}
 use Rattle.seg_codec.specs.declared.documents.Entry.{Entry}
 use Rattle.disk_index.proofs.RebuiltLemmas.{rebuilt-tokens}
 use Rattle.disk_index.proofs.index.DiskIndex.length.Goals as goal

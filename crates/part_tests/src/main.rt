@@ -1,0 +1,13 @@
+//! Tests of parts on disk, called as their users call them. The program itself does nothing.
+#![tactic(auto)]
+
+#[cfg(test)]
+mod broken;
+#[cfg(test)]
+mod failing;
+#[cfg(test)]
+mod places;
+#[cfg(test)]
+mod segment;
+
+fn main() {}

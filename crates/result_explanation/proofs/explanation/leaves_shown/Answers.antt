@@ -27,7 +27,7 @@ loop-i-preserved g c =
       keeps = Keeps-then _ _ _ _ g.met.P.Postings.quiet_then _ _ _ inv.keeps c.in_ok-leaf.ensures.keeps;
       so_far = λ sound.
           let told : told_leaf c.in_ok-leaf.leaf ≡ leaf_told c.args.names.now d c.args.window (leaf_tree leaf) s b =
-          c.in_ok-leaf.ensures.exact (inv.keeps.sound_stays.0 sound)
+          c.in_ok-leaf.ensures.exact (inv.keeps.sound_stays sound)
           ∙ ap (λ (ds : List Document). leaf_told c.args.names.now (document_at ds c.args.id) c.args.window (leaf_tree leaf) s b) inv.keeps.documents_stay in
           let next = leaf_next c.args.names.now d c.args.window (map leaf_tree leaves) stats c.args.beliefs.now i (leaf_tree leaf) s b long
           (omega (arith, inside, c.requires.stats)) (omega (arith, inside, c.requires.beliefs)) here (search rules) c.index-beliefs-i.is

@@ -7,8 +7,6 @@ use Rattle.ri_base.specs.Collection.{document_at}
 use Rattle.ri_base.specs.Documents.{Document, Field}
 use Rattle.ri_base.specs.Pair.{Pair}
 use Rattle.ri_base.specs.declared.limits.TheConstants.{MAX_DOC_TOKENS}
-use Rattle.field_extents.specs.Extents.{begin_count}
-use Rattle.field_extents.specs.Fields.{covered_count}
 use Rattle.field_extents.specs.Passed.{BeginBefore, BeginBy, PassedExtents, PassedFields}
 use Rattle.field_extents.proofs.Laws.{begin_count-le, covered_count-le}
 use Rattle.extent_lists.specs.Pairs.{pair}

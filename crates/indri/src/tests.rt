@@ -457,7 +457,7 @@ fn explained(rt: HostRuntime) -> Result<(), Fail> {
 }
 
 /// Words that are no command, and texts that are refused: the words, the status, and what is written.
-static REFUSED: [(&[&str], Status, &str); 34] = [
+static REFUSED: [(&[&str], Status, &str); 33] = [
     (&[], Status::Usage, USAGE),
     (&[".", "query", "--run", "mine", "a"], Status::Usage, USAGE),
     (&[".", "explain", "0", "a"], Status::Usage, USAGE),
@@ -497,11 +497,6 @@ static REFUSED: [(&[&str], Status, &str); 34] = [
         &[".", "scan", "a b"],
         Status::QueryRefused,
         "refused Query Expected 2\n",
-    ),
-    (
-        &[".", "scan", "#comb(a)"],
-        Status::QueryRefused,
-        "refused Query UnknownOperator 0\n",
     ),
     (
         &[".", "scan", "#or(a b)"],

@@ -104,6 +104,8 @@ impl Gatherer {
         if self.is_full(doc) {
             return Self::refused(alloc, CollectionKind::CollectionFull, doc.docno());
         }
+        // its fields keep the form of a document's
+        let _fields = doc.fields();
         self.docnos.insert(doc.docno().clone_in(alloc)?)?;
         add(alloc, &mut self.index, doc)?;
         Ok(None)

@@ -1,5 +1,3 @@
-use Rattle.std.proofs.Common.{List, ap, subst, sym, ◌∙◌}
-use Rattle.ri_base.specs.Collection.{document_at}
 use Rattle.query_check.specs.Leaves.{leaf_tree}
 use Rattle.document_scoring.proofs.CounterLemmas.{whole_is}
 use Rattle.document_scoring.proofs.counts.count_of.Goals as goal

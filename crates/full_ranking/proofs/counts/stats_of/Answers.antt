@@ -1,7 +1,5 @@
-use Rattle.std.proofs.Common.{arith, ◌≡◌, ◌<◌, ◌≤◌, ◌+◌, ◌∙◌, ap, length, subst, sum_by}
-use Rattle.std.proofs.lemmas.List.{take_all}
+use Rattle.std.proofs.Common.{arith, ◌<◌, ◌+◌, ◌∙◌, ap, length}
 use Rattle.query_check.specs.Leaves.{leaf_tree}
-use Rattle.document_scoring.specs.Counts.{whole_len, whole_tf}
 use Rattle.full_ranking.proofs.CountLemmas.{AreNextSums, next_sums, words_within}
 use Rattle.full_ranking.proofs.counts.stats_of.Goals as goal
 use Rattle.full_ranking.proofs.counts.stats_of.Goals.{After-from-total}

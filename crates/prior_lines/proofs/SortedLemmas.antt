@@ -1,7 +1,7 @@
 -- Rows in rising order of their docnos are those of a prior.
-use Rattle.std.proofs.Common.{ℕ, zero, suc, ◌≡◌, ◌<◌, ◌≤◌, ◌+◌, ◌^◌, ◌==◌, ◌&&◌, Bool, true, false, List, [], ◌∷◌, length, map, Option, Some, None, refl, sym, ap, ◌∙◌, subst, arith}
-use Rattle.std.specs.Prelude.{All, IfSome, nat_le, slice_index_or}
-use Rattle.std.specs.Cmp.{IsTotalOrder, unsigned_ties}
+use Rattle.std.proofs.Common.{ℕ, zero, suc, ◌≡◌, ◌<◌, ◌≤◌, ◌+◌, ◌==◌, true, false, List, [], ◌∷◌, length, map, Option, Some, None, refl, sym, ap, ◌∙◌, subst, arith}
+use Rattle.std.specs.Prelude.{All, IfSome, slice_index_or}
+use Rattle.std.specs.Cmp.{unsigned_ties}
 use Rattle.std.specs.Cmp.Lexicographic.{nat_list_cmp_total, slice_cmp}
 use Rattle.std.specs.List.{IsDistinct}
 use Rattle.std.specs.List.Sorted.{IsPermutation, IsSorted}
@@ -19,7 +19,7 @@ use Rattle.ri_base.specs.declared.limits.TheConstants.{MAX_PRIOR_ROWS, PRIOR_LIM
 use Rattle.file_fields.specs.Fields.{is_before}
 use Rattle.file_fields.specs.Reading.{AllFit}
 use Rattle.manifest.specs.PriorFits.{FitsBelief, FitsRest, FitsRow, IsPrior}
-use Rattle.manifest.specs.Priors.{PriorTable, Row, is_p, is_q, row_of}
+use Rattle.manifest.specs.Priors.{Row, is_p, is_q, row_of}
 use Rattle.prior_lines.specs.Rows.{IsKept, IsSmall, Kept, prior_row, rows_seen}
 
 -- ORDER

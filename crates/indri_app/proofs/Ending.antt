@@ -1,5 +1,5 @@
 -- How a run ends.
-use Rattle.std.proofs.Common.{◌≡◌, ◌≤◌, ◌||◌, inl, inr, ℕ, Bool, true, false, List, [], ◌∷◌, ◌++◌, refl, ap, sym, ◌∙◌, subst, Option, Some, None, Result, Ok, Err, length, arith, append-nil}
+use Rattle.std.proofs.Common.{◌≡◌, ◌≤◌, ◌||◌, inl, inr, ℕ, Bool, List, [], ◌∷◌, ◌++◌, refl, ap, sym, ◌∙◌, subst, Option, Some, None, Result, Ok, Err, length, arith, append-nil}
 use Rattle.std.proofs.Math.Seq.{take-length}
 use Rattle.std.specs.Io.KnownBytes.{append_known}
 use Rattle.std.specs.Option.{IfSome}
@@ -79,11 +79,11 @@ pub query-done : (left : Option (List ℕ)) (rule : RuleKind) (k : Shown) (q : C
     → IfSome left (λ bytes. w ≡ behind_all (collecting []) (read bytes).0) → w ≡ collecting docs → IfSome left (λ bytes. Finished (input_pieces (collecting []) (read bytes)) before mid) → Shows rule k q docs (λ piece. (piece.is_refusal ≡ last_refused) × Finished (piece ∷ []) mid now)
     → IfSome left (λ bytes. IsDone (rank_by rule k q) bytes (refused || last_refused) before now)
 query-done None rule k q w docs refused last_refused before mid now r e same f shows = tt
-query-done (Some bytes) rule k q w docs refused last_refused before mid now r e same f (piece, is, told, last) =
+query-done (Some bytes) rule k q w docs refused last_refused before mid now r e same f (piece, is, both) =
     let pieces = read_pieces (rank_by rule k q) bytes in
     let there : IsAnswerPiece rule k q (ranked_documents bytes) piece = subst (λ (ds : List Document). IsAnswerPiece rule k q ds piece) (ranked-are bytes w docs e same) is in
-    let here : some_refused (piece ∷ []) ≡ last_refused = refused-one piece ∙ told in
-    (pieces ++ piece ∷ [], (piece, there, refl), refused-append pieces (piece ∷ []) ∙ ap (λ b. some_refused pieces || b) here ∙ ap (λ b. b || last_refused) (sym r), Finished-then pieces (piece ∷ []) before mid now f last)
+    let here : some_refused (piece ∷ []) ≡ last_refused = refused-one piece ∙ both.0 in
+    (pieces ++ piece ∷ [], (piece, there, refl), refused-append pieces (piece ∷ []) ∙ ap (λ b. some_refused pieces || b) here ∙ ap (λ b. b || last_refused) (sym r), Finished-then pieces (piece ∷ []) before mid now f both.1)
 
 query-cut : (left : Option (List ℕ)) (rule : RuleKind) (k : Shown) (q : CheckedTree) (w : Work) (docs : List Document) (before mid now : Option (List ℕ))
     → IfSome left (λ bytes. w ≡ behind_all (collecting []) (read bytes).0) → w ≡ collecting docs → IfSome left (λ bytes. Finished (input_pieces (collecting []) (read bytes)) before mid) → Shows rule k q docs (λ piece. BrokenOff (piece ∷ []) mid now)

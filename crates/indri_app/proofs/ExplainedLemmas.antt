@@ -1,8 +1,8 @@
 -- What explains a result of a ranking.
-use Rattle.std.proofs.Common.{◌≡◌, ◌<◌, ◌≤◌, ◌+◌, ◌-◌, ℕ, zero, suc, true, false, nat_lt, cond, Bool, List, [], ◌∷◌, length, get_or, map, take, refl, sym, ap, subst, ◌∙◌, arith, Option, Some, None, unwrap_or}
-use Rattle.std.specs.List.{All, Contains, find, list_any, position, position_or_len, slice_get}
+use Rattle.std.proofs.Common.{◌≡◌, ◌<◌, ◌≤◌, ◌-◌, ℕ, zero, suc, true, Bool, List, [], ◌∷◌, length, get_or, map, take, refl, sym, ap, subst, ◌∙◌, arith, Some, unwrap_or}
+use Rattle.std.specs.List.{All, Contains, list_any, position, position_or_len, slice_get}
 use Rattle.std.specs.Str.{bytes_eq}
-use Rattle.std.proofs.lemmas.List.{get_or-map, length-map, length-take}
+use Rattle.std.proofs.lemmas.List.{get_or-map, length-map}
 use Rattle.std.proofs.lemmas.List.Elements.{All-get_or}
 use Rattle.std.proofs.lemmas.List.Folds.{find_at}
 use Rattle.std.proofs.lemmas.List.Quantifiers.{position-Some}
@@ -19,7 +19,6 @@ use Rattle.smoothing.specs.declared.rule.RuleKind.{RuleKind}
 use Rattle.query_check.specs.Check.{CheckedTree}
 use Rattle.query_check.specs.Leaves.{LeafTree}
 use Rattle.belief_nodes.specs.Priors.{Prior}
-use Rattle.document_scoring.specs.Candidates.{Candidate}
 use Rattle.document_scoring.specs.Counts.{stats_of}
 use Rattle.ranked_output.specs.declared.explained.Explained.{Explained}
 use Rattle.result_explanation.specs.Explanation.{IsExplanation}

@@ -3,7 +3,6 @@ use Rattle.ri_base.specs.Collection.{document_at}
 use Rattle.ri_base.specs.declared.hit.Hit.{Hit}
 use Rattle.query_check.specs.Answers.{whole_checked}
 use Rattle.query_check.specs.Leaves.{leaf_tree}
-use Rattle.query_check.specs.declared.leaf_kind.LeafKind.{LeafKind}
 use Rattle.full_ranking.specs.Ranking.{candidate_of, query_network}
 use Rattle.result_explanation.specs.Sound.{IsOf}
 use Rattle.indri_app.specs.Answer.{ExplainsRank, hit_of_rank}

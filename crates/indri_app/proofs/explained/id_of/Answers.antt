@@ -1,4 +1,4 @@
-use Rattle.std.proofs.Common.{◌≡◌, ◌<◌, arith, length, sym, ◌∙◌}
+use Rattle.std.proofs.Common.{arith, sym, ◌∙◌}
 use Rattle.std.proofs.lemmas.Bool.{false≢true}
 use Rattle.indri_app.proofs.ExplainedLemmas.{docno_placed, document_placed, place_is_id}
 use Rattle.indri_app.proofs.explained.id_of.Goals as goal

@@ -1,4 +1,4 @@
-use Rattle.std.proofs.Common.{◌≡◌, ◌<◌, arith}
+use Rattle.std.proofs.Common.{◌<◌, arith}
 use Rattle.command_words.specs.Asked.{told_labels}
 use Rattle.query_check.specs.Answers.{whole_checked}
 use Rattle.query_check.specs.Scale.{scale}

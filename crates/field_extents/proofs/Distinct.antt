@@ -13,7 +13,7 @@ use Rattle.std.proofs.lemmas.List.Kept.{AllPairs-filter}
 use Rattle.std.proofs.lemmas.List.Sums.{length-filter}
 use Rattle.std.proofs.lemmas.Map.Made.{IsDistinct-from_AllPairs, is_member-Decides, is_member-filter, length-from_keys}
 
-numbers : IsEquivalence nat_eq
+pub numbers : IsEquivalence nat_eq
 numbers = record {
   refl = λ x. eq-eqb x x refl;
   symm = λ x y. grind (arith, nat_tests);

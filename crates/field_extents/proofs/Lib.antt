@@ -7,5 +7,6 @@ pub mod Orders
 pub mod PassedCover
 pub mod PassedLemmas
 pub mod Prefixes
+pub mod RisingLemmas
 pub mod ReachLemmas
 pub mod Sweep

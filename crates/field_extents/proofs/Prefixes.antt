@@ -1,5 +1,5 @@
 -- The elements of a list before the first that fails a test, from some place on.
-use Rattle.std.proofs.Common.{◌≡◌, ℕ, ◌+◌, ◌<◌, ◌≤◌, ⊎_elim, Bool, true, false, List, [], ◌∷◌, ◌++◌, length, take, drop, get_or, filter, refl, sym, ap, ◌∙◌, append-nil, length-drop, length-take, add-zero, arith}
+use Rattle.std.proofs.Common.{◌≡◌, ℕ, ◌+◌, ◌<◌, ◌≤◌, ⊎_elim, Bool, true, false, List, [], ◌∷◌, ◌++◌, length, take, drop, get_or, filter, refl, sym, ap, ◌∙◌, append-nil, length-drop, length-take, add-zero, subst, arith}
 use Rattle.std.specs.List.{All, AllPairs, prefix_len}
 use Rattle.std.proofs.Math.Seq.{take-add}
 use Rattle.std.proofs.lemmas.Bool.{cases_eq}
@@ -21,6 +21,18 @@ fails_behind p xs n stays k d l =
     (λ (other : k ≡ 0 → ⊥). stays (n + more) ((n + more) + k) d (omega arith) bound first)
     (cases_eq k 0))
 
+-- where it fails from the first that fails it on
+pub fails_behind_first : {X : Type 0} (p : X → Bool) (xs : List X) → AllPairs (λ x y. p x ≡ false → p y ≡ false) xs → All (λ x. p x ≡ false) (drop (prefix_len p xs) xs)
+fails_behind_first {X} p xs stays =
+    subst (λ (n : ℕ). All (λ x. p x ≡ false) (drop n xs)) (zero_add (prefix_len p (drop 0 xs)) ∙ ap (prefix_len p) (drop_none xs)) (fails_behind p xs 0 stays)
+  where
+    zero_add : (n : ℕ) → 0 + n ≡ n
+    zero_add n = omega arith
+
+    drop_none : (ys : List X) → drop 0 ys ≡ ys
+    drop_none [] = refl
+    drop_none (y ∷ ys) = refl
+
 module _ {X : Type 0} (p : X → Bool) (xs : List X) (n more : ℕ) (is : more ≡ prefix_len p (drop n xs)) where
   -- what holds of the first and of those that pass
   pub passes_front : (P : X → Type 0) → ((x : X) → p x ≡ true → P x) → All P (take n xs) → All P (take (n + more) xs)
@@ -36,12 +48,14 @@ filter_none : {X : Type 0} (p : X → Bool) (xs : List X) → All (λ x. p x ≡
 filter_none p [] h = refl
 filter_none p (x ∷ xs) h = rw (All-head (λ x. p x ≡ false) x xs h) (filter_none p xs (All-tail (λ x. p x ≡ false) x xs h))
 
--- of three parts only the middle one has elements that pass
-pub filter_middle : {X : Type 0} (p : X → Bool) (xs : List X) (n m : ℕ) → All (λ x. p x ≡ false) (take n xs) → All (λ x. p x ≡ false) (drop (n + m) xs) → filter p (take m (drop n xs)) ≡ filter p xs
-filter_middle p xs n m front behind =
-    let middle = take m (drop n xs) in
-    let parts : filter p (take (n + m) xs ++ drop (n + m) xs) ≡ filter p (take (n + m) xs) ++ filter p (drop (n + m) xs) = filter-append p (take (n + m) xs) (drop (n + m) xs) in
-    let fronts : filter p (take n xs ++ middle) ≡ filter p (take n xs) ++ filter p middle = filter-append p (take n xs) middle in
-    let of_front : filter p (take (n + m) xs) ≡ filter p middle = ap (filter p) (take-add n m xs) ∙ fronts ∙ ap (λ ys. ys ++ filter p middle) (filter_none p (take n xs) front) in
-    let of_all : filter p xs ≡ filter p (take (n + m) xs) ++ filter p (drop (n + m) xs) = ap (filter p) (sym (take-append-drop (n + m) xs)) ∙ parts in
-    sym (of_all ∙ rw (filter_none p (drop (n + m) xs) behind) (append-nil (filter p (take (n + m) xs))) ∙ of_front)
+-- of two parts only the second one has elements that pass
+pub filter_ahead : {X : Type 0} (p : X → Bool) (xs : List X) (n : ℕ) → All (λ x. p x ≡ false) (take n xs) → filter p (drop n xs) ≡ filter p xs
+filter_ahead p xs n front =
+    let parts : filter p (take n xs ++ drop n xs) ≡ filter p (take n xs) ++ filter p (drop n xs) = filter-append p (take n xs) (drop n xs) in
+    sym (ap (filter p) (sym (take-append-drop n xs)) ∙ parts ∙ ap (λ ys. ys ++ filter p (drop n xs)) (filter_none p (take n xs) front))
+
+-- only the first one
+pub filter_front : {X : Type 0} (p : X → Bool) (xs : List X) (n : ℕ) → All (λ x. p x ≡ false) (drop n xs) → filter p (take n xs) ≡ filter p xs
+filter_front p xs n behind =
+    let parts : filter p (take n xs ++ drop n xs) ≡ filter p (take n xs) ++ filter p (drop n xs) = filter-append p (take n xs) (drop n xs) in
+    sym (ap (filter p) (sym (take-append-drop n xs)) ∙ parts ∙ rw (filter_none p (drop n xs) behind) (append-nil (filter p (take n xs))))

@@ -13,6 +13,10 @@ pub record PassedExtents : Type 0 where
 abbrev pub BeginBefore : ℕ → PassedExtents → Type 0
 BeginBefore position s = All (λ x. x.begin < position) (take s.passed s.extents)
 
+-- an extent begins behind another and ends no earlier, as one word behind another does
+abbrev pub Rises : Pair → Pair → Type 0
+Rises x y = (x.begin < y.begin) × (x.end ≤ y.end)
+
 -- the fields of a document, a name, and how many of the first fields are passed
 pub record PassedFields : Type 0 where
   pub fields : List Field

@@ -1,8 +1,8 @@
 // The positions at which extents begin.
-ghost use Rattle.std.specs.Prelude.{◌≡◌, ◌<◌, ◌≤◌, ◌-◌, true, nat_lt, length, All};
+ghost use Rattle.std.specs.Prelude.{◌≡◌, ◌<◌, ◌≤◌, ◌-◌, true, nat_le, nat_lt, length, All, AllPairs};
 ghost use Rattle.std.specs.List.{prefix_len};
 ghost use Rattle.field_extents.specs.Extents.{AreInOrder, begin_count};
-ghost use Rattle.field_extents.specs.Passed.{BeginBefore};
+ghost use Rattle.field_extents.specs.Passed.{BeginBefore, Rises};
 
 use ri_base::{Extent, Extents};
 use std::marker::Model;
@@ -44,18 +44,21 @@ fn begins_in(xs: &[Extent], window: Extent) -> u32
 pub struct WindowBegins<'a> {
     extents: &'a [Extent],
     passed: usize,
+    /// Each extent begins behind the one before it and ends no earlier, as those of a word do.
+    rising: bool,
 }
 
 impl<'a> Model for WindowBegins<'a> {
     ghost use Rattle.std.specs.Prelude.{◌<◌, ◌≤◌, length, All};
     ghost use Rattle.field_extents.specs.Extents.{AreInOrder};
-    ghost use Rattle.field_extents.specs.Passed.{PassedExtents};
+    ghost use Rattle.std.specs.Prelude.{◌≡◌, true, AllPairs};
+    ghost use Rattle.field_extents.specs.Passed.{PassedExtents, Rises};
 
     ghost Value = { PassedExtents };
 
     ghost view = { λ w. record { extents = w.extents.now; passed = w.passed } };
 
-    ghost invariant = { λ w. AreInOrder w.extents.now × All (λ x. x.begin < x.end) w.extents.now × (w.passed ≤ length w.extents.now) };
+    ghost invariant = { λ w. AreInOrder w.extents.now × All (λ x. x.begin < x.end) w.extents.now × (w.passed ≤ length w.extents.now) × (w.rising ≡ true → AllPairs Rises w.extents.now) };
 }
 
 impl<'a> WindowBegins<'a> {
@@ -68,11 +71,16 @@ impl<'a> WindowBegins<'a> {
     {
         let extents = xs.as_slice();
         prove!(have_tokens(extents));
-        WindowBegins { extents, passed: 0 }
+        WindowBegins {
+            extents,
+            passed: 0,
+            rising: are_rising(extents),
+        }
     }
 
     /// How many distinct begins the extents inside the window have. No window may begin before one that was asked for
-    /// earlier. It goes over the extents that begin inside the window, and once in all over those before.
+    /// earlier. It goes once in all over the extents before the windows. Where extents rise it looks up the last one
+    /// inside, else it goes over those that begin inside the window.
     pub fn count(&mut self, window: Extent) -> u32
         requires { BeginBefore window.begin self.old }
         ensures exact { result ≡ begin_count self.old.extents window }
@@ -81,9 +89,7 @@ impl<'a> WindowBegins<'a> {
         ensures passed { BeginBefore window.begin self.new }
     {
         self.passed += begun_before(&self.extents[self.passed..], window.begin());
-        let ahead = &self.extents[self.passed..];
-        let begun = begun_before(ahead, window.end());
-        begins_in(&ahead[..begun], window)
+        begins_ahead(&self.extents[self.passed..], self.rising, window)
     }
 }
 
@@ -98,6 +104,36 @@ fn have_tokens(xs: &[Extent]) -> bool
         }
     }
     true
+}
+
+/// How many distinct begins the extents inside the window have, where none begins before it.
+fn begins_ahead(xs: &[Extent], rising: bool, window: Extent) -> u32
+    requires order { AreInOrder xs.now }
+    requires some { All (λ x. x.begin < x.end) xs.now }
+    requires ahead { All (λ x. window.begin ≤ x.begin) xs.now }
+    requires rising { rising ≡ true → AllPairs Rises xs.now }
+    ensures exact { result ≡ begin_count xs.now window }
+    ensures most { result ≤ window.end - window.begin }
+{
+    if rising {
+        return ended_by(xs, window.end()) as u32;
+    }
+    begins_in(&xs[..begun_before(xs, window.end())], window)
+}
+
+/// Whether each extent begins behind the one before it and ends no earlier.
+fn are_rising(xs: &[Extent]) -> bool
+    ensures { result ≡ true → AllPairs Rises xs.now }
+{
+    xs.is_sorted_by(|x, y| x.begin() < y.begin() && x.end() <= y.end())
+}
+
+/// How many extents end by this position, where their ends don't fall.
+fn ended_by(xs: &[Extent], position: u32) -> usize
+    requires { AllPairs Rises xs.now }
+    ensures { result ≡ prefix_len (λ x. nat_le x.end position) xs.now }
+{
+    xs.partition_point(|x| x.end() <= position)
 }
 
 /// How many extents stand before the first that doesn't begin before this position.

@@ -85,20 +85,20 @@ pub record IsKeyOf (files : Files) (outlines : List Entry) (key : BlockKey) (es 
   pub fit : FitBlock outlines key.range es
 
 pub keyed : (told : Option Files) (kept : Kept) (docs : List Document) (t : List ℕ) (r : ℕ) (key : BlockKey) → Some key ≡ option_map (key_of kept.number r) (place_of kept.dictionary t r) → (b : IsBacked told kept docs)
-    → IsKeyOf b.files kept.outlines key (block_of t r docs)
-keyed told kept docs t r key h b = by (place_of kept.dictionary t r) h (place-stands (file_of b.files kept.number) kept docs t r (backed-laid told kept docs b))
+    → IsKeyOf b.has.files kept.outlines key (block_of t r docs)
+keyed told kept docs t r key h b = by (place_of kept.dictionary t r) h (place-stands (file_of b.has.files kept.number) kept docs t r (backed-laid told kept docs b))
   where
-    by : (o : Option BlockPlace) → Some key ≡ option_map (key_of kept.number r) o → StandsAt (file_of b.files kept.number) kept.outlines r o (block_of t r docs) → IsKeyOf b.files kept.outlines key (block_of t r docs)
+    by : (o : Option BlockPlace) → Some key ≡ option_map (key_of kept.number r) o → StandsAt (file_of b.has.files kept.number) kept.outlines r o (block_of t r docs) → IsKeyOf b.has.files kept.outlines key (block_of t r docs)
     by None e s = absurd cc
     by (Some p) e s =
         let same : key ≡ key_of kept.number r p = cc in
-        subst (λ (k : BlockKey). IsKeyOf b.files kept.outlines k (block_of t r docs)) (sym same)
-        (record { file = segment docs; there = b.file; bytes = s.bytes; fit = s.fit })
+        subst (λ (k : BlockKey). IsKeyOf b.has.files kept.outlines k (block_of t r docs)) (sym same)
+        (record { file = segment docs; there = b.has.file; bytes = s.bytes; fit = s.fit })
 
 pub unkeyed : (told : Option Files) (kept : Kept) (docs : List Document) (t : List ℕ) (r : ℕ) → option_map (key_of kept.number r) (place_of kept.dictionary t r) ≡ None → IsBacked told kept docs → [] ≡ block_of t r docs
-unkeyed told kept docs t r h b = by (place_of kept.dictionary t r) h (place-stands (file_of b.files kept.number) kept docs t r (backed-laid told kept docs b))
+unkeyed told kept docs t r h b = by (place_of kept.dictionary t r) h (place-stands (file_of b.has.files kept.number) kept docs t r (backed-laid told kept docs b))
   where
-    by : (o : Option BlockPlace) → option_map (key_of kept.number r) o ≡ None → StandsAt (file_of b.files kept.number) kept.outlines r o (block_of t r docs) → [] ≡ block_of t r docs
+    by : (o : Option BlockPlace) → option_map (key_of kept.number r) o ≡ None → StandsAt (file_of b.has.files kept.number) kept.outlines r o (block_of t r docs) → [] ≡ block_of t r docs
     by None e s = sym s
     by (Some p) e s = absurd cc
 

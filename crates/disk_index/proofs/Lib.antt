@@ -1,12 +1,13 @@
 pub mod CacheLemmas
 pub mod CutLaws
 pub mod EntryLemmas
-pub mod FitLemmas
+pub mod FaultLemmas
 pub mod KeptLemmas
 pub mod KeyLemmas
 pub mod SegmentLaws
 pub mod LookupLemmas
 pub mod NameLemmas
+pub mod OpeningLaws
 pub mod ReadingLemmas
 pub mod RebuiltLemmas
 pub mod SameBlock

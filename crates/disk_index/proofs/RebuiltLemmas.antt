@@ -7,7 +7,7 @@ use Rattle.std.specs.Str.{bytes_eq}
 use Rattle.std.proofs.lemmas.List.{length-map}
 use Rattle.std.proofs.lemmas.List.Elements.{All-head, All-tail, Contains-get_or}
 use Rattle.std.proofs.lemmas.Slice.Eq.{bytes_eq-Decides}
-use Rattle.ri_base.specs.Collection.{document_at, empty_document}
+use Rattle.ri_base.specs.Collection.{document_at}
 use Rattle.ri_base.specs.Documents.{AreFields, Document, IsDocument}
 use Rattle.ri_base.specs.Places.{places, places_from}
 use Rattle.ri_base.specs.declared.limits.TheConstants.{MAX_DOC_TOKENS}
@@ -26,7 +26,6 @@ use Rattle.disk_index.specs.Kept.{IsOutline, Kept, place_in}
 use Rattle.disk_index.specs.Parts.{Source, InMemory, OnDisk, reads, size}
 use Rattle.disk_index.specs.Reads.{IsBacked, documents_from, entries_in, entries_of, is_member, rebuilt, term_at, terms_from}
 use Rattle.disk_index.proofs.EntryLemmas.{document_at-get_or, places_of-block}
-use Rattle.disk_index.proofs.FitLemmas.{AreShort}
 use Rattle.disk_index.proofs.SegmentLaws.{HasBlocks, IsHere, IsLaid, StandsAt, segment-laid}
 
 -- ---- whatever the file has
@@ -202,23 +201,17 @@ rebuilt-is file kept docs laid =
     terms_from-is (term_at file kept.outlines kept.dictionary (0 + id)) 0 (document_at docs id).tokens (λ p k.
     ap (λ i. term_at file kept.outlines kept.dictionary i (0 + p)) (omega arith) ∙ ap (term_at file kept.outlines kept.dictionary id) (omega arith) ∙ term_at-is file kept docs laid id p h k))
 
-pub short_documents : (docs : List Document) → All (λ d. IsDocument d.tokens d.fields) docs → AreShort docs
-short_documents docs all id h =
-    let d : IsDocument (get_or docs id empty_document).tokens (get_or docs id empty_document).fields = all id empty_document h in
-    let n : length (document_at docs id).tokens ≡ length (get_or docs id empty_document).tokens = ap (λ (x : Document). length x.tokens) (document_at-get_or docs id) in
-    omega (arith, d.short, n)
-
 -- a backed part's file
-pub backed-file : (told : Option Files) (kept : Kept) (docs : List Document) → (b : IsBacked told kept docs) → file_of b.files kept.number ≡ segment docs
-backed-file told kept docs b = ap (λ (o : Option (List ℕ)). unwrap_or o []) b.file
+pub backed-file : (told : Option Files) (kept : Kept) (docs : List Document) → (b : IsBacked told kept docs) → file_of b.has.files kept.number ≡ segment docs
+backed-file told kept docs b = ap (λ (o : Option (List ℕ)). unwrap_or o []) b.has.file
 
-pub backed-laid : (told : Option Files) (kept : Kept) (docs : List Document) → (b : IsBacked told kept docs) → IsLaid (file_of b.files kept.number) kept docs
+pub backed-laid : (told : Option Files) (kept : Kept) (docs : List Document) → (b : IsBacked told kept docs) → IsLaid (file_of b.has.files kept.number) kept docs
 backed-laid told kept docs b =
     subst (λ (file : List ℕ). IsLaid file kept docs) (sym (backed-file told kept docs b))
-    (subst (λ (k : Kept). IsLaid (segment docs) k docs) (sym b.same) (segment-laid kept.number docs (short_documents docs b.form)))
+    (subst (λ (k : Kept). IsLaid (segment docs) k docs) (sym b.same) (segment-laid kept.number docs b.has.part))
 
 pub reads-backed : (told : Option Files) (kept : Kept) (docs : List Document) → IsBacked told kept docs → rebuilt kept (told_file told kept.number) ≡ docs
-reads-backed told kept docs b = ap (λ (o : Option Files). rebuilt kept (told_file o kept.number)) b.is_told ∙ rebuilt-is (file_of b.files kept.number) kept docs (backed-laid told kept docs b)
+reads-backed told kept docs b = ap (λ (o : Option Files). rebuilt kept (told_file o kept.number)) b.has.is_told ∙ rebuilt-is (file_of b.has.files kept.number) kept docs (backed-laid told kept docs b)
 
 pub inside-docs : (kept : Kept) (docs : List Document) (id : ℕ) → kept.outlines ≡ map entry_of docs → id < length kept.outlines → id < length docs
 inside-docs kept docs id is h = omega (arith, ap (λ (l : List Entry). length l) is, length-map docs entry_of, h)

@@ -5,25 +5,25 @@ use Rattle.std.proofs.lemmas.Bool.{eq-eqb, ne_eqb}
 use Rattle.std.proofs.lemmas.List.{append-nil, drop-drop, drop_at, take_at}
 use Rattle.std.proofs.lemmas.List.Concat.{flat_map-cons}
 use Rattle.std.proofs.lemmas.List.Elements.{All-cons, All-nil}
-use Rattle.std.proofs.lemmas.List.Sums.{sum_by-cons}
 use Rattle.ri_base.specs.Documents.{Document}
 use Rattle.ri_base.specs.Places.{postings_of}
 use Rattle.ri_base.specs.Vocabulary.{Occurs, vocabulary_of}
 use Rattle.ri_base.specs.declared.places.Place.{Place}
 use Rattle.ri_base.proofs.VocabularyLemmas.{IsVocabulary-vocabulary_of}
 use Rattle.seg_codec.specs.Fits.{FitBlock}
+use Rattle.seg_codec.specs.Part.{IsPart}
 use Rattle.seg_codec.specs.Segment as seg
-use Rattle.seg_codec.specs.Segment.{all_blocks, block_entry_of, blocks_at, blocks_of, cut, dictionary_at, dictionary_size, entry_of, first, header_of, id_of, index, placed, range_of, segment, term_blocks_of, term_size}
-use Rattle.seg_codec.specs.Spelling.{block_bytes, dictionary_bytes, documents_bytes, header_bytes, spelled_place, spelled_term}
+use Rattle.seg_codec.specs.Segment.{all_blocks, block_entry_of, blocks_at, blocks_of, cut, dictionary_at, dictionary_size, entry_of, first, header_of, id_of, index, placed, range_of, segment, term_blocks_of}
+use Rattle.seg_codec.specs.Spelling.{block_bytes, dictionary_bytes, documents_bytes, header_bytes}
 use Rattle.seg_codec.specs.declared.blocks.BlockEntry.{BlockEntry}
 use Rattle.seg_codec.specs.declared.dictionary.BlockPlace.{BlockPlace}
 use Rattle.seg_codec.specs.declared.dictionary.TermBlocks.{TermBlocks}
 use Rattle.seg_codec.specs.declared.documents.Entry.{Entry}
-use Rattle.seg_codec.proofs.CutLemmas.{cut_front}
+use Rattle.seg_codec.proofs.DictionaryFits.{dictionary_length}
+use Rattle.seg_codec.proofs.SegmentLaws.{BlocksFit, blocks_fit}
 use Rattle.disk_index.specs.Blocks.{block_of}
 use Rattle.disk_index.specs.Kept.{Kept, kept_of, place_in}
 use Rattle.disk_index.proofs.CutLaws.{PartsOther, Same, cut-append, cut-other, entries-cut, postings_behind, postings_behind-none, postings_behind-other, postings_behind-split, postings_in, postings_in-range}
-use Rattle.disk_index.proofs.FitLemmas.{AreShort, block_of-fits}
 
 -- the file has there the bytes of this block
 pub record IsHere (file : List ℕ) (outlines : List Entry) (range : ℕ) (p : BlockPlace) (es : List BlockEntry) : Type 0 where
@@ -48,17 +48,15 @@ block-entries : (t : List ℕ) (docs : List Document) (r : ℕ) → map block_en
 unfolding block_of postings_in
 block-entries t docs r = entries-cut (64 * r) t (take 64 (drop (64 * r) docs))
 
-some-entries : (q : Place) (qs : List Place) → 0 < length (map block_entry_of (cut id_of (q ∷ qs)))
-some-entries q qs = subst (λ (parts : List (List Place)). 0 < length (map block_entry_of parts)) (sym (cut_front id_of q qs)) (omega arith)
-
-module _ (file : List ℕ) (docs : List Document) (short : AreShort docs) (t : List ℕ) where
+module _ (file : List ℕ) (docs : List Document) (t : List ℕ) where
   abbrev At : ℕ → List (List Place) → ℕ → Type 0
   At r parts at = StandsAt file (map entry_of docs) r (find (λ (b : BlockPlace). b.range == r) (placed at parts)) (block_of t r docs)
 
   stands_here : (r at : ℕ) (rest : List ℕ) (q : Place) (qs : List Place) → postings_in t docs r ≡ q ∷ qs
       → drop at file ≡ flat_map seg.block_of ((q ∷ qs) ∷ cut range_of (postings_behind t docs (r + 1))) ++ rest
+      → FitBlock (map entry_of docs) (range_of q) (map block_entry_of (cut id_of (q ∷ qs)))
       → At r ((q ∷ qs) ∷ cut range_of (postings_behind t docs (r + 1))) at
-  stands_here r at rest q qs e there =
+  stands_here r at rest q qs e there fit =
       let behind = cut range_of (postings_behind t docs (r + 1)) in
       let same = subst (λ (l : List Place). Same range_of r l) e (postings_in-range t docs r) in
       let range : range_of q ≡ r = same.0 in
@@ -70,9 +68,10 @@ module _ (file : List ℕ) (docs : List Document) (short : AreShort docs) (t : L
       ap (take (length own)) (there ∙ ap (λ (l : List ℕ). l ++ rest) (flat_map-cons seg.block_of (q ∷ qs) behind) ∙ append_assoc own (flat_map seg.block_of behind) rest)
       ∙ take_at own (flat_map seg.block_of behind ++ rest) (length own) refl in
       let spelled : own ≡ block_bytes r (block_of t r docs) = ap (λ n. block_bytes n (map block_entry_of (cut id_of (q ∷ qs)))) range ∙ ap (block_bytes r) entries in
-      let some : 0 < length (block_of t r docs) = subst (λ (l : List BlockEntry). 0 < length l) entries (some-entries q qs) in
+      let fits : FitBlock (map entry_of docs) r (block_of t r docs) =
+      subst (λ n. FitBlock (map entry_of docs) n (block_of t r docs)) range (subst (λ (l : List BlockEntry). FitBlock (map entry_of docs) (range_of q) l) entries fit) in
       subst (λ b. StandsAt file (map entry_of docs) r (cond b (Some here) (find (λ (b : BlockPlace). b.range == r) (placed (at + length own) behind))) (block_of t r docs)) (sym test)
-      (record { bytes = bytes ∙ spelled; fit = block_of-fits docs t r short some })
+      (record { bytes = bytes ∙ spelled; fit = fits })
 
   stands_none : (r at : ℕ) → postings_in t docs r ≡ [] → At r (cut range_of (postings_behind t docs (r + 1))) at
   unfolding cut
@@ -92,20 +91,22 @@ module _ (file : List ℕ) (docs : List Document) (short : AreShort docs) (t : L
 
   -- what holds of the parts of a range and of those behind it
   From : ℕ → ℕ → Type 0
-  From r s = (at : ℕ) (rest : List ℕ) → drop at file ≡ flat_map seg.block_of (cut range_of (postings_behind t docs s)) ++ rest → At r (cut range_of (postings_behind t docs s)) at
+  From r s = (at : ℕ) (rest : List ℕ) → drop at file ≡ flat_map seg.block_of (cut range_of (postings_behind t docs s)) ++ rest → BlocksFit docs (cut range_of (postings_behind t docs s))
+      → At r (cut range_of (postings_behind t docs s)) at
 
   own_range : (r : ℕ) (front : List Place) → postings_in t docs r ≡ front → From r r
   unfolding From
-  own_range r [] e at rest there = subst (λ parts. At r parts at) (sym (no_part r e)) (stands_none r at e)
-  own_range r (q ∷ qs) e at rest there =
+  own_range r [] e at rest there fit = subst (λ parts. At r parts at) (sym (no_part r e)) (stands_none r at e)
+  own_range r (q ∷ qs) e at rest there fit =
       subst (λ parts. At r parts at) (sym (first_part r q qs e))
-      (stands_here r at rest q qs e (there ∙ ap (λ (parts : List (List Place)). flat_map seg.block_of parts ++ rest) (first_part r q qs e)))
+      (stands_here r at rest q qs e (there ∙ ap (λ (parts : List (List Place)). flat_map seg.block_of parts ++ rest) (first_part r q qs e)) (subst (BlocksFit docs) (first_part r q qs e) fit).0)
 
   before_range : (r s : ℕ) (front : List Place) → s < r → postings_in t docs s ≡ front → From r (s + 1) → From r s
   unfolding From
-  before_range r s [] less e behind at rest there =
-      subst (λ parts. At r parts at) (sym (no_part s e)) (behind at rest (there ∙ ap (λ (parts : List (List Place)). flat_map seg.block_of parts ++ rest) (no_part s e)))
-  before_range r s (q ∷ qs) less e behind at rest there =
+  before_range r s [] less e behind at rest there fit =
+      subst (λ parts. At r parts at) (sym (no_part s e))
+      (behind at rest (there ∙ ap (λ (parts : List (List Place)). flat_map seg.block_of parts ++ rest) (no_part s e)) (subst (BlocksFit docs) (no_part s e) fit))
+  before_range r s (q ∷ qs) less e behind at rest there fit =
       let parts = cut range_of (postings_behind t docs (s + 1)) in
       let own = seg.block_of (q ∷ qs) in
       let here : BlockPlace = record { range = range_of q; place = at; length = length own } in
@@ -117,7 +118,7 @@ module _ (file : List ℕ) (docs : List Document) (short : AreShort docs) (t : L
       ∙ drop_at own (flat_map seg.block_of parts ++ rest) (length own) refl in
       subst (λ parts. At r parts at) (sym (first_part s q qs e))
       (subst (λ b. StandsAt file (map entry_of docs) r (cond b (Some here) (find (λ (b : BlockPlace). b.range == r) (placed (at + length own) parts))) (block_of t r docs)) (sym test)
-      (behind (at + length own) rest next))
+      (behind (at + length own) rest next (subst (BlocksFit docs) (first_part s q qs e) fit).1))
 
   stands : (k s r : ℕ) → r ≡ s + k → From r s
   stands zero s r is =
@@ -125,7 +126,8 @@ module _ (file : List ℕ) (docs : List Document) (short : AreShort docs) (t : L
       subst (λ n. From n s) (sym same) (own_range s (postings_in t docs s) refl)
   stands (suc k) s r is = before_range r s (postings_in t docs s) (omega (arith, is)) refl (stands k (s + 1) r (omega (arith, is)))
 
-  stands_anywhere : (r at : ℕ) (rest : List ℕ) → drop at file ≡ flat_map seg.block_of (cut range_of (postings_behind t docs 0)) ++ rest → At r (cut range_of (postings_behind t docs 0)) at
+  stands_anywhere : (r at : ℕ) (rest : List ℕ) → drop at file ≡ flat_map seg.block_of (cut range_of (postings_behind t docs 0)) ++ rest → BlocksFit docs (cut range_of (postings_behind t docs 0))
+      → At r (cut range_of (postings_behind t docs 0)) at
   unfolding From
   stands_anywhere r = stands r 0 r (omega arith)
 
@@ -139,47 +141,20 @@ from_first : (t : List ℕ) (docs : List Document) → postings_of t docs ≡ po
 unfolding postings_of postings_behind
 from_first t docs = refl
 
-index-stands : (file : List ℕ) (docs : List Document) → AreShort docs → (at : ℕ) (ts : List (List ℕ)) (rest : List ℕ) → drop at file ≡ all_blocks ts docs ++ rest
+index-stands : (file : List ℕ) (docs : List Document) → IsPart docs → (at : ℕ) (ts : List (List ℕ)) (rest : List ℕ) → drop at file ≡ all_blocks ts docs ++ rest
     → All (HasBlocks file (map entry_of docs) docs) (index at ts docs)
-index-stands file docs short at [] rest there = All-nil (HasBlocks file (map entry_of docs) docs)
-index-stands file docs short at (t ∷ ts) rest there =
+index-stands file docs part at [] rest there = All-nil (HasBlocks file (map entry_of docs) docs)
+index-stands file docs part at (t ∷ ts) rest there =
     let own = blocks_of (postings_of t docs) in
     let cons : drop at file ≡ own ++ (all_blocks ts docs ++ rest) =
     there ∙ ap (λ (l : List ℕ). l ++ rest) (flat_map-cons (λ t. blocks_of (postings_of t docs)) t ts) ∙ append_assoc own (all_blocks ts docs) rest in
+    let fit : BlocksFit docs (cut range_of (postings_behind t docs 0)) = subst (λ (ps : List Place). BlocksFit docs (cut range_of ps)) (from_first t docs) (blocks_fit docs t part) in
     let next : drop (at + length own) file ≡ all_blocks ts docs ++ rest =
     sym (drop-drop (length own) at file) ∙ ap (drop (length own)) cons ∙ drop_at own (all_blocks ts docs ++ rest) (length own) refl in
     All-cons (HasBlocks file (map entry_of docs) docs) (term_blocks_of at t (postings_of t docs)) (index (at + length own) ts docs)
     (λ range. subst (λ (ps : List Place). StandsAt file (map entry_of docs) range (find (λ (b : BlockPlace). b.range == range) (placed at (cut range_of ps))) (block_of t range docs)) (sym (from_first t docs))
-    (stands_anywhere file docs short t range at (all_blocks ts docs ++ rest) (cons ∙ ap (λ (ps : List Place). flat_map seg.block_of (cut range_of ps) ++ (all_blocks ts docs ++ rest)) (from_first t docs))))
-    (index-stands file docs short (at + length own) ts rest next)
-
-length-placed : (at : ℕ) (parts : List (List Place)) → length (placed at parts) ≡ length parts
-length-placed at [] = refl
-length-placed at (p ∷ ps) = let rest = length-placed (at + length (seg.block_of p)) ps in omega arith
-
-length-places : (bs : List BlockPlace) → length (flat_map spelled_place bs) ≡ 16 * length bs
-length-places [] = refl
-length-places (b ∷ bs) =
-    let one : length (spelled_place b) ≡ 16 = refl in
-    ap length (flat_map-cons spelled_place b bs) ∙ length-append (spelled_place b) (flat_map spelled_place bs) ∙ (let rest = length-places bs in omega (arith, one, rest))
-
-length-term : (at : ℕ) (t : List ℕ) (ps : List Place) → length (spelled_term (term_blocks_of at t ps)) ≡ term_size t ps
-length-term at t ps =
-    let bs = placed at (cut range_of ps) in
-    let sizes = length-places bs in
-    let count = length-placed at (cut range_of ps) in
-    ap suc (length-append t _) ∙ omega (arith, sizes, count)
-
-dictionary-length : (at : ℕ) (ts : List (List ℕ)) (docs : List Document) → length (dictionary_bytes (index at ts docs)) ≡ dictionary_size ts docs
-dictionary-length at [] docs = refl
-dictionary-length at (t ∷ ts) docs =
-    let ps = postings_of t docs in
-    let next = at + length (blocks_of ps) in
-    ap length (flat_map-cons spelled_term (term_blocks_of at t ps) (index next ts docs))
-    ∙ length-append (spelled_term (term_blocks_of at t ps)) (dictionary_bytes (index next ts docs))
-    ∙ ap (λ n. n + length (dictionary_bytes (index next ts docs))) (length-term at t ps)
-    ∙ ap (λ n. term_size t ps + n) (dictionary-length next ts docs)
-    ∙ sym (sum_by-cons (λ t. term_size t (postings_of t docs)) t ts)
+    (stands_anywhere file docs t range at (all_blocks ts docs ++ rest) (cons ∙ ap (λ (ps : List Place). flat_map seg.block_of (cut range_of ps) ++ (all_blocks ts docs ++ rest)) (from_first t docs)) fit))
+    (index-stands file docs part (at + length own) ts rest next)
 
 pub segment-blocks : (docs : List Document) → drop (blocks_at docs) (segment docs) ≡ all_blocks (vocabulary_of docs) docs
 unfolding segment
@@ -189,7 +164,7 @@ segment-blocks docs =
     let x = dictionary_bytes (index (blocks_at docs) (vocabulary_of docs) docs) in
     let b = all_blocks (vocabulary_of docs) docs in
     let head : length h ≡ 64 = refl in
-    let size : length x ≡ dictionary_size (vocabulary_of docs) docs = dictionary-length (blocks_at docs) (vocabulary_of docs) docs in
+    let size : length x ≡ dictionary_size (vocabulary_of docs) docs = dictionary_length (blocks_at docs) (vocabulary_of docs) docs in
     let front : length (h ++ (d ++ x)) ≡ blocks_at docs = length-append h (d ++ x) ∙ (let two = length-append d x in omega (arith, head, size, two)) in
     ap (drop (blocks_at docs)) (ap (λ (l : List ℕ). h ++ l) (sym (append_assoc d x b)) ∙ sym (append_assoc h (d ++ x) b)) ∙ drop_at (h ++ (d ++ x)) b (blocks_at docs) front
 
@@ -203,10 +178,10 @@ pub record IsLaid (file : List ℕ) (kept : Kept) (docs : List Document) : Type 
   pub each : All (HasBlocks file kept.outlines docs) kept.dictionary
   pub all : (t : List ℕ) → Occurs t docs → Contains (map (λ (x : TermBlocks). x.term) kept.dictionary) t
 
-pub segment-laid : (number : ℕ) (docs : List Document) → AreShort docs → IsLaid (segment docs) (kept_of number docs) docs
+pub segment-laid : (number : ℕ) (docs : List Document) → IsPart docs → IsLaid (segment docs) (kept_of number docs) docs
 unfolding kept_of
-segment-laid number docs short = record {
+segment-laid number docs part = record {
   outlines = refl;
-  each = index-stands (segment docs) docs short (blocks_at docs) (vocabulary_of docs) [] (segment-blocks docs ∙ sym (append-nil (all_blocks (vocabulary_of docs) docs)));
+  each = index-stands (segment docs) docs part (blocks_at docs) (vocabulary_of docs) [] (segment-blocks docs ∙ sym (append-nil (all_blocks (vocabulary_of docs) docs)));
   all = λ t o. subst (λ (ts : List (List ℕ)). Contains ts t) (sym (index-terms (blocks_at docs) (vocabulary_of docs) docs)) ((IsVocabulary-vocabulary_of docs).all t o);
 }

@@ -1,12 +1,13 @@
 -- What a part on disk keeps of its file.
-use Rattle.std.specs.Prelude.{◌≤◌, ◌<◌, ◌+◌, ◌==◌, ◌^◌, ℕ, List, map, Option}
+use Rattle.std.specs.Prelude.{◌≡◌, ◌≤◌, ◌<◌, ◌+◌, ◌==◌, ◌^◌, ℕ, List, map, Option}
 use Rattle.std.specs.List.{All, AllPairs, find}
 use Rattle.std.specs.Option.{option_and_then}
 use Rattle.std.specs.Str.{bytes_eq}
 use Rattle.ri_base.specs.Documents.{AreFields, Document}
 use Rattle.ri_base.specs.Vocabulary.{IsTermBefore, vocabulary_of}
 use Rattle.ri_base.specs.declared.limits.TheConstants.{MAX_DOC_TOKENS}
-use Rattle.seg_codec.specs.Segment.{blocks_at, entry_of, index}
+use Rattle.seg_codec.specs.Part.{IsPart}
+use Rattle.seg_codec.specs.Segment.{blocks_at, entry_of, index, segment}
 use Rattle.seg_codec.specs.declared.dictionary.BlockPlace.{BlockPlace}
 use Rattle.seg_codec.specs.declared.dictionary.TermBlocks.{TermBlocks}
 use Rattle.seg_codec.specs.declared.documents.Entry.{Entry}
@@ -21,6 +22,11 @@ pub record Kept : Type 0 where
 -- what is kept of the segment of these documents
 unfoldable pub kept_of : ℕ → List Document → Kept
 kept_of number docs = record { number = number; outlines = map entry_of docs; dictionary = index (blocks_at docs) (vocabulary_of docs) docs }
+
+-- the bytes are the segment of these documents, which are some that have one
+pub record IsSegmentOf (bytes : List ℕ) (docs : List Document) : Type 0 where
+  pub same : bytes ≡ segment docs
+  pub part : IsPart docs
 
 -- the block of this range, among those of a term
 abbrev pub place_in : ℕ → TermBlocks → Option BlockPlace

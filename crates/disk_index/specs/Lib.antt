@@ -1,5 +1,6 @@
 pub mod Blocks
 pub mod Cache
+pub mod Faults
 pub mod Kept
 pub mod Names
 pub mod Opening

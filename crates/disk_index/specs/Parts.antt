@@ -1,9 +1,12 @@
 -- What a part reads as, together with the files, and when it is backed.
 use Rattle.std.specs.Prelude.{◌≡◌, ◌≤◌, ℕ, List, length, Option}
 use Rattle.ri_base.specs.Documents.{Document}
+use Rattle.ri_base.specs.Faults.{IsOutside}
+use Rattle.ri_base.specs.declared.seg_fault.SegFault.{SegFault}
 use Rattle.store_ends.specs.Files.{Files, IsQuiet}
 use Rattle.disk_index.specs.Blocks.{told_file}
 use Rattle.disk_index.specs.Cache.{CacheKeeps, KeptBlock}
+use Rattle.disk_index.specs.Faults.{IsTermFault}
 use Rattle.disk_index.specs.Kept.{Kept}
 use Rattle.disk_index.specs.Reads.{IsBacked, rebuilt}
 use Rattle.disk_index.specs.declared.part.Part.{Part}
@@ -37,6 +40,11 @@ IsFileOf (OnDisk kept) n = n ≡ kept.number
 abbrev pub IsPartBacked : Option Files → Source → Type 0
 IsPartBacked told (InMemory docs) = Unit {0}
 IsPartBacked told (OnDisk kept) = (docs : List Document) × IsBacked told kept docs
+
+-- why the places of a term in a document of the part can't be told; of one in memory no file is to blame
+abbrev pub IsPartFault : Files → List KeptBlock → Source → List ℕ → ℕ → SegFault → Type 0
+IsPartFault files cached (InMemory docs) term id fault = IsOutside fault
+IsPartFault files cached (OnDisk kept) term id fault = IsTermFault files cached kept term id fault
 
 -- A reader's second state differs from the first by no more than reading may change: the part is the same, store and cache stand
 -- behind the same references, the store is as a reading call leaves it, and the cache has nothing new but blocks of the part's file.

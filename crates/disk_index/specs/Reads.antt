@@ -1,11 +1,12 @@
 -- What a part on disk reads as, together with its file.
 use Rattle.std.specs.Prelude.{◌≡◌, ℕ, zero, suc, ◌+◌, ◌/◌, ◌==◌, Bool, false, ◌||◌, List, [], ◌∷◌, Option, Some, take, drop}
-use Rattle.std.specs.List.{All, find}
+use Rattle.std.specs.List.{find}
 use Rattle.std.specs.Option.{option_map_or}
 use Rattle.std.specs.Result.{result_unwrap_or}
-use Rattle.ri_base.specs.Documents.{Document, IsDocument}
+use Rattle.ri_base.specs.Documents.{Document}
 use Rattle.store_ends.specs.Files.{Files}
 use Rattle.seg_codec.specs.Blocks.{block}
+use Rattle.seg_codec.specs.Part.{IsPart}
 use Rattle.seg_codec.specs.Segment.{segment}
 use Rattle.seg_codec.specs.declared.blocks.BlockEntry.{BlockEntry}
 use Rattle.seg_codec.specs.declared.dictionary.BlockPlace.{BlockPlace}
@@ -46,11 +47,14 @@ documents_from at id (o ∷ os) = record { docno = o.docno; tokens = terms_from 
 unfoldable pub rebuilt : Kept → List ℕ → List Document
 rebuilt kept file = documents_from (term_at file kept.outlines kept.dictionary) 0 kept.outlines
 
--- The part's file is told and there. It is the segment of these documents, of which the part keeps docnos, lengths, fields and
--- dictionary.
-pub record IsBacked (told : Option Files) (kept : Kept) (docs : List Document) : Type 0 where
+-- The file of this number is told and there. It is the segment of these documents, which are some that have one.
+pub record HasSegment (told : Option Files) (number : ℕ) (docs : List Document) : Type 0 where
   pub files : Files
   pub is_told : told ≡ Some files
-  pub file : files (segment_name kept.number) ≡ Some (segment docs)
-  pub form : All (λ d. IsDocument d.tokens d.fields) docs
+  pub file : files (segment_name number) ≡ Some (segment docs)
+  pub part : IsPart docs
+
+-- The part's file is the segment of these documents, of which the part keeps docnos, lengths, fields and dictionary.
+pub record IsBacked (told : Option Files) (kept : Kept) (docs : List Document) : Type 0 where
+  pub has : HasSegment told kept.number docs
   pub same : kept ≡ kept_of kept.number docs

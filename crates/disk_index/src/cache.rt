@@ -6,6 +6,7 @@ ghost use Rattle.store_ends.specs.Files.{Files, IsQuiet};
 ghost use Rattle.seg_codec.specs.declared.blocks.BlockEntry.{BlockEntry};
 ghost use Rattle.disk_index.specs.Blocks.{IsBlockFault, IsBlockIn};
 ghost use Rattle.disk_index.specs.Cache.{AllKept, CacheKeeps, IsCacheBacked};
+ghost use Rattle.disk_index.specs.Faults.{CameFrom};
 
 use crate::Block;
 use crate::reading::read_block;
@@ -78,6 +79,7 @@ impl BlockCache {
         requires { key.place + key.length < 2 ^ 64 }
         ensures exact { (f : Files) → T.files store.old ≡ Some f → IsCacheBacked (Some f) self.old → IfOk result (IsBlockIn f key) }
         ensures fault { (f : Files) → T.files store.old ≡ Some f → IfErr result (IsBlockFault f key documents.now) }
+        ensures origin { IfOk result (CameFrom self.old documents.now key) }
         ensures cache { CacheKeeps (T.files store.old) (λ n. n ≡ key.number) self.old self.new }
         ensures quiet { IsQuiet T.files T.layers T.clock T.since T.longest T.held store.old store.new }
         ensures later { T.faults store.old ≤ T.faults store.new }

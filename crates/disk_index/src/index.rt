@@ -1,8 +1,8 @@
 // A part of the collection that lies in a file.
-ghost use Rattle.std.specs.Prelude.{◌≡◌, ◌≤◌, ◌<◌, ◌+◌, ◌^◌, ℕ, List, Some, Err, IfOk, IfErr, IfSome, MatchOption, if◌then◌else◌, length, slice_index_or, IsTrue, is_some};
+ghost use Rattle.std.specs.Prelude.{◌≡◌, ◌≤◌, ◌<◌, ◌+◌, ◌^◌, ℕ, List, Some, Err, IfOk, IfErr, IfSome, MatchOption, if◌then◌else◌, length, slice_index_or, IsTrue, [], is_some};
 ghost use Rattle.std.specs.List.{All};
 ghost use Rattle.std.specs.List.Sorted.{IsStrictlyIncreasing};
-ghost use Rattle.std.specs.Option.{option_map};
+ghost use Rattle.std.specs.Option.{option_map, option_map_or};
 ghost use Rattle.ri_base.specs.Collection.{document_at};
 ghost use Rattle.ri_base.specs.Documents.{Document, IsDocument};
 ghost use Rattle.ri_base.specs.Faults.{IsOutside};
@@ -10,18 +10,21 @@ ghost use Rattle.ri_base.specs.Keeps.{Rose};
 ghost use Rattle.ri_base.specs.Places.{places};
 ghost use Rattle.ri_base.specs.declared.limits.TheConstants.{MAX_DOC_TOKENS};
 ghost use Rattle.store_ends.specs.Files.{Files, IsQuiet};
+ghost use Rattle.seg_codec.specs.Blocks.{tokens_of};
 ghost use Rattle.disk_index.specs.Blocks.{IsBlockFault, block_of, file_of};
 ghost use Rattle.disk_index.specs.Cache.{CacheKeeps, IsCacheBacked};
-ghost use Rattle.disk_index.specs.Kept.{IsOutline, key_of, place_of};
+ghost use Rattle.disk_index.specs.Faults.{ArePlacesIn, CameFrom, IsTermFault};
+ghost use Rattle.disk_index.specs.Kept.{IsOutline, IsSegmentOf, kept_of, key_of, place_of};
 ghost use Rattle.disk_index.specs.Opening.{IsOpenFault, IsOpened};
-ghost use Rattle.disk_index.specs.Reads.{IsBacked, rebuilt};
+ghost use Rattle.disk_index.specs.Reads.{HasSegment, IsBacked, rebuilt};
 
 use crate::lookup::place_of;
-use crate::opening::read_kept;
+use crate::opening::{docs_within, kept_within, read_kept};
+use crate::reading::file_length;
 use crate::{Block, BlockCache, BlockKey};
 use ri_base::{Docno, FieldSpan, FileName, NoMemory, PartName, Positions, SegFault, Steps, Term};
 use seg_codec::{Dictionary, Documents, Entry};
-use std::alloc::Global;
+use std::alloc::{AllocError, Global};
 use std::marker::{Brand, Model};
 use std::sync::ledger::{Blank, Ledger};
 use store_ends::Store;
@@ -56,16 +59,38 @@ impl DiskIndex {
         ensures number { IfOk result (λ x. x.number ≡ number) }
         ensures found { (f : Files) → T.files store.old ≡ Some f → IfOk result (IsOpened (file_of f number) docs) }
         ensures fault { (f : Files) → T.files store.old ≡ Some f → IfErr result (IsOpenFault f number docs) }
+
+        // The segment of so many documents is opened as what is kept of them, and never refused.
+        ensures exact { (ds : List Document) → HasSegment (T.files store.old) number ds → length ds ≡ docs → IfOk result (λ x. x ≡ kept_of number ds) }
+        ensures honest { (ds : List Document) → HasSegment (T.files store.old) number ds → length ds ≡ docs → IfErr result IsOutside }
+
         ensures quiet { IsQuiet T.files T.layers T.clock T.since T.longest T.held store.old store.new }
         ensures later { T.faults store.old ≤ T.faults store.new }
         ensures store { result ≡ Err SegFault.Store → Rose (T.faults store.old) (T.faults store.new) }
     {
-        let (documents, dictionary) = read_kept(alloc, store, number, docs)?;
+        let size = file_length(store, number)?;
+        let (documents, dictionary) = read_kept(alloc, store, number, docs, size)?;
         Ok(DiskIndex {
             number,
             documents,
             dictionary,
         })
+    }
+
+    /// The same of bytes that are a segment, as those of the file of this number. No store is read.
+    pub fn of_bytes(alloc: Global, bytes: &[u8], number: u64) -> Result<DiskIndex, NoMemory>
+        requires { (ds : List Document) × IsSegmentOf bytes.now ds }
+        ensures { (ds : List Document) → IsSegmentOf bytes.now ds → IfOk result (λ x. x ≡ kept_of number ds) }
+    {
+        let docs = docs_within(bytes)?;
+        match kept_within(alloc, bytes, number, docs) {
+            Ok((documents, dictionary)) => Ok(DiskIndex {
+                number,
+                documents,
+                dictionary,
+            }),
+            Err(_) => Err(AllocError),
+        }
     }
 
     /// How many documents there are.
@@ -97,6 +122,7 @@ impl DiskIndex {
     pub fn length(&self, id: u32) -> u32
         requires { id < length self.now.outlines }
         ensures exact { (file : List ℕ) → result ≡ length (document_at (rebuilt self.now file) id).tokens }
+        ensures kept { result ≡ tokens_of self.now.outlines id }
         ensures most { result ≤ MAX_DOC_TOKENS }
     {
         self.entry(id).tokens
@@ -143,6 +169,10 @@ impl DiskIndex {
         ensures fault { (f : Files) → T.files store.old ≡ Some f → MatchOption (place_of self.now.dictionary term.now range)
             (IfErr result IsOutside) (λ p. IfErr result (IsBlockFault f (key_of self.now.number range p) self.now.outlines)) }
 
+        // A block that is handed out was kept, or has been read as one of these documents.
+        ensures origin { MatchOption (place_of self.now.dictionary term.now range) (IfOk result (λ b. b ≡ []))
+            (λ p. IfOk result (CameFrom cache.old self.now.outlines (key_of self.now.number range p))) }
+
         // One step where the dictionary has such a block, whether it is kept or read.
         ensures steps { blocks.new ≡ blocks.old + (if is_some (place_of self.now.dictionary term.now range) then 1 else 0) }
 
@@ -176,6 +206,7 @@ impl DiskIndex {
             → IfErr result IsOutside }
         ensures rising { IfOk result IsStrictlyIncreasing }
         ensures below { (file : List ℕ) → IfOk result (All (λ p. p < length (document_at (rebuilt self.now file) id).tokens)) }
+        ensures fault { (f : Files) → T.files store.old ≡ Some f → IfErr result (IsTermFault f cache.old self.now term.now id) }
         ensures cache { CacheKeeps (T.files store.old) (λ n. n ≡ self.now.number) cache.old cache.new }
         ensures quiet { IsQuiet T.files T.layers T.clock T.since T.longest T.held store.old store.new }
         ensures later { T.faults store.old ≤ T.faults store.new }
@@ -204,6 +235,7 @@ impl DiskIndex {
             → IfErr result IsOutside }
         ensures rising { IfOk result IsStrictlyIncreasing }
         ensures below { (file : List ℕ) → IfOk result (All (λ p. p < length (document_at (rebuilt self.now file) id).tokens)) }
+        ensures fault { (f : Files) → T.files store.old ≡ Some f → IfErr result (IsTermFault f cache.old self.now term.now id) }
         ensures cache { CacheKeeps (T.files store.old) (λ n. n ≡ self.now.number) cache.old cache.new }
         ensures quiet { IsQuiet T.files T.layers T.clock T.since T.longest T.held store.old store.new }
         ensures later { T.faults store.old ≤ T.faults store.new }
@@ -222,9 +254,14 @@ impl DiskIndex {
         Ok(positions_of(alloc, places)?)
     }
 
-    /// Where the term's block for the range stands in the file.
-    fn block_place(&self, term: &Term, range: u32) -> u64 {
-        self.key(term, range).map_or(0, |key| key.place)
+    /// Where the term's block for the range stands in the file, or 0 where there is none.
+    fn block_place(&self, term: &Term, range: u32) -> u64
+        ensures { result ≡ option_map_or (λ p. p.place) (place_of self.now.dictionary term.now range) 0 }
+    {
+        match place_of(self.dictionary.as_slice(), term, range) {
+            Some(found) => found.place,
+            None => 0,
+        }
     }
 }
 
@@ -236,16 +273,16 @@ fn positions_of(alloc: Global, places: &[u32]) -> Result<Positions, NoMemory>
 
 /// Whether these are rising places of a document of this size.
 fn are_places(places: &[u32], size: u32) -> bool
-    ensures rising { IsTrue result → IsStrictlyIncreasing places.now }
-    ensures below { IsTrue result → All (λ p. p < size) places.now }
-    ensures all { IsStrictlyIncreasing places.now → All (λ p. p < size) places.now → IsTrue result }
+    ensures yes { IsTrue result → ArePlacesIn size places.now }
+    ensures no { ArePlacesIn size places.now → IsTrue result }
 {
-    let mut i = 0;
-    while i < places.len() {
-        if places[i] >= size || (i + 1 < places.len() && places[i] >= places[i + 1]) {
+    let mut low = 0;
+    for place in places {
+        let at = *place;
+        if at < low || size <= at {
             return false;
         }
-        i += 1;
+        low = at + 1;
     }
     true
 }

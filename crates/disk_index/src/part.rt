@@ -1,5 +1,5 @@
 // Parts of the collection, in memory or in a file.
-ghost use Rattle.std.specs.Prelude.{◌≡◌, ◌<◌, ◌≤◌, Option, length, Err, IfOk, IfErr};
+ghost use Rattle.std.specs.Prelude.{◌≡◌, ◌<◌, ◌≤◌, Option, Some, length, Err, IfOk, IfErr};
 ghost use Rattle.std.specs.List.{All};
 ghost use Rattle.std.specs.List.Sorted.{IsStrictlyIncreasing};
 ghost use Rattle.ri_base.specs.Collection.{document_at};
@@ -10,7 +10,7 @@ ghost use Rattle.ri_base.specs.Places.{places};
 ghost use Rattle.ri_base.specs.declared.limits.TheConstants.{MAX_DOC_TOKENS};
 ghost use Rattle.store_ends.specs.Files.{Files, IsQuiet};
 ghost use Rattle.disk_index.specs.Cache.{CacheKeeps, IsCacheBacked};
-ghost use Rattle.disk_index.specs.Parts.{IsFileOf, IsPartBacked, reads, size, source_of};
+ghost use Rattle.disk_index.specs.Parts.{IsFileOf, IsPartBacked, IsPartFault, reads, size, source_of};
 
 use crate::{BlockCache, DiskIndex};
 use ri_base::{Docno, FieldSpan, NoMemory, Positions, Postings, Sealed, SegFault, Term};
@@ -97,6 +97,7 @@ impl Part {
             → IfErr result IsOutside }
         ensures rising { IfOk result IsStrictlyIncreasing }
         ensures below { IfOk result (All (λ p. p < length (document_at (reads (T.files store.old) (source_of self.now)) id).tokens)) }
+        ensures fault { (f : Files) → T.files store.old ≡ Some f → IfErr result (IsPartFault f cache.old (source_of self.now) term.now id) }
         ensures cache { CacheKeeps (T.files store.old) (IsFileOf (source_of self.now)) cache.old cache.new }
         ensures quiet { IsQuiet T.files T.layers T.clock T.since T.longest T.held store.old store.new }
         ensures later { T.faults store.old ≤ T.faults store.new }

@@ -1,10 +1,10 @@
 // Reading a segment's file.
-ghost use Rattle.std.specs.Prelude.{◌≡◌, ◌<◌, ◌≤◌, ◌+◌, ◌^◌, ℕ, List, [], Some, Err, take, drop, length, unwrap_or, vec_len, IfOk, IfErr};
+ghost use Rattle.std.specs.Prelude.{◌≡◌, ◌<◌, ◌≤◌, ◌+◌, ◌^◌, Some, Err, take, drop, length, vec_len, IfOk, IfErr};
 ghost use Rattle.ri_base.specs.Faults.{IsOutside};
 ghost use Rattle.ri_base.specs.Keeps.{Rose};
 ghost use Rattle.store_ends.specs.Files.{Files, IsQuiet};
+ghost use Rattle.seg_codec.specs.Fits.{FitBlock};
 ghost use Rattle.disk_index.specs.Blocks.{IsBlockFault, IsBlockIn, IsReadFault, file_of};
-ghost use Rattle.disk_index.specs.Names.{segment_name};
 
 use crate::name::{as_text, segment_name};
 use crate::{Block, BlockKey};
@@ -27,7 +27,7 @@ fn of_store(fault: OutFault) -> SegFault
 
 /// How many bytes the file of the segment has.
 pub(crate) fn file_length<T: Store>(store: &mut T, number: u64) -> Result<u64, SegFault>
-    ensures length { (f : Files) → T.files store.old ≡ Some f → IfOk result (λ n. (file : List ℕ) × (f (segment_name number) ≡ Some file) × (n ≡ length file)) }
+    ensures length { (f : Files) → T.files store.old ≡ Some f → IfOk result (λ n. n ≡ length (file_of f number)) }
     ensures fault { (f : Files) → T.files store.old ≡ Some f → IfErr result (IsReadFault f number) }
     ensures quiet { IsQuiet T.files T.layers T.clock T.since T.longest T.held store.old store.new }
     ensures later { T.faults store.old ≤ T.faults store.new }
@@ -92,6 +92,7 @@ pub(crate) fn read_block<T: Store>(
 ) -> Result<Block, SegFault>
     requires { key.place + key.length < 2 ^ 64 }
     ensures exact { (f : Files) → T.files store.old ≡ Some f → IfOk result (IsBlockIn f key) }
+    ensures fits { IfOk result (FitBlock documents.now key.range) }
     ensures fault { (f : Files) → T.files store.old ≡ Some f → IfErr result (IsBlockFault f key documents.now) }
     ensures quiet { IsQuiet T.files T.layers T.clock T.since T.longest T.held store.old store.new }
     ensures later { T.faults store.old ≤ T.faults store.new }

@@ -1,4 +1,4 @@
-use Rattle.std.proofs.Common.{List, Option, Contains, IfSome, inl, refl, subst}
+use Rattle.std.proofs.Common.{List, Option, Contains, IfSome, inl, inr, refl, subst}
 use Rattle.seg_codec.specs.declared.blocks.BlockEntry.{BlockEntry}
 use Rattle.disk_index.specs.Cache.{AllKept, KeptBlock}
 use Rattle.disk_index.proofs.CacheLemmas.{fetched}
@@ -16,6 +16,15 @@ returns-in-Some-clause-exact g c = λ f told backed.
     let es = c.self.inside.kept.entries in
     let found : Contains es (c.args.key, c.in-Some.block) = subst (λ (o : Option (List BlockEntry)). IfSome o (λ b. Contains es (c.args.key, b))) c.in-Some.is c.in_ok-block.ensures.found in
     backed f refl (c.args.key, c.in-Some.block) (subst (λ (l : List KeptBlock). Contains l (c.args.key, c.in-Some.block)) c.self.view_is found)
+
+pub returns-in-Some-clause-origin : goal.returns-in-Some-clause-origin
+returns-in-Some-clause-origin g c =
+    let es = c.self.inside.kept.entries in
+    let found : Contains es (c.args.key, c.in-Some.block) = subst (λ (o : Option (List BlockEntry)). IfSome o (λ b. Contains es (c.args.key, b))) c.in-Some.is c.in_ok-block.ensures.found in
+    inl (subst (λ (l : List KeptBlock). Contains l (c.args.key, c.in-Some.block)) c.self.view_is found)
+
+pub returns-clause-origin : goal.returns-clause-origin
+returns-clause-origin g c = inr c.in_ok-block-2.ensures.fits
 
 pub returns-in_err-block-2-clause-cache : goal.returns-in_err-block-2-clause-cache
 returns-in_err-block-2-clause-cache g c = record { each = λ e h. inl (subst (λ (l : List KeptBlock). Contains l e) c.self.view_is (c.in_ok-block.ensures.stay e h)) }

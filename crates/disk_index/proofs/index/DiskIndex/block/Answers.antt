@@ -1,8 +1,9 @@
-use Rattle.std.proofs.Common.{◌≡◌, List, Option, IfErr, ap, subst, sym, ◌∙◌}
+use Rattle.std.proofs.Common.{◌≡◌, List, Option, IfErr, IfOk, ap, subst, sym, ◌∙◌}
 use Rattle.store_ends.specs.Files.{Files}
 use Rattle.seg_codec.specs.declared.documents.Entry.{Entry}
 use Rattle.disk_index.specs.Blocks.{IsBlockFault}
 use Rattle.disk_index.specs.Cache.{IsCacheBacked}
+use Rattle.disk_index.specs.Faults.{CameFrom}
 use Rattle.disk_index.specs.Kept.{Kept, key_of, place_of}
 use Rattle.disk_index.specs.declared.cache.BlockKey.{BlockKey}
 use Rattle.disk_index.proofs.CacheLemmas.{CacheKeeps-number}
@@ -20,14 +21,14 @@ returns-in_ok-empty-in-None-clause-fault g c = λ f told.
 pub returns-in-Some-clause-exact : goal.returns-in-Some-clause-exact
 returns-in-Some-clause-exact g c = λ docs b backed.
     let k = keyed (g.T.Store.files c.args.store.now) c.args.self.now docs c.args.term.now c.args.range c.in-Some.key c.in-Some.ensures.key b in
-    right_block b.files c.args.self.now.outlines c.in-Some.key _ k c.fetch.result (c.fetch.ensures.exact b.files b.is_told (subst (λ (f : Option Files). IsCacheBacked f c.args.cache.now) b.is_told backed))
+    right_block b.has.files c.args.self.now.outlines c.in-Some.key _ k c.fetch.result (c.fetch.ensures.exact b.has.files b.has.is_told (subst (λ (f : Option Files). IsCacheBacked f c.args.cache.now) b.has.is_told backed))
 
 pub returns-in-Some-clause-honest : goal.returns-in-Some-clause-honest
 returns-in-Some-clause-honest g c = λ docs b.
     let same : c.self.inside.documents ≡ c.args.self.now.outlines = ap (λ (k : Kept). k.outlines) c.self.view_is in
     let k = keyed (g.T.Store.files c.args.store.now) c.args.self.now docs c.args.term.now c.args.range c.in-Some.key c.in-Some.ensures.key b in
-    outside_fault b.files c.args.self.now.outlines c.in-Some.key _ k c.fetch.result
-    (subst (λ (es : List Entry). IfErr c.fetch.result (IsBlockFault b.files c.in-Some.key es)) same (c.fetch.ensures.fault b.files b.is_told))
+    outside_fault b.has.files c.args.self.now.outlines c.in-Some.key _ k c.fetch.result
+    (subst (λ (es : List Entry). IfErr c.fetch.result (IsBlockFault b.has.files c.in-Some.key es)) same (c.fetch.ensures.fault b.has.files b.has.is_told))
 
 pub returns-in-Some-clause-fault : goal.returns-in-Some-clause-fault
 returns-in-Some-clause-fault g c = λ f told.
@@ -40,3 +41,14 @@ pub returns-in-Some-clause-cache : goal.returns-in-Some-clause-cache
 returns-in-Some-clause-cache g c =
     CacheKeeps-number (g.T.Store.files c.args.store.now) c.in-Some.key.number c.args.self.now.number _ _
     (key-number c.args.self.now.number c.args.range (place_of c.args.self.now.dictionary c.args.term.now c.args.range) c.in-Some.key c.in-Some.ensures.key) c.fetch.ensures.cache
+
+pub returns-in_ok-empty-in-None-clause-origin : goal.returns-in_ok-empty-in-None-clause-origin
+returns-in_ok-empty-in-None-clause-origin g c =
+    match_none (key_of c.args.self.now.number c.args.range) (place_of c.args.self.now.dictionary c.args.term.now c.args.range) _ _ (sym c.in-None.ensures.key) c.in_ok-empty-in-None.ensures
+
+pub returns-in-Some-clause-origin : goal.returns-in-Some-clause-origin
+returns-in-Some-clause-origin g c =
+    let same : c.self.inside.documents ≡ c.args.self.now.outlines = ap (λ (k : Kept). k.outlines) c.self.view_is in
+    match_some (key_of c.args.self.now.number c.args.range) (place_of c.args.self.now.dictionary c.args.term.now c.args.range) c.in-Some.key _
+    (λ (k : BlockKey). IfOk c.fetch.result (CameFrom c.args.cache.now c.args.self.now.outlines k)) c.in-Some.ensures.key
+    (subst (λ (es : List Entry). IfOk c.fetch.result (CameFrom c.args.cache.now es c.in-Some.key)) same c.fetch.ensures.origin)

@@ -1,11 +1,12 @@
-use Rattle.std.proofs.Common.{◌≡◌, ◌<◌, ℕ, List, All, IfOk, length, ap, sym, subst, ◌∙◌}
+use Rattle.std.proofs.Common.{◌≡◌, ◌<◌, ℕ, List, All, IfErr, IfOk, length, ap, sym, subst, ◌∙◌}
 use Rattle.ri_base.specs.Collection.{document_at}
 use Rattle.ri_base.specs.Documents.{Document}
 use Rattle.ri_base.specs.Places.{places}
 use Rattle.disk_index.specs.Blocks.{told_file}
 use Rattle.disk_index.specs.Cache.{CacheKeeps}
+use Rattle.disk_index.specs.Faults.{IsTermFault}
 use Rattle.disk_index.specs.Kept.{Kept}
-use Rattle.disk_index.specs.Parts.{IsFileOf, IsPartBacked, reads, source_of}
+use Rattle.disk_index.specs.Parts.{IsFileOf, IsPartBacked, IsPartFault, reads, source_of}
 use Rattle.disk_index.specs.Reads.{IsBacked, rebuilt}
 use Rattle.disk_index.specs.declared.part.Part.{Part}
 use Rattle.disk_index.proofs.RebuiltLemmas.{reads-backed}
@@ -39,3 +40,9 @@ returns-in-Disk-clause-honest g c = λ part backed.
     let b = subst (λ (p : Part). IsPartBacked told (source_of p)) c.in-Disk.is part in
     let own : IsBacked told c.deref-in-Disk.result.now b.0 = subst (λ (k : Kept). IsBacked told k b.0) (sym c.deref-in-Disk.ensures) b.1 in
     c.positions.ensures.honest b.0 own backed
+
+pub returns-in-Disk-clause-fault : goal.returns-in-Disk-clause-fault
+returns-in-Disk-clause-fault g c = λ f told.
+    let r = c.positions.result in
+    subst (λ (p : Part). IfErr r (IsPartFault f c.args.cache.now (source_of p) c.args.term.now c.args.id)) (sym c.in-Disk.is)
+    (subst (λ (k : Kept). IfErr r (IsTermFault f c.args.cache.now k c.args.term.now c.args.id)) c.deref-in-Disk.ensures (c.positions.ensures.fault f told))

@@ -1,0 +1,165 @@
+-- The segment of some documents is opened as what is kept of them.
+use Rattle.std.proofs.Common.{◌≡◌, ◌<◌, ◌≤◌, ℕ, ◌+◌, ◌-◌, ◌^◌, List, [], ◌∷◌, ◌++◌, length, map, take, drop, Option, Some, None, Result, Ok, Err, refl, sym, ap, subst, ◌∙◌, append_assoc, arith, length-append}
+use Rattle.std.specs.Int.{w32, w64, to_le_bytes}
+use Rattle.std.specs.Option.{unwrap_or}
+use Rattle.std.proofs.lemmas.List.{drop_at, take_at}
+use Rattle.ri_base.specs.Documents.{Document}
+use Rattle.ri_base.specs.Faults.{IsOutside}
+use Rattle.ri_base.specs.Vocabulary.{vocabulary_of}
+use Rattle.ri_base.specs.declared.seg_fault.PartName.{PartName}
+use Rattle.ri_base.specs.declared.seg_fault.PartName.TheVariants as parts
+use Rattle.ri_base.specs.declared.seg_fault.SegFault.{SegFault}
+use Rattle.ri_base.specs.declared.seg_fault.SegFault.TheVariants.{Malformed, Missing, Store, Memory}
+use Rattle.store_ends.specs.Files.{Files}
+use Rattle.file_fields.specs.Fields.{number}
+use Rattle.file_fields.proofs.Codec.{number_codec, ok_is, wide32}
+use Rattle.seg_codec.specs.Dictionary.{dictionary}
+use Rattle.seg_codec.specs.Documents.{documents}
+use Rattle.seg_codec.specs.Headers.{header}
+use Rattle.seg_codec.specs.Part.{IsPart}
+use Rattle.seg_codec.specs.Segment.{all_blocks, blocks_at, dictionary_at, dictionary_size, entry_of, header_of, index, segment}
+use Rattle.seg_codec.specs.Spelling.{dictionary_bytes, documents_bytes, header_bytes}
+use Rattle.seg_codec.specs.declared.dictionary.TermBlocks.{TermBlocks}
+use Rattle.seg_codec.specs.declared.documents.Entry.{Entry}
+use Rattle.seg_codec.specs.declared.header.Header.{Header}
+use Rattle.seg_codec.proofs.DictionaryFits.{dictionary_length}
+use Rattle.seg_codec.proofs.DictionaryLaws.{dictionary_again}
+use Rattle.seg_codec.proofs.DocumentLaws.{documents_again}
+use Rattle.seg_codec.proofs.HeaderLaws.{header_again}
+use Rattle.seg_codec.proofs.SegmentLaws.{parts_fit}
+use Rattle.disk_index.specs.Blocks.{IsReadFault, file_of}
+use Rattle.disk_index.specs.Kept.{IsSegmentOf, Kept, kept_of}
+use Rattle.disk_index.specs.Names.{segment_name}
+use Rattle.disk_index.specs.Opening.{IsBroken, IsFirstBroken, IsOpenFault, IsOpened, dictionary_in, documents_in, header_in, stretch}
+use Rattle.disk_index.specs.Reads.{HasSegment}
+
+-- ---- the parts of a segment
+
+header_here : (docs : List Document) → stretch (segment docs) 0 64 ≡ header_bytes (header_of docs)
+unfolding segment
+header_here docs =
+    let behind = documents_bytes (map entry_of docs) ++ (dictionary_bytes (index (blocks_at docs) (vocabulary_of docs) docs) ++ all_blocks (vocabulary_of docs) docs) in
+    take_at (header_bytes (header_of docs)) behind 64 refl
+
+documents_here : (docs : List Document) → documents_in (segment docs) (header_of docs) ≡ documents_bytes (map entry_of docs)
+unfolding segment
+documents_here docs =
+    let own = documents_bytes (map entry_of docs) in
+    let behind = dictionary_bytes (index (blocks_at docs) (vocabulary_of docs) docs) ++ all_blocks (vocabulary_of docs) docs in
+    let size : length own ≡ dictionary_at docs - 64 = omega arith in
+    ap (take (dictionary_at docs - 64)) (drop_at (header_bytes (header_of docs)) (own ++ behind) 64 refl) ∙ take_at own behind (dictionary_at docs - 64) size
+
+dictionary_here : (docs : List Document) → dictionary_in (segment docs) (header_of docs) ≡ dictionary_bytes (index (blocks_at docs) (vocabulary_of docs) docs)
+unfolding segment
+dictionary_here docs =
+    let head = header_bytes (header_of docs) in
+    let front = documents_bytes (map entry_of docs) in
+    let own = dictionary_bytes (index (blocks_at docs) (vocabulary_of docs) docs) in
+    let behind = all_blocks (vocabulary_of docs) docs in
+    let count : length head ≡ 64 = refl in
+    let from : length (head ++ front) ≡ dictionary_at docs = length-append head front ∙ omega (arith, count) in
+    let known : length own ≡ dictionary_size (vocabulary_of docs) docs = dictionary_length (blocks_at docs) (vocabulary_of docs) docs in
+    let size : length own ≡ blocks_at docs - dictionary_at docs = omega (arith, known) in
+    ap (λ (l : List ℕ). take (blocks_at docs - dictionary_at docs) (drop (dictionary_at docs) l)) (sym (append_assoc head front (own ++ behind)))
+    ∙ ap (take (blocks_at docs - dictionary_at docs)) (drop_at (head ++ front) (own ++ behind) (dictionary_at docs) from) ∙ take_at own behind (blocks_at docs - dictionary_at docs) size
+
+-- the number of documents, behind the first twelve bytes
+pub docs_here : (docs : List Document) → length docs < 2 ^ 32 → (rest : List ℕ) × (number w32 (drop 12 (segment docs)) ≡ Ok (length docs, rest))
+unfolding segment
+docs_here docs few =
+    let h = header_of docs in
+    let behind = to_le_bytes w64 h.tokens ++ to_le_bytes w32 h.terms ++ to_le_bytes w32 h.names ++ to_le_bytes w64 h.documents_at ++ to_le_bytes w64 h.dictionary_at ++ to_le_bytes w64 h.blocks_at ++ to_le_bytes w64 h.length in
+    let others = documents_bytes (map entry_of docs) ++ (dictionary_bytes (index (blocks_at docs) (vocabulary_of docs) docs) ++ all_blocks (vocabulary_of docs) docs) in
+    (behind ++ others, ap (number w32) (append_assoc (to_le_bytes w32 (length docs)) behind others) ∙ (number_codec w32 (2 ^ 32) wide32).again (length docs) (behind ++ others) few)
+
+-- a reading that gives a value isn't broken
+not_broken : {A : Type 0} (r : Result A ℕ) (x : A) (end place : ℕ) → r ≡ Ok x → IsBroken r end place → ⊥
+not_broken (Ok y) x end place e h = h
+not_broken (Err n) x end place e h = cc
+
+module _ (docs : List Document) (part : IsPart docs) (small : length (segment docs) < 2 ^ 64) where
+  header_read : header_in (segment docs) (length docs) ≡ Ok (header_of docs)
+  header_read =
+      ap (header (length docs) (length (segment docs))) (header_here docs) ∙ header_again (length docs) (length (segment docs)) (header_of docs) (parts_fit docs part small).0
+
+  documents_read : documents (header_of docs) (documents_in (segment docs) (header_of docs)) ≡ Ok (map entry_of docs)
+  documents_read = ap (documents (header_of docs)) (documents_here docs) ∙ documents_again (header_of docs) (map entry_of docs) (parts_fit docs part small).1.0
+
+  dictionary_read : dictionary (header_of docs) (dictionary_in (segment docs) (header_of docs)) ≡ Ok (index (blocks_at docs) (vocabulary_of docs) docs)
+  dictionary_read =
+      ap (dictionary (header_of docs)) (dictionary_here docs) ∙ dictionary_again (header_of docs) (index (blocks_at docs) (vocabulary_of docs) docs) (parts_fit docs part small).1.1
+
+  pub segment-opened : (number : ℕ) (kept : Kept) → kept.number ≡ number → IsOpened (segment docs) (length docs) kept → kept ≡ kept_of number docs
+  unfolding kept_of
+  segment-opened number kept is o =
+      let head : o.head ≡ header_of docs = let a = o.header_is in let b = header_read in cc in
+      let outlines : kept.outlines ≡ map entry_of docs =
+      let a = o.outlines_are in
+      let b = ap (λ (h : Header). documents h (documents_in (segment docs) h)) head ∙ documents_read in
+      cc in
+      let terms : kept.dictionary ≡ index (blocks_at docs) (vocabulary_of docs) docs =
+      let a = o.dictionary_is in
+      let b = ap (λ (h : Header). dictionary h (dictionary_in (segment docs) h)) head ∙ dictionary_read in
+      cc in
+      ap (λ n. record { number = n; outlines = kept.outlines; dictionary = kept.dictionary }) is ∙ ap (λ (es : List Entry). record { number = number; outlines = es; dictionary = kept.dictionary }) outlines
+      ∙ ap (λ (ts : List TermBlocks). record { number = number; outlines = map entry_of docs; dictionary = ts }) terms
+
+  none_broken : (p : PartName) (place : ℕ) → IsFirstBroken (segment docs) (length docs) p place → ⊥
+  none_broken parts.Header place h = not_broken (header_in (segment docs) (length docs)) (header_of docs) (length (stretch (segment docs) 0 64)) place header_read h
+  none_broken parts.Documents place h =
+      let head : h.0 ≡ header_of docs = let a = h.1 in let b = header_read in cc in
+      not_broken (documents h.0 (documents_in (segment docs) h.0)) (map entry_of docs) (h.0.documents_at + length (documents_in (segment docs) h.0)) place
+      (ap (λ (x : Header). documents x (documents_in (segment docs) x)) head ∙ documents_read) h.2
+  none_broken parts.Dictionary place h =
+      let head : h.0 ≡ header_of docs = let a = h.1 in let b = header_read in cc in
+      not_broken (dictionary h.0 (dictionary_in (segment docs) h.0)) (index (blocks_at docs) (vocabulary_of docs) docs) (h.0.dictionary_at + length (dictionary_in (segment docs) h.0)) place
+      (ap (λ (x : Header). dictionary x (dictionary_in (segment docs) x)) head ∙ dictionary_read) h.4
+  none_broken parts.Manifest place h = h
+  none_broken parts.Block place h = h
+  none_broken parts.Prior place h = h
+
+-- ---- a file of a store
+
+pub segment-file : (told : Option Files) (number : ℕ) (docs : List Document) → (s : HasSegment told number docs) → file_of s.files number ≡ segment docs
+segment-file told number docs s = ap (λ (o : Option (List ℕ)). unwrap_or o []) s.file
+
+-- what was opened in it is what is kept of the documents
+pub opened_as : (told : Option Files) (number count size : ℕ) (docs : List Document) → (s : HasSegment told number docs) → length docs ≡ count → size ≡ length (file_of s.files number) → size < 2 ^ 64
+    → (kept : Kept) → kept.number ≡ number → IsOpened (file_of s.files number) count kept → kept ≡ kept_of number docs
+opened_as told number count size docs s few is below kept own o =
+    let file = segment-file told number docs s in
+    let small : length (segment docs) < 2 ^ 64 = subst (λ (l : List ℕ). length l < 2 ^ 64) file (omega (arith, is, below)) in
+    segment-opened docs s.part small number kept own (subst (λ n. IsOpened (segment docs) n kept) (sym few) (subst (λ (l : List ℕ). IsOpened l count kept) file o))
+
+-- its length is told
+pub length_told : (told : Option Files) (number : ℕ) (docs : List Document) → (s : HasSegment told number docs) → (e : SegFault) → IsReadFault s.files number e → IsOutside e
+length_told told number docs s (Malformed file part place) h = h
+length_told told number docs s (Missing file) h = let a = s.file in let b = h.1 in cc
+length_told told number docs s Store h = tt
+length_told told number docs s Memory h = tt
+
+-- it isn't refused
+pub never_refused : (told : Option Files) (number count size : ℕ) (docs : List Document) → (s : HasSegment told number docs) → length docs ≡ count → size ≡ length (file_of s.files number) → size < 2 ^ 64
+    → (e : SegFault) → IsOpenFault s.files number count e → IsOutside e
+never_refused told number count size docs s few is below (Malformed file part place) h =
+    let bytes = segment-file told number docs s in
+    let small : length (segment docs) < 2 ^ 64 = subst (λ (l : List ℕ). length l < 2 ^ 64) bytes (omega (arith, is, below)) in
+    none_broken docs s.part small part place (subst (λ n. IsFirstBroken (segment docs) n part place) (sym few) (subst (λ (l : List ℕ). IsFirstBroken l count part place) bytes h.1))
+never_refused told number count size docs s few is below (Missing file) h = let a = s.file in let b = h.1 in cc
+never_refused told number count size docs s few is below Store h = tt
+never_refused told number count size docs s few is below Memory h = tt
+
+-- ---- bytes
+
+pub bytes-opened : (bytes : List ℕ) (number count : ℕ) (docs : List Document) → IsSegmentOf bytes docs → count ≡ length docs → length bytes < 2 ^ 64 → (kept : Kept) → kept.number ≡ number → IsOpened bytes count kept → kept ≡ kept_of number docs
+bytes-opened bytes number count docs s is below kept own o =
+    let small : length (segment docs) < 2 ^ 64 = subst (λ (l : List ℕ). length l < 2 ^ 64) s.same below in
+    segment-opened docs s.part small number kept own (subst (λ n. IsOpened (segment docs) n kept) is (subst (λ (l : List ℕ). IsOpened l count kept) s.same o))
+
+-- the number that was read is that of the documents
+pub docs-told : (bytes rest : List ℕ) (n : ℕ) (docs : List Document) → IsSegmentOf bytes docs → number w32 (drop 12 bytes) ≡ Ok (n, rest) → n ≡ length docs
+docs-told bytes rest n docs s read =
+    let few : length docs ≤ 1048576 = s.part.few in
+    let is = docs_here docs (omega (arith, few)) in
+    let same : number w32 (drop 12 bytes) ≡ Ok (length docs, is.0) = ap (λ (l : List ℕ). number w32 (drop 12 l)) s.same ∙ is.1 in
+    ap (λ (x : ℕ × List ℕ). x.0) (ok_is (n, rest) (length docs, is.0) (sym read ∙ same))

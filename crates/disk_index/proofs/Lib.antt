@@ -6,8 +6,10 @@ pub mod KeptLemmas
 pub mod KeyLemmas
 pub mod SegmentLaws
 pub mod LookupLemmas
+pub mod LiveLemmas
 pub mod NameLemmas
 pub mod OpeningLaws
+pub mod PresenceLemmas
 pub mod ReadingLemmas
 pub mod RebuiltLemmas
 pub mod SameBlock

@@ -5,5 +5,7 @@ pub mod Kept
 pub mod Names
 pub mod Opening
 pub mod Parts
+pub mod Presence
 pub mod QuietLaws
 pub mod Reads
+pub mod Snapshots

@@ -138,7 +138,7 @@ impl DiskIndex {
     }
 
     /// Where the term's block for the range stands.
-    fn key(&self, term: &Term, range: u32) -> Option<BlockKey>
+    pub(crate) fn key(&self, term: &Term, range: u32) -> Option<BlockKey>
         ensures key { result ≡ option_map (key_of self.now.number range) (place_of self.now.dictionary term.now range) }
         ensures fits { IfSome result (λ key. key.place + key.length < 2 ^ 64) }
     {

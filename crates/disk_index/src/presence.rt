@@ -1,0 +1,54 @@
+// Whether a term may stand in a range of documents.
+ghost use Rattle.std.specs.Prelude.{◌≡◌, ◌/◌, ◌==◌, Option, false, is_some};
+ghost use Rattle.std.specs.List.{list_any};
+ghost use Rattle.std.specs.List.Sorted.{IsNonDecreasingBy};
+ghost use Rattle.ri_base.specs.Places.{postings_of};
+ghost use Rattle.store_ends.specs.Files.{Files};
+ghost use Rattle.disk_index.specs.Kept.{place_of};
+ghost use Rattle.disk_index.specs.Parts.{IsPartBacked, reads, source_of};
+ghost use Rattle.disk_index.specs.Presence.{IsNowhere, may_have};
+
+use crate::{DiskIndex, Part};
+use ri_base::{Place, Sealed, Term};
+
+impl DiskIndex {
+    /// Whether the dictionary has a block of the term for the range. No file is read.
+    pub fn has_block(&self, term: &Term, range: u32) -> bool
+        ensures { result ≡ is_some (place_of self.now.dictionary term.now range) }
+    {
+        self.key(term, range).is_some()
+    }
+}
+
+impl Part {
+    /// Whether the term may stand in a document with an id from `64 * range` on, 64 at most. No file is read.
+    pub fn may_have(&self, term: &Term, range: u32) -> bool
+        ensures exact { result ≡ may_have (source_of self.now) range term.now }
+        ensures nowhere { (told : Option Files) → IsPartBacked told (source_of self.now) → result ≡ false
+            → IsNowhere range term.now (reads told (source_of self.now)) }
+    {
+        match self {
+            Part::Memory(sealed) => has_term(sealed, term, range),
+            Part::Disk(index) => index.has_block(term, range),
+        }
+    }
+}
+
+/// Whether a document of the range has the term.
+fn has_term(sealed: &Sealed, term: &Term, range: u32) -> bool
+    ensures { result ≡ list_any (λ p. p.id / 64 == range) (postings_of term.now sealed.now) }
+{
+    match sealed.vocabulary().as_slice().binary_search(term) {
+        Ok(rank) => has_posting(sealed.postings(rank).as_slice(), range),
+        Err(_) => false,
+    }
+}
+
+/// Whether there is a posting in the range, of postings by rising id.
+fn has_posting(postings: &[Place], range: u32) -> bool
+    requires { IsNonDecreasingBy (λ p. p.id) postings.now }
+    ensures { result ≡ list_any (λ p. p.id / 64 == range) postings.now }
+{
+    let first = postings.partition_point(|p| p.id / 64 < range);
+    first < postings.len() && postings[first].id / 64 == range
+}

@@ -9,12 +9,13 @@ use Rattle.file_fields.specs.Reading.{AllFit}
 use Rattle.ri_base.specs.declared.places.Place.{Place}
 use Rattle.seg_codec.specs.Blocks.{tokens_of}
 use Rattle.seg_codec.specs.Fits.{FitBlock, FitPlaces, FitsBlockEntry, FitsId, FitsPlace}
+use Rattle.seg_codec.specs.Rising.{Rise}
 use Rattle.seg_codec.specs.Segment.{ahead, block_entry_of, cut, id_of}
 use Rattle.seg_codec.specs.Spelling.{block_bytes, spelled_block_entry}
 use Rattle.seg_codec.specs.declared.blocks.BlockEntry.{BlockEntry}
 use Rattle.seg_codec.specs.declared.documents.Entry.{Entry}
 use Rattle.seg_codec.proofs.CutLemmas.{cut_shape, cut_some}
-use Rattle.seg_codec.proofs.RisingPlaces.{AreOf, Rise, Rise-lower}
+use Rattle.seg_codec.proofs.RisingPlaces.{AreOf, Rise-lower}
 
 -- ---- the places of a document
 

@@ -22,12 +22,13 @@ use Rattle.seg_codec.specs.Documents.{names_in_order}
 use Rattle.seg_codec.specs.Fits.{FitBlock, FitDictionary, FitDocuments, FitsBlockPlace, FitsHeader, FitsTermBlocks}
 use Rattle.seg_codec.specs.Segment.{all_blocks, block_of, blocks_at, blocks_of, cut, dictionary_at, dictionary_size, entry_of, first, header_of, index, placed, range_of, segment, term_blocks_of}
 use Rattle.seg_codec.specs.Spelling.{block_bytes, dictionary_bytes, documents_bytes, header_bytes}
-use Rattle.seg_codec.specs.Whole.{Fault, Whole, all_postings, and_then, between, block_bytes_in, block_in, block_postings, dictionary_in, docs_told, documents_in, grammar, header_in, in_part, term_postings}
+use Rattle.seg_codec.specs.Whole.{Fault, all_postings, and_then, between, block_bytes_in, block_in, block_postings, dictionary_in, docs_told, documents_in, grammar, header_in, in_part, term_postings}
 use Rattle.seg_codec.specs.declared.blocks.BlockEntry.{BlockEntry}
 use Rattle.seg_codec.specs.declared.dictionary.BlockPlace.{BlockPlace}
 use Rattle.seg_codec.specs.declared.dictionary.TermBlocks.{TermBlocks}
 use Rattle.seg_codec.specs.declared.documents.Entry.{Entry}
 use Rattle.seg_codec.specs.declared.header.Header.{Header}
+use Rattle.seg_codec.specs.declared.whole.Whole.{Whole}
 use Rattle.seg_codec.proofs.BlockLaws.{block_takes}
 use Rattle.seg_codec.proofs.DictionaryFits.{dictionary_length}
 use Rattle.seg_codec.proofs.DictionaryLaws.{dictionary_takes}

@@ -98,7 +98,7 @@ pub record IsFirstCut (range : ℕ) (bs : List BlockEntry) (g rest : List Place)
   pub bytes_are : block_of g ≡ block_bytes range bs
   pub above : (lower : ℕ) → lower < range → Other range_of lower (g ++ rest)
 
-block_is_some : (es : List Entry) (range : ℕ) (cs : List BlockEntry) → AllFit (FitsBlockEntry es range) (λ _ e. e.id + 1) 0 cs → nat_le 1 (length cs) ≡ true → block_postings cs ≡ [] → ⊥
+pub block_is_some : (es : List Entry) (range : ℕ) (cs : List BlockEntry) → AllFit (FitsBlockEntry es range) (λ _ e. e.id + 1) 0 cs → nat_le 1 (length cs) ≡ true → block_postings cs ≡ [] → ⊥
 block_is_some es range [] h e is = cc
 block_is_some es range (c ∷ cs) h e is = empty c.positions h.0.1.0.0.1 is
   where

@@ -20,3 +20,12 @@ pub mod GroupLemmas
 pub mod FileLaws
 pub mod SpreadLaws
 pub mod ReadRise
+pub mod GrammarLemmas
+pub mod SegmentReads
+pub mod PostingLemmas
+pub mod HeldLaws
+pub mod ReadLaws
+pub mod OnlyLaws
+pub mod RankLemmas
+pub mod HeldSteps
+pub mod ReadingLemmas

@@ -8,6 +8,7 @@ use Rattle.ri_base.specs.declared.places.Place.{Place}
 use Rattle.seg_codec.specs.Blocks.{block, tokens_of}
 use Rattle.seg_codec.specs.Dictionary.{behind}
 use Rattle.seg_codec.specs.Fits.{FitsBlockEntry, FitsBlockPlace, FitsId, FitsPlace}
+use Rattle.seg_codec.specs.Rising.{Rise}
 use Rattle.seg_codec.specs.Whole.{and_then, block_bytes_in, block_in, block_postings, entry_postings, term_postings}
 use Rattle.seg_codec.specs.declared.blocks.BlockEntry.{BlockEntry}
 use Rattle.seg_codec.specs.declared.dictionary.BlockPlace.{BlockPlace}
@@ -15,7 +16,7 @@ use Rattle.seg_codec.specs.declared.documents.Entry.{Entry}
 use Rattle.seg_codec.proofs.BlockFits.{id_parts}
 use Rattle.seg_codec.proofs.BlockLaws.{block_takes}
 use Rattle.seg_codec.proofs.FileLaws.{and_then_ok, between_bytes, in_part_ok, made_is}
-use Rattle.seg_codec.proofs.RisingPlaces.{Rise, Rise-lower}
+use Rattle.seg_codec.proofs.RisingPlaces.{Rise-lower}
 
 positions_rise : (n : ℕ) (tokens : ℕ → ℕ) (id low : ℕ) (ps : List ℕ) (rest : List Place) → id < n → AllFit (FitsPlace (tokens id)) (λ _ p. p + 1) low ps → Rise n tokens (id + 1) 0 rest
     → Rise n tokens id low (map (λ p. record { id = id; at = p }) ps ++ rest)

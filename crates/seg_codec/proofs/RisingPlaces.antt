@@ -8,19 +8,9 @@ use Rattle.ri_base.specs.Documents.{Document}
 use Rattle.ri_base.specs.Places.{places, places_from, postings_from, postings_of}
 use Rattle.ri_base.specs.declared.places.Place.{Place}
 use Rattle.seg_codec.specs.Blocks.{tokens_of}
+use Rattle.seg_codec.specs.Rising.{Follows, Rise}
 use Rattle.seg_codec.specs.Segment.{ahead, cut, entry_of, first, range_of}
 use Rattle.seg_codec.proofs.CutLemmas.{cut_shape}
-
--- not below this document and place, and within its document, of which there are n with so many tokens
-pub record Follows (n : ℕ) (tokens : ℕ → ℕ) (id at : ℕ) (p : Place) : Type 0 where
-  pub low : id ≤ p.id
-  pub from : p.id ≡ id → at ≤ p.at
-  pub inside : p.id < n
-  pub within : p.at < tokens p.id
-
-abbrev pub Rise : ℕ → (ℕ → ℕ) → ℕ → ℕ → List Place → Type 0
-Rise n tokens id at [] = Unit {0}
-Rise n tokens id at (p ∷ ps) = Follows n tokens id at p × Rise n tokens p.id (p.at + 1) ps
 
 pub Rise-lower : (n : ℕ) (tokens : ℕ → ℕ) (id at low from : ℕ) (ps : List Place) → low ≤ id → (low ≡ id → from ≤ at) → Rise n tokens id at ps → Rise n tokens low from ps
 Rise-lower n tokens id at low from [] le less up = tt

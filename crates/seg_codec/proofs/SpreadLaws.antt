@@ -12,7 +12,7 @@ use Rattle.ri_base.specs.Documents.{Document}
 use Rattle.ri_base.specs.Places.{places, places_from, postings_from, postings_of}
 use Rattle.ri_base.specs.declared.places.Place.{Place}
 use Rattle.ri_base.proofs.ListLemmas.{Contains-cases, Contains-none}
-use Rattle.seg_codec.proofs.RisingPlaces.{Rise}
+use Rattle.seg_codec.specs.Rising.{Rise}
 
 -- the place of a token
 abbrev at_place : ℕ → ℕ → Place

@@ -14,7 +14,7 @@ use Rattle.ri_base.specs.declared.seg_fault.SegFault.{SegFault}
 use Rattle.ri_base.specs.declared.seg_fault.SegFault.TheVariants.{Malformed, Missing, Store, Memory}
 use Rattle.seg_codec.specs.Dictionary.{Behind, BehindTerm, behind, behind_term, end_of, end_of_all}
 use Rattle.seg_codec.specs.Fits.{FitDictionary, FitsBlockPlace, FitsHeader, FitsTermBlocks}
-use Rattle.seg_codec.specs.Whole.{AnswersFile, ArePlaced, Fault, LiesWithin, all_postings, and_then, between, block_in, block_postings, in_part, term_postings}
+use Rattle.seg_codec.specs.Whole.{AnswersFile, ArePlaced, Fault, LiesWithin, all_postings, and_then, between, block_in, block_postings, entry_postings, in_part, term_postings}
 use Rattle.seg_codec.specs.Spelling.{dictionary_bytes, header_bytes}
 use Rattle.seg_codec.specs.declared.blocks.BlockEntry.{BlockEntry}
 use Rattle.seg_codec.specs.declared.dictionary.BlockPlace.{BlockPlace}
@@ -84,22 +84,26 @@ regroup : {A : Type 0} (front x : List A) (r : Result (List A) Fault) → with_p
 regroup front x (Ok xs) = ap Ok (sym (append_assoc front x xs))
 regroup front x (Err f) = refl
 
-pub term_goes_on : (bytes : List ℕ) (es : List Entry) (bs : List BlockPlace) (i : ℕ) (b : BlockPlace) (x : List BlockEntry) (front more : List Place) (total : Result (List Place) Fault) → i < length bs → b ≡ get_or bs i b → block_in bytes es b ≡ Ok x
+pub block_goes_on : (es : List BlockEntry) (i : ℕ) (e : BlockEntry) (front more total : List Place) → i < length es → e ≡ get_or es i e → more ≡ front ++ entry_postings e → front ++ block_postings (drop i es) ≡ total
+    → more ++ block_postings (drop (i + 1) es) ≡ total
+block_goes_on es i e front more total lt is put so_far =
+    let first : drop i es ≡ e ∷ drop (i + 1) es = drop_more es i e lt ∙ ap (λ y. y ∷ drop (i + 1) es) (sym is) in
+    ap (λ (l : List Place). l ++ block_postings (drop (i + 1) es)) put ∙ append_assoc front (entry_postings e) (block_postings (drop (i + 1) es)) ∙ sym (ap (λ (l : List BlockEntry). front ++ block_postings l) first) ∙ so_far
+
+pub term_goes_on : (bytes : List ℕ) (es : List Entry) (bs : List BlockPlace) (i : ℕ) (d : BlockPlace) (x : List BlockEntry) (front more : List Place) (total : Result (List Place) Fault) → i < length bs → block_in bytes es (get_or bs i d) ≡ Ok x
     → more ≡ front ++ block_postings x → with_postings front (term_postings bytes es (drop i bs)) ≡ total → with_postings more (term_postings bytes es (drop (i + 1) bs)) ≡ total
 unfolding term_postings
-term_goes_on bytes es bs i b x front more total lt is read put so_far =
-    let first : drop i bs ≡ b ∷ drop (i + 1) bs = drop_more bs i b lt ∙ ap (λ y. y ∷ drop (i + 1) bs) (sym is) in
+term_goes_on bytes es bs i d x front more total lt read put so_far =
     let step : term_postings bytes es (drop i bs) ≡ and_then (term_postings bytes es (drop (i + 1) bs)) (λ xs. Ok (block_postings x ++ xs)) =
-    ap (term_postings bytes es) first ∙ ap (λ y. and_then y (λ z. and_then (term_postings bytes es (drop (i + 1) bs)) (λ xs. Ok (block_postings z ++ xs)))) read in
+    ap (term_postings bytes es) (drop_more bs i d lt) ∙ ap (λ y. and_then y (λ z. and_then (term_postings bytes es (drop (i + 1) bs)) (λ xs. Ok (block_postings z ++ xs)))) read in
     ap (λ f. with_postings f (term_postings bytes es (drop (i + 1) bs))) put ∙ sym (regroup front (block_postings x) (term_postings bytes es (drop (i + 1) bs))) ∙ ap (with_postings front) (sym step) ∙ so_far
 
-pub term_ends : (bytes : List ℕ) (es : List Entry) (bs : List BlockPlace) (i : ℕ) (b : BlockPlace) (front : List Place) (total : Result (List Place) Fault) (f : Fault) → i < length bs → b ≡ get_or bs i b → block_in bytes es b ≡ Err f
+pub term_ends : (bytes : List ℕ) (es : List Entry) (bs : List BlockPlace) (i : ℕ) (d : BlockPlace) (front : List Place) (total : Result (List Place) Fault) (f : Fault) → i < length bs → block_in bytes es (get_or bs i d) ≡ Err f
     → with_postings front (term_postings bytes es (drop i bs)) ≡ total → total ≡ Err f
 unfolding term_postings
-term_ends bytes es bs i b front total f lt is read so_far =
-    let first : drop i bs ≡ b ∷ drop (i + 1) bs = drop_more bs i b lt ∙ ap (λ y. y ∷ drop (i + 1) bs) (sym is) in
+term_ends bytes es bs i d front total f lt read so_far =
     let step : term_postings bytes es (drop i bs) ≡ Err f =
-    ap (term_postings bytes es) first ∙ ap (λ y. and_then y (λ z. and_then (term_postings bytes es (drop (i + 1) bs)) (λ xs. Ok (block_postings z ++ xs)))) read in
+    ap (term_postings bytes es) (drop_more bs i d lt) ∙ ap (λ y. and_then y (λ z. and_then (term_postings bytes es (drop (i + 1) bs)) (λ xs. Ok (block_postings z ++ xs)))) read in
     sym so_far ∙ ap (with_postings front) step
 
 pub term_is_done : (bytes : List ℕ) (es : List Entry) (bs : List BlockPlace) (i : ℕ) (front : List Place) (total : Result (List Place) Fault) → length bs ≤ i → with_postings front (term_postings bytes es (drop i bs)) ≡ total → total ≡ Ok front

@@ -6,4 +6,6 @@ pub mod Headers
 pub mod Segment
 pub mod Fits
 pub mod Part
+pub mod Rising
 pub mod Whole
+pub mod Held

@@ -21,6 +21,7 @@ use Rattle.seg_codec.specs.declared.dictionary.BlockPlace.{BlockPlace}
 use Rattle.seg_codec.specs.declared.dictionary.TermBlocks.{TermBlocks}
 use Rattle.seg_codec.specs.declared.documents.Entry.{Entry}
 use Rattle.seg_codec.specs.declared.header.Header.{Header}
+use Rattle.seg_codec.specs.declared.whole.Whole.{Whole}
 
 -- where the first bad field of a file begins, and in which part
 pub record Fault : Type 0 where
@@ -93,13 +94,6 @@ pub record ArePlaced (size : ℕ) (h : Header) : Type 0 where
   pub blocks : h.dictionary_at ≤ h.blocks_at
   pub end : h.blocks_at ≤ size
   pub length_is : h.length ≡ size
-
--- what the parts of a file hold: the postings are those of each term, block by block
-pub record Whole : Type 0 where
-  pub header : Header
-  pub documents : List Entry
-  pub terms : List TermBlocks
-  pub postings : List (List Place)
 
 -- the parts of a file in their order, or the first fault
 unfoldable pub grammar : List ℕ → Result Whole Fault

@@ -6,9 +6,9 @@ use Rattle.std.specs.Ordering.{is_lt, nat_cmp, ordering_then}
 use Rattle.std.specs.declared.cmp.Ordering.{Ordering}
 use Rattle.std.proofs.lemmas.Bool.Decides.{nat_tests}
 use Rattle.std.proofs.lemmas.Grind.{flat_map-append}
-use Rattle.std.proofs.lemmas.List.{get_or-map, length-map, length-take, map-append, take_all, take_more}
+use Rattle.std.proofs.lemmas.List.{get_or-map, length-map, length-take, map-append, take-map, take_all, take_more}
 use Rattle.std.proofs.lemmas.List.Elements.{filter-append, All-append, All-same, All-take, All-cons, All-head, All-map, All-nil, All-tail}
-use Rattle.std.proofs.lemmas.List.Sorted.{All-permutation, IsNonDecreasingBy-from_all_adjacent, IsPermutation-map}
+use Rattle.std.proofs.lemmas.List.Sorted.{All-permutation, IsNonDecreasingBy-from_all_adjacent, IsPermutation-append_comm, IsPermutation-map}
 use Rattle.std.proofs.lemmas.Option.{slice_get-get_or}
 use Rattle.log_chain.specs.declared.chain.TheConstants.{LAST}
 use Rattle.ri_base.specs.Collection.{document_at, empty_document}
@@ -31,7 +31,10 @@ use Rattle.document_scoring.specs.Counts.{stats_of}
 use Rattle.document_scoring.specs.Rows.{Adds, IsKeyed, row_candidate, row_hit}
 use Rattle.document_scoring.specs.declared.scoring.Row.{Row}
 use Rattle.document_scoring.proofs.ScoringLemmas.{joined_length}
-use Rattle.full_ranking.specs.Ranking.{IsRanking, candidate_of, hit_order, query_candidates, query_network}
+use Rattle.first_few.specs.First.{AreFirst, Few, IsFront}
+use Rattle.first_few.proofs.FirstLemmas.{AreFirst-same}
+use Rattle.full_ranking.specs.First.{HoldsFirst, row_order}
+use Rattle.full_ranking.specs.Ranking.{IsAnswer, IsRanking, candidate_of, hit_order, query_candidates, query_network}
 
 -- ---- candidates, document by document
 
@@ -50,7 +53,7 @@ candidates-append kind priors filters network docs more =
     let p : Document → Bool = λ d. list_all (passes d) filters in
     ap (flat_map f) (filter-append p docs more) ∙ flat_map-append f (filter p docs) (filter p more)
 
-pub next_rows : (kind : RuleKind) (priors : List Prior) (filters : List FilterTree) (network : NetworkTree) (docs read : List Document) (i : ℕ) (rows next : List Row) → i < length docs → read ≡ docs
+next_rows : (kind : RuleKind) (priors : List Prior) (filters : List FilterTree) (network : NetworkTree) (docs read : List Document) (i : ℕ) (rows next : List Row) → i < length docs → read ≡ docs
     → map row_candidate rows ≡ first_candidates kind priors filters network docs i → Adds kind priors filters network (document_at read i) rows next
     → map row_candidate next ≡ first_candidates kind priors filters network docs (i + 1)
 next_rows kind priors filters network docs read i rows next inside same so_far adds =
@@ -65,14 +68,45 @@ next_rows kind priors filters network docs read i rows next inside same so_far a
     ∙ ap (λ cs. found (take i docs) ++ cs) (adds.candidates ∙ ap (λ (e : Document). found (e ∷ [])) there)
     ∙ sym more
 
-pub next_keys : (kind : RuleKind) (priors : List Prior) (filters : List FilterTree) (network : NetworkTree) (d : Document) (rows next : List Row) → All (IsKeyed network.tree) rows → Adds kind priors filters network d rows next
+next_keys : (kind : RuleKind) (priors : List Prior) (filters : List FilterTree) (network : NetworkTree) (d : Document) (rows next : List Row) → All (IsKeyed network.tree) rows → Adds kind priors filters network d rows next
     → All (IsKeyed network.tree) next
 next_keys kind priors filters network d rows next keys adds =
     subst (λ (rs : List Row). All (IsKeyed network.tree) rs) (sym adds.behind) (All-append (IsKeyed network.tree) rows adds.more keys adds.keyed)
 
-pub all_candidates : (kind : RuleKind) (priors : List Prior) (filters : List FilterTree) (network : NetworkTree) (docs : List Document) (i : ℕ) (rows : List Row) → length docs ≤ i
-    → map row_candidate rows ≡ first_candidates kind priors filters network docs i → map row_candidate rows ≡ candidates kind priors filters network docs
-all_candidates kind priors filters network docs i rows read is = is ∙ ap (candidates kind priors filters network) (take_all i docs read)
+-- ---- the first of the candidates
+
+module _ (kind : RuleKind) (priors : List Prior) (filters : List FilterTree) (network : NetworkTree) where
+  -- rows behind none, behind others
+  behind_rows : (d : Document) (rows more : List Row) → Adds kind priors filters network d [] more → Adds kind priors filters network d rows (rows ++ more)
+  behind_rows d rows more adds = record { more = adds.more; behind = ap (λ rs. rows ++ rs) adds.behind; candidates = adds.candidates; keyed = adds.keyed }
+
+  -- of no documents
+  pub HoldsFirst-none : (docs : List Document) (most : ℕ) (few : Few Row) → few.most ≡ most → AreFirst row_order most [] few.held
+      → HoldsFirst kind priors filters network (take 0 docs) most few
+  HoldsFirst-none docs most few room first = record { rows = []; all = refl; keys = All-nil (IsKeyed network.tree); room = room; first = first }
+
+  -- with the rows of one more document
+  pub HoldsFirst-next : (docs read : List Document) (i most : ℕ) (few next : Few Row) (rows : List Row) → i < length docs → read ≡ docs
+      → Adds kind priors filters network (document_at read i) [] rows → next.most ≡ few.most
+      → ((all : List Row) → AreFirst row_order few.most all few.held → AreFirst row_order few.most (rows ++ all) next.held)
+      → HoldsFirst kind priors filters network (take i docs) most few → HoldsFirst kind priors filters network (take (i + 1) docs) most next
+  HoldsFirst-next docs read i most few next rows inside same adds room step h =
+      let d : Document = document_at read i in
+      let behind : Adds kind priors filters network d h.rows (h.rows ++ rows) = behind_rows d h.rows rows adds in
+      let on : AreFirst row_order most (rows ++ h.rows) next.held =
+      subst (λ k. AreFirst row_order k h.rows few.held → AreFirst row_order k (rows ++ h.rows) next.held) h.room (step h.rows) h.first in
+      record {
+        rows = h.rows ++ rows;
+        all = next_rows kind priors filters network docs read i h.rows (h.rows ++ rows) inside same h.all behind;
+        keys = next_keys kind priors filters network d h.rows (h.rows ++ rows) h.keys behind;
+        room = room ∙ h.room;
+        first = AreFirst-same row_order most (rows ++ h.rows) (h.rows ++ rows) next.held (IsPermutation-append_comm rows h.rows) on;
+      }
+
+  -- of all documents
+  pub HoldsFirst-all : (docs : List Document) (i most : ℕ) (few : Few Row) → length docs ≤ i → HoldsFirst kind priors filters network (take i docs) most few
+      → HoldsFirst kind priors filters network docs most few
+  HoldsFirst-all docs i most few read h = subst (λ ds. HoldsFirst kind priors filters network ds most few) (take_all i docs read) h
 
 -- ---- sorted rows
 
@@ -83,9 +117,6 @@ same_candidates (r ∷ rows) = ap (λ cs. row_candidate r ∷ cs) (same_candidat
 row_of_hit : Hit → Row
 row_of_hit h = record { key = h.key; docno = h.docno; begin = h.begin; end = h.end; fractions = h.fractions }
 
-abbrev pub row_order : Row → Row → Ordering
-row_order a b = hit_order (row_hit a) (row_hit b)
-
 sorted_hits : (rows : List Row) → IsSortedBy (λ a b. is_lt (row_order a b)) rows → IsSortedBy (λ a b. is_lt (hit_order a b)) (map row_hit rows)
 sorted_hits rows h = λ k d low high.
     let long : length (map row_hit rows) ≡ length rows = length-map rows row_hit in
@@ -95,7 +126,7 @@ sorted_hits rows h = λ k d low high.
     let there : get_or (map row_hit rows) (k + 1) d ≡ row_hit (get_or rows (k + 1) r) = get_or-map row_hit rows (k + 1) r d less in
     rw (here, there) (h k r low less)
 
-pub IsRanking-made : (kind : RuleKind) (priors : List Prior) (q : CheckedTree) (docs : List Document) (rows sorted : List Row)
+IsRanking-made : (kind : RuleKind) (priors : List Prior) (q : CheckedTree) (docs : List Document) (rows sorted : List Row)
     → map row_candidate rows ≡ query_candidates kind priors q docs → All (IsKeyed q.tree) rows
     → IsPermutation rows sorted → IsSortedBy (λ a b. is_lt (row_order a b)) sorted → IsRanking kind priors q docs (map row_hit sorted)
 IsRanking-made kind priors q docs rows sorted all keys moved up = record {
@@ -106,7 +137,7 @@ IsRanking-made kind priors q docs rows sorted all keys moved up = record {
 }
 
 -- by what the network and the index tell, which are those of the query and as they were
-pub IsRanking-rows : (kind : RuleKind) (priors : List Prior) (q : CheckedTree) (filters : List FilterTree) (network : NetworkTree) (stats : List LeafStats) (docs read : List Document) (rows sorted : List Row)
+IsRanking-rows : (kind : RuleKind) (priors : List Prior) (q : CheckedTree) (filters : List FilterTree) (network : NetworkTree) (stats : List LeafStats) (docs read : List Document) (rows sorted : List Row)
     → filters ≡ q.filters → network ≡ record { leaves = q.leaves; range = q.range; stats = stats; tree = q.tree } → stats ≡ map (stats_of docs) q.leaves → read ≡ docs
     → map row_candidate rows ≡ candidates kind priors filters network read → All (IsKeyed network.tree) rows
     → IsPermutation rows sorted → IsSortedBy (λ a b. is_lt (row_order a b)) sorted → IsRanking kind priors q docs (map row_hit sorted)
@@ -119,6 +150,16 @@ IsRanking-rows kind priors q filters network stats docs read rows sorted asked i
     ∙ ap (λ (ds : List Document). candidates kind priors q.filters (query_network q docs) ds) same in
     let keyed : All (IsKeyed q.tree) rows = subst (λ (n : NetworkTree). All (IsKeyed n.tree) rows) seen keys in
     IsRanking-made kind priors q docs rows sorted here keyed moved up
+
+-- the front of the first candidates is the answer
+pub IsAnswer-front : (kind : RuleKind) (priors : List Prior) (q : CheckedTree) (filters : List FilterTree) (network : NetworkTree) (stats : List LeafStats) (docs read : List Document) (most : ℕ) (few : Few Row) (front : List Row)
+    → filters ≡ q.filters → network ≡ record { leaves = q.leaves; range = q.range; stats = stats; tree = q.tree } → stats ≡ map (stats_of docs) q.leaves → read ≡ docs
+    → HoldsFirst kind priors filters network read most few → ((all : List Row) → AreFirst row_order few.most all few.held → IsFront row_order few.most all front)
+    → IsAnswer kind priors q docs most (map row_hit front)
+IsAnswer-front kind priors q filters network stats docs read most few front asked is summed same h shown =
+    let f : IsFront row_order most h.rows front =
+    subst (λ k. AreFirst row_order k h.rows few.held → IsFront row_order k h.rows front) h.room (shown h.rows) h.first in
+    (map row_hit f.ranking, IsRanking-rows kind priors q filters network stats docs read h.rows f.ranking asked is summed same h.all h.keys f.same f.sorted, ap (map row_hit) f.first ∙ sym (take-map row_hit most f.ranking))
 
 -- ---- as many fractions as leaves
 
@@ -147,14 +188,15 @@ equally_many kind priors q docs hits ranking =
     let hit_each : All (λ hit. P (candidate_of hit)) hits = from_map P candidate_of hits moved in
     λ n d h. sym (length-map (get_or hits n d).fractions ratio_of) ∙ hit_each n d h
 
-pub first_each : (kind : RuleKind) (priors : List Prior) (q : CheckedTree) (docs : List Document) (ranking hits : List Hit) (most : ℕ)
-    → IsRanking kind priors q docs ranking → hits ≡ take most ranking → All (λ hit. length hit.fractions ≡ length q.leaves) hits
-first_each kind priors q docs ranking hits most h is =
+pub answer_each : (kind : RuleKind) (priors : List Prior) (q : CheckedTree) (docs : List Document) (hits : List Hit) (most : ℕ)
+    → IsAnswer kind priors q docs most hits → All (λ hit. length hit.fractions ≡ length q.leaves) hits
+answer_each kind priors q docs hits most h =
     let P : Hit → Type 0 = λ hit. length hit.fractions ≡ length q.leaves in
-    All-same P hits (take most ranking) is (All-take P most ranking (equally_many kind priors q docs ranking h))
+    All-same P hits (take most h.0) h.2 (All-take P most h.0 (equally_many kind priors q docs h.0 h.1))
 
-pub first_few : (hits ranking : List Hit) (most : ℕ) → hits ≡ take most ranking → length hits ≤ most
-first_few hits ranking most is = let long = ap length is ∙ length-take most ranking in omega (arith, long)
+pub answer_few : (kind : RuleKind) (priors : List Prior) (q : CheckedTree) (docs : List Document) (hits : List Hit) (most : ℕ)
+    → IsAnswer kind priors q docs most hits → length hits ≤ most
+answer_few kind priors q docs hits most h = let long = ap length h.2 ∙ length-take most h.0 in omega (arith, long)
 
 -- ---- rising keys
 

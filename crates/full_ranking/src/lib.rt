@@ -1,4 +1,4 @@
-//! The ranking of all documents of an index in memory, by one sort of all candidates.
+//! The ranking of all documents of an index in memory, and the first of all candidates.
 #![tactic(auto)]
 
 mod counts;

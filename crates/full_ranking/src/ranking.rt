@@ -5,41 +5,45 @@ ghost use Rattle.smoothing.specs.Fractions.{Computes};
 ghost use Rattle.query_check.specs.Answers.{whole_checked};
 ghost use Rattle.belief_nodes.specs.Leaves.{HasPrior};
 ghost use Rattle.belief_nodes.specs.Network.{network_tree};
-ghost use Rattle.document_scoring.specs.Candidates.{candidates};
-ghost use Rattle.document_scoring.specs.Rows.{IsKeyed, row_candidate, row_hit};
+ghost use Rattle.document_scoring.specs.Rows.{row_hit};
+ghost use Rattle.full_ranking.specs.First.{HoldsFirst};
 ghost use Rattle.full_ranking.specs.Ranking.{IsAnswer};
 
 use crate::counts::all_stats;
 use crate::memory::score_in_index;
 use belief_nodes::{BeliefNode, Network};
 use document_scoring::Row;
+use first_few::FirstFew;
 use query_check::Checked;
 use ri_base::{Filter, Fraction, Hits, NoMemory, Postings, Sealed};
 use smoothing::Rule;
 use std::alloc::Global;
 
-/// The candidates of all documents that pass the filters, in order of ids and of their windows.
-fn rows_of<F: Fn(u32, u32, u64, u64) -> Fraction>(
+/// The first candidates of all documents that pass the filters, at most so many. While the documents are gone over, no more
+/// are held than these and those of one document.
+fn first_rows<F: Fn(u32, u32, u64, u64) -> Fraction>(
     alloc: Global,
     filters: &[Filter],
     network: &Network,
     rule: &Rule<F>,
     plugs: &mut [Box<dyn BeliefNode>],
     index: &mut Sealed,
-) -> Result<Vec<Row>, NoMemory>
+    most: usize,
+) -> Result<FirstFew<Row>, NoMemory>
     requires rule { Computes F.pre F.post rule.now.kind rule.now.f }
     requires range { is_range (network_tree network.now).range ≡ true }
     requires plugs { All (HasPrior (length plugs.old)) (network_tree network.now).leaves }
-    ensures rows { IfOk result (λ v. map row_candidate v.items ≡ candidates rule.now.kind (map (λ plug. meaning plug) plugs.old) (map filter_tree filters.now) (network_tree network.now) index.old) }
-    ensures keys { IfOk result (λ v. All (IsKeyed (network_tree network.now).tree) v.items) }
+    ensures first { IfOk result (HoldsFirst rule.now.kind (map (λ plug. meaning plug) plugs.old) (map filter_tree filters.now) (network_tree network.now) index.old most) }
     ensures stay { map (λ plug. meaning plug) plugs.new ≡ map (λ plug. meaning plug) plugs.old }
     ensures same { index.new ≡ index.old }
 {
+    let mut first = FirstFew::new(alloc, most);
     let mut rows = Vec::new(alloc);
     for id in 0..index.docs() {
         score_in_index(alloc, filters, network, rule, plugs, index, id, &mut rows)?;
+        first.offer_all(&mut rows)?;
     }
-    Ok(rows)
+    Ok(first)
 }
 
 /// The hits of rows.
@@ -73,8 +77,6 @@ pub fn rank<F: Fn(u32, u32, u64, u64) -> Fraction>(
 {
     let stats = all_stats(alloc, &checked.leaves, index)?;
     let network = Network::new(alloc, checked, &stats)?;
-    let mut rows = rows_of(alloc, &checked.filters, &network, rule, plugs, index)?;
-    rows.sort_unstable();
-    rows.truncate(most);
-    hits_of(alloc, rows)
+    let first = first_rows(alloc, &checked.filters, &network, rule, plugs, index, most)?;
+    hits_of(alloc, first.into_sorted())
 }

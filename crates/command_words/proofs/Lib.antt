@@ -1,4 +1,10 @@
+pub mod ClapRules
+pub mod ClapSteps
+pub mod ClapTurns
 pub mod GivenLemmas
-pub mod NumberLemmas
+pub mod NamedLemmas
 pub mod TakenLemmas
+pub mod TakenWords
+pub mod WordForms
 pub mod WordLemmas
+pub mod WrittenLaw

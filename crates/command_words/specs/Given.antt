@@ -1,18 +1,18 @@
--- What the words behind a command give: positional words, in their order, and values of options.
-use Rattle.std.specs.Prelude.{true, List, Option, None, Some, codes, option_map, if◌then◌else◌}
-use Rattle.clap.specs.Simple.{on_top}
-use Rattle.clap.specs.Words.{App, Row, Rule, Text, first_of, matches_of, new_app, new_rule, with_rule}
-use Rattle.command_words.specs.Taken.{is_taken}
+-- What the items behind a command give: positional words, in their order, and values of options.
+use Rattle.std.specs.Prelude.{ℕ, Bool, true, ◌&&◌, not, find, List, [], ◌∷◌, Option, None, Some, codes, option_and_then, option_map, if◌then◌else◌}
+use Rattle.std.specs.List.{list_any}
+use Rattle.std.specs.Str.{bytes_eq}
+use Rattle.command_words.specs.Items.{Item, items_of, option, text}
 use Rattle.command_words.specs.declared.given.Given.{Given}
 
 -- the values of two positional words and four options
 pub record Values : Type 0 where
-  pub first : Option Text
-  pub second : Option Text
-  pub k : Option Text
-  pub mu : Option Text
-  pub topic : Option Text
-  pub run : Option Text
+  pub first : Option (List ℕ)
+  pub second : Option (List ℕ)
+  pub k : Option (List ℕ)
+  pub mu : Option (List ℕ)
+  pub topic : Option (List ℕ)
+  pub run : Option (List ℕ)
 
 abbrev pub told_given : Given → Values
 told_given given = record {
@@ -24,34 +24,46 @@ told_given given = record {
   run = option_map (λ s. s.now) given.run;
 }
 
--- an option `--name VALUE` or `--name=VALUE`, at most once
-abbrev pub option_rule : Text → Rule
-option_rule name = record (new_rule name) { long = Some name }
+-- a name, and what is given for it
+abbrev pub Named : Type 0
+Named = List ℕ × List ℕ
 
--- no program's name before the words, and no `--help`
-abbrev pub bare_app : Text → App
-bare_app name = on_top (λ s. record s { no_binary_name = true; disable_help_flag = true }) (new_app name)
+-- what items give: an option's value for its own name, and the texts for these names, in their order. There are no more
+-- texts than names
+abbrev pub given_for : List Item → List (List ℕ) → Option (List Named)
+given_for [] names = Some []
+given_for (option name value ∷ items) names = option_map (λ rest. (name, value) ∷ rest) (given_for items names)
+given_for (text t ∷ items) [] = None
+given_for (text t ∷ items) (name ∷ names) = option_map (λ rest. (name, t) ∷ rest) (given_for items names)
 
--- two positional words and the options k, mu, topic and run
-unfoldable pub words_app : App
-words_app =
-    with_rule (with_rule (with_rule (with_rule (with_rule (with_rule (bare_app (codes "indri"))
-    (new_rule (codes "first"))) (new_rule (codes "second"))) (option_rule (codes "k"))) (option_rule (codes "mu")))
-    (option_rule (codes "topic"))) (option_rule (codes "run"))
+abbrev pub has_name : List ℕ → Named → Bool
+has_name name given = bytes_eq given.0 name
 
-unfoldable pub rows_of_words : List Text → List Row
-rows_of_words words = matches_of words_app words
+-- for no name something is given twice
+abbrev pub are_apart : List Named → Bool
+are_apart [] = true
+are_apart (given ∷ rest) = not (list_any (has_name given.0) rest) && are_apart rest
 
-abbrev pub values_of_rows : List Row → Values
-values_of_rows rows = record {
-  first = first_of (codes "first") rows;
-  second = first_of (codes "second") rows;
-  k = first_of (codes "k") rows;
-  mu = first_of (codes "mu") rows;
-  topic = first_of (codes "topic") rows;
-  run = first_of (codes "run") rows;
+abbrev pub value_of : List Named → List ℕ → Option (List ℕ)
+value_of all name = option_map (λ given. given.1) (find (has_name name) all)
+
+abbrev pub values_in : List Named → Values
+values_in all = record {
+  first = value_of all (codes "first");
+  second = value_of all (codes "second");
+  k = value_of all (codes "k");
+  mu = value_of all (codes "mu");
+  topic = value_of all (codes "topic");
+  run = value_of all (codes "run");
 }
 
--- what the words give, where clap takes them
-unfoldable pub given_by : List Text → Option Values
-given_by words = if is_taken words_app words then Some (values_of_rows (rows_of_words words)) else None
+abbrev pub values_of : List Named → Option Values
+values_of all = if are_apart all then Some (values_in all) else None
+
+-- the names of the positional words
+abbrev pub text_names : List (List ℕ)
+text_names = codes "first" ∷ codes "second" ∷ []
+
+-- what the words give, where they are items with at most two texts and no option twice
+unfoldable pub given_by : List (List ℕ) → Option Values
+given_by words = option_and_then values_of (option_and_then (λ items. given_for items text_names) (items_of words))

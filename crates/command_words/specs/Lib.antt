@@ -1,5 +1,9 @@
 pub mod Asked
+pub mod ClapCommand
 pub mod Given
+pub mod Items
 pub mod Numbers
 pub mod Table
 pub mod Taken
+pub mod Texts
+pub mod Written

@@ -4,7 +4,8 @@ use Rattle.std.specs.List.{list_all}
 use Rattle.std.specs.Str.{bytes_eq}
 use Rattle.smoothing.specs.declared.rule.TheConstants.{MAX_MU}
 use Rattle.command_words.specs.Given.{Values, given_by}
-use Rattle.command_words.specs.Numbers.{number_or, number_to}
+use Rattle.line_parts.specs.Digits.{number_to}
+use Rattle.command_words.specs.Numbers.{number_or}
 use Rattle.command_words.specs.declared.labels.TheConstants.{LABEL_BYTES}
 use Rattle.command_words.specs.declared.words.TheConstants.{DEFAULT_MU, DEFAULT_RESULTS, MAX_RESULTS}
 

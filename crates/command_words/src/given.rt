@@ -1,7 +1,9 @@
 // What words behind a command give.
-ghost use Rattle.std.specs.Prelude.{◌≡◌, ◌⊎◌, IfOk, MatchResult, None, Some, false, map, option_map};
+ghost use Rattle.std.specs.Prelude.{◌≡◌, ◌⊎◌, IfOk, MatchResult, None, Some, false, map, option_map, true};
 ghost use Rattle.clap.specs.Words.{app_of, kind_of, rule_of};
-ghost use Rattle.command_words.specs.Given.{given_by, option_rule, told_given, words_app};
+ghost use Rattle.command_words.specs.ClapCommand.{option_rule, words_app};
+ghost use Rattle.command_words.specs.Given.{given_by, told_given};
+ghost use Rattle.command_words.specs.Texts.{are_texts};
 
 use crate::taken::{taken, value};
 use clap::error::ErrorKind;
@@ -43,9 +45,10 @@ fn any_command<'a>(alloc: Global) -> Result<Command<'a>, AllocError>
         .arg(option_arg(alloc, "run"))
 }
 
-/// What the words give, where clap takes them.
+/// What the words give, where they are items that a command may have. Clap reads them.
 #[tactic(auto, using(crate::proofs::GivenLemmas::words_app_is_free))]
 fn matched<'a>(alloc: Global, words: &'a [&'a str]) -> Result<Given<'a>, Error>
+    requires { are_texts (map (λ word. word.now) words.now) ≡ true }
     ensures { MatchResult result (λ given. given_by (map (λ word. word.now) words.entry.now) ≡ Some (told_given given))
         (λ e. (kind_of e ≡ ErrorKind.OutOfMemory) ⊎ (given_by (map (λ word. word.now) words.entry.now) ≡ None)) }
 {
@@ -60,8 +63,9 @@ fn matched<'a>(alloc: Global, words: &'a [&'a str]) -> Result<Given<'a>, Error>
     })
 }
 
-/// What the words behind a command give, where they are words and options of some command.
+/// What the words behind a command give, where they are items that a command may have.
 pub fn given_by<'a>(alloc: Global, words: &'a [&'a str]) -> Result<Option<Given<'a>>, NoMemory>
+    requires { are_texts (map (λ word. word.now) words.now) ≡ true }
     ensures { IfOk result (λ given. option_map told_given given ≡ given_by (map (λ word. word.now) words.entry.now)) }
 {
     match matched(alloc, words) {

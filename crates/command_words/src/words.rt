@@ -1,8 +1,10 @@
 // The commands of the command line.
-ghost use Rattle.std.specs.Prelude.{◌≡◌, IfOk, IfSome, Some, drop, map, option_map};
+ghost use Rattle.std.specs.Prelude.{◌≡◌, ◌++◌, ◌∷◌, [], IfOk, IfSome, OnOk, Some, drop, map, option_map, true};
+ghost use Rattle.std.specs.Str.{is_utf8};
 ghost use Rattle.command_words.specs.Asked.{AreInRange, told_labels, told_words};
 ghost use Rattle.command_words.specs.Given.{told_given};
 ghost use Rattle.command_words.specs.Table.{asks_of, command_by, explain_by, query_by, scan_by};
+ghost use Rattle.command_words.specs.Texts.{are_texts};
 
 use crate::given::{Given, given_by};
 use crate::labels::labels_of;
@@ -142,17 +144,27 @@ fn command_words(alloc: Global, command: &str, given: &Given) -> Result<Option<W
     }
 }
 
+/// Puts a word behind others.
+fn push_word<'a>(words: &mut Vec<&'a str>, word: &'a str) -> Result<(), NoMemory>
+    ensures words { OnOk result (words.new.items ≡ words.old.items ++ word.entry ∷ []) }
+    ensures text { is_utf8 word.entry.now ≡ true }
+{
+    words.push(word)?;
+    Ok(())
+}
+
 /// The words behind the folder and the command.
 #[tactic(auto, using(crate::proofs::WordLemmas::word_there))]
 fn words_behind<'a>(alloc: Global, words: &'a ArgList) -> Result<Vec<&'a str>, NoMemory>
-    ensures { IfOk result (λ rest. map (λ word. word.now) rest.items ≡ drop 2 words.now) }
+    ensures words { IfOk result (λ rest. map (λ word. word.now) rest.items ≡ drop 2 words.now) }
+    ensures texts { IfOk result (λ rest. are_texts (map (λ word. word.now) rest.items) ≡ true) }
 {
     let mut rest = Vec::new(alloc);
     for index in 2..words.len() {
         let Some(word) = words.get(index) else {
             return Ok(rest);
         };
-        rest.push(word)?;
+        push_word(&mut rest, word)?;
     }
     Ok(rest)
 }

@@ -2,7 +2,7 @@ use Rattle.std.proofs.Common.{◌≡◌, ◌∙◌, ap, ap₂, codes, rules, tru
 use Rattle.std.proofs.lemmas.Result.{IfOk-weaker}
 use Rattle.clap.specs.Simple.{app_of_fields, on_top}
 use Rattle.clap.specs.Words.{app_of, with_rule}
-use Rattle.command_words.specs.Given.{bare_app, words_app}
+use Rattle.command_words.specs.ClapCommand.{bare_app, words_app}
 use Rattle.command_words.proofs.given.any_command.Goals as goal
 
 pub returns : goal.returns

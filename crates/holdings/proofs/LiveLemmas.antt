@@ -1,0 +1,116 @@
+-- What parts read as, whatever the files are, and where documents are added or deleted.
+use Rattle.std.proofs.Common.{◌≡◌, ◌+◌, ℕ, zero, suc, Bool, true, false, List, [], ◌∷◌, ◌++◌, length, map, refl, ap, sym, ◌∙◌, arith, Option, append_assoc, length-append}
+use Rattle.std.specs.List.{flat_map}
+use Rattle.std.specs.Prelude.{sum_by}
+use Rattle.std.proofs.lemmas.List.{append-nil, length-map, map-append}
+use Rattle.std.proofs.lemmas.List.Elements.{filter-append}
+use Rattle.std.proofs.lemmas.List.Sums.{sum_by-append, sum_by-cons}
+use Rattle.ri_base.specs.Collection.{token_count}
+use Rattle.ri_base.specs.Documents.{Document}
+use Rattle.seg_codec.specs.declared.documents.Entry.{Entry}
+use Rattle.store_ends.specs.Files.{Files}
+use Rattle.disk_index.specs.Blocks.{told_file}
+use Rattle.disk_index.specs.Kept.{Kept}
+use Rattle.disk_index.specs.Parts.{Source, InMemory, OnDisk, reads, size}
+use Rattle.disk_index.specs.Reads.{documents_from, rebuilt, term_at, terms_from}
+use Rattle.disk_index.proofs.RebuiltLemmas.{reads-length}
+use Rattle.holdings.specs.MarkedParts.{Marked, docnos_in, docnos_of, documents_held, documents_of, live_in, live_of, marked_with, tokens_held, tokens_in}
+use Rattle.holdings.specs.Marks.{marks_with, unmarked}
+use Rattle.holdings.specs.Parts.{without}
+use Rattle.holdings.proofs.MarkLemmas.{unmarked-marks_with}
+
+-- ---- what is known of a part without its file
+
+terms_from-length : (f : ℕ → List ℕ) (p n : ℕ) → length (terms_from f p n) ≡ n
+terms_from-length f p zero = refl
+terms_from-length f p (suc n) = let rest = terms_from-length f (p + 1) n in omega arith
+
+docnos-from : (at : ℕ → ℕ → List ℕ) (id : ℕ) (os : List Entry) → map (λ (d : Document). d.docno) (documents_from at id os) ≡ map (λ (o : Entry). o.docno) os
+docnos-from at id [] = refl
+docnos-from at id (o ∷ os) = ap (λ l. o.docno ∷ l) (docnos-from at (id + 1) os)
+
+tokens-from : (at : ℕ → ℕ → List ℕ) (id : ℕ) (os : List Entry) → token_count (documents_from at id os) ≡ sum_by (λ (o : Entry). o.tokens) os
+tokens-from at id [] = refl
+tokens-from at id (o ∷ os) =
+    let head : Document = record { docno = o.docno; tokens = terms_from (at id) 0 o.tokens; fields = o.fields } in
+    let here = terms_from-length (at id) 0 o.tokens in
+    let rest = tokens-from at (id + 1) os in
+    omega (arith, here, rest, sum_by-cons (λ (d : Document). length d.tokens) head (documents_from at (id + 1) os), sum_by-cons (λ (x : Entry). x.tokens) o os)
+
+docnos-rebuilt : (kept : Kept) (file : List ℕ) → map (λ (d : Document). d.docno) (rebuilt kept file) ≡ map (λ (o : Entry). o.docno) kept.outlines
+unfolding rebuilt
+docnos-rebuilt kept file = docnos-from (term_at file kept.outlines kept.dictionary) 0 kept.outlines
+
+tokens-rebuilt : (kept : Kept) (file : List ℕ) → token_count (rebuilt kept file) ≡ sum_by (λ (o : Entry). o.tokens) kept.outlines
+unfolding rebuilt
+tokens-rebuilt kept file = tokens-from (term_at file kept.outlines kept.dictionary) 0 kept.outlines
+
+docnos-reads : (told : Option Files) (source : Source) → map (λ (d : Document). d.docno) (reads told source) ≡ docnos_in source
+docnos-reads told (InMemory docs) = refl
+docnos-reads told (OnDisk kept) = docnos-rebuilt kept (told_file told kept.number)
+
+tokens-reads : (told : Option Files) (source : Source) → token_count (reads told source) ≡ tokens_in source
+tokens-reads told (InMemory docs) = refl
+tokens-reads told (OnDisk kept) = tokens-rebuilt kept (told_file told kept.number)
+
+pub length-docnos_in : (source : Source) → length (docnos_in source) ≡ size source
+length-docnos_in (InMemory docs) = length-map docs (λ (d : Document). d.docno)
+length-docnos_in (OnDisk kept) = length-map kept.outlines (λ (o : Entry). o.docno)
+
+-- the sums are those of all documents, whatever the files are
+pub length-documents_of : (told : Option Files) (parts : List Marked) → length (documents_of told parts) ≡ documents_held parts
+length-documents_of told [] = refl
+length-documents_of told (m ∷ ms) =
+    let here = reads-length told m.source in
+    let rest = length-documents_of told ms in
+    omega (arith, here, rest, length-append (reads told m.source) (documents_of told ms), sum_by-cons (λ (x : Marked). size x.source) m ms)
+
+pub token_count-documents_of : (told : Option Files) (parts : List Marked) → token_count (documents_of told parts) ≡ tokens_held parts
+token_count-documents_of told [] = refl
+token_count-documents_of told (m ∷ ms) =
+    let here = tokens-reads told m.source in
+    let rest = token_count-documents_of told ms in
+    let both = sum_by-append (λ (d : Document). length d.tokens) (reads told m.source) (documents_of told ms) in
+    omega (arith, here, rest, both, sum_by-cons (λ (x : Marked). tokens_in x.source) m ms)
+
+map-unmarked : {A B : Type 0} (f : A → B) (xs : List A) (ms : List Bool) → map f (unmarked xs ms) ≡ unmarked (map f xs) ms
+map-unmarked f [] ms = refl
+map-unmarked f (x ∷ xs) [] = refl
+map-unmarked f (x ∷ xs) (true ∷ ms) = map-unmarked f xs ms
+map-unmarked f (x ∷ xs) (false ∷ ms) = ap (λ l. f x ∷ l) (map-unmarked f xs ms)
+
+-- the live docnos need no file
+pub docnos-live_of : (told : Option Files) (parts : List Marked) → map (λ (d : Document). d.docno) (live_of told parts) ≡ docnos_of parts
+docnos-live_of told [] = refl
+docnos-live_of told (m ∷ ms) =
+    let here : map (λ (d : Document). d.docno) (live_in told m) ≡ unmarked (docnos_in m.source) m.marks =
+    map-unmarked _ (reads told m.source) m.marks ∙ ap (λ l. unmarked l m.marks) (docnos-reads told m.source) in
+    map-append (λ (d : Document). d.docno) (live_in told m) (live_of told ms) ∙ ap (λ l. l ++ map (λ (d : Document). d.docno) (live_of told ms)) here
+    ∙ ap (λ l. unmarked (docnos_in m.source) m.marks ++ l) (docnos-live_of told ms)
+
+-- ---- one document more
+
+pub unmarked-push : {A : Type 0} (xs : List A) (ms : List Bool) (x : A) → length ms ≡ length xs → unmarked (xs ++ x ∷ []) (ms ++ false ∷ []) ≡ unmarked xs ms ++ x ∷ []
+unmarked-push [] [] x e = refl
+unmarked-push [] (m ∷ ms) x e = absurd (omega (arith, e))
+unmarked-push (y ∷ xs) [] x e = absurd (omega (arith, e))
+unmarked-push (y ∷ xs) (true ∷ ms) x e = unmarked-push xs ms x (omega (arith, e))
+unmarked-push (y ∷ xs) (false ∷ ms) x e = ap (λ l. y ∷ l) (unmarked-push xs ms x (omega (arith, e)))
+
+pub flat_map-push : {A B : Type 0} (f : A → List B) (xs : List A) (x : A) → flat_map f (xs ++ x ∷ []) ≡ flat_map f xs ++ f x
+flat_map-push f [] x = append-nil (f x)
+flat_map-push f (y ∷ xs) x = ap (λ l. f y ++ l) (flat_map-push f xs x) ∙ sym (append_assoc (f y) (flat_map f xs) (f x))
+
+-- the last part has one more
+pub flat_map-more : {B : Type 0} (f : Marked → List B) (parts : List Marked) (m n : Marked) (x : B) → f n ≡ f m ++ x ∷ [] → flat_map f (parts ++ n ∷ []) ≡ flat_map f (parts ++ m ∷ []) ++ x ∷ []
+flat_map-more f parts m n x e =
+    flat_map-push f parts n ∙ ap (λ l. flat_map f parts ++ l) e ∙ sym (append_assoc (flat_map f parts) (f m) (x ∷ [])) ∙ ap (λ l. l ++ x ∷ []) (sym (flat_map-push f parts m))
+
+-- ---- the documents of a docno are marked
+
+pub live_of-marked_with : (told : Option Files) (k : List ℕ) (parts : List Marked) → live_of told (map (marked_with k) parts) ≡ without k (live_of told parts)
+live_of-marked_with told k [] = refl
+live_of-marked_with told k (m ∷ ms) =
+    let here : live_in told (marked_with k m) ≡ without k (live_in told m) =
+    ap (λ l. unmarked (reads told m.source) (marks_with k l m.marks)) (sym (docnos-reads told m.source)) ∙ unmarked-marks_with k (reads told m.source) m.marks in
+    ap (λ l. l ++ live_of told (map (marked_with k) ms)) here ∙ ap (λ l. without k (live_in told m) ++ l) (live_of-marked_with told k ms) ∙ sym (filter-append _ (live_in told m) (live_of told ms))

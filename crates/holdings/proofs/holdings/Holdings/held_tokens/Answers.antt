@@ -1,0 +1,13 @@
+use Rattle.std.proofs.Common.{◌∙◌, ap, sym}
+use Rattle.holdings.specs.Contents.{Contents}
+use Rattle.holdings.specs.MarkedParts.{tokens_held}
+use Rattle.holdings.specs.Parts.{all_parts}
+use Rattle.holdings.proofs.LiveLemmas.{token_count-documents_of}
+use Rattle.holdings.proofs.holdings.Holdings.held_tokens.Goals as goal
+
+pub returns-clause-count : goal.returns-clause-count
+returns-clause-count c = c.self.invariant.tokens_are ∙ ap (λ (x : Contents). tokens_held (all_parts x.parts)) c.self.view_is
+
+pub returns-clause-documents : goal.returns-clause-documents
+returns-clause-documents c = λ told.
+    c.self.invariant.tokens_are ∙ ap (λ (x : Contents). tokens_held (all_parts x.parts)) c.self.view_is ∙ sym (token_count-documents_of told (all_parts c.args.self.now.parts))

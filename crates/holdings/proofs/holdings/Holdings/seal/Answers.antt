@@ -1,0 +1,25 @@
+use Rattle.std.proofs.Common.{◌∙◌, ap, sym, subst}
+use Rattle.holdings.specs.Contents.{Contents}
+use Rattle.holdings.specs.Kept.{AreCounted}
+use Rattle.holdings.specs.MarkedParts.{documents_held, tokens_held}
+use Rattle.holdings.specs.Parts.{Parts, all_parts, live}
+use Rattle.holdings.proofs.RoomLemmas.{live-sealed}
+use Rattle.holdings.proofs.SumLemmas.{AreCounted-sealed, documents-sealed, tokens-sealed}
+use Rattle.holdings.proofs.holdings.Holdings.seal.Goals as goal
+
+pub invariant_of-self-2 : goal.invariant_of-self-2
+invariant_of-self-2 c =
+    let s = c.self.inside in
+    subst (λ (p : Parts). AreCounted p s.limits s.documents s.tokens) (sym c.in_ok-seal.ensures.sealed) (AreCounted-sealed s.parts s.limits s.documents s.tokens c.self.invariant)
+
+pub returns-clause-live : goal.returns-clause-live
+returns-clause-live c = λ told.
+    ap (live told) c.in_ok-seal.ensures.sealed ∙ live-sealed told c.self.inside.parts ∙ ap (λ (x : Contents). live told x.parts) c.self.view_is
+
+pub returns-clause-documents : goal.returns-clause-documents
+returns-clause-documents c =
+    ap (λ (p : Parts). documents_held (all_parts p)) c.in_ok-seal.ensures.sealed ∙ documents-sealed c.self.inside.parts ∙ ap (λ (x : Contents). documents_held (all_parts x.parts)) c.self.view_is
+
+pub returns-clause-tokens : goal.returns-clause-tokens
+returns-clause-tokens c =
+    ap (λ (p : Parts). tokens_held (all_parts p)) c.in_ok-seal.ensures.sealed ∙ tokens-sealed c.self.inside.parts ∙ ap (λ (x : Contents). tokens_held (all_parts x.parts)) c.self.view_is

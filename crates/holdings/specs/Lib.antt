@@ -1,0 +1,5 @@
+pub mod Contents
+pub mod Kept
+pub mod MarkedParts
+pub mod Marks
+pub mod Parts

@@ -1,0 +1,174 @@
+// What a repository holds, within its limits.
+ghost use Rattle.std.specs.Prelude.{◌≡◌, ◌≤◌, ◌+◌, ◌++◌, ◌∷◌, ◌↔◌, [], ℕ, Option, false, length, map, IfOk, OnOk, OnErr, IsErr};
+ghost use Rattle.std.specs.List.{All, IsDistinct};
+ghost use Rattle.std.specs.Str.{bytes_eq};
+ghost use Rattle.ri_base.specs.Collection.{token_count};
+ghost use Rattle.ri_base.specs.Documents.{Document};
+ghost use Rattle.store_ends.specs.Files.{Files};
+ghost use Rattle.holdings.specs.Contents.{Answers, Contents, added, all_closed, answer, deleted, is_full, none_held};
+ghost use Rattle.holdings.specs.MarkedParts.{IsWhole, IsWritable, docnos_of, documents_held, documents_of, tokens_held};
+ghost use Rattle.holdings.specs.Parts.{all_parts, is_live, live, without};
+
+use crate::live_parts::LiveParts;
+use crate::{AddRefusal, Limits, MarkedPart, NoSuchDoc};
+use ri_base::{Doc, Docno, NoMemory};
+use std::alloc::Global;
+use std::marker::Model;
+
+/// Parts with their marks and the part that is being filled, within limits. It reads, together with the files of the parts on
+/// disk, as the list of its live documents.
+#[derive(Drop)]
+pub struct Holdings {
+    parts: LiveParts,
+    limits: Limits,
+    /// How many documents and tokens the parts have, the marked documents included.
+    documents: u64,
+    tokens: u64,
+    generation: u64,
+}
+
+impl Model for Holdings {
+    ghost use Rattle.holdings.specs.Contents.{Contents};
+    ghost use Rattle.holdings.specs.Kept.{AreCounted};
+
+    ghost Value = { Contents };
+
+    ghost view = { λ h. record { parts = h.parts; limits = h.limits; generation = h.generation } };
+
+    ghost invariant = { λ h. AreCounted h.parts h.limits h.documents h.tokens };
+}
+
+impl Holdings {
+    /// No documents.
+    pub fn new(alloc: Global, limits: Limits) -> Result<Holdings, NoMemory>
+        ensures { IfOk result (λ h. h ≡ none_held limits) }
+    {
+        let parts = LiveParts::new(alloc, limits.part_docs)?;
+        Ok(Holdings {
+            parts,
+            limits,
+            documents: 0,
+            tokens: 0,
+            generation: 0,
+        })
+    }
+
+    /// How many documents are live. No two have one docno.
+    pub fn live_count(&self) -> u64
+        ensures live { (told : Option Files) → result ≡ length (live told self.now.parts) }
+        ensures docnos { (told : Option Files) → map (λ (d : Document). d.docno) (live told self.now.parts) ≡ docnos_of (all_parts self.now.parts) }
+        ensures distinct { IsDistinct bytes_eq (docnos_of (all_parts self.now.parts)) }
+    {
+        self.parts.live_count() as u64
+    }
+
+    /// Whether a live document has this docno.
+    pub fn is_live(&self, docno: &Docno) -> bool
+        ensures { result ≡ is_live self.now.parts docno.now }
+    {
+        self.parts.is_live(docno)
+    }
+
+    /// How many documents the parts have, the marked ones included.
+    pub fn held_docs(&self) -> u64
+        ensures count { result ≡ documents_held (all_parts self.now.parts) }
+        ensures documents { (told : Option Files) → result ≡ length (documents_of told (all_parts self.now.parts)) }
+        ensures within { result ≤ self.now.limits.held_docs }
+    {
+        self.documents
+    }
+
+    /// How many tokens the documents of the parts have together, the marked ones included.
+    pub fn held_tokens(&self) -> u64
+        ensures count { result ≡ tokens_held (all_parts self.now.parts) }
+        ensures documents { (told : Option Files) → result ≡ token_count (documents_of told (all_parts self.now.parts)) }
+        ensures within { result ≤ self.now.limits.held_tokens }
+    {
+        self.tokens
+    }
+
+    /// How many documents were added and deleted since the beginning. At 2^64 - 1 it stays.
+    pub fn generation(&self) -> u64
+        ensures { result ≡ self.now.generation }
+    {
+        self.generation
+    }
+
+    pub fn limits(&self) -> Limits
+        ensures { result ≡ self.now.limits }
+    {
+        self.limits
+    }
+
+    /// The closed parts. Each has a mark for each document, and one in memory has no more documents and names of fields than
+    /// a segment can have.
+    pub fn closed_parts(&self) -> &[MarkedPart]
+        ensures parts { result.now ≡ self.now.parts.closed }
+        ensures whole { All IsWhole self.now.parts.closed }
+        ensures writable { All (λ m. IsWritable m.source) self.now.parts.closed }
+    {
+        self.parts.closed()
+    }
+
+    /// Adds a document behind the live ones. The part that is being filled is closed first where it is full.
+    pub fn add(&mut self, alloc: Global, doc: &Doc) -> Result<(), AddRefusal>
+        ensures answer { Answers result (answer self.old doc.now) }
+        ensures added { OnOk result (self.new ≡ added self.old doc.now) }
+        ensures live { OnOk result ((told : Option Files) → live told self.new.parts ≡ live told self.old.parts ++ doc.now ∷ []) }
+        ensures documents { OnOk result (documents_held (all_parts self.new.parts) ≡ documents_held (all_parts self.old.parts) + 1) }
+        ensures tokens { OnOk result (tokens_held (all_parts self.new.parts) ≡ tokens_held (all_parts self.old.parts) + length doc.now.tokens) }
+        ensures kept { OnErr result (self.new ≡ self.old) }
+    {
+        if self.is_live(doc.docno()) {
+            return Err(AddRefusal::Repeated {
+                docno: doc.docno().clone_in(alloc)?,
+            });
+        }
+        if self.is_full(doc) {
+            return Err(AddRefusal::CollectionFull {
+                docno: doc.docno().clone_in(alloc)?,
+            });
+        }
+        self.parts.put(alloc, doc, self.limits.part_docs)?;
+        self.documents += 1;
+        self.tokens += u64::from(doc.len());
+        self.generation = self.generation.saturating_add(1);
+        Ok(())
+    }
+
+    /// Whether with the document more would be held than the limits allow.
+    fn is_full(&self, doc: &Doc) -> bool
+        ensures { result ≡ is_full self.now doc.now }
+    {
+        self.documents + 1 > self.limits.held_docs
+            || self.tokens + u64::from(doc.len()) > self.limits.held_tokens
+    }
+
+    /// Takes the document with this docno out of the live ones. It stays in its part, and is marked there.
+    pub fn delete(&mut self, docno: &Docno) -> Result<(), NoSuchDoc>
+        ensures refused { IsErr result ↔ (is_live self.old.parts docno.now ≡ false) }
+        ensures deleted { OnOk result (self.new ≡ deleted self.old docno.now) }
+        ensures live { OnOk result ((told : Option Files) → live told self.new.parts ≡ without docno.now (live told self.old.parts)) }
+        ensures documents { documents_held (all_parts self.new.parts) ≡ documents_held (all_parts self.old.parts) }
+        ensures tokens { tokens_held (all_parts self.new.parts) ≡ tokens_held (all_parts self.old.parts) }
+        ensures kept { OnErr result (self.new ≡ self.old) }
+    {
+        if !self.parts.mark(docno) {
+            return Err(NoSuchDoc);
+        }
+        self.generation = self.generation.saturating_add(1);
+        Ok(())
+    }
+
+    /// Closes the part that is being filled, where it has documents: it becomes a part in memory.
+    pub fn seal(&mut self, alloc: Global) -> Result<(), NoMemory>
+        ensures closed { OnOk result (self.new ≡ all_closed self.old) }
+        ensures live { (told : Option Files) → live told self.new.parts ≡ live told self.old.parts }
+        ensures documents { documents_held (all_parts self.new.parts) ≡ documents_held (all_parts self.old.parts) }
+        ensures tokens { tokens_held (all_parts self.new.parts) ≡ tokens_held (all_parts self.old.parts) }
+        ensures kept { OnErr result (self.new ≡ self.old) }
+    {
+        self.parts.seal(alloc, self.limits.part_docs)?;
+        Ok(())
+    }
+}

@@ -1,0 +1,16 @@
+//! What a repository holds in memory: parts with their marks, the part that is being filled, and where each live document is.
+#![tactic(auto)]
+
+mod closing;
+mod holdings;
+mod limits;
+mod live_parts;
+mod marked_part;
+mod places;
+mod refusals;
+mod spot;
+
+pub use holdings::Holdings;
+pub use limits::{Limits, MAX_HELD_DOCS};
+pub use marked_part::MarkedPart;
+pub use refusals::{AddRefusal, NoSuchDoc};

@@ -2,6 +2,6 @@
 #![tactic(auto)]
 
 #[cfg(test)]
-mod holdings;
+mod held;
 
 fn main() {}

@@ -1,6 +1,6 @@
 -- Why the places of a document can't be told.
-use Rattle.std.proofs.Common.{◌≡◌, ◌<◌, ◌≤◌, ◌⊎◌, ℕ, zero, suc, ◌+◌, ◌/◌, ◌==◌, ◌&&◌, List, [], ◌∷◌, length, map, get_or, Bool, true, false, cond, leb, ltb, Option, Some, None, Result, Ok, Err, IfOk, IfErr, inl, inr, refl, sym, ap, subst, ◌∙◌, add-one, arith}
-use Rattle.std.specs.List.{All, Contains, find}
+use Rattle.std.proofs.Common.{◌≡◌, ◌<◌, ◌≤◌, ℕ, zero, suc, ◌+◌, ◌/◌, ◌==◌, List, [], ◌∷◌, length, get_or, Bool, true, false, cond, leb, ltb, Option, Some, None, inl, inr, refl, sym, ap, subst, add-one, arith}
+use Rattle.std.specs.List.{All, find}
 use Rattle.std.specs.List.Sorted.{IsStrictlyIncreasing}
 use Rattle.std.specs.Option.{MatchOption, option_map_or}
 use Rattle.std.proofs.lemmas.Bool.{and_parts, eqb-true, leb-true, ltb-true}
@@ -20,7 +20,7 @@ use Rattle.seg_codec.specs.declared.dictionary.BlockPlace.{BlockPlace}
 use Rattle.seg_codec.specs.declared.documents.Entry.{Entry}
 use Rattle.disk_index.specs.Blocks.{IsBlockFault, places_of}
 use Rattle.disk_index.specs.Cache.{KeptBlock}
-use Rattle.disk_index.specs.Faults.{ArePlacesIn, CameFrom, IsKeptFault, IsPlacesFault, IsTermFault}
+use Rattle.disk_index.specs.Faults.{ArePlacesIn, CameFrom, IsPlacesFault, IsTermFault}
 use Rattle.disk_index.specs.Kept.{Kept, key_of, place_of}
 use Rattle.disk_index.specs.declared.cache.BlockKey.{BlockKey}
 

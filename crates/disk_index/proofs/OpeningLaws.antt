@@ -1,5 +1,5 @@
 -- The segment of some documents is opened as what is kept of them.
-use Rattle.std.proofs.Common.{◌≡◌, ◌<◌, ◌≤◌, ℕ, ◌+◌, ◌-◌, ◌^◌, List, [], ◌∷◌, ◌++◌, length, map, take, drop, Option, Some, None, Result, Ok, Err, refl, sym, ap, subst, ◌∙◌, append_assoc, arith, length-append}
+use Rattle.std.proofs.Common.{◌≡◌, ◌<◌, ◌≤◌, ℕ, ◌+◌, ◌-◌, ◌^◌, List, [], ◌++◌, length, map, take, drop, Option, Result, Ok, Err, refl, sym, ap, subst, ◌∙◌, append_assoc, arith, length-append}
 use Rattle.std.specs.Int.{w32, w64, to_le_bytes}
 use Rattle.std.specs.Option.{unwrap_or}
 use Rattle.std.proofs.lemmas.List.{drop_at, take_at}
@@ -29,7 +29,6 @@ use Rattle.seg_codec.proofs.HeaderLaws.{header_again}
 use Rattle.seg_codec.proofs.SegmentLaws.{parts_fit}
 use Rattle.disk_index.specs.Blocks.{IsReadFault, file_of}
 use Rattle.disk_index.specs.Kept.{IsSegmentOf, Kept, kept_of}
-use Rattle.disk_index.specs.Names.{segment_name}
 use Rattle.disk_index.specs.Opening.{IsBroken, IsFirstBroken, IsOpenFault, IsOpened, dictionary_in, documents_in, header_in, stretch}
 use Rattle.disk_index.specs.Reads.{HasSegment}
 

@@ -25,7 +25,7 @@ use Rattle.disk_index.specs.Blocks.{block_of, file_of, places_of, told_file}
 use Rattle.disk_index.specs.Kept.{IsOutline, Kept, place_in}
 use Rattle.disk_index.specs.Parts.{Source, InMemory, OnDisk, reads, size}
 use Rattle.disk_index.specs.Reads.{IsBacked, documents_from, entries_in, entries_of, is_member, rebuilt, term_at, terms_from}
-use Rattle.disk_index.proofs.EntryLemmas.{document_at-get_or, places_of-block}
+use Rattle.disk_index.proofs.EntryLemmas.{places_of-block}
 use Rattle.disk_index.proofs.SegmentLaws.{HasBlocks, IsHere, IsLaid, StandsAt, segment-laid}
 
 -- ---- whatever the file has

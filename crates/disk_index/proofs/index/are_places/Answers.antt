@@ -1,4 +1,4 @@
-use Rattle.std.proofs.Common.{◌<◌, ◌≤◌, get_or, inl, inr, arith}
+use Rattle.std.proofs.Common.{inl, inr, arith}
 use Rattle.disk_index.proofs.FaultLemmas.{below-last, places-seen}
 use Rattle.disk_index.proofs.index.are_places.Goals as goal
 

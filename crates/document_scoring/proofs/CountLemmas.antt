@@ -1,12 +1,12 @@
 -- What is found of leaves in a document, and what is counted of them.
-use Rattle.std.proofs.Common.{◌≡◌, ◌<◌, ◌≤◌, ◌+◌, ◌-◌, ℕ, false, List, [], ◌∷◌, ◌++◌, length, map, filter, take, Option, None, Some, get_or, refl, sym, ap, subst, ◌∙◌, arith}
+use Rattle.std.proofs.Common.{◌≡◌, ◌<◌, ◌≤◌, ◌+◌, ◌-◌, ℕ, false, List, [], ◌∷◌, ◌++◌, length, map, filter, take, Option, None, Some, IfSome, get_or, refl, sym, ap, subst, ◌∙◌, arith}
 use Rattle.std.specs.List.{All}
 use Rattle.std.proofs.lemmas.Bool.Decides.{nat_tests}
 use Rattle.std.proofs.lemmas.List.{get_or-map, length-map, map-append, take_more}
 use Rattle.std.proofs.lemmas.List.Elements.{All-head, All-tail}
 use Rattle.ri_base.specs.Collection.{document_at}
 use Rattle.ri_base.specs.Documents.{Document, Field}
-use Rattle.ri_base.specs.Expression.{expr_tree}
+use Rattle.ri_base.specs.Expression.{ExprTree, expr_tree}
 use Rattle.ri_base.specs.Pair.{Pair}
 use Rattle.ri_base.specs.declared.expression.ExtentExpr.{ExtentExpr}
 use Rattle.field_extents.specs.Extents.{AreInOrder, begin_count, is_inside}
@@ -18,7 +18,7 @@ use Rattle.query_check.specs.Leaves.{LeafTree, leaf_tree}
 use Rattle.query_check.specs.declared.leaf_kind.LeafKind.{LeafKind}
 use Rattle.query_check.specs.declared.leaf_kind.LeafKind.TheVariants.{Extents, Prior}
 use Rattle.document_scoring.specs.Counters.{IsFewer, IsFound, found_count}
-use Rattle.document_scoring.specs.Counts.{count_in}
+use Rattle.document_scoring.specs.Counts.{count_in, counted}
 use Rattle.document_scoring.specs.declared.found.LeafExtents.{LeafExtents}
 
 -- ---- what is found of one leaf
@@ -28,20 +28,37 @@ prior_is leaf n d w is = sym (ap (λ (l : LeafKind). count_in d w (leaf_tree l))
 
 -- an expression without a context
 pub plain_is : (leaf : LeafKind) (expr : ExtentExpr) (context : Option (List ℕ)) (d : Document) (w : Pair) (found : List Pair) → leaf ≡ Extents expr context → context ≡ None
-    → found ≡ extent_list (expr_tree expr) d → record { tf = begin_count found w; len = w.end - w.begin } ≡ count_in d w (leaf_tree leaf)
-plain_is leaf expr context d w found is none listed =
+    → found ≡ counted (expr_tree expr) d context → record { tf = begin_count found w; len = w.end - w.begin } ≡ count_in d w (leaf_tree leaf)
+plain_is leaf expr context d w found is none exact =
     let whole : leaf ≡ Extents expr None = is ∙ ap (Extents expr) none in
-    ap (λ xs. record { tf = begin_count xs w; len = w.end - w.begin }) listed ∙ sym (ap (λ (l : LeafKind). count_in d w (leaf_tree l)) whole)
+    let here : found ≡ counted (expr_tree expr) d None = exact ∙ ap (counted (expr_tree expr) d) none in
+    ap (λ xs. record { tf = begin_count xs w; len = w.end - w.begin }) here ∙ sym (ap (λ (l : LeafKind). count_in d w (leaf_tree l)) whole)
 
 -- an expression with a context
-pub inside_is : (leaf : LeafKind) (expr : ExtentExpr) (context : Option (List ℕ)) (name : List ℕ) (d : Document) (fields : List Field) (w : Pair) (found kept : List Pair) → leaf ≡ Extents expr context → context ≡ Some name
-    → found ≡ extent_list (expr_tree expr) d → fields ≡ d.fields → kept ≡ filter (lies_in_some fields name) found
-    → record { tf = begin_count kept w; len = covered_count d.fields name w } ≡ count_in d w (leaf_tree leaf)
-inside_is leaf expr context name d fields w found kept is some listed same kept_is =
+pub inside_is : (leaf : LeafKind) (expr : ExtentExpr) (context : Option (List ℕ)) (name : List ℕ) (d : Document) (w : Pair) (found : List Pair) → leaf ≡ Extents expr context → context ≡ Some name
+    → found ≡ counted (expr_tree expr) d context → record { tf = begin_count found w; len = covered_count d.fields name w } ≡ count_in d w (leaf_tree leaf)
+inside_is leaf expr context name d w found is some exact =
     let whole : leaf ≡ Extents expr (Some name) = is ∙ ap (Extents expr) some in
-    let here : kept ≡ filter (lies_in_some d.fields name) (extent_list (expr_tree expr) d) =
-    kept_is ∙ ap (λ (fs : List Field). filter (lies_in_some fs name) found) same ∙ ap (filter (lies_in_some d.fields name)) listed in
+    let here : found ≡ counted (expr_tree expr) d (Some name) = exact ∙ ap (counted (expr_tree expr) d) some in
     ap (λ xs. record { tf = begin_count xs w; len = covered_count d.fields name w }) here ∙ sym (ap (λ (l : LeafKind). count_in d w (leaf_tree l)) whole)
+
+-- ---- the extents that count
+
+pub counted_all : (x : ExprTree) (d : Document) (context : Option (List ℕ)) (found : List Pair) → context ≡ None → found ≡ extent_list x d → found ≡ counted x d context
+counted_all x d context found is listed = rw (is, listed) refl
+
+pub counted_in : (x : ExprTree) (d : Document) (context : Option (List ℕ)) (name : List ℕ) (found kept : List Pair) (fields : List Field)
+    → context ≡ Some name → found ≡ extent_list x d → fields ≡ d.fields → kept ≡ filter (lies_in_some fields name) found → kept ≡ counted x d context
+counted_in x d context name found kept fields is listed same exact = rw (is, exact, same, listed) refl
+
+pub few_none : (context : Option (List ℕ)) (found : List Pair) (fields : List Field) → context ≡ None → IfSome context (IsFewer found fields)
+few_none context found fields is = rw is tt
+
+pub few_some : (context : Option (List ℕ)) (name : List ℕ) (kept : List Pair) (fields : List Field) → context ≡ Some name → IsFewer kept fields name → IfSome context (IsFewer kept fields)
+few_some context name kept fields is few = rw is few
+
+pub few_of : (context : Option (List ℕ)) (name : List ℕ) (kept : List Pair) (fields : List Field) → context ≡ Some name → IfSome context (IsFewer kept fields) → IsFewer kept fields name
+few_of context name kept fields is few = rw is at few
 
 -- the extents in fields of a name, and that no more of them begin than these fields cover
 pub inside_found : (found kept : List Pair) (fields same : List Field) (name : List ℕ) → AreInOrder found → kept ≡ filter (lies_in_some fields name) found

@@ -1,17 +1,19 @@
 // What is found of the leaves of a query in a document.
-ghost use Rattle.std.specs.Prelude.{◌≡◌, ◌<◌, length, map, All, Err, IfErr, IfOk};
+ghost use Rattle.std.specs.Prelude.{◌≡◌, ◌<◌, length, map, All, Err, IfErr, IfOk, IfSome};
 ghost use Rattle.ri_base.specs.Collection.{document_at};
+ghost use Rattle.ri_base.specs.Expression.{expr_tree};
 ghost use Rattle.ri_base.specs.Faults.{IsOutside};
 ghost use Rattle.ri_base.specs.Keeps.{Keeps, Rose};
 ghost use Rattle.ri_base.specs.Pair.{Pair};
+ghost use Rattle.field_extents.specs.Extents.{AreInOrder};
 ghost use Rattle.query_check.specs.Leaves.{leaf_tree};
-ghost use Rattle.document_scoring.specs.Counters.{IsFound, found_count};
-ghost use Rattle.document_scoring.specs.Counts.{count_in};
+ghost use Rattle.document_scoring.specs.Counters.{IsFewer, IsFound, found_count};
+ghost use Rattle.document_scoring.specs.Counts.{count_in, counted};
 
 use extent_ops::{extents, extents_have_one_list};
 use field_extents::inside;
 use query_check::LeafKind;
-use ri_base::{Extents, Name, Postings, SegFault};
+use ri_base::{ExtentExpr, Extents, Name, Postings, SegFault};
 use std::alloc::{AllocError, Global};
 
 /// The extents of a leaf in a document that count.
@@ -23,6 +25,32 @@ pub enum LeafExtents<'a> {
     Inside(Extents, &'a Name),
     /// None, of a prior.
     Prior,
+}
+
+/// The extents of an expression that count: all, or with a context those in some field of that name.
+pub fn counted<P: Postings>(
+    alloc: Global,
+    expr: &ExtentExpr,
+    context: &Option<Name>,
+    part: &mut P,
+    id: u32,
+) -> Result<Extents, SegFault>
+    requires id { id < length (P.documents part.old) }
+    ensures keeps { Keeps P.documents P.faults P.sound P.quiet part.old part.new }
+    ensures exact { P.sound part.old → IfOk result
+        (λ found. found ≡ counted (expr_tree expr.now) (document_at (P.documents part.old) id) context.now) }
+    ensures order { IfOk result AreInOrder }
+    // No more of them begin in a window than the fields of a context cover positions of it.
+    ensures few { IfOk result (λ found. IfSome context.now (IsFewer found (document_at (P.documents part.old) id).fields)) }
+    ensures honest { P.sound part.old → IfErr result IsOutside }
+    ensures store { result ≡ Err SegFault.Store → Rose (P.faults part.old) (P.faults part.new) }
+{
+    extents_have_one_list();
+    let found = extents(alloc, expr, part, id)?;
+    match context {
+        Some(name) => Ok(inside(alloc, &found, part.spans(id), name)?),
+        None => Ok(found),
+    }
 }
 
 /// What is found of a leaf in a document.
@@ -43,14 +71,10 @@ pub fn found_of<'a, P: Postings>(
     let LeafKind::Extents(expr, context) = leaf else {
         return Ok(LeafExtents::Prior);
     };
-    extents_have_one_list();
-    let found = extents(alloc, expr, part, id)?;
+    let found = counted(alloc, expr, context, part, id)?;
     match context {
         None => Ok(LeafExtents::Plain(found)),
-        Some(name) => {
-            let kept = inside(alloc, &found, part.spans(id), name)?;
-            Ok(LeafExtents::Inside(kept, name))
-        }
+        Some(name) => Ok(LeafExtents::Inside(found, name)),
     }
 }
 

@@ -10,4 +10,5 @@ mod found;
 mod scoring;
 
 pub use counts::count_of;
+pub use found::counted;
 pub use scoring::{Row, score_document};

@@ -1,3 +1,2 @@
 pub mod CandidateLemmas
-pub mod CountedLemmas
 pub mod LeafLemmas

@@ -6,7 +6,8 @@ ghost use Rattle.ri_base.specs.Keeps.{Keeps, Rose};
 ghost use Rattle.query_check.specs.Leaves.{leaf_tree};
 ghost use Rattle.result_explanation.specs.Explanation.{leaf_told, prior_name, told_leaf};
 
-use crate::counted::{count_in, counted, within};
+use crate::counted::{count_in, within};
+use document_scoring::counted;
 use query_check::LeafKind;
 use ranked_output::LeafShown;
 use ri_base::{Extent, Fraction, LeafStats, Name, NoMemory, Postings, SegFault};

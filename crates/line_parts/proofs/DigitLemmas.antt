@@ -24,7 +24,7 @@ out_of_range most n i digits lt e h =
 least_digit : (d : ℕ) → is_digit d ≡ true → (d == 48) ≡ false → 1 ≤ d - 48
 least_digit d a b = grind (arith, a, b)
 
-least : (text : List ℕ) → has_number_form text ≡ true → 1 ≤ value_from 0 text
+pub least : (text : List ℕ) → has_number_form text ≡ true → 1 ≤ value_from 0 text
 least [] e = cc
 least (d ∷ digits) e = by (is_digit d) (d == 48) refl refl
   where

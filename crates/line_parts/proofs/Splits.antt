@@ -2,6 +2,7 @@
 use Rattle.std.proofs.Common.{ℕ, suc, ◌≡◌, ◌<◌, ◌+◌, ◌==◌, Bool, true, false, not, List, [], ◌∷◌, ◌++◌, length, take, drop, get_or, Some, None, refl, ap, ◌∙◌, arith, length-append}
 use Rattle.std.specs.Prelude.{if◌then◌else◌, nat_lt}
 use Rattle.std.specs.List.{after_first, before_first, list_all, position_or_len}
+use Rattle.std.proofs.Math.Seq.{take-append_seam}
 use Rattle.std.proofs.lemmas.Bool.{le-ltb, lt-ltb, ltb-true}
 use Rattle.std.proofs.lemmas.List.Sums.{passes_at_first, split_at_first}
 use Rattle.line_parts.specs.Parts.{is_byte, split}
@@ -19,11 +20,7 @@ all_other p a (b ∷ text) never all = by (b == a) (p b) refl refl all (λ h. al
     by false true is here all further = rw is (further (rw here at all))
     by false false is here all further = absurd (let bad : false ≡ true = rw here at all in cc)
 
-take_front : (raw rest : List ℕ) → take (length raw) (raw ++ rest) ≡ raw
-take_front [] rest = refl
-take_front (b ∷ raw) rest = ap (λ xs. b ∷ xs) (take_front raw rest)
-
-drop_front : (raw : List ℕ) (c : ℕ) (rest : List ℕ) → drop (length raw + 1) (raw ++ c ∷ rest) ≡ rest
+pub drop_front : (raw : List ℕ) (c : ℕ) (rest : List ℕ) → drop (length raw + 1) (raw ++ c ∷ rest) ≡ rest
 drop_front [] c rest = refl
 drop_front (b ∷ raw) c rest = let k : length (b ∷ raw) + 1 ≡ suc (length raw + 1) = omega arith in ap (λ i. drop i (b ∷ raw ++ c ∷ rest)) k ∙ drop_front raw c rest
 
@@ -39,7 +36,7 @@ pub split_front : (a : ℕ) (raw rest : List ℕ) → list_all (is_other a) raw 
 split_front a raw rest none =
     let place = place_of a raw rest none in
     let test : nat_lt (length raw) (length (raw ++ a ∷ rest)) ≡ true = lt-ltb _ _ (omega (arith, length-append raw (a ∷ rest))) in
-    rw (place, test, take_front raw (a ∷ rest), drop_front raw a rest) refl
+    rw (place, test, take-append_seam raw (a ∷ rest), drop_front raw a rest) refl
 
 no_place : (a : ℕ) (text : List ℕ) → list_all (is_other a) text ≡ true → position_or_len (is_byte a) text ≡ length text
 no_place a [] none = refl
@@ -54,7 +51,8 @@ unsplit a text none =
     let test : nat_lt (position_or_len (is_byte a) text) (length text) ≡ false = le-ltb _ _ (omega (arith, no_place a text none)) in
     rw test refl
 
-cut : (a : ℕ) (text : List ℕ) → position_or_len (is_byte a) text < length text → text ≡ before_first (is_byte a) text ++ a ∷ after_first (is_byte a) text
+-- a text at the first such byte
+pub cut : (a : ℕ) (text : List ℕ) → position_or_len (is_byte a) text < length text → text ≡ before_first (is_byte a) text ++ a ∷ after_first (is_byte a) text
 cut a text lt =
     let passes : is_byte a (get_or text (position_or_len (is_byte a) text) 0) ≡ true = passes_at_first (is_byte a) text 0 lt in
     let byte : get_or text (position_or_len (is_byte a) text) 0 ≡ a = grind (arith, passes) in

@@ -46,10 +46,11 @@ pub fn value_within(digits: &[u8], most: u64) -> Option<u64>
 }
 
 /// The number that stands here without a leading zero, where it is one from 1 to `most`.
+#[tactic(auto, using(crate::proofs::DigitLemmas::least))]
 pub fn number_to(most: u64, text: &[u8]) -> Option<u64>
     requires { most < 2 ^ 60 }
     ensures number { result ≡ number_to most text.now }
-    ensures range { IfSome result (λ n. n ≤ most) }
+    ensures range { IfSome result (λ n. (1 ≤ n) × (n ≤ most)) }
 {
     if has_number_form(text) {
         value_within(text, most)

@@ -1,4 +1,4 @@
 pub mod LineForm
 pub mod LineLemmas
 pub mod SkipLemmas
-mod TextLemmas
+pub mod TextLemmas

@@ -2,7 +2,10 @@
 use Rattle.std.proofs.Common.{ℕ, zero, suc, ◌≡◌, ◌<◌, ◌≤◌, ◌+◌, ◌-◌, Bool, true, false, List, [], ◌∷◌, ◌++◌, length, take, drop, refl, sym, ap, ◌∙◌, arith, length-append, subst}
 use Rattle.std.specs.Prelude.{nat_lt, slice_index, ◌==◌}
 use Rattle.std.specs.List.{after_first, before_first, position_or_len}
+use Rattle.std.proofs.Math.Seq.{take-append_seam}
 use Rattle.std.proofs.lemmas.Bool.{ltb-false, ltb-true}
+use Rattle.std.proofs.lemmas.List.{drop_all, take_all}
+use Rattle.line_parts.proofs.Splits.{cut, drop_front}
 use Rattle.line_reader.specs.Lines.{behind_line, is_feed, line, without_return}
 use Rattle.line_reader.specs.Form.{HasNoFeed, IsLine, IsWritten}
 use Rattle.line_reader.specs.Form.IsLine.{ended, last}
@@ -18,9 +21,6 @@ place_cons b bytes f = rw f (omega arith)
 
 before_cons : (b : ℕ) (bytes : List ℕ) → is_feed b ≡ false → before_first is_feed (b ∷ bytes) ≡ b ∷ before_first is_feed bytes
 before_cons b bytes f = ap (λ k. take k (b ∷ bytes)) (place_cons b bytes f)
-
-after_cons : (b : ℕ) (bytes : List ℕ) → is_feed b ≡ false → after_first is_feed (b ∷ bytes) ≡ after_first is_feed bytes
-after_cons b bytes f = let k : position_or_len is_feed (b ∷ bytes) + 1 ≡ suc (position_or_len is_feed bytes + 1) = omega (arith, place_cons b bytes f) in ap (λ i. drop i (b ∷ bytes)) k
 
 no_front : (bytes : List ℕ) → HasNoFeed (before_first is_feed bytes)
 no_front [] before behind e = by before e
@@ -42,21 +42,6 @@ no_front (b ∷ bytes) before behind e = by (is_feed b) refl before e (no_front 
         let more = before_cons b bytes f in
         let rest : before_first is_feed bytes ≡ before ++ 10 ∷ behind = cc in
         further before behind rest
-
-cut_at_feed : (bytes : List ℕ) → position_or_len is_feed bytes < length bytes → bytes ≡ before_first is_feed bytes ++ 10 ∷ after_first is_feed bytes
-cut_at_feed [] lt = absurd (omega arith)
-cut_at_feed (b ∷ bytes) lt = by (is_feed b) refl (λ h. cut_at_feed bytes h)
-  where
-    by : (v : Bool) → is_feed b ≡ v → (position_or_len is_feed bytes < length bytes → bytes ≡ before_first is_feed bytes ++ 10 ∷ after_first is_feed bytes) → b ∷ bytes ≡ before_first is_feed (b ∷ bytes) ++ 10 ∷ after_first is_feed (b ∷ bytes)
-    by true f further =
-        let is : b ≡ 10 = feed_is b f in
-        let none : before_first is_feed (b ∷ bytes) ≡ [] = rw f refl in
-        let behind : after_first is_feed (b ∷ bytes) ≡ bytes = rw f refl in
-        ap (λ k. k ∷ bytes) is ∙ sym (ap (λ xs. 10 ∷ xs) behind) ∙ sym (ap (λ xs. xs ++ 10 ∷ after_first is_feed (b ∷ bytes)) none)
-    by false f further =
-        let more = place_cons b bytes f in
-        let rest : bytes ≡ before_first is_feed bytes ++ 10 ∷ after_first is_feed bytes = further (omega (arith, lt, more)) in
-        ap (λ xs. b ∷ xs) rest ∙ sym (ap (λ xs. b ∷ before_first is_feed bytes ++ 10 ∷ xs) (after_cons b bytes f)) ∙ sym (ap (λ xs. xs ++ 10 ∷ after_first is_feed (b ∷ bytes)) (before_cons b bytes f))
 
 -- a front without a LF, and a LF behind it
 place_of : (raw rest : List ℕ) → HasNoFeed raw → position_or_len is_feed (raw ++ 10 ∷ rest) ≡ length raw
@@ -81,17 +66,13 @@ last_of : (before : List ℕ) (c : ℕ) → slice_index (before ++ c ∷ []) (le
 last_of [] c = refl
 last_of (b ∷ before) c = last_of before c
 
-front_of : (before : List ℕ) (c : ℕ) → take (length before) (before ++ c ∷ []) ≡ before
-front_of [] c = refl
-front_of (b ∷ before) c = ap (λ xs. b ∷ xs) (front_of before c)
-
 count_of : (before : List ℕ) (c : ℕ) → length (before ++ c ∷ []) - 1 ≡ length before
 count_of before c = omega (arith, length-append before (c ∷ []))
 
 text_with : (before : List ℕ) → without_return (before ++ 13 ∷ []) ≡ before
 text_with before =
     let is : slice_index (before ++ 13 ∷ []) (length (before ++ 13 ∷ []) - 1) ≡ 13 = ap (slice_index (before ++ 13 ∷ [])) (count_of before 13) ∙ last_of before 13 in
-    rw is (ap (λ k. take k (before ++ 13 ∷ [])) (count_of before 13) ∙ front_of before 13)
+    rw is (ap (λ k. take k (before ++ 13 ∷ [])) (count_of before 13) ∙ take-append_seam before (13 ∷ []))
 
 zero_last : (raw : List ℕ) → (slice_index raw (length raw - 1) == 13) ≡ true → 0 < length raw
 zero_last [] e = cc
@@ -132,50 +113,30 @@ text_of_written text raw (without _ _ e none) = by (slice_index raw (length raw 
 
 -- LINES
 
-taken_all : (n : ℕ) (xs : List ℕ) → length xs ≤ n → take n xs ≡ xs
-taken_all zero [] le = refl
-taken_all zero (x ∷ xs) le = absurd (omega arith)
-taken_all (suc n) [] le = refl
-taken_all (suc n) (x ∷ xs) le = ap (λ ys. x ∷ ys) (taken_all n xs (omega arith))
-
-dropped_all : (n : ℕ) (xs : List ℕ) → length xs ≤ n → drop n xs ≡ []
-dropped_all zero [] le = refl
-dropped_all zero (x ∷ xs) le = absurd (omega arith)
-dropped_all (suc n) [] le = refl
-dropped_all (suc n) (x ∷ xs) le = dropped_all n xs (omega arith)
-
 pub line_only : (bytes : List ℕ) → 0 < length bytes → IsLine (line bytes) bytes (behind_line bytes)
 unfolding line behind_line
 line_only bytes some = by (nat_lt (position_or_len is_feed bytes) (length bytes)) refl
   where
     by : (v : Bool) → nat_lt (position_or_len is_feed bytes) (length bytes) ≡ v → IsLine (without_return (before_first is_feed bytes)) bytes (after_first is_feed bytes)
-    by true e = ended _ bytes _ (before_first is_feed bytes) (cut_at_feed bytes (ltb-true _ _ e)) (written_is (before_first is_feed bytes)) (no_front bytes)
+    by true e = ended _ bytes _ (before_first is_feed bytes) (cut 10 bytes (ltb-true _ _ e)) (written_is (before_first is_feed bytes)) (no_front bytes)
     by false e =
         let le = ltb-false _ _ e in
-        let all : before_first is_feed bytes ≡ bytes = taken_all (position_or_len is_feed bytes) bytes le in
+        let all : before_first is_feed bytes ≡ bytes = take_all (position_or_len is_feed bytes) bytes le in
         let none : HasNoFeed bytes = (let P : List ℕ → Type 0 = HasNoFeed in subst P all (no_front bytes)) in
         let written : IsWritten (without_return (before_first is_feed bytes)) bytes = (let P : List ℕ → Type 0 = λ raw. IsWritten (without_return (before_first is_feed bytes)) raw in subst P all (written_is (before_first is_feed bytes))) in
-        last _ bytes _ some (dropped_all (position_or_len is_feed bytes + 1) bytes (omega (arith, le))) written none
-
-pub take_front : (raw rest : List ℕ) → take (length raw) (raw ++ rest) ≡ raw
-take_front [] rest = refl
-take_front (b ∷ raw) rest = ap (λ xs. b ∷ xs) (take_front raw rest)
-
-drop_front : (raw : List ℕ) (c : ℕ) (rest : List ℕ) → drop (length raw + 1) (raw ++ c ∷ rest) ≡ rest
-drop_front [] c rest = refl
-drop_front (b ∷ raw) c rest = let k : length (b ∷ raw) + 1 ≡ suc (length raw + 1) = omega arith in ap (λ i. drop i (b ∷ raw ++ c ∷ rest)) k ∙ drop_front raw c rest
+        last _ bytes _ some (drop_all (position_or_len is_feed bytes + 1) bytes (omega (arith, le))) written none
 
 pub line_every : (text bytes rest : List ℕ) → IsLine text bytes rest → (text ≡ line bytes) × (rest ≡ behind_line bytes)
 unfolding line behind_line
 line_every text bytes rest (ended _ _ _ raw e written none) =
     let place : position_or_len is_feed bytes ≡ length raw = rw e (place_of raw rest none) in
-    let front : before_first is_feed bytes ≡ raw = ap (λ k. take k bytes) place ∙ ap (take (length raw)) e ∙ take_front raw (10 ∷ rest) in
+    let front : before_first is_feed bytes ≡ raw = ap (λ k. take k bytes) place ∙ ap (take (length raw)) e ∙ take-append_seam raw (10 ∷ rest) in
     let behind : after_first is_feed bytes ≡ rest = ap (λ k. drop (k + 1) bytes) place ∙ ap (drop (length raw + 1)) e ∙ drop_front raw 10 rest in
     (text_of_written text raw written ∙ ap without_return (sym front), sym behind)
 line_every text bytes rest (last _ _ _ some e written none) =
     let place = place_of_all bytes none in
-    let front : before_first is_feed bytes ≡ bytes = taken_all (position_or_len is_feed bytes) bytes (omega (arith, place)) in
-    let behind : after_first is_feed bytes ≡ [] = dropped_all (position_or_len is_feed bytes + 1) bytes (omega (arith, place)) in
+    let front : before_first is_feed bytes ≡ bytes = take_all (position_or_len is_feed bytes) bytes (omega (arith, place)) in
+    let behind : after_first is_feed bytes ≡ [] = drop_all (position_or_len is_feed bytes + 1) bytes (omega (arith, place)) in
     (text_of_written text bytes written ∙ ap without_return (sym front), e ∙ sym behind)
 
 pub line_less : (text bytes rest : List ℕ) → IsLine text bytes rest → length rest ≤ length bytes

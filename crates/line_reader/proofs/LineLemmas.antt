@@ -5,10 +5,11 @@ use Rattle.std.specs.Option.{option_map}
 use Rattle.std.specs.List.{after_first, before_first, position_or_len}
 use Rattle.std.specs.Io.KnownBytes.{IsAtEnd, prepend_known}
 use Rattle.std.proofs.Math.Seq.{take-append-add, drop-append-add, take-length}
-use Rattle.std.proofs.lemmas.Bool.{lt-ltb, ltb-true}
-use Rattle.std.proofs.lemmas.List.{take_min, take-append-le, drop-append-le}
+use Rattle.std.proofs.lemmas.Bool.{false_from_ne_true, lt-ltb, ltb-false, ltb-true}
+use Rattle.std.proofs.lemmas.List.{drop_all, take_all, take_min, take-append-le, drop-append-le}
 use Rattle.memchr.specs.Find.{IsFirstByte, is_byte}
 use Rattle.line_reader.specs.Lines.{behind_line, has_feed, is_feed, is_too_long, kept, without_return}
+use Rattle.line_reader.specs.declared.line.TheConstants.{KEPT_BYTES, LINE_BYTES}
 use Rattle.line_parts.proofs.FirstByte.{first_byte, no_byte}
 
 -- WHAT IS KEPT
@@ -26,13 +27,9 @@ taken_twice (suc n) (x ∷ xs) ys = ap (λ zs. x ∷ zs) (taken_twice n xs ys)
 
 pub kept_twice : (xs ys : List ℕ) → kept (kept xs ++ ys) ≡ kept (xs ++ ys)
 unfolding kept
-kept_twice xs ys = taken_twice 65538 xs ys
+kept_twice xs ys = taken_twice KEPT_BYTES xs ys
 
 -- FEEDS
-
-none_of : (v : Bool) → (v ≡ true → ⊥) → v ≡ false
-none_of true never = absurd (never refl)
-none_of false never = refl
 
 pub feed_found : (bytes : List ℕ) (n : ℕ) → IsFirstByte (is_byte 10) bytes (Some n) → true ≡ has_feed bytes
 feed_found bytes n first =
@@ -49,21 +46,15 @@ feed_after bytes n first = ap (λ k. drop (k + 1) bytes) (first_byte 10 bytes n 
 pub no_feed : (bytes : List ℕ) → IsFirstByte (is_byte 10) bytes None → false ≡ has_feed bytes
 no_feed bytes none =
     let e = no_byte 10 bytes none in
-    sym (none_of (has_feed bytes) (λ h. let lt = ltb-true _ _ h in omega (arith, lt, e)))
+    sym (false_from_ne_true (has_feed bytes) (λ h. let lt = ltb-true _ _ h in omega (arith, lt, e)))
 
 pub no_feed_before : (bytes : List ℕ) → IsFirstByte (is_byte 10) bytes None → bytes ≡ before_first is_feed bytes
 no_feed_before bytes none = sym (take-length bytes) ∙ ap (λ k. take k bytes) (no_byte 10 bytes none)
 
-beyond : (n : ℕ) (xs : List ℕ) → length xs ≤ n → drop n xs ≡ []
-beyond zero [] le = refl
-beyond zero (x ∷ xs) le = absurd (omega arith)
-beyond (suc n) [] le = refl
-beyond (suc n) (x ∷ xs) le = beyond n xs (omega arith)
-
 pub no_feed_after : (bytes : List ℕ) → IsFirstByte (is_byte 10) bytes None → drop (length bytes) bytes ≡ after_first is_feed bytes
 no_feed_after bytes none =
     let e = no_byte 10 bytes none in
-    beyond (length bytes) bytes (omega arith) ∙ sym (beyond (position_or_len is_feed bytes + 1) bytes (omega (arith, e)))
+    drop_all (length bytes) bytes (omega arith) ∙ sym (drop_all (position_or_len is_feed bytes + 1) bytes (omega (arith, e)))
 
 -- A PIECE AND WHAT FOLLOWS
 
@@ -93,9 +84,6 @@ place_behind (b ∷ bytes) rest le = by (is_feed b) refl (λ h. place_behind byt
         let behind : position_or_len is_feed (bytes ++ rest) ≡ length bytes + position_or_len is_feed rest = further (omega (arith, le, more)) in
         rw (e, behind) (omega arith)
 
-not_below : (m n : ℕ) → nat_lt m n ≡ false → n ≤ m
-not_below m n e = grind (arith, e)
-
 before_here : (bytes rest : List ℕ) → has_feed bytes ≡ true → before_first is_feed (bytes ++ rest) ≡ before_first is_feed bytes
 before_here bytes rest has =
     let lt = ltb-true _ _ has in
@@ -108,27 +96,19 @@ after_here bytes rest has =
     ap (λ k. drop (k + 1) (bytes ++ rest)) (place_in bytes rest lt) ∙ drop-append-le (position_or_len is_feed bytes + 1) bytes rest (omega (arith, lt))
 
 before_further : (bytes rest : List ℕ) → has_feed bytes ≡ false → before_first is_feed (bytes ++ rest) ≡ bytes ++ before_first is_feed rest
-before_further bytes rest none = ap (λ k. take k (bytes ++ rest)) (place_behind bytes rest (not_below _ _ none)) ∙ take-append-add bytes rest (position_or_len is_feed rest)
+before_further bytes rest none = ap (λ k. take k (bytes ++ rest)) (place_behind bytes rest (ltb-false _ _ none)) ∙ take-append-add bytes rest (position_or_len is_feed rest)
 
 after_further : (bytes rest : List ℕ) → has_feed bytes ≡ false → after_first is_feed (bytes ++ rest) ≡ after_first is_feed rest
 after_further bytes rest none =
-    ap (λ k. drop (k + 1) (bytes ++ rest)) (place_behind bytes rest (not_below _ _ none))
+    ap (λ k. drop (k + 1) (bytes ++ rest)) (place_behind bytes rest (ltb-false _ _ none))
     ∙ (let whole : length bytes + position_or_len is_feed rest + 1 ≡ length bytes + (position_or_len is_feed rest + 1) = omega arith in ap (λ k. drop k (bytes ++ rest)) whole)
     ∙ drop-append-add bytes rest (position_or_len is_feed rest + 1)
 
 before_all : (bytes : List ℕ) → has_feed bytes ≡ false → before_first is_feed bytes ≡ bytes
-before_all bytes none =
-    let le = not_below _ _ none in
-    taken (position_or_len is_feed bytes) bytes le
-  where
-    taken : (n : ℕ) (xs : List ℕ) → length xs ≤ n → take n xs ≡ xs
-    taken zero [] le = refl
-    taken zero (x ∷ xs) le = absurd (omega arith)
-    taken (suc n) [] le = refl
-    taken (suc n) (x ∷ xs) le = ap (λ ys. x ∷ ys) (taken n xs (omega arith))
+before_all bytes none = take_all (position_or_len is_feed bytes) bytes (ltb-false _ _ none)
 
 pub after_none : (bytes : List ℕ) → has_feed bytes ≡ false → after_first is_feed bytes ≡ []
-after_none bytes none = beyond (position_or_len is_feed bytes + 1) bytes (let le = not_below _ _ none in omega (arith, le))
+after_none bytes none = drop_all (position_or_len is_feed bytes + 1) bytes (let le = ltb-false _ _ none in omega (arith, le))
 
 -- A LINE SO FAR
 
@@ -194,31 +174,31 @@ length_without xs = by (slice_index xs (length xs - 1) == 13) refl
     by true e = rw e (let n = length-take (length xs - 1) xs in (omega (arith, n), omega (arith, n)))
     by false e = rw e (omega arith, omega arith)
 
-kept_few : (xs : List ℕ) → length xs ≤ 65538 → kept xs ≡ xs
+kept_few : (xs : List ℕ) → length xs ≤ KEPT_BYTES → kept xs ≡ xs
 unfolding kept
-kept_few xs le = sym (take_min 65538 xs) ∙ (let n : min 65538 (length xs) ≡ length xs = omega arith in ap (λ k. take k xs) n) ∙ take-length xs
+kept_few xs le = take_all KEPT_BYTES xs le
 
-kept_many : (xs : List ℕ) → 65538 ≤ length xs → length (kept xs) ≡ 65538
+kept_many : (xs : List ℕ) → KEPT_BYTES ≤ length xs → length (kept xs) ≡ KEPT_BYTES
 unfolding kept
-kept_many xs le = length-take 65538 xs ∙ omega arith
+kept_many xs le = length-take KEPT_BYTES xs ∙ omega arith
 
-pub size_kept : (xs : List ℕ) → nat_lt 65536 (length (without_return (kept xs))) ≡ is_too_long (without_return xs)
-size_kept xs = by (nat_lt 65538 (length xs)) refl
+pub size_kept : (xs : List ℕ) → nat_lt LINE_BYTES (length (without_return (kept xs))) ≡ is_too_long (without_return xs)
+size_kept xs = by (nat_lt KEPT_BYTES (length xs)) refl
   where
-    by : (v : Bool) → nat_lt 65538 (length xs) ≡ v → nat_lt 65536 (length (without_return (kept xs))) ≡ is_too_long (without_return xs)
+    by : (v : Bool) → nat_lt KEPT_BYTES (length xs) ≡ v → nat_lt LINE_BYTES (length (without_return (kept xs))) ≡ is_too_long (without_return xs)
     by true e =
         let lt = ltb-true _ _ e in
         let a = length_without xs in
         let b = length_without (kept xs) in
         let k = kept_many xs (omega arith) in
-        let one : nat_lt 65536 (length (without_return (kept xs))) ≡ true = lt-ltb _ _ (omega (arith, a.1, b.1, k)) in
-        let two : nat_lt 65536 (length (without_return xs)) ≡ true = lt-ltb _ _ (omega (arith, a.1)) in
+        let one : nat_lt LINE_BYTES (length (without_return (kept xs))) ≡ true = lt-ltb _ _ (omega (arith, a.1, b.1, k)) in
+        let two : nat_lt LINE_BYTES (length (without_return xs)) ≡ true = lt-ltb _ _ (omega (arith, a.1)) in
         one ∙ sym two
-    by false e = rw (kept_few xs (not_below _ _ e)) refl
+    by false e = rw (kept_few xs (ltb-false _ _ e)) refl
 
 pub text_kept : (xs : List ℕ) → is_too_long (without_return xs) ≡ false → without_return (kept xs) ≡ without_return xs
 text_kept xs e =
-    let few = not_below _ _ e in
+    let few = ltb-false _ _ e in
     let a = length_without xs in
     ap without_return (kept_few xs (omega (arith, few, a.1)))
 

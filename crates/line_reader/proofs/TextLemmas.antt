@@ -107,6 +107,16 @@ texts_end offset at None (Some ys) ended e = cc
 texts_end offset at (Some xs) None ended e = cc
 texts_end offset at (Some xs) (Some ys) ended e = rw ended refl
 
+-- what is said of the texts that there were, by the answer and the texts behind it
+pub texts_then : {A : Type 0} (f : List Placed → A) (offset : ℕ) (answer : List ℕ → List Placed) (g : List ℕ → A) (old new : Option (List ℕ)) → option_map (texts_at offset) old ≡ option_map answer new → ((rest : List ℕ) → f (answer rest) ≡ g rest)
+    → option_map (λ bytes. f (texts_at offset bytes)) old ≡ option_map g new
+texts_then f offset answer g None None e each = refl
+texts_then f offset answer g None (Some ys) e each = cc
+texts_then f offset answer g (Some xs) None e each = cc
+texts_then f offset answer g (Some xs) (Some ys) e each =
+    let same : texts_at offset xs ≡ answer ys = cc in
+    ap (λ x. Some x) (ap f same ∙ each ys)
+
 pub trimmed_is : (text r : List ℕ) → IsTrimAscii text r → r ≡ trimmed text
 unfolding trimmed
 trimmed_is text r is = trim_ascii_is text r (trimmed_start text) refl is

@@ -3,7 +3,8 @@ use Rattle.std.proofs.Common.{ℕ, zero, suc, ◌≡◌, ◌<◌, ◌≤◌, ◌
 use Rattle.std.specs.Prelude.{Some, None, nat_lt, ◌==◌, is_some, IfSome, IfOk, OnOk}
 use Rattle.std.specs.Io.KnownBytes.{IsAtEnd, prepend_known}
 use Rattle.std.proofs.lemmas.Bool.{le-ltb, lt-ltb, ltb-false, ltb-true}
-use Rattle.std.proofs.lemmas.List.{take_min, drop-drop}
+use Rattle.std.proofs.Math.Seq.{drop-nil}
+use Rattle.std.proofs.lemmas.List.{drop_all, take_min, drop-drop}
 use Rattle.read_ahead.specs.Ahead.{Ahead}
 use Rattle.trec_reader.specs.Read.{behind_space, bounded_document, document_at, document_read, entry, entry_then, offset_of, read, read_rest, with_document}
 use Rattle.trec_reader.specs.Documents.{Reading}
@@ -12,7 +13,7 @@ use Rattle.trec_reader.specs.declared.document.RawDoc.{RawDoc}
 use Rattle.trec_reader.specs.declared.piece.Piece.{Piece}
 use Rattle.trec_reader.specs.declared.refusal.TrecRefusal.{TrecRefusal}
 use Rattle.trec_reader.specs.declared.refusal.TrecRefusal.TheVariants.{NoDocno, DocnoEmpty, DocnoBad, DocnoLong, DocOpen, NotADoc, DocTooLarge, Read, Ended, Memory}
-use Rattle.session_events.specs.Events.{IsSessionEvent}
+use Rattle.session_events.specs.Events.{IsSessionEvent, is_end as is_end_event}
 use Rattle.script_reader.specs.Held.{IsTextRefusal}
 use Rattle.trec_reader.proofs.Shorter.{read_is}
 use Rattle.ri_base.specs.Ascii.{is_space}
@@ -32,7 +33,7 @@ use Rattle.script_reader.specs.declared.item.Item.{Item}
 use Rattle.script_reader.specs.declared.item.Item.TheVariants as item
 use Rattle.script_reader.specs.declared.item.Unread.TheVariants.{BadEvent, LineTooLong, ShortAdd}
 use Rattle.script_reader.specs.Items.{document_item, found_items, items_at, items_behind, line_said, said, short_items}
-use Rattle.script_reader.specs.State.{added_items, block_items, documents_left, is_end_event, line_items, rest_items, short_of, with_item}
+use Rattle.script_reader.specs.State.{added_items, block_items, documents_left, line_items, rest_items, short_of, with_item}
 
 -- items behind so many bytes are those of what remains
 items_behind_is : (offset n : ℕ) (bytes : List ℕ) → items_behind offset n bytes ≡ items_at (offset + n) (drop n bytes)
@@ -131,6 +132,11 @@ pub unread_is : {A : Type 0} (f : List ℕ → A) (bytes : List ℕ) (left : Opt
 unread_is f bytes None = refl
 unread_is f bytes (Some rest) = refl
 
+-- what holds of unread bytes before and after a call, as it is said of what the source has left
+over_left : {A : Type 0} (f g : List ℕ → A) (old mid : List ℕ) (left left_now : Option (List ℕ)) → option_map f (prepend_known old left) ≡ option_map g (prepend_known mid left_now)
+    → option_map (λ rest. f (old ++ rest)) left ≡ option_map (λ rest. g (mid ++ rest)) left_now
+over_left f g old mid left left_now e = sym (unread_is f old left) ∙ e ∙ unread_is g mid left_now
+
 pub map_same : {A : Type 0} (f g : List ℕ → A) (left : Option (List ℕ)) → ((rest : List ℕ) → f rest ≡ g rest) → option_map f left ≡ option_map g left
 map_same f g None same = refl
 map_same f g (Some rest) same = ap (λ x. Some x) (same rest)
@@ -152,10 +158,6 @@ not_zero n = grind arith
 short_some : (place n : ℕ) → short_of place (suc n) ≡ Some (item.Unread ShortAdd place)
 short_some place n = rw (not_zero n) refl
 
-drop_nil : (n : ℕ) → drop {A = ℕ} n [] ≡ []
-drop_nil zero = refl
-drop_nil (suc n) = refl
-
 nil_of : (xs : List ℕ) → length xs ≡ 0 → xs ≡ []
 nil_of [] e = refl
 nil_of (x ∷ xs) e = absurd (omega (arith, e))
@@ -169,16 +171,10 @@ rest_skipped place m zero at now bytes e f =
     left ∙ ap (λ k. items_at k (drop m bytes)) at_is
 rest_skipped place m (suc n) at now bytes e f =
     let fewer : nat_lt (length bytes) m ≡ true = lt-ltb (length bytes) m (omega arith) in
-    let none : drop m bytes ≡ [] = beyond m bytes (omega arith) in
+    let none : drop m bytes ≡ [] = drop_all m bytes (omega arith) in
     let left : rest_items place m at bytes ≡ item.Unread ShortAdd place ∷ items_at (at + m) (drop m bytes) = rw fewer refl in
     let ends : items_at (at + m) (drop m bytes) ≡ items_at now (drop m bytes) = ap (items_at (at + m)) none ∙ any_end (at + m) now ∙ sym (ap (items_at now) none) in
     left ∙ ap (λ xs. item.Unread ShortAdd place ∷ xs) ends ∙ sym (ap (λ found. with_item found (items_at now (drop m bytes))) (short_some place n))
-  where
-    beyond : (n : ℕ) (xs : List ℕ) → length xs ≤ n → drop n xs ≡ []
-    beyond zero [] le = refl
-    beyond zero (x ∷ xs) le = absurd (omega arith)
-    beyond (suc n) [] le = refl
-    beyond (suc n) (x ∷ xs) le = beyond n xs (omega arith)
 
 -- BYTES OF AN `add`
 
@@ -341,7 +337,7 @@ module _ (ahead : List ℕ) (missing at : ℕ) (documents : Ahead) (missing_now 
             let all : ahead ++ left_now ≡ [] = rw (order, empty_left) refl in
             rest_skipped place missing_now missing_now now now (ahead ++ left_now) (omega (arith, ap length all)) refl
             ∙ ap (λ xs. with_item (short_of place missing_now) (items_at now (drop missing_now xs))) all
-            ∙ ap (λ xs. with_item (short_of place missing_now) (items_at now xs)) (drop_nil missing_now)
+            ∙ ap (λ xs. with_item (short_of place missing_now) (items_at now xs)) (drop-nil missing_now)
             ∙ sym (ap (λ xs. with_item (short_of place missing_now) (items_at now xs)) all)
 
   -- The same of a source that tells what it has left, or doesn't.
@@ -411,18 +407,16 @@ pub given_line : (found : Line) (text : List ℕ) (passed : ℕ) (old mid : Ahea
     → ((rest : List ℕ) → f rest ≡ line_items found.is_too_long text (found.place + passed) (mid.offset + passed) (mid.bytes ++ rest))
     → option_map (λ rest. items_at (old.offset + passed) (old.bytes ++ rest)) left ≡ option_map f left_now
 given_line found text passed old mid left left_now f gives same_end each =
-    sym (unread_is (items_at (old.offset + passed)) old.bytes left)
-    ∙ line_given found text passed old.offset mid.offset (prepend_known old.bytes left) (prepend_known mid.bytes left_now) gives same_end
-    ∙ unread_is (line_items found.is_too_long text (found.place + passed) (mid.offset + passed)) mid.bytes left_now
-    ∙ sym (map_same f (λ rest. line_items found.is_too_long text (found.place + passed) (mid.offset + passed) (mid.bytes ++ rest)) left_now each)
+    let says : List ℕ → List Item = line_items found.is_too_long text (found.place + passed) (mid.offset + passed) in
+    over_left (items_at (old.offset + passed)) says old.bytes mid.bytes left left_now (line_given found text passed old.offset mid.offset (prepend_known old.bytes left) (prepend_known mid.bytes left_now) gives same_end)
+    ∙ sym (map_same f (λ rest. says (mid.bytes ++ rest)) left_now each)
 
 pub given_end : (passed : ℕ) (old mid : Ahead) (left left_now : Option (List ℕ)) → IsAtEnd (prepend_known old.bytes left)
     → option_map (λ xs. mid.offset + length xs) (prepend_known mid.bytes left_now) ≡ option_map (λ xs. old.offset + length xs) (prepend_known old.bytes left)
     → option_map (λ rest. items_at (old.offset + passed) (old.bytes ++ rest)) left ≡ option_map (λ rest. item.Event event.End ∷ []) left_now
 given_end passed old mid left left_now ended same_end =
-    sym (unread_is (items_at (old.offset + passed)) old.bytes left)
-    ∙ end_given passed old.offset mid.offset (prepend_known old.bytes left) (prepend_known mid.bytes left_now) ended (sym (told_of (λ xs. mid.offset + length xs) (λ xs. old.offset + length xs) (prepend_known mid.bytes left_now) (prepend_known old.bytes left) same_end))
-    ∙ unread_is (λ _. item.Event event.End ∷ []) mid.bytes left_now
+    over_left (items_at (old.offset + passed)) (λ _. item.Event event.End ∷ []) old.bytes mid.bytes left left_now
+    (end_given passed old.offset mid.offset (prepend_known old.bytes left) (prepend_known mid.bytes left_now) ended (sym (told_of (λ xs. mid.offset + length xs) (λ xs. old.offset + length xs) (prepend_known mid.bytes left_now) (prepend_known old.bytes left) same_end)))
 
 -- what was skipped
 pub given_rest : (place missing n passed : ℕ) (old mid : Ahead) (left left_now : Option (List ℕ))
@@ -430,10 +424,8 @@ pub given_rest : (place missing n passed : ℕ) (old mid : Ahead) (left left_now
     → IfSome (prepend_known old.bytes left) (λ bytes. n ≡ missing - length bytes) → mid.offset + n ≡ old.offset + missing
     → option_map (λ rest. rest_items place missing (old.offset + passed) (old.bytes ++ rest)) left ≡ option_map (λ rest. with_item (short_of place n) (items_at (mid.offset + passed) (mid.bytes ++ rest))) left_now
 given_rest place missing n passed old mid left left_now rest few offset =
-    sym (unread_is (rest_items place missing (old.offset + passed)) old.bytes left)
-    ∙ told (prepend_known old.bytes left) few
-    ∙ ap (option_map (λ xs. with_item (short_of place n) (items_at (mid.offset + passed) xs))) (sym rest)
-    ∙ unread_is (λ xs. with_item (short_of place n) (items_at (mid.offset + passed) xs)) mid.bytes left_now
+    over_left (rest_items place missing (old.offset + passed)) (λ xs. with_item (short_of place n) (items_at (mid.offset + passed) xs)) old.bytes mid.bytes left left_now
+    (told (prepend_known old.bytes left) few ∙ ap (option_map (λ xs. with_item (short_of place n) (items_at (mid.offset + passed) xs))) (sym rest))
   where
     told : (o : Option (List ℕ)) → IfSome o (λ bytes. n ≡ missing - length bytes) → option_map (rest_items place missing (old.offset + passed)) o ≡ option_map (λ xs. with_item (short_of place n) (items_at (mid.offset + passed) xs)) (option_map (drop missing) o)
     told None few = refl

@@ -3,10 +3,12 @@ use Rattle.std.proofs.Common.{ℕ, zero, suc, ◌≡◌, ◌<◌, ◌≤◌, ◌
 use Rattle.std.specs.Prelude.{nat_lt}
 use Rattle.std.specs.List.{position_or_len}
 use Rattle.std.proofs.lemmas.Bool.{le-ltb, lt-ltb, ltb-false, ltb-true}
-use Rattle.std.proofs.Math.Seq.{drop-append_seam}
+use Rattle.std.proofs.Math.Seq.{drop-append_seam, take-append_seam}
+use Rattle.std.proofs.lemmas.List.{drop_all, take-append-drop, take_all}
 use Rattle.trec_reader.specs.Read.{read}
 use Rattle.line_reader.specs.Form.{IsLine}
 use Rattle.line_reader.specs.Lines.{behind_line, is_feed, is_too_long, line}
+use Rattle.line_reader.specs.declared.line.TheConstants.{LINE_BYTES}
 use Rattle.script_lines.specs.Asked.{asked}
 use Rattle.script_lines.specs.declared.asked.Asked.{Asked}
 use Rattle.script_lines.specs.declared.asked.Asked.TheVariants as asks
@@ -19,7 +21,7 @@ use Rattle.script_reader.specs.declared.item.Unread.TheVariants.{BadEvent, LineT
 use Rattle.script_reader.proofs.ItemLemmas.{items_end, items_line}
 use Rattle.script_reader.specs.Form.{Asks, IsScript, offset_behind}
 use Rattle.script_reader.specs.Form.IsScript.{at_end, ends, empty, unknown, too_long, one, add, short_add}
-use Rattle.line_reader.proofs.LineForm.{line_every, line_less, line_only, line_some, take_front}
+use Rattle.line_reader.proofs.LineForm.{line_every, line_less, line_only, line_some}
 
 -- a line takes a byte at least
 shorter : (b : ℕ) (bytes : List ℕ) → length (behind_line (b ∷ bytes)) ≤ length bytes
@@ -31,23 +33,6 @@ offset_fits offset b bytes = let less = shorter b bytes in omega (arith, less)
 
 -- THE ITEMS ARE OF THE FORM
 
-taken : (n : ℕ) (xs : List ℕ) → length xs ≤ n → take n xs ≡ xs
-taken zero [] le = refl
-taken zero (x ∷ xs) le = absurd (omega arith)
-taken (suc n) [] le = refl
-taken (suc n) (x ∷ xs) le = ap (λ ys. x ∷ ys) (taken n xs (omega arith))
-
-dropped : (n : ℕ) (xs : List ℕ) → length xs ≤ n → drop n xs ≡ []
-dropped zero [] le = refl
-dropped zero (x ∷ xs) le = absurd (omega arith)
-dropped (suc n) [] le = refl
-dropped (suc n) (x ∷ xs) le = dropped n xs (omega arith)
-
-cut : (n : ℕ) (xs : List ℕ) → xs ≡ take n xs ++ drop n xs
-cut zero xs = refl
-cut (suc n) [] = refl
-cut (suc n) (x ∷ xs) = ap (λ ys. x ∷ ys) (cut n xs)
-
 -- what `said` says where an `add` stands
 added : (offset : ℕ) (bytes rest : List ℕ) (n : ℕ) → length rest ≤ length bytes → ((k : ℕ) (xs : List ℕ) → length xs ≤ length rest → IsScript k xs (items_at k xs)) → Asks (asks.Add n) bytes rest
     → IsScript offset bytes (found_items (read (take n rest)) ++ (short_items offset n rest ++ items_at (offset_behind offset bytes rest + n) (drop n rest)))
@@ -56,8 +41,8 @@ added offset bytes rest n less further a = by (nat_lt (length rest) n) refl
     by : (v : Bool) → nat_lt (length rest) n ≡ v → IsScript offset bytes (found_items (read (take n rest)) ++ (short_items offset n rest ++ items_at (offset_behind offset bytes rest + n) (drop n rest)))
     by true e =
         let lt = ltb-true (length rest) n e in
-        let all : take n rest ≡ rest = taken n rest (omega (arith, lt)) in
-        let none : drop n rest ≡ [] = dropped n rest (omega (arith, lt)) in
+        let all : take n rest ≡ rest = take_all n rest (omega (arith, lt)) in
+        let none : drop n rest ≡ [] = drop_all n rest (omega (arith, lt)) in
         let end : items_at (offset_behind offset bytes rest + n) (drop n rest) ≡ Event happens.End ∷ [] = ap (items_at (offset_behind offset bytes rest + n)) none ∙ items_end (offset_behind offset bytes rest + n) in
         let short : short_items offset n rest ≡ Unread ShortAdd offset ∷ [] = rw e refl in
         let P : List Item → Type 0 = λ items. IsScript offset bytes items in
@@ -71,7 +56,7 @@ added offset bytes rest n less further a = by (nat_lt (length rest) n) refl
         let short : short_items offset n rest ≡ [] = rw e refl in
         let P : List Item → Type 0 = λ items. IsScript offset bytes items in
         let whole : found_items (read (take n rest)) ++ items_at (offset_behind offset bytes (drop n rest)) (drop n rest) ≡ found_items (read (take n rest)) ++ (short_items offset n rest ++ items_at (offset_behind offset bytes rest + n) (drop n rest)) = rw (short, there) refl in
-        subst P whole (add offset bytes rest (take n rest) (drop n rest) _ (subst A len a) (cut n rest) (further (offset_behind offset bytes (drop n rest)) (drop n rest) (omega (arith, length-drop n rest))))
+        subst P whole (add offset bytes rest (take n rest) (drop n rest) _ (subst A len a) (sym (take-append-drop n rest)) (further (offset_behind offset bytes (drop n rest)) (drop n rest) (omega (arith, length-drop n rest))))
 
 step : (offset b : ℕ) (bytes : List ℕ) → ((k : ℕ) (xs : List ℕ) → length xs ≤ length bytes → IsScript k xs (items_at k xs)) → IsScript offset (b ∷ bytes) (items_at offset (b ∷ bytes))
 step offset b bytes further =
@@ -85,7 +70,7 @@ step offset b bytes further =
     here = ap (λ k. items_at k (behind_line (b ∷ bytes))) (sym (add-zero (offset_behind offset (b ∷ bytes) (behind_line (b ∷ bytes)))))
 
     asks_for : (a : Asked) → is_too_long (line (b ∷ bytes)) ≡ false → asked (line (b ∷ bytes)) ≡ a → Asks a (b ∷ bytes) (behind_line (b ∷ bytes))
-    asks_for a e h = record { text = line (b ∷ bytes); line = line_only (b ∷ bytes) (omega arith); short = ltb-false 65536 (length (line (b ∷ bytes))) e; says = h }
+    asks_for a e h = record { text = line (b ∷ bytes); line = line_only (b ∷ bytes) (omega arith); short = ltb-false LINE_BYTES (length (line (b ∷ bytes))) e; says = h }
 
     said_so : (a : Asked) → is_too_long (line (b ∷ bytes)) ≡ false → asked (line (b ∷ bytes)) ≡ a → IsScript offset (b ∷ bytes) (said a offset (behind_line (b ∷ bytes)) (λ n. items_at (offset_behind offset (b ∷ bytes) (behind_line (b ∷ bytes)) + n) (drop n (behind_line (b ∷ bytes)))))
     said_so asks.Nothing e h = let P : List Item → Type 0 = λ items. IsScript offset (b ∷ bytes) items in subst P here (empty offset (b ∷ bytes) (behind_line (b ∷ bytes)) _ (asks_for asks.Nothing e h) next)
@@ -95,7 +80,7 @@ step offset b bytes further =
     said_so asks.End e h = ends offset (b ∷ bytes) (behind_line (b ∷ bytes)) (asks_for asks.End e h)
 
     by : (v : Bool) → is_too_long (line (b ∷ bytes)) ≡ v → IsScript offset (b ∷ bytes) (line_items (is_too_long (line (b ∷ bytes))) (line (b ∷ bytes)) offset (offset_behind offset (b ∷ bytes) (behind_line (b ∷ bytes))) (behind_line (b ∷ bytes)))
-    by true e = rw e (too_long offset (line (b ∷ bytes)) (b ∷ bytes) (behind_line (b ∷ bytes)) _ (line_only (b ∷ bytes) (omega arith)) (ltb-true 65536 (length (line (b ∷ bytes))) e) next)
+    by true e = rw e (too_long offset (line (b ∷ bytes)) (b ∷ bytes) (behind_line (b ∷ bytes)) _ (line_only (b ∷ bytes) (omega arith)) (ltb-true LINE_BYTES (length (line (b ∷ bytes))) e) next)
     by false e = rw e (said_so (asked (line (b ∷ bytes))) e refl)
 
 within : (n offset : ℕ) (bytes : List ℕ) → length bytes ≤ n → IsScript offset bytes (items_at offset bytes)
@@ -113,17 +98,17 @@ asks_items : (a : Asked) (offset : ℕ) (bytes rest : List ℕ) → Asks a bytes
 asks_items a offset [] rest x = absurd (let some = line_some x.text [] rest x.line in omega (arith, some))
 asks_items a offset (b ∷ bytes) rest x =
     let is = line_every x.text (b ∷ bytes) rest x.line in
-    let short : is_too_long (line (b ∷ bytes)) ≡ false = (let le : length (line (b ∷ bytes)) ≤ 65536 = omega (arith, x.short, ap length is.0) in le-ltb 65536 (length (line (b ∷ bytes))) le) in
+    let short : is_too_long (line (b ∷ bytes)) ≡ false = (let le : length (line (b ∷ bytes)) ≤ LINE_BYTES = omega (arith, x.short, ap length is.0) in le-ltb LINE_BYTES (length (line (b ∷ bytes))) le) in
     let says : asked (line (b ∷ bytes)) ≡ a = ap asked (sym is.0) ∙ x.says in
     let line_is : items_at offset (b ∷ bytes) ≡ said a offset (behind_line (b ∷ bytes)) (λ n. items_at (offset_behind offset (b ∷ bytes) (behind_line (b ∷ bytes)) + n) (drop n (behind_line (b ∷ bytes)))) =
     items_line offset (offset_behind offset (b ∷ bytes) (behind_line (b ∷ bytes))) b bytes (offset_fits offset b bytes) ∙ rw (short, says) refl in
     line_is ∙ ap (λ r. said a offset r (λ n. items_at (offset_behind offset (b ∷ bytes) r + n) (drop n r))) (sym is.1)
 
-long_items : (offset : ℕ) (text bytes rest : List ℕ) → IsLine text bytes rest → 65536 < length text → items_at offset bytes ≡ Unread LineTooLong offset ∷ items_at (offset_behind offset bytes rest) rest
+long_items : (offset : ℕ) (text bytes rest : List ℕ) → IsLine text bytes rest → LINE_BYTES < length text → items_at offset bytes ≡ Unread LineTooLong offset ∷ items_at (offset_behind offset bytes rest) rest
 long_items offset text [] rest x long = absurd (let some = line_some text [] rest x in omega (arith, some))
 long_items offset text (b ∷ bytes) rest x long =
     let is = line_every text (b ∷ bytes) rest x in
-    let yes : is_too_long (line (b ∷ bytes)) ≡ true = lt-ltb 65536 (length (line (b ∷ bytes))) (omega (arith, long, ap length is.0)) in
+    let yes : is_too_long (line (b ∷ bytes)) ≡ true = lt-ltb LINE_BYTES (length (line (b ∷ bytes))) (omega (arith, long, ap length is.0)) in
     let line_is : items_at offset (b ∷ bytes) ≡ Unread LineTooLong offset ∷ items_at (offset_behind offset (b ∷ bytes) (behind_line (b ∷ bytes))) (behind_line (b ∷ bytes)) =
     items_line offset (offset_behind offset (b ∷ bytes) (behind_line (b ∷ bytes))) b bytes (offset_fits offset b bytes) ∙ rw yes refl in
     line_is ∙ ap (λ r. Unread LineTooLong offset ∷ items_at (offset_behind offset (b ∷ bytes) r) r) (sym is.1)
@@ -139,7 +124,7 @@ script_every offset bytes found (unknown _ _ rest items a further) = ap (λ xs. 
 script_every offset bytes found (too_long _ text _ rest items x long further) = ap (λ xs. Unread LineTooLong offset ∷ xs) (script_every _ rest items further) ∙ sym (long_items offset text bytes rest x long)
 script_every offset bytes found (one _ e _ rest items a further) = ap (λ xs. Event e ∷ xs) (script_every _ rest items further ∙ sym (zero_behind (offset_behind offset bytes rest) rest)) ∙ sym (asks_items (asks.Event e) offset bytes rest a)
 script_every offset bytes found (add _ _ behind block rest items a e further) =
-    let front : take (length block) behind ≡ block = ap (take (length block)) e ∙ take_front block rest in
+    let front : take (length block) behind ≡ block = ap (take (length block)) e ∙ take-append_seam block rest in
     let back : drop (length block) behind ≡ rest = ap (drop (length block)) e ∙ drop-append_seam block rest in
     let count = ap length e in
     let counts = length-append block rest in
@@ -153,8 +138,8 @@ script_every offset bytes found (add _ _ behind block rest items a e further) =
     ∙ ap (λ xs. found_items (read block) ++ items_at (offset_behind offset bytes rest) xs) back in
     ap (λ xs. found_items (read block) ++ xs) (script_every _ rest items further) ∙ sym said_is ∙ sym (asks_items (asks.Add (length block)) offset bytes behind a)
 script_every offset bytes found (short_add _ n _ block a lt) =
-    let front : take n block ≡ block = taken n block (omega (arith, lt)) in
-    let back : drop n block ≡ [] = dropped n block (omega (arith, lt)) in
+    let front : take n block ≡ block = take_all n block (omega (arith, lt)) in
+    let back : drop n block ≡ [] = drop_all n block (omega (arith, lt)) in
     let fewer : nat_lt (length block) n ≡ true = lt-ltb (length block) n lt in
     let short : short_items offset n block ≡ Unread ShortAdd offset ∷ [] = rw fewer refl in
     let said_is : found_items (read (take n block)) ++ (short_items offset n block ++ items_at (offset_behind offset bytes block + n) (drop n block)) ≡ found_items (read block) ++ Unread ShortAdd offset ∷ Event happens.End ∷ [] =

@@ -2,6 +2,7 @@
 use Rattle.std.specs.Prelude.{◌≡◌, ◌<◌, ◌≤◌, ℕ, ◌+◌, ◌-◌, List, [], ◌∷◌, ◌++◌, length}
 use Rattle.trec_reader.specs.Read.{read}
 use Rattle.line_reader.specs.Form.{IsLine}
+use Rattle.line_reader.specs.declared.line.TheConstants.{LINE_BYTES}
 use Rattle.script_lines.specs.Asked.{asked}
 use Rattle.script_lines.specs.declared.asked.Asked.{Asked}
 use Rattle.script_lines.specs.declared.asked.Asked.TheVariants as asks
@@ -20,7 +21,7 @@ offset_behind offset bytes rest = offset + (length bytes - length rest)
 pub record Asks (a : Asked) (bytes rest : List ℕ) : Type 0 where
   pub text : List ℕ
   pub line : IsLine text bytes rest
-  pub short : length text ≤ 65536
+  pub short : length text ≤ LINE_BYTES
   pub says : asked text ≡ a
 
 -- These are the items of these bytes, the first of which stands at this offset in its script.
@@ -29,7 +30,7 @@ pub data IsScript : ℕ → List ℕ → List Item → Type 0 where
   ends : (offset : ℕ) (bytes rest : List ℕ) → Asks asks.End bytes rest → IsScript offset bytes (Event happens.End ∷ [])
   empty : (offset : ℕ) (bytes rest : List ℕ) (items : List Item) → Asks asks.Nothing bytes rest → IsScript (offset_behind offset bytes rest) rest items → IsScript offset bytes items
   unknown : (offset : ℕ) (bytes rest : List ℕ) (items : List Item) → Asks asks.Unknown bytes rest → IsScript (offset_behind offset bytes rest) rest items → IsScript offset bytes (Unread BadEvent offset ∷ items)
-  too_long : (offset : ℕ) (text bytes rest : List ℕ) (items : List Item) → IsLine text bytes rest → 65536 < length text → IsScript (offset_behind offset bytes rest) rest items → IsScript offset bytes (Unread LineTooLong offset ∷ items)
+  too_long : (offset : ℕ) (text bytes rest : List ℕ) (items : List Item) → IsLine text bytes rest → LINE_BYTES < length text → IsScript (offset_behind offset bytes rest) rest items → IsScript offset bytes (Unread LineTooLong offset ∷ items)
   one : (offset : ℕ) (e : SomeEvent) (bytes rest : List ℕ) (items : List Item) → Asks (asks.Event e) bytes rest → IsScript (offset_behind offset bytes rest) rest items → IsScript offset bytes (Event e ∷ items)
   add : (offset : ℕ) (bytes behind block rest : List ℕ) (items : List Item) → Asks (asks.Add (length block)) bytes behind → behind ≡ block ++ rest → IsScript (offset_behind offset bytes rest) rest items → IsScript offset bytes (found_items (read block) ++ items)
   short_add : (offset n : ℕ) (bytes block : List ℕ) → Asks (asks.Add n) bytes block → length block < n → IsScript offset bytes (found_items (read block) ++ Unread ShortAdd offset ∷ Event happens.End ∷ [])

@@ -8,8 +8,7 @@ use Rattle.script_lines.specs.Asked.{asked}
 use Rattle.script_reader.specs.declared.item.Item.{Item}
 use Rattle.script_reader.specs.declared.item.Item.TheVariants.{Event, Unread, Trec, Token}
 use Rattle.script_reader.specs.declared.item.Unread.TheVariants.{LineTooLong, ShortAdd}
-use Rattle.session_events.specs.declared.event.Event.{Event as SomeEvent}
-use Rattle.session_events.specs.declared.event.Event.TheVariants as event
+use Rattle.session_events.specs.Events.{is_end as is_end_event}
 use Rattle.script_reader.specs.declared.reader.ItemReader.{ItemReader}
 use Rattle.script_reader.specs.declared.reader.Stage.{Stage}
 use Rattle.script_reader.specs.declared.reader.Stage.TheVariants.{Lines, Documents, Rest, Ended}
@@ -72,10 +71,6 @@ with_item None items = items
 with_item (Some item) items = item ∷ items
 
 -- the item is the event `end`
-abbrev pub is_end_event : SomeEvent → Bool
-is_end_event event.End = true
-is_end_event _ = false
-
 abbrev pub is_end : Option Item → Bool
 is_end None = false
 is_end (Some (Event e)) = is_end_event e

@@ -1,5 +1,5 @@
 -- What an event of a session may hold.
-use Rattle.std.specs.Prelude.{◌≡◌, ◌≤◌, ℕ, true}
+use Rattle.std.specs.Prelude.{◌≡◌, ◌≤◌, ℕ, Bool, false, true}
 use Rattle.std.specs.Str.{is_utf8}
 use Rattle.session_events.specs.declared.event.TheConstants.{MAX_RESULTS, MAX_TURN_DOCS}
 use Rattle.session_events.specs.declared.event.Event.{Event}
@@ -22,3 +22,8 @@ IsSessionEvent (Explain name rank) = IsFrom1To MAX_RESULTS rank
 IsSessionEvent (Scan text) = is_utf8 text ≡ true
 IsSessionEvent (Close name) = Unit {0}
 IsSessionEvent End = Unit {0}
+
+-- the session ends with it
+abbrev pub is_end : Event → Bool
+is_end End = true
+is_end _ = false

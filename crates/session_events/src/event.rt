@@ -1,4 +1,6 @@
 // What happens in a session.
+ghost use Rattle.std.specs.Prelude.{◌≡◌};
+ghost use Rattle.session_events.specs.Events.{is_end};
 
 use ri_base::{Bytes, Doc, Docno, Name};
 
@@ -8,7 +10,7 @@ pub const MAX_ADD_BYTES: u64 = 1_073_741_824;
 /// The documents of a turn of a merge or of a step of a query, at most: 2^32 - 1.
 pub const MAX_TURN_DOCS: u64 = 4_294_967_295;
 
-/// The results of a query, at most.
+/// The results of a query that may be asked for, at most. A person reads no more, and a run has rarely more.
 pub const MAX_RESULTS: u32 = 1000;
 
 /// An event of a session.
@@ -38,4 +40,16 @@ pub enum Event {
     Close(Name),
     /// The session ends.
     End,
+}
+
+impl Event {
+    /// Whether the session ends with it.
+    pub fn is_end(&self) -> bool
+        ensures { result ≡ is_end self.now }
+    {
+        match self {
+            Event::End => true,
+            _ => false,
+        }
+    }
 }

@@ -1,18 +1,12 @@
 // A segment that was written out by hand: `d1` has the tokens `a b`, and `d2` the token `a`.
-ghost use Rattle.std.specs.Prelude.{◌≤◌, length, IfOk, OnOk};
-ghost use Rattle.ri_base.specs.Collection.{name_count};
-ghost use Rattle.ri_base.specs.declared.limits.TheConstants.{MAX_PART_DOCS, MAX_PART_NAMES};
-
+use crate::documents::{bytes_of, doc};
 use crate::places::fault_place;
-use memory_index::MemIndex;
-use ri_base::{Doc, Docno, FileName, Sealed, SegFault, Spans, Term, Terms};
-use seg_codec::{
-    Documents, Header, read_block, read_dictionary, read_documents, read_header, seg_bytes,
-};
+use ri_base::{FileName, List, SegFault};
+use seg_codec::{Documents, Header, read_block, read_dictionary, read_documents, read_header};
 use std::alloc::Global;
 use std::test::Fail;
 
-static BYTES: [u8; 155] = [
+pub static BYTES: [u8; 155] = [
     0x69, 0x6e, 0x64, 0x72, 0x69, 0x73, 0x65, 0x67, 1, 0, 0, 0, 2, 0, 0, 0, 3, 0, 0, 0, 0, 0, 0, 0,
     2, 0, 0, 0, 0, 0, 0, 0, 0x40, 0, 0, 0, 0, 0, 0, 0, 0x52, 0, 0, 0, 0, 0, 0, 0, 0x7e, 0, 0, 0, 0,
     0, 0, 0, 0x9b, 0, 0, 0, 0, 0, 0, 0, 2, 0x64, 0x31, 2, 0, 0, 0, 0, 0, 2, 0x64, 0x32, 1, 0, 0, 0,
@@ -21,54 +15,12 @@ static BYTES: [u8; 155] = [
     0, 0, 0, 0, 0, 0, 0, 1, 0, 1, 0, 0, 0, 1, 0, 0, 0,
 ];
 
-fn doc(alloc: Global, docno: &str, words: &str) -> Result<Doc, Fail> {
-    let mut tokens = Terms::new(alloc);
-    for word in words.split(' ') {
-        tokens.push(Term::new(alloc, word.as_bytes())?.ok_or("no term")?)?;
-    }
-    if tokens.len() > 100 {
-        return Err(Fail::from("too long"));
-    }
-    let docno = Docno::new(alloc, docno.as_bytes())?.ok_or("no docno")?;
-    Ok(Doc::new(alloc, docno, tokens, Spans::new(alloc))?)
-}
-
-fn put(alloc: Global, index: &mut MemIndex, docno: &str, words: &str) -> Result<(), Fail>
-    ensures { OnOk result (name_count index.new.documents ≤ MAX_PART_NAMES) }
-{
-    let doc = doc(alloc, docno, words)?;
-    if index.token_count() + u64::from(doc.len()) > 67_108_864 {
-        return Err(Fail::from("too many tokens"));
-    }
-    if index.names_with(&doc) > 65_536 {
-        return Err(Fail::from("too many names"));
-    }
-    match index.add(alloc, &doc) {
-        Ok(_) => Ok(()),
-        Err(_) => Err(Fail::from("not added")),
-    }
-}
-
-fn sealed(alloc: Global) -> Result<Sealed, Fail>
-    ensures few { IfOk result (λ s. length s ≤ MAX_PART_DOCS) }
-    ensures named { IfOk result (λ s. name_count s ≤ MAX_PART_NAMES) }
-{
-    let mut index = MemIndex::new(alloc, 10)?;
-    put(alloc, &mut index, "d1", "a b")?;
-    put(alloc, &mut index, "d2", "a")?;
-    if index.len() > 10 {
-        return Err(Fail::from("too many documents"));
-    }
-    match index.seal(alloc) {
-        Ok(sealed) => Ok(sealed),
-        Err(_) => Err(Fail::from("not sealed")),
-    }
-}
-
 #[test]
 fn the_bytes_of_two_documents(rt: HostRuntime) -> Result<(), Fail> {
-    let sealed = sealed(rt.alloc())?;
-    let bytes = seg_bytes(rt.alloc(), &sealed)?;
+    let mut documents = List::new(rt.alloc());
+    documents.push(doc(rt.alloc(), "d1", "a b")?)?;
+    documents.push(doc(rt.alloc(), "d2", "a")?)?;
+    let bytes = bytes_of(rt.alloc(), documents.as_slice())?;
     assert_eq!(rt; bytes.as_slice(), BYTES.as_slice());
     Ok(())
 }

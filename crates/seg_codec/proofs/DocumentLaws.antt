@@ -65,7 +65,7 @@ rows_codec names tokens =
 abbrev pub IsRising : List (List ℕ) → Type 0
 IsRising names = IsStrictlySortedBy (slice_cmp nat_cmp) names
 
-less_from_before : (a b : List ℕ) → is_before a b ≡ true → slice_cmp nat_cmp a b ≡ Less
+pub less_from_before : (a b : List ℕ) → is_before a b ≡ true → slice_cmp nat_cmp a b ≡ Less
 less_from_before a b h = by (slice_cmp nat_cmp a b) refl h
   where
     by : (o : Ordering) → slice_cmp nat_cmp a b ≡ o → match_ordering o true false false ≡ true → slice_cmp nat_cmp a b ≡ Less

@@ -37,6 +37,7 @@ use Rattle.seg_codec.specs.declared.documents.Entry.{Entry}
 use Rattle.seg_codec.specs.declared.whole.Whole.{Whole}
 use Rattle.seg_codec.proofs.BlockLaws.{block_takes}
 use Rattle.seg_codec.proofs.DocumentFits.{counted}
+use Rattle.seg_codec.proofs.DocumentLaws.{less_from_before}
 use Rattle.seg_codec.proofs.FileLaws.{IsRead, Match, and_then_ok, between_bytes, file_is_segment, in_part_ok, made_is}
 use Rattle.seg_codec.proofs.GroupLemmas.{block_is_some}
 use Rattle.seg_codec.proofs.NameLemmas.{names_counted}
@@ -87,14 +88,6 @@ all_known bytes es n s (t ∷ ts) pss small fit e =
     })
 
 -- ---- terms in order
-
-less_from_before : (a b : List ℕ) → is_before a b ≡ true → slice_cmp nat_cmp a b ≡ Less
-less_from_before a b h = by (slice_cmp nat_cmp a b) refl h
-  where
-    by : (o : Ordering) → slice_cmp nat_cmp a b ≡ o → match_ordering o true false false ≡ true → slice_cmp nat_cmp a b ≡ Less
-    by Less e h = e
-    by Equal e h = absurd cc
-    by Greater e h = absurd cc
 
 terms_sorted : (n : ℕ) (s : BehindTerm) (ts : List TermBlocks) → AllFit (FitsTermBlocks n) behind_term s ts
     → AllByRecursion (λ y. slice_cmp nat_cmp s.before y ≡ Less) (terms_of ts) × IsStrictlySortedBy (slice_cmp nat_cmp) (terms_of ts)

@@ -58,7 +58,7 @@ AllTold word t (p ∷ ps) = (word p.id p.at ≡ t) × AllTold word t ps
 abbrev pub AllThere : ℕ → (ℕ → ℕ) → (ℕ → ℕ → List ℕ) → List ℕ → ℕ → ℕ → List Place → Type 0
 AllThere n tokens word t i low ps = (id at : ℕ) → id < n → at < tokens id → i ≤ id → (id ≡ i → low ≤ at) → word id at ≡ t → Contains ps (record { id = id; at = at })
 
-same_itself : (a : List ℕ) → bytes_eq a a ≡ true
+pub same_itself : (a : List ℕ) → bytes_eq a a ≡ true
 same_itself a = sym (is_eq-slice_cmp a a) ∙ ap is_eq (tied_itself nat_list_cmp_total a)
 
 next_document : (n : ℕ) (tokens : ℕ → ℕ) (i low : ℕ) (ps : List Place) → tokens i ≡ low → Rise n tokens i low ps → Rise n tokens (i + 1) 0 ps

@@ -8,6 +8,8 @@ pub mod SegmentLaws
 pub mod LookupLemmas
 pub mod NameLemmas
 pub mod OpeningLaws
+pub mod RankLemmas
 pub mod ReadingLemmas
+pub mod RebuildLemmas
 pub mod RebuiltLemmas
 pub mod SameBlock

@@ -6,4 +6,6 @@ pub mod Names
 pub mod Opening
 pub mod Parts
 pub mod QuietLaws
+pub mod Ranks
 pub mod Reads
+pub mod Rebuild

@@ -4,13 +4,16 @@
 
 mod block;
 mod cache;
+mod documents;
 mod index;
 mod lookup;
 mod name;
 mod opening;
 mod part;
+mod ranks;
 mod reader;
 mod reading;
+mod rebuild;
 
 pub use block::Block;
 pub use cache::{BlockCache, BlockKey};
@@ -18,3 +21,4 @@ pub use index::DiskIndex;
 pub use name::segment_name;
 pub use part::Part;
 pub use reader::PartReader;
+pub use rebuild::Docs;

@@ -28,7 +28,7 @@ fn blocks_of<'a>(dictionary: &'a [TermBlocks], term: &Term) -> Option<&'a TermBl
 }
 
 /// The block of the range.
-fn block_in(blocks: &[BlockPlace], range: u32) -> Option<BlockPlace>
+pub(crate) fn block_in(blocks: &[BlockPlace], range: u32) -> Option<BlockPlace>
     requires { AllPairs (λ a b. a.range < b.range) blocks.now }
     ensures { result ≡ find (λ b. b.range == range) blocks.now }
 {

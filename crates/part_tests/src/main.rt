@@ -4,6 +4,8 @@
 #[cfg(test)]
 mod broken;
 #[cfg(test)]
+mod documents;
+#[cfg(test)]
 mod failing;
 #[cfg(test)]
 mod places;

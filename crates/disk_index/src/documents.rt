@@ -15,7 +15,7 @@ use crate::rebuild::{Docs, RankedBlock, documents_in};
 use crate::{BlockCache, DiskIndex};
 use ri_base::{FileName, NoMemory, PartName, SegFault};
 use seg_codec::BlockEntry;
-use std::alloc::Global;
+use std::alloc::{AllocError, Global};
 use std::collections::BTreeSet;
 use store_ends::Store;
 
@@ -71,7 +71,9 @@ impl DiskIndex {
         let mut blocks = Vec::new(alloc);
         for rank in ranks {
             let block = self.ranked_block(alloc, store, cache, *rank, range)?;
-            blocks.push(RankedBlock { rank: *rank, block })?;
+            blocks
+                .push(RankedBlock { rank: *rank, block })
+                .map_err(AllocError::from)?;
         }
         Ok(blocks)
     }

@@ -1,0 +1,4 @@
+pub mod CountsLemmas
+pub mod PresenceLemmas
+pub mod SumsLemmas
+pub mod WalkLemmas

@@ -1,0 +1,145 @@
+// Sums that are kept for a while.
+ghost use Rattle.std.specs.Prelude.{◌≡◌, ◌≤◌, ◌⊎◌, ◌↔◌, [], Err, IsTrue, IfErr, IfOk, IfSome, IsOkAnd, Contains, length, option_copied};
+ghost use Rattle.ri_base.specs.Expression.{expr_tree};
+ghost use Rattle.ri_base.specs.Faults.{IsOutside};
+ghost use Rattle.ri_base.specs.Keeps.{Rose};
+ghost use Rattle.store_ends.specs.Files.{IsQuiet};
+ghost use Rattle.disk_index.specs.Cache.{CacheKeeps, IsCacheBacked};
+ghost use Rattle.disk_index.specs.Snapshots.{AreBacked, IsFileAmong, live};
+ghost use Rattle.counts.specs.Sums.{AreBounded, AreSums, Entry, IsKept, IsSumOf, sums};
+
+use crate::fingerprint::fingerprint;
+use crate::sums::sums_of;
+use crate::{KeptSum, SumKey};
+use disk_index::{BlockCache, Snapshot};
+use lru::LruCache;
+use ri_base::{ExtentExpr, LeafStats, Name, NoMemory, SegFault};
+use std::alloc::Global;
+use std::marker::Model;
+use std::num::NonZeroUsize;
+use store_ends::Store;
+
+/// Sums of expressions over the documents of snapshots, as many as it has slots, seen as the list of them with their keys. Of
+/// full slots the sums that weren't asked for for the longest time make room.
+#[derive(Drop)]
+pub struct Counts {
+    kept: LruCache<SumKey, KeptSum>,
+}
+
+impl Model for Counts {
+    ghost use Rattle.std.specs.Prelude.{List, Contains};
+    ghost use Rattle.counts.specs.Sums.{AreBounded, Entry};
+
+    ghost Value = { List Entry };
+
+    ghost view = { λ c. c.kept.entries };
+
+    ghost invariant = { λ c. (e : Entry) → Contains c.kept.entries e → AreBounded e.1.stats };
+}
+
+impl Counts {
+    /// No sums, with room for so many.
+    pub fn new(alloc: Global, slots: NonZeroUsize) -> Result<Counts, NoMemory>
+        ensures { IfOk result (λ c. c ≡ []) }
+    {
+        Ok(Counts {
+            kept: LruCache::sparse(alloc, slots)?,
+        })
+    }
+
+    /// How many sums are kept.
+    pub fn len(&self) -> usize
+        ensures { result ≡ length self.now }
+    {
+        self.kept.len()
+    }
+
+    pub fn is_empty(&self) -> bool
+        ensures { IsTrue result ↔ (self.now ≡ []) }
+    {
+        self.kept.is_empty()
+    }
+
+    /// How often the expression occurs in the documents of the snapshot, and how many of their tokens count: all, or with a
+    /// context those in fields of that name. Where the sums are kept for this generation no file is read; else they are kept
+    /// from now on, where there is memory for that.
+    pub fn leaf<T: Store>(
+        &mut self,
+        alloc: Global,
+        expr: &ExtentExpr,
+        context: Option<&Name>,
+        snapshot: &Snapshot,
+        generation: u64,
+        store: &mut T,
+        cache: &mut BlockCache,
+    ) -> Result<LeafStats, SegFault>
+        ensures exact { AreBacked (T.files store.old) snapshot.now → IsCacheBacked (T.files store.old) cache.old
+            → AreSums (live (T.files store.old) snapshot.now) generation self.old
+            → IfOk result (λ s. s ≡ sums (live (T.files store.old) snapshot.now) (expr_tree expr.now) (option_copied context)) }
+        ensures kept { AreBacked (T.files store.old) snapshot.now → IsCacheBacked (T.files store.old) cache.old
+            → AreSums (live (T.files store.old) snapshot.now) generation self.old
+            → AreSums (live (T.files store.old) snapshot.now) generation self.new }
+
+        // What is kept now was kept before, or is the answer.
+        ensures adds { (e : Entry) → Contains self.new e → Contains self.old e
+            ⊎ IsOkAnd result (IsSumOf e generation (expr_tree expr.now) (option_copied context)) }
+
+        ensures range { IfOk result (λ s. AreBounded s) }
+        ensures honest { AreBacked (T.files store.old) snapshot.now → IsCacheBacked (T.files store.old) cache.old → IfErr result IsOutside }
+        ensures cache { CacheKeeps (T.files store.old) (IsFileAmong snapshot.now) cache.old cache.new }
+        ensures quiet { IsQuiet T.files T.layers T.clock T.since T.longest T.held store.old store.new }
+        ensures later { T.faults store.old ≤ T.faults store.new }
+        ensures store { result ≡ Err SegFault.Store → Rose (T.faults store.old) (T.faults store.new) }
+    {
+        let key = SumKey {
+            generation,
+            fingerprint: fingerprint(expr, context),
+        };
+        if let Some(stats) = kept_at(&mut self.kept, key, expr, context) {
+            return Ok(stats);
+        }
+        let stats = sums_of(alloc, expr, context, snapshot, store, cache)?;
+        keep(alloc, &mut self.kept, key, expr, context, stats);
+        Ok(stats)
+    }
+}
+
+/// The sums of the expression with its context that are kept under this key.
+fn kept_at(
+    kept: &mut LruCache<SumKey, KeptSum>,
+    key: SumKey,
+    expr: &ExtentExpr,
+    context: Option<&Name>,
+) -> Option<LeafStats>
+    ensures stay { (e : Entry) → Contains kept.new.entries e → Contains kept.old.entries e }
+    ensures found { IfSome result (λ s. IsKept kept.old.entries key.generation (expr_tree expr.now) (option_copied context) s) }
+{
+    match kept.get(&key) {
+        Some(sum) => sum.stats_of(expr, context),
+        None => None,
+    }
+}
+
+/// Keeps the sums, where memory allows it.
+fn keep(
+    alloc: Global,
+    kept: &mut LruCache<SumKey, KeptSum>,
+    key: SumKey,
+    expr: &ExtentExpr,
+    context: Option<&Name>,
+    stats: LeafStats,
+)
+    ensures { (e : Entry) → Contains kept.new.entries e → Contains kept.old.entries e
+        ⊎ IsSumOf e key.generation (expr_tree expr.now) (option_copied context) stats }
+{
+    match KeptSum::of(alloc, expr, context, stats) {
+        Ok(sum) => put(kept, key, sum),
+        Err(_) => {}
+    }
+}
+
+fn put(kept: &mut LruCache<SumKey, KeptSum>, key: SumKey, sum: KeptSum)
+    ensures { (e : Entry) → Contains kept.new.entries e → Contains kept.old.entries e ⊎ (e ≡ (key, sum)) }
+{
+    let _ = kept.put(key, sum);
+}

@@ -6,12 +6,15 @@ ghost use Rattle.smoothing.specs.Fractions.{Computes};
 ghost use Rattle.query_check.specs.Leaves.{leaf_tree};
 ghost use Rattle.belief_nodes.specs.Leaves.{HasPrior, IsLeafCount};
 ghost use Rattle.belief_nodes.specs.Network.{network_tree};
+ghost use Rattle.range_masks.specs.Masks.{IsMask};
+ghost use Rattle.range_masks.specs.May.{some_may};
 ghost use Rattle.document_scoring.specs.Counts.{count_of};
 ghost use Rattle.document_scoring.specs.Rows.{Adds};
 
 use belief_nodes::{BeliefNode, LeafCount, Network};
 use document_scoring::{Row, count_of, score_document};
 use query_check::LeafKind;
+use range_masks::leaves_mask;
 use ri_base::{Filter, Fraction, NoMemory, Sealed, SegFault};
 use smoothing::Rule;
 use std::alloc::{AllocError, Global};
@@ -30,6 +33,24 @@ pub fn count_in_index(
 {
     match count_of(alloc, leaf, index, id) {
         Ok(count) => Ok(count),
+        Err(SegFault::Memory) => Err(AllocError),
+        Err(SegFault::Malformed { .. } | SegFault::Missing { .. } | SegFault::Store) =>
+            unreachable!(),
+    }
+}
+
+/// Which documents of a range of the index may have a candidate, by their terms.
+pub fn mask_in_index(
+    alloc: Global,
+    leaves: &[LeafKind],
+    index: &mut Sealed,
+    range: u32,
+) -> Result<u64, NoMemory>
+    ensures mask { IfOk result (IsMask (some_may (map leaf_tree leaves.now)) range index.old) }
+    ensures same { index.new ≡ index.old }
+{
+    match leaves_mask(alloc, leaves, index, range) {
+        Ok(mask) => Ok(mask),
         Err(SegFault::Memory) => Err(AllocError),
         Err(SegFault::Malformed { .. } | SegFault::Missing { .. } | SegFault::Store) =>
             unreachable!(),

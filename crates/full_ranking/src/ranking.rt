@@ -1,16 +1,18 @@
 // Candidates and their order.
-ghost use Rattle.std.specs.Prelude.{◌≡◌, ◌≤◌, true, length, map, All, IfOk};
+ghost use Rattle.std.specs.Prelude.{◌≡◌, ◌<◌, ◌≤◌, ◌+◌, ◌*◌, ℕ, true, length, map, take, All, IfOk, OnOk};
 ghost use Rattle.ri_base.specs.Query.{filter_tree, is_range};
 ghost use Rattle.smoothing.specs.Fractions.{Computes};
 ghost use Rattle.query_check.specs.Answers.{whole_checked};
 ghost use Rattle.belief_nodes.specs.Leaves.{HasPrior};
 ghost use Rattle.belief_nodes.specs.Network.{network_tree};
 ghost use Rattle.document_scoring.specs.Rows.{row_hit};
+ghost use Rattle.range_masks.specs.Masks.{IsMask};
+ghost use Rattle.range_masks.specs.May.{some_may};
 ghost use Rattle.full_ranking.specs.First.{HoldsFirst};
 ghost use Rattle.full_ranking.specs.Ranking.{IsAnswer};
 
 use crate::counts::all_stats;
-use crate::memory::score_in_index;
+use crate::memory::{mask_in_index, score_in_index};
 use belief_nodes::{BeliefNode, Network};
 use document_scoring::Row;
 use first_few::FirstFew;
@@ -19,8 +21,45 @@ use ri_base::{Filter, Fraction, Hits, NoMemory, Postings, Sealed};
 use smoothing::Rule;
 use std::alloc::Global;
 
-/// The first candidates of all documents that pass the filters, at most so many. While the documents are gone over, no more
-/// are held than these and those of one document.
+/// Offers the candidates of the documents of a range which the mask has.
+fn offer_range<F: Fn(u32, u32, u64, u64) -> Fraction>(
+    alloc: Global,
+    filters: &[Filter],
+    network: &Network,
+    rule: &Rule<F>,
+    plugs: &mut [Box<dyn BeliefNode>],
+    index: &mut Sealed,
+    range: u32,
+    mask: u64,
+    first: &mut FirstFew<Row>,
+) -> Result<(), NoMemory>
+    requires rule { Computes F.pre F.post rule.now.kind rule.now.f }
+    requires sound { is_range (network_tree network.now).range ≡ true }
+    requires plugs { All (HasPrior (length plugs.old)) (network_tree network.now).leaves }
+    requires inside { 64 * range < length index.old }
+    requires mask { IsMask (some_may (network_tree network.now).leaves) range index.old mask }
+    ensures first { OnOk result ((most : ℕ) →
+        HoldsFirst rule.now.kind (map (λ plug. meaning plug) plugs.old) (map filter_tree filters.now) (network_tree network.now) (take (64 * range) index.old) most first.old →
+        HoldsFirst rule.now.kind (map (λ plug. meaning plug) plugs.old) (map filter_tree filters.now) (network_tree network.now) (take (64 * (range + 1)) index.old) most first.new) }
+    ensures stay { map (λ plug. meaning plug) plugs.new ≡ map (λ plug. meaning plug) plugs.old }
+    ensures same { index.new ≡ index.old }
+{
+    let mut rows = Vec::new(alloc);
+    let from = 64 * range;
+    let to = from + (index.docs() - from).min(64);
+    for id in from..to {
+        if mask >> (id % 64) & 1 == 0 {
+            continue;
+        }
+        score_in_index(alloc, filters, network, rule, plugs, index, id, &mut rows)?;
+        first.offer_all(&mut rows)?;
+    }
+    Ok(())
+}
+
+/// The first candidates of all documents that pass the filters, at most so many. Of a range of 64 documents only those are
+/// looked at that have the terms of some leaf. While they are gone over, no more candidates are held than the first and those
+/// of one document.
 fn first_rows<F: Fn(u32, u32, u64, u64) -> Fraction>(
     alloc: Global,
     filters: &[Filter],
@@ -38,10 +77,9 @@ fn first_rows<F: Fn(u32, u32, u64, u64) -> Fraction>(
     ensures same { index.new ≡ index.old }
 {
     let mut first = FirstFew::new(alloc, most);
-    let mut rows = Vec::new(alloc);
-    for id in 0..index.docs() {
-        score_in_index(alloc, filters, network, rule, plugs, index, id, &mut rows)?;
-        first.offer_all(&mut rows)?;
+    for range in 0..index.docs().div_ceil(64) {
+        let mask = mask_in_index(alloc, network.leaves(), index, range)?;
+        offer_range(alloc, filters, network, rule, plugs, index, range, mask, &mut first)?;
     }
     Ok(first)
 }

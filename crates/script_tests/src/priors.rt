@@ -122,20 +122,26 @@ fn long_row(alloc: Global, docno: usize, line: usize) -> Result<Vec<u8>, Fail> {
     Ok(text)
 }
 
+/// How many bytes the docno has and the line, how long the text is that tells what is read, and whether the line is too
+/// long.
+static LENGTHS: [(usize, usize, usize, bool); 4] = [
+    (255, 259, 268, false),
+    (256, 260, 17, false),
+    (255, 65536, 268, false),
+    (255, 65537, 22, true),
+];
+
 #[test]
 fn long_rows(rt: HostRuntime) -> Result<(), Fail> {
-    for (docno, line, length, is_too_long) in [
-        (255, 259, 268, false),
-        (256, 260, 17, false),
-        (255, 65536, 268, false),
-        (255, 65537, 22, true),
-    ] {
-        let found = rows_of(rt.alloc(), long_row(rt.alloc(), docno, line)?, 1000)?;
-        assert_eq!(rt;
-            (found.len(), found.as_str().starts_with("LineTooLong 0; ")),
-            (length, is_too_long),
-            "{docno} and {line}"
-        );
+    for (docno, line, length, is_too_long) in &LENGTHS {
+        for piece in [1, 2, 3, 7, 100, 1000] {
+            let found = rows_of(rt.alloc(), long_row(rt.alloc(), *docno, *line)?, piece)?;
+            assert_eq!(rt;
+                (found.len(), found.as_str().starts_with("LineTooLong 0; ")),
+                (*length, *is_too_long),
+                "{docno} and {line} in pieces of {piece}"
+            );
+        }
     }
     Ok(())
 }

@@ -5,6 +5,7 @@ use session_events::Event;
 use std::alloc::Global;
 
 /// How many items of each kind were read, without the end.
+#[derive(Clone, Copy)]
 pub struct Counts {
     pub documents: u64,
     pub events: u64,

@@ -108,12 +108,12 @@ pub fn explanation(
     ensures stay { map (λ plug. meaning plug) plugs.new ≡ map (λ plug. meaning plug) plugs.old }
 {
     candidates_are_of_documents();
-    let hits = first_hits(alloc, kind, checked, plugs, index, rank)?;
+    let stats = all_stats(alloc, &checked.leaves, index)?;
+    let hits = first_hits(alloc, kind, checked, &stats, plugs, index, rank)?;
     let Some(hit) = hit_of_rank(hits, rank) else {
         return no_such_rank(alloc);
     };
     let id = id_of(docnos, &hit.docno, index);
-    let stats = all_stats(alloc, &checked.leaves, index)?;
     let explained = explain_in_index(alloc, checked, &stats, index, id, rank, hit)?;
     let text = explain_lines(alloc, &explained)?;
     Ok(Reply::told(text.into_vec()))

@@ -5,6 +5,8 @@ ghost use Rattle.ri_base.specs.Ratio.{ratio_of};
 ghost use Rattle.smoothing.specs.Counts.{AreCounts};
 ghost use Rattle.smoothing.specs.Fractions.{IsMu, dirichlet};
 ghost use Rattle.query_check.specs.Answers.{whole_checked};
+ghost use Rattle.belief_nodes.specs.Leaves.{AreLeafStats};
+ghost use Rattle.document_scoring.specs.Counts.{stats_of};
 ghost use Rattle.full_ranking.specs.Ranking.{IsAnswer};
 ghost use Rattle.indri_app.specs.Command.{IsRule};
 ghost use Rattle.indri_app.specs.Priors.{run_priors};
@@ -12,20 +14,24 @@ ghost use Rattle.indri_app.specs.Priors.{run_priors};
 use belief_nodes::BeliefNode;
 use full_ranking::rank;
 use query_check::Checked;
-use ri_base::{Fraction, Hits, NoMemory, Sealed};
+use ri_base::{Fraction, Hits, LeafStats, NoMemory, Sealed};
 use smoothing::{Rule, RuleKind, dirichlet_fraction};
 use std::alloc::Global;
 
-/// The first results of a ranking of the index's documents, `most` of them at most.
+/// The first results of a ranking of the index's documents, `most` of them at most. `stats` has the sums of the query's
+/// leaves over these documents.
 pub fn first_hits(
     alloc: Global,
     kind: RuleKind,
     checked: &Checked,
+    stats: &[LeafStats],
     plugs: &mut [Box<dyn BeliefNode>],
     index: &mut Sealed,
     most: u32,
 ) -> Result<Hits, NoMemory>
     requires rule { IsRule kind }
+    requires stats { stats.now ≡ map (stats_of index.old) (whole_checked checked.now).leaves }
+    requires counted { All (λ s. AreLeafStats s) stats.now }
     requires plugs { map (λ plug. meaning plug) plugs.old ≡ run_priors }
     ensures ranking { IfOk result (IsAnswer kind run_priors (whole_checked checked.now) index.old most) }
     ensures few { IfOk result (λ hits. length hits ≤ most) }
@@ -42,5 +48,5 @@ pub fn first_hits(
             ensures { ratio_of result ≡ dirichlet mu tf len cf total }
         { dirichlet_fraction(mu, tf, len, cf, total) },
     );
-    rank(alloc, checked, &rule, plugs, index, most as usize)
+    rank(alloc, checked, stats, &rule, plugs, index, most as usize)
 }

@@ -13,7 +13,7 @@ ghost use Rattle.indri_app.specs.Shown.{results, shown_line, shown_text};
 
 use crate::ranked::first_hits;
 use belief_nodes::BeliefNode;
-use full_ranking::ranking_is_true;
+use full_ranking::{all_stats, ranking_is_true};
 use query_check::Checked;
 use ranked_output::{Mark, line, mark, trec_line};
 use ri_base::{Bytes, Hit, Hits, NoMemory, Sealed};
@@ -79,6 +79,7 @@ pub fn results_text(
     ensures stay { map (λ plug. meaning plug) plugs.new ≡ map (λ plug. meaning plug) plugs.old }
 {
     ranking_is_true();
-    let hits = first_hits(alloc, kind, checked, plugs, index, count)?;
+    let stats = all_stats(alloc, &checked.leaves, index)?;
+    let hits = first_hits(alloc, kind, checked, &stats, plugs, index, count)?;
     lines_text(alloc, labels, checked, &hits)
 }

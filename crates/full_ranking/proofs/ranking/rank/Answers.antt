@@ -28,8 +28,8 @@ rows_of-requires-clause-plugs g c =
 ranking : (g : _) (c : After-drop-stats-2 g)
     → IsRanking c.args.rule.now.kind (map (λ b. (goal.BeliefNode-dyn g (b.vtable, b.value)).meaning b.value) c.args.plugs.now) (whole_checked c.args.checked.now) c.args.index.now (map row_hit c.sort_unstable.new.self.items)
 ranking g c =
-    IsRanking-rows c.args.rule.now.kind (map (λ b. (goal.BeliefNode-dyn g (b.vtable, b.value)).meaning b.value) c.args.plugs.now) (whole_checked c.args.checked.now) (map filter_tree c.deref-3.result.now) (network_tree c.in_ok-network.network) c.deref-2.result.now c.args.index.now c.all_stats.new.index c.in_ok-rows.rows.items _
-    (ap (map filter_tree) c.deref-3.ensures.value) c.in_ok-network.ensures (c.deref-2.ensures.value ∙ c.in_ok-stats.ensures.stats ∙ ap (λ (ls : List LeafKind). map (stats_of c.args.index.now) (map leaf_tree ls)) c.deref.ensures.value) c.in_ok-stats.ensures.same c.in_ok-rows.ensures.rows c.in_ok-rows.ensures.keys
+    IsRanking-rows c.args.rule.now.kind (map (λ b. (goal.BeliefNode-dyn g (b.vtable, b.value)).meaning b.value) c.args.plugs.now) (whole_checked c.args.checked.now) (map filter_tree c.deref.result.now) (network_tree c.in_ok-network.network) c.args.stats.now c.args.index.now c.args.index.now c.in_ok-rows.rows.items _
+    (ap (map filter_tree) c.deref.ensures.value) c.in_ok-network.ensures c.requires.stats refl c.in_ok-rows.ensures.rows c.in_ok-rows.ensures.keys
     c.sort_unstable.ensures.permutation c.sort_unstable.ensures.sorted
 
 shown : (g : _) (c : After-drop-stats-2 g) → map row_hit c.truncate.new.self.items ≡ take c.args.most (map row_hit c.sort_unstable.new.self.items)

@@ -1,15 +1,12 @@
 -- What is found of leaves in a document, and what is counted of them.
-use Rattle.std.proofs.Common.{◌≡◌, ◌<◌, ◌≤◌, ◌+◌, ◌-◌, ℕ, false, List, [], ◌∷◌, ◌++◌, length, map, filter, take, Option, None, Some, IfSome, get_or, refl, sym, ap, subst, ◌∙◌, arith}
-use Rattle.std.specs.List.{All}
-use Rattle.std.proofs.lemmas.Bool.Decides.{nat_tests}
+use Rattle.std.proofs.Common.{◌≡◌, ◌<◌, ◌≤◌, ◌+◌, ◌-◌, ℕ, List, [], ◌∷◌, ◌++◌, length, map, filter, take, Option, None, Some, IfSome, get_or, refl, sym, ap, subst, ◌∙◌, arith}
 use Rattle.std.proofs.lemmas.List.{get_or-map, length-map, map-append, take_more}
-use Rattle.std.proofs.lemmas.List.Elements.{All-head, All-tail}
 use Rattle.ri_base.specs.Collection.{document_at}
 use Rattle.ri_base.specs.Documents.{Document, Field}
 use Rattle.ri_base.specs.Expression.{ExprTree, expr_tree}
 use Rattle.ri_base.specs.Pair.{Pair}
 use Rattle.ri_base.specs.declared.expression.ExtentExpr.{ExtentExpr}
-use Rattle.field_extents.specs.Extents.{AreInOrder, begin_count, is_inside}
+use Rattle.field_extents.specs.Extents.{AreInOrder, begin_count}
 use Rattle.field_extents.specs.Fields.{covered_count, lies_in_some}
 use Rattle.field_extents.proofs.Laws.{AreInOrder-filter}
 use Rattle.extent_lists.specs.Pairs.{pair}
@@ -91,18 +88,3 @@ found_stays docs read id w leaf x same h = subst (λ (ds : List Document). found
 
 pub IsFound-stays : (docs read : List Document) (id : ℕ) (x : LeafExtents) → read ≡ docs → IsFound (document_at read id).fields x → IsFound (document_at docs id).fields x
 IsFound-stays docs read id x same h = subst (λ (ds : List Document). IsFound (document_at ds id).fields x) same h
-
--- ---- a document without tokens
-
-outside : (x : Pair) → x.begin < x.end → is_inside (pair 0 0) x ≡ false
-outside x h = grind (arith, nat_tests)
-
-nothing_inside : (xs : List Pair) → All (λ x. x.begin < x.end) xs → filter (is_inside (pair 0 0)) xs ≡ []
-nothing_inside [] h = refl
-nothing_inside (x ∷ xs) h =
-    let some : x.begin < x.end = All-head (λ (y : Pair). y.begin < y.end) x xs h in
-    rw (outside x some) (nothing_inside xs (All-tail (λ (y : Pair). y.begin < y.end) x xs h))
-
--- no extent begins in it
-pub begin_count_none : (xs : List Pair) → All (λ x. x.begin < x.end) xs → begin_count xs (pair 0 0) ≡ 0
-begin_count_none xs h = rw (nothing_inside xs h) refl

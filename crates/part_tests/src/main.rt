@@ -9,5 +9,7 @@ mod failing;
 mod places;
 #[cfg(test)]
 mod segment;
+#[cfg(test)]
+mod sums;
 
 fn main() {}

@@ -1,0 +1,79 @@
+-- What reading leaves of a store and a cache, over several calls.
+use Rattle.std.proofs.Common.{◌≡◌, ◌<◌, ◌≤◌, ◌⊎◌, ℕ, List, Option, Contains, get_or, length, inl, inr, sym, subst, arith}
+use Rattle.std.specs.List.{All}
+use Rattle.std.proofs.lemmas.List.Elements.{All-contains, Contains-get_or}
+use Rattle.ri_base.specs.Faults.{IsOutside}
+use Rattle.ri_base.specs.Keeps.{Rose}
+use Rattle.ri_base.specs.declared.seg_fault.SegFault.{SegFault}
+use Rattle.ri_base.specs.declared.seg_fault.SegFault.TheVariants.{Malformed, Missing, Store, Memory}
+use Rattle.store_ends.specs.Files.{Files}
+use Rattle.disk_index.specs.Cache.{CacheKeeps, IsCacheBacked, KeptBlock}
+use Rattle.disk_index.specs.Parts.{IsFileOf, IsPartBacked, Source}
+use Rattle.disk_index.specs.QuietLaws.{CacheKeeps-after, CacheKeeps-same, IsCacheBacked-kept, IsQuiet-same, IsQuiet-then}
+use Rattle.disk_index.specs.Snapshots.{AreBacked, IsFileAmong, Marked}
+use Rattle.counts.specs.Reading.{IsFaultOf, OnlyReads}
+
+-- a fault that came later came
+pub rose-earlier : (before mid now : ℕ) → before ≤ mid → Rose mid now → Rose before now
+rose-earlier before mid now first rose = omega (arith, first, rose)
+
+module _ {S : Type 0} (files : S → Option Files) (layers : S → Option (List Files)) (clock : S → ℕ) (since : S → ℕ → Files → Type 0) (longest : S → ℕ) (held : S → List ℕ) (faults : S → ℕ) where
+  module _ (IsOwn : ℕ → Type 0) where
+    pub reads-same : (s : S) (c : List KeptBlock) → OnlyReads files layers clock since longest held faults IsOwn s s c c
+    reads-same s c = record { quiet = IsQuiet-same files layers clock since longest held faults s; later = omega arith; cache = CacheKeeps-same (files s) IsOwn c }
+
+    pub reads-then : (s t u : S) (c d e : List KeptBlock) → OnlyReads files layers clock since longest held faults IsOwn s t c d → OnlyReads files layers clock since longest held faults IsOwn t u d e
+        → OnlyReads files layers clock since longest held faults IsOwn s u c e
+    reads-then s t u c d e first second = record {
+      quiet = IsQuiet-then files layers clock since longest held faults s t u first.quiet second.quiet;
+      later = let a = first.later in let b = second.later in omega (arith, a, b);
+      cache = CacheKeeps-after (files s) (files t) IsOwn c d e first.quiet.same_files first.cache second.cache;
+    }
+
+    -- what is backed stays so
+    pub part-backed : (s t : S) (c d : List KeptBlock) (p : Source) → OnlyReads files layers clock since longest held faults IsOwn s t c d → IsPartBacked (files s) p → IsPartBacked (files t) p
+    part-backed s t c d p reads backed = subst (λ (f : Option Files). IsPartBacked f p) (sym reads.quiet.same_files) backed
+
+    pub cache-backed : (s t : S) (c d : List KeptBlock) → OnlyReads files layers clock since longest held faults IsOwn s t c d → IsCacheBacked (files s) c → IsCacheBacked (files t) d
+    cache-backed s t c d reads backed = subst (λ (f : Option Files). IsCacheBacked f d) (sym reads.quiet.same_files) (IsCacheBacked-kept (files s) IsOwn c d reads.cache backed)
+
+  -- a part's file is among those of its snapshot
+  pub reads-among : (parts : List Marked) (i : ℕ) (m : Marked) (s t : S) (c d : List KeptBlock) → i < length parts → m ≡ get_or parts i m
+      → OnlyReads files layers clock since longest held faults (IsFileOf m.source) s t c d → OnlyReads files layers clock since longest held faults (IsFileAmong parts) s t c d
+  reads-among parts i m s t c d lt is reads = record {
+    quiet = reads.quiet;
+    later = reads.later;
+    cache = record {
+      each = λ e h. elim (reads.cache.each e h) [
+        | inl was ↦ inl was
+        | inr new ↦ inr ((m, subst (Contains parts) (sym is) (Contains-get_or parts i m lt), new.0), new.1)
+      ];
+    };
+  }
+
+-- ---- a reader
+
+-- a reader of a backed part and a backed cache is sound
+pub sound-of : (told here : Option Files) (source own : Source) (cached kept : List KeptBlock) → here ≡ told → own ≡ source → kept ≡ cached → IsPartBacked told source → IsCacheBacked told cached
+    → IsPartBacked here own × IsCacheBacked here kept
+sound-of told here source own cached kept same_told same_part same_cache part cache = (
+  subst (λ (f : Option Files). IsPartBacked f own) (sym same_told) (subst (IsPartBacked told) (sym same_part) part),
+  subst (λ (f : Option Files). IsCacheBacked f kept) (sym same_told) (subst (IsCacheBacked told) (sym same_cache) cache),
+)
+
+-- ---- faults
+
+-- a fault of one part of several
+pub fault-of : (told : Option Files) (parts : List Marked) (m : Marked) (cached : List KeptBlock) (fault : SegFault) → Contains parts m → (IsPartBacked told m.source → IsCacheBacked told cached → IsOutside fault)
+    → IsFaultOf told parts cached fault
+fault-of told parts m cached (Malformed file part place) there honest = inr (m, there, honest)
+fault-of told parts m cached (Missing file) there honest = inr (m, there, honest)
+fault-of told parts m cached Store there honest = inl tt
+fault-of told parts m cached Memory there honest = inl tt
+
+-- where all is backed, no part is to blame
+pub fault-outside : (told : Option Files) (parts : List Marked) (cached : List KeptBlock) (fault : SegFault) → AreBacked told parts → IsCacheBacked told cached → IsFaultOf told parts cached fault → IsOutside fault
+fault-outside told parts cached fault backed cache_backed why = elim why [
+  | inl outside ↦ outside
+  | inr at ↦ absurd (at.2 (All-contains (λ (m : Marked). IsPartBacked told m.source) parts at.0 backed at.1) cache_backed)
+]

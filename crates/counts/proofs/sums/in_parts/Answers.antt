@@ -1,0 +1,77 @@
+use Rattle.std.proofs.Common.{◌≡◌, ◌≤◌, ◌+◌, Contains, Option, option_copied, sum_by, sym, ap, subst, ◌∙◌, arith}
+use Rattle.std.proofs.lemmas.List.Elements.{All-contains, Contains-get_or}
+use Rattle.std.proofs.lemmas.Result.{err_from_is_err_and}
+use Rattle.ri_base.specs.Expression.{expr_tree}
+use Rattle.store_ends.specs.Files.{Files}
+use Rattle.disk_index.specs.Parts.{IsPartBacked}
+use Rattle.disk_index.specs.Snapshots.{Marked, live_in}
+use Rattle.counts.specs.Sums.{counted_tokens, occurrences}
+use Rattle.counts.proofs.ReadingLemmas.{cache-backed, fault-of, part-backed, reads-among, reads-same, reads-then}
+use Rattle.counts.proofs.SumsLemmas.{live-all, live-more, live-within, part-short}
+use Rattle.counts.proofs.sums.in_parts.Goals as goal
+
+pub in_part-requires : goal.in_part-requires
+in_part-requires g c = part-short c.args.parts.now c.loop-marked.marked-index c.marked-item.result c.requires c.loop-marked-test.true c.marked-item.is
+
+pub loop-marked-init : goal.loop-marked-init
+loop-marked-init g c = record { counted = λ backed cached. omega arith; few = omega arith; reads = reads-same _ _ _ _ _ _ _ _ _ _ }
+
+pub overflow_add-count : goal.overflow_add-count
+overflow_add-count g c =
+    let told = g.T.Store.files c.args.store.now in
+    let ms = c.args.parts.now in
+    let i = c.loop-marked.marked-index in
+    let k = counted_tokens (option_copied c.args.context) in
+    let own = ap (λ (t : Option Files). sum_by k (live_in t c.marked-item.result)) c.loop-marked.invariant.reads.quiet.same_files in
+    let more = live-more k told ms i c.marked-item.result c.loop-marked-test.true c.marked-item.is in
+    omega (arith, c.loop-marked.invariant.few, c.in_ok-found.ensures.few, own, more, live-within (option_copied c.args.context) told ms (i + 1) c.requires)
+
+pub loop-marked-preserved : goal.loop-marked-preserved
+loop-marked-preserved g c =
+    let told = g.T.Store.files c.args.store.now in
+    let ms = c.args.parts.now in
+    let i = c.loop-marked.marked-index in
+    let m = c.marked-item.result in
+    let reads = c.loop-marked.invariant.reads in
+    let f = occurrences (expr_tree c.args.expr.now) (option_copied c.args.context) in
+    let k = counted_tokens (option_copied c.args.context) in
+    let there : Contains ms m = subst (Contains ms) (sym c.marked-item.is) (Contains-get_or ms i m c.loop-marked-test.true) in
+    record {
+      counted = λ backed cached.
+          let part : IsPartBacked told m.source = All-contains (λ (p : Marked). IsPartBacked told p.source) ms m backed there in
+          let found = c.in_ok-found.ensures.exact (part-backed _ _ _ _ _ _ _ _ _ _ _ _ m.source reads part) (cache-backed _ _ _ _ _ _ _ _ _ _ _ _ reads cached) in
+          let own = ap (λ (t : Option Files). sum_by f (live_in t m)) reads.quiet.same_files in
+          let more = live-more f told ms i m c.loop-marked-test.true c.marked-item.is in
+          omega (arith, c.loop-marked.invariant.counted backed cached, found, own, more);
+      few =
+          let own = ap (λ (t : Option Files). sum_by k (live_in t m)) reads.quiet.same_files in
+          let more = live-more k told ms i m c.loop-marked-test.true c.marked-item.is in
+          omega (arith, c.loop-marked.invariant.few, c.in_ok-found.ensures.few, own, more);
+      reads = reads-then _ _ _ _ _ _ _ _ _ _ _ _ _ _ reads (reads-among _ _ _ _ _ _ _ ms i m _ _ _ _ c.loop-marked-test.true c.marked-item.is c.in_ok-found.ensures.reads);
+    }
+
+pub returns-in_err-found-clause-fault : goal.returns-in_err-found-clause-fault
+returns-in_err-found-clause-fault g c =
+    let ms = c.args.parts.now in
+    let i = c.loop-marked.marked-index in
+    let m = c.marked-item.result in
+    let reads = c.loop-marked.invariant.reads in
+    let there : Contains ms m = subst (Contains ms) (sym c.marked-item.is) (Contains-get_or ms i m c.loop-marked-test.true) in
+    let p = err_from_is_err_and c.from_residual.result c.from_residual.ensures.1 in
+    rw (p.1, p.2) (fault-of (g.T.Store.files c.args.store.now) ms m c.args.cache.now c.in_err-found.field-0.0 there (λ part cached.
+    c.in_err-found.ensures.honest (part-backed _ _ _ _ _ _ _ _ _ _ _ _ m.source reads part) (cache-backed _ _ _ _ _ _ _ _ _ _ _ _ reads cached)))
+
+pub returns-in_err-found-clause-reads : goal.returns-in_err-found-clause-reads
+returns-in_err-found-clause-reads g c =
+    reads-then _ _ _ _ _ _ _ _ _ _ _ _ _ _ c.loop-marked.invariant.reads
+    (reads-among _ _ _ _ _ _ _ c.args.parts.now c.loop-marked.marked-index c.marked-item.result _ _ _ _ c.loop-marked-test.true c.marked-item.is c.in_err-found.ensures.reads)
+
+pub returns-clause-exact : goal.returns-clause-exact
+returns-clause-exact g c = λ backed cached.
+    c.loop-marked.invariant.counted backed cached
+    ∙ live-all (occurrences (expr_tree c.args.expr.now) (option_copied c.args.context)) (g.T.Store.files c.args.store.now) c.args.parts.now c.loop-marked.marked-index c.loop-marked-test.false
+
+pub returns-clause-few : goal.returns-clause-few
+returns-clause-few g c =
+    let all = live-all (counted_tokens (option_copied c.args.context)) (g.T.Store.files c.args.store.now) c.args.parts.now c.loop-marked.marked-index c.loop-marked-test.false in
+    omega (arith, c.loop-marked.invariant.few, all)

@@ -139,7 +139,7 @@ module _ (has : List ℕ → Bool) (x : ExtentExpr) where
   pub may-all : (v : Vec ExtentExpr Global) → ((n : ℕ) × (x ≡ Ordered n v)) ⊎ (((n : ℕ) × (x ≡ Unordered n v)) ⊎ (x ≡ Band v)) → may has (expr_tree x) ≡ may_each has (expr_trees (map expr_tree v.items))
   may-all v is = elim is [
     | inl h ↦ may-ordered h.0 v h.1
-    | inr other ↦ elim other [ | inl h ↦ may-unordered h.0 v h.1 | inr h ↦ may-band v h ]
+    | inr other ↦ elim other [ inl h ↦ may-unordered h.0 v h.1 | inr h ↦ may-band v h ]
   ]
 
   pub may-syn : (v : Vec ExtentExpr Global) → x ≡ Syn v → may has (expr_tree x) ≡ may_some has (expr_trees (map expr_tree v.items))

@@ -1,13 +1,12 @@
 -- What reading leaves of a store and a cache, over several calls.
-use Rattle.std.proofs.Common.{◌≡◌, ◌<◌, ◌≤◌, ◌⊎◌, ℕ, List, Option, Contains, get_or, length, inl, inr, sym, subst, arith}
-use Rattle.std.specs.List.{All}
+use Rattle.std.proofs.Common.{◌≡◌, ◌<◌, ◌≤◌, ℕ, List, Option, Contains, get_or, length, inl, inr, sym, subst, arith}
 use Rattle.std.proofs.lemmas.List.Elements.{All-contains, Contains-get_or}
 use Rattle.ri_base.specs.Faults.{IsOutside}
 use Rattle.ri_base.specs.Keeps.{Rose}
 use Rattle.ri_base.specs.declared.seg_fault.SegFault.{SegFault}
 use Rattle.ri_base.specs.declared.seg_fault.SegFault.TheVariants.{Malformed, Missing, Store, Memory}
 use Rattle.store_ends.specs.Files.{Files}
-use Rattle.disk_index.specs.Cache.{CacheKeeps, IsCacheBacked, KeptBlock}
+use Rattle.disk_index.specs.Cache.{IsCacheBacked, KeptBlock}
 use Rattle.disk_index.specs.Parts.{IsFileOf, IsPartBacked, Source}
 use Rattle.disk_index.specs.QuietLaws.{CacheKeeps-after, CacheKeeps-same, IsCacheBacked-kept, IsQuiet-same, IsQuiet-then}
 use Rattle.disk_index.specs.Snapshots.{AreBacked, IsFileAmong, Marked}

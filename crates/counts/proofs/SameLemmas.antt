@@ -1,9 +1,9 @@
 -- The same expressions, by their variants and their arguments.
-use Rattle.std.proofs.Common.{◌≡◌, ◌<◌, ◌≤◌, ◌+◌, ℕ, List, [], ◌∷◌, length, map, drop, get_or, Vec, Box, Global, sym, ap, ◌∙◌}
+use Rattle.std.proofs.Common.{◌≡◌, ◌<◌, ◌≤◌, ◌+◌, ℕ, List, ◌∷◌, length, map, drop, get_or, Vec, Box, Global, sym, ap, ◌∙◌}
 use Rattle.std.proofs.lemmas.List.{at_drop_all, at_drop_more}
-use Rattle.ri_base.specs.Expression.{ExprTree, expr_tree, expr_trees, any, band, in_field, ordered, syn, unordered, word}
+use Rattle.ri_base.specs.Expression.{expr_tree, expr_trees, band, in_field, ordered, syn, unordered}
 use Rattle.ri_base.specs.declared.expression.ExtentExpr.{ExtentExpr, Word, Any, Ordered, Unordered, Syn, Band, InField}
-use Rattle.ri_base.proofs.ExpressionLemmas.{expr_tree-Word, expr_tree-Any, expr_tree-Ordered, expr_tree-Unordered, expr_tree-Syn, expr_tree-Band, expr_tree-InField}
+use Rattle.ri_base.proofs.ExpressionLemmas.{expr_tree-Ordered, expr_tree-Unordered, expr_tree-Syn, expr_tree-Band, expr_tree-InField}
 
 module _ (a b : ExtentExpr) where
   pub same-word : (s t : List ℕ) → a ≡ Word s → b ≡ Word t → s ≡ t → expr_tree a ≡ expr_tree b

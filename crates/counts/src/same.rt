@@ -12,8 +12,8 @@ pub fn same_expr(a: &ExtentExpr, b: &ExtentExpr) -> bool
     match (a, b) {
         (ExtentExpr::Word(s), ExtentExpr::Word(t)) => s == t,
         (ExtentExpr::Ordered(m, xs), ExtentExpr::Ordered(n, ys)) => m == n && same_exprs(xs, ys),
-        (ExtentExpr::Unordered(m, xs), ExtentExpr::Unordered(n, ys)) =>
-            m == n && same_exprs(xs, ys),
+        (ExtentExpr::Unordered(m, xs), ExtentExpr::Unordered(n, ys)) => m == n
+            && same_exprs(xs, ys),
         (ExtentExpr::Syn(xs), ExtentExpr::Syn(ys)) => same_exprs(xs, ys),
         (ExtentExpr::Any(f), ExtentExpr::Any(g)) => f == g,
         (ExtentExpr::Band(xs), ExtentExpr::Band(ys)) => same_exprs(xs, ys),

@@ -1,4 +1,4 @@
-use Rattle.std.proofs.Common.{List, Option, inl, inr, ap, ◌∙◌, arith}
+use Rattle.std.proofs.Common.{inl, inr, ap, ◌∙◌, arith}
 use Rattle.ri_base.specs.Expression.{expr_tree}
 use Rattle.counts.specs.Kept.{Kept, kept_of}
 use Rattle.counts.proofs.KeptLemmas.{added-mapped}

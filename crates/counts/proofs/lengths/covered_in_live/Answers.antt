@@ -1,6 +1,5 @@
-use Rattle.std.proofs.Common.{◌≡◌, false, get_or, Option, Some, subst, sym, ◌∙◌}
+use Rattle.std.proofs.Common.{◌≡◌, false, get_or, Some, subst, sym, ◌∙◌}
 use Rattle.ri_base.specs.Collection.{document_at}
-use Rattle.store_ends.specs.Files.{Files}
 use Rattle.disk_index.specs.Parts.{Source, reads}
 use Rattle.counts.specs.Sums.{counted_tokens}
 use Rattle.counts.proofs.SumsLemmas.{dead_none, live_all}

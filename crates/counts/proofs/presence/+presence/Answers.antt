@@ -1,4 +1,4 @@
-use Rattle.std.proofs.Common.{◌≡◌, true, false, map, ap, sym, ◌∙◌, rules}
+use Rattle.std.proofs.Common.{map, ap, sym, ◌∙◌, rules}
 use Rattle.ri_base.specs.Expression.{expr_tree, expr_trees}
 use Rattle.ri_base.specs.declared.expression.ExtentExpr.{ExtentExpr}
 use Rattle.disk_index.specs.Parts.{source_of}

@@ -1,4 +1,4 @@
-use Rattle.std.proofs.Common.{◌≡◌, ◌<◌, ◌≤◌, false, get_or, IfErr, IfOk, Option, option_copied, subst, sym, ◌∙◌}
+use Rattle.std.proofs.Common.{◌≡◌, ◌<◌, ◌≤◌, false, get_or, IfErr, IfOk, option_copied, subst, sym, ◌∙◌}
 use Rattle.ri_base.specs.Collection.{document_at}
 use Rattle.ri_base.specs.Expression.{expr_tree}
 use Rattle.ri_base.specs.Faults.{IsOutside}

@@ -1,9 +1,7 @@
-use Rattle.std.proofs.Common.{◌≡◌, ◌<◌, ◌≤◌, ◌+◌, ◌*◌, Option, option_copied, sym, ap, subst, ◌∙◌, arith}
+use Rattle.std.proofs.Common.{◌≤◌, ◌+◌, ◌*◌, option_copied, ap, ◌∙◌, arith}
 use Rattle.std.proofs.lemmas.Result.{err_from_is_err_and}
 use Rattle.ri_base.specs.Expression.{expr_tree}
-use Rattle.store_ends.specs.Files.{Files}
 use Rattle.disk_index.specs.Parts.{size}
-use Rattle.counts.specs.PartSums.{sum_first}
 use Rattle.counts.specs.Sums.{counted_tokens, occurrences}
 use Rattle.counts.proofs.ReadingLemmas.{cache-backed, part-backed, reads-same, reads-then}
 use Rattle.counts.proofs.SumsLemmas.{counted-range, few-range, first-end, tokens-within}

@@ -1,12 +1,11 @@
-use Rattle.std.proofs.Common.{◌≡◌, ◌<◌, ◌≤◌, ◌+◌, ◌*◌, ◌-◌, min, IfOk, Option, option_copied, true, false, sym, ap, subst, ◌∙◌, rules, arith}
+use Rattle.std.proofs.Common.{◌≡◌, ◌<◌, ◌+◌, ◌*◌, option_copied, false, sym, ap, subst, ◌∙◌, rules, arith}
 use Rattle.std.proofs.lemmas.Result.{err_from_is_err_and}
 use Rattle.ri_base.specs.Expression.{expr_tree}
-use Rattle.disk_index.specs.Parts.{IsFileOf, Source, size, source_of}
+use Rattle.disk_index.specs.Parts.{Source, size, source_of}
 use Rattle.disk_index.specs.Presence.{may_have}
-use Rattle.counts.specs.PartSums.{sum_first}
 use Rattle.counts.specs.Presence.{may}
 use Rattle.counts.specs.Sums.{counted_tokens, occurrences}
-use Rattle.counts.proofs.ReadingLemmas.{cache-backed, part-backed, reads-same, reads-then, rose-earlier}
+use Rattle.counts.proofs.ReadingLemmas.{cache-backed, part-backed, reads-same, reads-then}
 use Rattle.counts.proofs.SumsLemmas.{counted-next, few-next, first-grows, first-last, range-skipped, tokens-within}
 use Rattle.counts.proofs.sums.in_range.Goals as goal
 

@@ -1,4 +1,4 @@
-use Rattle.std.proofs.Common.{◌≡◌, ◌≤◌, List, option_copied, sum_by, ap, subst, sym, ◌∙◌, arith}
+use Rattle.std.proofs.Common.{List, option_copied, sum_by, ap, subst, sym, ◌∙◌, arith}
 use Rattle.std.proofs.lemmas.Result.{err_from_is_err_and}
 use Rattle.ri_base.specs.Expression.{expr_tree}
 use Rattle.disk_index.specs.Snapshots.{AreBacked, IsFileAmong, IsSnapshot, Marked, live}

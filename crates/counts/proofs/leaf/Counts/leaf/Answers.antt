@@ -1,4 +1,4 @@
-use Rattle.std.proofs.Common.{◌≡◌, ◌⊎◌, List, Contains, option_copied, inl, inr, refl, subst}
+use Rattle.std.proofs.Common.{◌⊎◌, List, Contains, option_copied, inl, inr, subst}
 use Rattle.std.proofs.lemmas.Result.{err_from_is_err_and}
 use Rattle.ri_base.specs.Expression.{expr_tree}
 use Rattle.disk_index.specs.Snapshots.{live}

@@ -1,5 +1,5 @@
 -- Bits of masks, and how masks are joined.
-use Rattle.std.proofs.Common.{◌≡◌, ◌<◌, ◌≤◌, ℕ, zero, suc, ◌+◌, ◌*◌, ◌-◌, ◌^◌, ◌%◌, ◌==◌, min, max, Bool, true, false, ◌&&◌, ◌||◌, ◌⊎◌, inl, inr, cond, List, [], ◌∷◌, length, map, take, drop, get_or, bit_and, bit_or, w64, refl, sym, ap, subst, ◌∙◌, arith}
+use Rattle.std.proofs.Common.{◌≡◌, ◌<◌, ◌≤◌, ℕ, zero, suc, ◌+◌, ◌*◌, ◌-◌, ◌/◌, ◌^◌, ◌%◌, ◌==◌, min, max, Bool, true, false, ◌&&◌, ◌||◌, ◌⊎◌, inl, inr, cond, List, [], ◌∷◌, length, map, take, drop, get_or, bit_and, bit_or, w64, refl, sym, ap, subst, ◌∙◌, arith}
 use Rattle.std.specs.Int.{bit_at}
 use Rattle.std.specs.List.{list_all, list_any}
 use Rattle.std.proofs.lemmas.Bool.Decides.{eqb_tells}
@@ -38,15 +38,15 @@ or_false true = refl
 or_false false = refl
 
 -- a clear bit, and the same bit
-clear : (b : Bool) → cond b 1 0 ≡ 0 → b ≡ false
-clear true h = absurd (omega (arith, h))
-clear false h = refl
+clear : (b : Bool) (n : ℕ) → n ≡ cond b 1 0 → n ≡ 0 → b ≡ false
+clear true n h k = absurd (omega (arith, h, k))
+clear false n h k = refl
 
-same_bit : (b c : Bool) → cond b 1 0 ≡ cond c 1 0 → b ≡ c
-same_bit true true h = refl
-same_bit true false h = absurd (omega (arith, h))
-same_bit false true h = absurd (omega (arith, h))
-same_bit false false h = refl
+same_bit : (b c : Bool) (n : ℕ) → n ≡ cond b 1 0 → n ≡ cond c 1 0 → b ≡ c
+same_bit true true n h k = refl
+same_bit true false n h k = absurd (omega (arith, h, k))
+same_bit false true n h k = absurd (omega (arith, h, k))
+same_bit false false n h k = refl
 
 of_one_bit : (n : ℕ) → n < 2 → cond (n == 1) 1 0 ≡ n
 of_one_bit zero h = refl
@@ -108,7 +108,7 @@ module _ (range : ℕ) (docs : List Document) where
 
   -- a document whose bit is clear fails the test
   pub IsMask-clear : (p : Document → Bool) (m i : ℕ) → IsMask p range docs m → i < 64 → bit_at m i ≡ 0 → p (document_at docs (64 * range + i)) ≡ false
-  IsMask-clear p m i h inside zero_bit = clear (p (document_at docs (64 * range + i))) (sym (h.bits i inside) ∙ zero_bit)
+  IsMask-clear p m i h inside zero_bit = clear (p (document_at docs (64 * range + i))) (bit_at m i) (h.bits i inside) zero_bit
 
   -- and each does, where all bits are clear
   pub IsMask-empty : (p : Document → Bool) (m i : ℕ) → IsMask p range docs m → m ≡ 0 → i < 64 → p (document_at docs (64 * range + i)) ≡ false
@@ -118,7 +118,7 @@ module _ (range : ℕ) (docs : List Document) where
   pub IsMask-tells : (p : Document → Bool) (m id : ℕ) (b : Bool) → IsMask p range docs m → 64 * range ≤ id → id < 64 * range + 64 → cond b 1 0 ≡ bit_at m (id % 64) → p (document_at docs id) ≡ b
   IsMask-tells p m id b h from to bit =
       let here : 64 * range + id % 64 ≡ id = omega (arith, from, to) in
-      let is : p (document_at docs (64 * range + id % 64)) ≡ b = same_bit _ _ (sym (h.bits (id % 64) (omega arith)) ∙ sym bit) in
+      let is : p (document_at docs (64 * range + id % 64)) ≡ b = same_bit (p (document_at docs (64 * range + id % 64))) b (bit_at m (id % 64)) (h.bits (id % 64) (omega arith)) (sym bit) in
       subst (λ n. p (document_at docs n) ≡ b) here is
 
   -- ---- one test more of a list

@@ -79,7 +79,9 @@ fn first_rows<F: Fn(u32, u32, u64, u64) -> Fraction>(
     let mut first = FirstFew::new(alloc, most);
     let ranges = index.docs().div_ceil(64);
     for range in 0..ranges {
-        offer_range(alloc, filters, network, rule, plugs, index, range, &mut first)?;
+        offer_range(
+            alloc, filters, network, rule, plugs, index, range, &mut first,
+        )?;
     }
     Ok(first)
 }

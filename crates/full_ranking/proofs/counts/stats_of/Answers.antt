@@ -6,8 +6,8 @@ use Rattle.full_ranking.proofs.SkippingLemmas.{stats_are}
 use Rattle.full_ranking.proofs.SumLemmas.{words_in_all}
 use Rattle.full_ranking.proofs.counts.stats_of.Goals as goal
 
-pub length_of_all-requires : goal.length_of_all-requires
-length_of_all-requires c = c.requires ∙ ap token_count (sym c.in_ok-cf.ensures.same)
+pub length_of_all-total-requires : goal.length_of_all-total-requires
+length_of_all-total-requires c = c.requires ∙ ap token_count (sym c.in_ok-cf.ensures.same)
 
 pub returns-clause-stats : goal.returns-clause-stats
 returns-clause-stats c =

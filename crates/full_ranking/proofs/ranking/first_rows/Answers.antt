@@ -1,4 +1,4 @@
-use Rattle.std.proofs.Common.{arith, ◌<◌, ◌≤◌, ◌+◌, ◌*◌, ◌∙◌, ℕ, List, ap, length, map, refl, subst, sym, take}
+use Rattle.std.proofs.Common.{arith, ◌≤◌, ◌+◌, ◌*◌, ◌∙◌, ℕ, List, ap, length, map, refl, subst, sym, take}
 use Rattle.std.specs.List.{All}
 use Rattle.ri_base.specs.Documents.{Document}
 use Rattle.ri_base.specs.Query.{filter_tree}

@@ -1,11 +1,13 @@
 -- Counts of leaves over all documents.
-use Rattle.std.proofs.Common.{◌≤◌, ℕ, List, length, sum_by, take, None, Some, arith}
-use Rattle.std.proofs.lemmas.List.Sums.{sum_by-le-sum_by, sum_by-take-le}
-use Rattle.ri_base.specs.Collection.{token_count}
+use Rattle.std.proofs.Common.{◌≡◌, ◌<◌, ◌≤◌, ◌+◌, ℕ, List, length, sum_by, take, None, Some, unwrap_or, get_or, ap, ◌∙◌, arith}
+use Rattle.std.proofs.lemmas.List.Sums.{sum_by-le-sum_by, sum_by-take-le, sum_by_more}
+use Rattle.std.proofs.lemmas.Option.{slice_get-get_or}
+use Rattle.ri_base.specs.Collection.{document_at, empty_document, token_count}
 use Rattle.ri_base.specs.Documents.{Document}
 use Rattle.field_extents.proofs.Laws.{covered_count-le}
 use Rattle.query_check.specs.Leaves.{LeafTree, extents, prior}
-use Rattle.document_scoring.specs.Counts.{whole, whole_len}
+use Rattle.belief_nodes.specs.declared.leaf_count.LeafCount.{LeafCount}
+use Rattle.document_scoring.specs.Counts.{count_of, whole, whole_len, whole_tf}
 
 -- a leaf counts no more tokens than the document has
 whole_len-le : (l : LeafTree) (d : Document) → whole_len l d ≤ length d.tokens

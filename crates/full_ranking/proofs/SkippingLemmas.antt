@@ -23,7 +23,7 @@ use Rattle.extent_ops.proofs.ListedLemmas.{listing}
 use Rattle.range_masks.specs.Masks.{IsMask}
 use Rattle.range_masks.specs.May.{filter_may, filters_may, leaf_may, may, query_may, some_may}
 use Rattle.range_masks.proofs.MaskLemmas.{IsMask-empty}
-use Rattle.range_masks.proofs.MayLemmas.{may-Ext}
+use Rattle.range_masks.proofs.MayLemmas.{both, may-Ext}
 use Rattle.document_scoring.specs.Candidates.{candidate, candidates, document_candidates, found_windows, has_some, occurs, passes}
 use Rattle.document_scoring.specs.Counts.{count_in, count_of, stats_of, whole_len, whole_tf}
 use Rattle.document_scoring.specs.Rows.{Adds, IsKeyed}
@@ -58,9 +58,6 @@ or_tells false c h = (refl, h)
 and_tells : (b c : Bool) → b && c ≡ true → (b ≡ true) × (c ≡ true)
 and_tells true c h = (refl, h)
 and_tells false c h = absurd (false≢true h)
-
-both : (b c : Bool) → b ≡ true → c ≡ true → b && c ≡ true
-both b c h i = rw (h, i) refl
 
 first_false : (b c : Bool) → c ≡ true → b && c ≡ false → b ≡ false
 first_false true c h e = absurd (false≢true (sym e ∙ h))

@@ -15,7 +15,7 @@ use Rattle.range_masks.specs.Masks.{HasEachDocument, IsMask}
 use Rattle.range_masks.specs.May.{has_term, may, may_each, may_some}
 use Rattle.range_masks.proofs.MaskLemmas.{IsMask-all, IsMask-same}
 
-both : (p q : Bool) → p ≡ true → q ≡ true → p && q ≡ true
+pub both : (p q : Bool) → p ≡ true → q ≡ true → p && q ≡ true
 both p q h i = rw (h, i) refl
 
 left_or : (p q : Bool) → p ≡ true → p || q ≡ true

@@ -23,6 +23,8 @@ The inputs are made in a temporary folder, the same ones each time. Without a gr
     evidence      24 MiB of newswire text: a query with the prior of lengths, and with filters that no document or every
                   document passes, against the same query without; and filters that are windows over nested fields, of
                   which the first extent is taken from an iterator
+    passed        63,666 documents of 25 words, for words that no document has; and 200,000 documents of 5 words, for 40 words:
+                  what each word costs beyond a query of one word that no document has
     instructions  machine instructions a byte, counted by cachegrind of valgrind, which must be installed, on 1/4 MiB of
                   newswire and of thin text; and one document of twice the size. They are the same in each run
 
@@ -115,6 +117,10 @@ EVIDENCE = {
     "#filreq(the #combine(rain launch))": 1.2,
 }
 FILTERS = ("#filreq(#uw200000(#any:f y) x)", "#filreq(#od200000(#any:f y) x)", "#filrej(#od200000(#any:f #any:f) x)")
+
+# Words that no document has, in milliseconds a word; and 40 words of many short documents, against one that none has.
+NO_WORD_MILLISECONDS = 2
+FORTY_TO_ONE = 2
 
 # Those of `scan` and those of `query`.
 INSTRUCTIONS = {"newswire": (240, 300), "thin": (245, 265)}
@@ -472,6 +478,28 @@ def measure_evidence(table):
         table.row(f"query {text}, 65,535 fields nested", *cells)
 
 
+def measure_passed(table):
+    path = table.folder / "passed"
+    absent = [f"nowhere{i}" for i in range(41)]
+    short_documents(path, 63_666, 25)
+    (one, _), (all_absent, _) = table.best(*(Job(table.command("query", text), path) for text in (absent[0], " ".join(absent))))
+    each = (all_absent - one) * 1000 / 40
+    table.row(
+        "query of words that none of 63,666 documents has",
+        table.at_most(f"{each:7.3f} ms a word", each, NO_WORD_MILLISECONDS),
+        f"{one:7.3f} s for one",
+    )
+    short_documents(path, 200_000, 5)
+    forty = " ".join(VOCABULARY[:40])
+    (one, _), (taken, peak) = table.best(*(Job(table.command("query", text), path) for text in (absent[0], forty)))
+    table.row(
+        "query of 40 words, 200,000 documents of 5 words",
+        f"{taken:7.3f} s",
+        table.at_most(f"{taken / one:5.2f} times one that none has", taken / one, FORTY_TO_ONE),
+        f"peak {peak:4.0f} MiB",
+    )
+
+
 def measure_instructions(table):
     if not shutil.which("valgrind"):
         sys.exit("valgrind isn't installed, and the group instructions needs it")
@@ -509,6 +537,7 @@ GROUPS = {
     "fields": measure_fields,
     "parts": measure_parts,
     "evidence": measure_evidence,
+    "passed": measure_passed,
     "instructions": measure_instructions,
 }
 

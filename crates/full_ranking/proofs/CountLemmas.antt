@@ -18,25 +18,3 @@ whole_len-le (prior n) d = omega arith
 pub words_within : (docs : List Document) (l : LeafTree) (i : ℕ) → sum_by (whole_len l) (take i docs) ≤ token_count docs
 words_within docs l i =
     omega (arith, sum_by-take-le (whole_len l) docs i, sum_by-le-sum_by (whole_len l) (λ d. length d.tokens) docs (whole_len-le l))
-
--- the sums with one more document
-pub record AreNextSums (docs : List Document) (l : LeafTree) (i cf total : ℕ) (count : LeafCount) : Type 0 where
-  pub occurs : cf + count.tf ≡ sum_by (whole_tf l) (take (i + 1) docs)
-  pub words : total + count.len ≡ sum_by (whole_len l) (take (i + 1) docs)
-
-pub next_sums : (docs read : List Document) (l : LeafTree) (i cf total : ℕ) (count : LeafCount) → i < length docs → read ≡ docs
-    → cf ≡ sum_by (whole_tf l) (take i docs) → total ≡ sum_by (whole_len l) (take i docs) → count ≡ count_of (document_at read i) l
-    → AreNextSums docs l i cf total count
-next_sums docs read l i cf total count inside unchanged cf_is total_is is =
-    let d : Document = get_or docs i empty_document in
-    let there : document_at docs i ≡ d = ap (λ o. unwrap_or o empty_document) (slice_get-get_or docs i empty_document inside) in
-    let same : count ≡ count_of d l = is ∙ ap (λ (ds : List Document). count_of (document_at ds i) l) unchanged ∙ ap (λ (e : Document). count_of e l) there in
-    let occurs : count.tf ≡ whole_tf l d = ap (λ (c : LeafCount). c.tf) same in
-    let words : count.len ≡ whole_len l d = ap (λ (c : LeafCount). c.len) same in
-    record {
-      occurs = sum_step cf count.tf _ _ _ cf_is occurs (sum_by_more (whole_tf l) docs i empty_document inside);
-      words = sum_step total count.len _ _ _ total_is words (sum_by_more (whole_len l) docs i empty_document inside);
-    }
-  where
-    sum_step : (a b c d e : ℕ) → a ≡ c → b ≡ d → e ≡ c + d → a + b ≡ e
-    sum_step a b c d e p q r = omega (arith, p, q, r)

@@ -1,2 +1,4 @@
 pub mod First
+pub mod Lengths
+pub mod Occurrences
 pub mod Ranking

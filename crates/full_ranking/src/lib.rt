@@ -3,7 +3,9 @@
 
 mod counts;
 mod laws;
+mod lengths;
 mod memory;
+mod ranges;
 mod ranking;
 
 pub use counts::all_stats;

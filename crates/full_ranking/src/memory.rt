@@ -1,4 +1,4 @@
-// The scoring of documents of an index in memory, which has no file and no store to fail.
+// What is read of an index in memory, which has no file and no store to fail.
 ghost use Rattle.std.specs.Prelude.{◌≡◌, ◌<◌, true, length, map, All, IfOk, OnOk};
 ghost use Rattle.ri_base.specs.Collection.{document_at};
 ghost use Rattle.ri_base.specs.Query.{filter_tree, is_range};
@@ -6,12 +6,15 @@ ghost use Rattle.smoothing.specs.Fractions.{Computes};
 ghost use Rattle.query_check.specs.Leaves.{leaf_tree};
 ghost use Rattle.belief_nodes.specs.Leaves.{HasPrior, IsLeafCount};
 ghost use Rattle.belief_nodes.specs.Network.{network_tree};
+ghost use Rattle.range_masks.specs.Masks.{IsMask};
+ghost use Rattle.range_masks.specs.May.{leaf_may, query_may};
 ghost use Rattle.document_scoring.specs.Counts.{count_of};
 ghost use Rattle.document_scoring.specs.Rows.{Adds};
 
 use belief_nodes::{BeliefNode, LeafCount, Network};
 use document_scoring::{Row, count_of, score_document};
 use query_check::LeafKind;
+use range_masks::{leaf_mask, query_mask};
 use ri_base::{Filter, Fraction, NoMemory, Sealed, SegFault};
 use smoothing::Rule;
 use std::alloc::{AllocError, Global};
@@ -30,6 +33,43 @@ pub fn count_in_index(
 {
     match count_of(alloc, leaf, index, id) {
         Ok(count) => Ok(count),
+        Err(SegFault::Memory) => Err(AllocError),
+        Err(SegFault::Malformed { .. } | SegFault::Missing { .. } | SegFault::Store) =>
+            unreachable!(),
+    }
+}
+
+/// Which documents of a range of the index may have an extent of the leaf.
+pub fn leaf_mask_in_index(
+    alloc: Global,
+    leaf: &LeafKind,
+    index: &mut Sealed,
+    range: u32,
+) -> Result<u64, NoMemory>
+    ensures mask { IfOk result (IsMask (leaf_may (leaf_tree leaf.now)) range index.old) }
+    ensures same { index.new ≡ index.old }
+{
+    match leaf_mask(alloc, leaf, index, range) {
+        Ok(mask) => Ok(mask),
+        Err(SegFault::Memory) => Err(AllocError),
+        Err(SegFault::Malformed { .. } | SegFault::Missing { .. } | SegFault::Store) =>
+            unreachable!(),
+    }
+}
+
+/// Which documents of a range of the index may have candidates.
+pub fn query_mask_in_index(
+    alloc: Global,
+    filters: &[Filter],
+    leaves: &[LeafKind],
+    index: &mut Sealed,
+    range: u32,
+) -> Result<u64, NoMemory>
+    ensures mask { IfOk result (IsMask (query_may (map filter_tree filters.now) (map leaf_tree leaves.now)) range index.old) }
+    ensures same { index.new ≡ index.old }
+{
+    match query_mask(alloc, filters, leaves, index, range) {
+        Ok(mask) => Ok(mask),
         Err(SegFault::Memory) => Err(AllocError),
         Err(SegFault::Malformed { .. } | SegFault::Missing { .. } | SegFault::Store) =>
             unreachable!(),

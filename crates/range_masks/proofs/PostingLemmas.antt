@@ -1,0 +1,176 @@
+-- The postings of a term, and which documents have it.
+use Rattle.std.proofs.Common.{◌≡◌, ◌<◌, ◌≤◌, ℕ, ◌+◌, ◌*◌, ◌/◌, ◌%◌, ◌^◌, ◌==◌, Bool, true, false, ◌||◌, ◌⊎◌, inl, inr, ⊎_elim, cond, leb, ltb, List, [], ◌∷◌, ◌++◌, length, take, drop, get_or, unwrap_or, bit_or, refl, sym, ap, subst, ◌∙◌, arith}
+use Rattle.std.specs.Int.{bit_at}
+use Rattle.std.specs.List.{All, list_any}
+use Rattle.std.specs.List.Sorted.{IsNonDecreasingBy, IsPartitionPoint}
+use Rattle.std.specs.Str.{bytes_eq}
+use Rattle.std.proofs.lemmas.Bool.{cases_lt}
+use Rattle.std.proofs.lemmas.Bool.Decides.{eqb_tells}
+use Rattle.std.proofs.lemmas.List.{take-append-drop}
+use Rattle.std.proofs.lemmas.List.Elements.{All-head, All-tail, All-take, All-weaker}
+use Rattle.std.proofs.lemmas.List.Folds.{list_any-append, list_any_more, list_any_none}
+use Rattle.std.proofs.lemmas.Nat.Bits.{bit_at-zero}
+use Rattle.std.proofs.lemmas.Option.{slice_get_past}
+use Rattle.ri_base.specs.Collection.{document_at, empty_document}
+use Rattle.ri_base.specs.Documents.{Document}
+use Rattle.ri_base.specs.Places.{places, places_at, places_from, postings_from, postings_of}
+use Rattle.ri_base.specs.Vocabulary.{Occurs}
+use Rattle.ri_base.specs.declared.places.Place.{Place}
+use Rattle.ri_base.proofs.ListLemmas.{All-drop_within, All-take_within}
+use Rattle.ri_base.proofs.PlacesLemmas.{made_other, places-absent, places_at-append, places_at-postings}
+use Rattle.range_masks.specs.Masks.{IsBlock, IsMask}
+use Rattle.range_masks.specs.May.{has_term}
+use Rattle.range_masks.proofs.MaskLemmas.{bit_more, or_false}
+
+-- ---- a term has a place where the document has it
+
+abbrev some : List ℕ → Bool
+some [] = false
+some (p ∷ ps) = true
+
+some_from : (i : ℕ) (t : List ℕ) (tokens : List (List ℕ)) → some (places_from i t tokens) ≡ list_any (λ token. bytes_eq token t) tokens
+some_from i t [] = refl
+some_from i t (x ∷ xs) = by (bytes_eq x t) (some_from (i + 1) t xs)
+  where
+    by : (b : Bool) → some (places_from (i + 1) t xs) ≡ list_any (λ token. bytes_eq token t) xs
+        → some (cond b (i ∷ places_from (i + 1) t xs) (places_from (i + 1) t xs)) ≡ b || list_any (λ token. bytes_eq token t) xs
+    by true e = refl
+    by false e = e
+
+some_place : (t : List ℕ) (d : Document) → some (places t d) ≡ has_term t d
+unfolding places
+some_place t d = some_from 0 t d.tokens
+
+no_place : (t : List ℕ) → places t empty_document ≡ []
+unfolding places
+no_place t = refl
+
+some_at : (id : ℕ) (ps : List Place) → list_any (λ p. p.id == id) ps ≡ some (places_at id ps)
+some_at id [] = refl
+some_at id (p ∷ ps) = by (p.id == id) (some_at id ps)
+  where
+    by : (b : Bool) → list_any (λ q. q.id == id) ps ≡ some (places_at id ps) → b || list_any (λ q. q.id == id) ps ≡ some (cond b (p.at ∷ places_at id ps) (places_at id ps))
+    by true e = refl
+    by false e = e
+
+-- ---- postings of a term, past the last document too
+
+past : (docs : List Document) (id : ℕ) → length docs ≤ id → document_at docs id ≡ empty_document
+past docs id h = ap (λ o. unwrap_or o empty_document) (slice_get_past docs id h)
+
+past_from : (i id : ℕ) (t : List ℕ) (docs : List Document) → i + length docs ≤ id → places_at id (postings_from i t docs) ≡ []
+past_from i id t [] h = refl
+past_from i id t (d ∷ docs) h =
+    let differ : i ≡ id → ⊥ = λ e. omega (arith, e, h) in
+    places_at-append id _ (postings_from (i + 1) t docs)
+    ∙ ap (λ l. l ++ places_at id (postings_from (i + 1) t docs)) (made_other i id (places t d) differ) ∙ past_from (i + 1) id t docs (omega (arith, h))
+
+at_any : (id : ℕ) (t : List ℕ) (docs : List Document) → places_at id (postings_of t docs) ≡ places t (document_at docs id)
+unfolding postings_of
+at_any id t docs =
+    ⊎_elim (λ h. places_at-postings id t docs h)
+    (λ h. past_from 0 id t docs (omega (arith, h)) ∙ sym (ap (places t) (past docs id h) ∙ no_place t))
+    (cases_lt id (length docs))
+
+absent_at : (id : ℕ) (t : List ℕ) (docs : List Document) → (Occurs t docs → ⊥) → places t (document_at docs id) ≡ []
+absent_at id t docs none =
+    ⊎_elim (λ h. places-absent id t docs h none) (λ h. ap (places t) (past docs id h) ∙ no_place t) (cases_lt id (length docs))
+
+-- ---- the postings of a range
+
+same_test : (id range i : ℕ) → i < 64 → id / 64 ≡ range → (id % 64 == i) ≡ (id == 64 * range + i)
+same_test id range i small is = go (eqb_tells (id % 64) i) (eqb_tells id (64 * range + i))
+  where
+    go : (((id % 64 == i) ≡ true) × (id % 64 ≡ i)) ⊎ (((id % 64 == i) ≡ false) × (id % 64 ≡ i → ⊥))
+        → (((id == 64 * range + i) ≡ true) × (id ≡ 64 * range + i)) ⊎ (((id == 64 * range + i) ≡ false) × (id ≡ 64 * range + i → ⊥))
+        → (id % 64 == i) ≡ (id == 64 * range + i)
+    go (inl a) (inl b) = a.0 ∙ sym b.0
+    go (inl a) (inr b) = absurd (b.1 (omega (arith, a.1, is)))
+    go (inr a) (inl b) = absurd (a.1 (omega (arith, b.1, is)))
+    go (inr a) (inr b) = a.0 ∙ sym b.0
+
+same_ids : (range i : ℕ) (ps : List Place) → i < 64 → All (λ p. p.id / 64 ≡ range) ps → list_any (λ p. p.id % 64 == i) ps ≡ list_any (λ p. p.id == 64 * range + i) ps
+same_ids range i [] small inside = refl
+same_ids range i (p ∷ ps) small inside =
+    let P : Place → Type 0 = λ q. q.id / 64 ≡ range in
+    ap (λ b. b || list_any (λ q. q.id % 64 == i) ps) (same_test p.id range i small (All-head P p ps inside))
+    ∙ ap (λ b. (p.id == 64 * range + i) || b) (same_ids range i ps small (All-tail P p ps inside))
+
+-- no id of an earlier or a later range
+below_other : (id range i : ℕ) → ltb (id / 64) range ≡ true → (id == 64 * range + i) ≡ false
+below_other id range i h = go (eqb_tells id (64 * range + i))
+  where
+    go : (((id == 64 * range + i) ≡ true) × (id ≡ 64 * range + i)) ⊎ (((id == 64 * range + i) ≡ false) × (id ≡ 64 * range + i → ⊥)) → (id == 64 * range + i) ≡ false
+    go (inl a) = let less : id / 64 < range = grind (arith, h) in absurd (omega (arith, less, a.1))
+    go (inr a) = a.0
+
+above_other : (id range i : ℕ) → i < 64 → leb (id / 64) range ≡ false → (id == 64 * range + i) ≡ false
+above_other id range i small h = go (eqb_tells id (64 * range + i))
+  where
+    go : (((id == 64 * range + i) ≡ true) × (id ≡ 64 * range + i)) ⊎ (((id == 64 * range + i) ≡ false) × (id ≡ 64 * range + i → ⊥)) → (id == 64 * range + i) ≡ false
+    go (inl a) = let more : range < id / 64 = grind (arith, h) in absurd (omega (arith, more, a.1, small))
+    go (inr a) = a.0
+
+own : (id range : ℕ) → ltb (id / 64) range ≡ false → leb (id / 64) range ≡ true → id / 64 ≡ range
+own id range h k =
+    let from : range ≤ id / 64 = grind (arith, h) in
+    let to : id / 64 ≤ range = grind (arith, k) in
+    omega (arith, from, to)
+
+-- what two searches for the ends of a range leave between them
+pub IsBlock-searched : (range first count : ℕ) (ps rest : List Place) → rest ≡ drop first ps → first ≤ length ps → count ≤ length rest
+    → IsPartitionPoint (λ p. ltb (p.id / 64) range ≡ true) (λ p. ltb (p.id / 64) range ≡ false) ps first
+    → IsPartitionPoint (λ p. leb (p.id / 64) range ≡ true) (λ p. leb (p.id / 64) range ≡ false) rest count
+    → IsBlock range ps (take count rest)
+IsBlock-searched range first count ps rest is below within low high =
+    let Before : Place → Type 0 = λ p. ltb (p.id / 64) range ≡ true in
+    let From : Place → Type 0 = λ p. ltb (p.id / 64) range ≡ false in
+    let UpTo : Place → Type 0 = λ p. leb (p.id / 64) range ≡ true in
+    let After : Place → Type 0 = λ p. leb (p.id / 64) range ≡ false in
+    let from : All From rest = subst (All From) (sym is) (All-drop_within From ps first below low.1) in
+    let upto : All UpTo (take count rest) = All-take_within UpTo rest count within high.0 in
+    let from_too : All From (take count rest) = All-take From count rest from in
+    record {
+      inside = λ k d h. own (get_or (take count rest) k d).id range (from_too k d h) (upto k d h);
+      whole = λ i small.
+          let test : Place → Bool = λ p. p.id == 64 * range + i in
+          let Other : Place → Type 0 = λ p. test p ≡ false in
+          let front : All Other (take first ps) = All-weaker Before Other (λ p h. below_other p.id range i h) (take first ps) (All-take_within Before ps first below low.0) in
+          let back : All Other (drop count rest) = All-weaker After Other (λ p h. above_other p.id range i small h) (drop count rest) (All-drop_within After rest count within high.1) in
+          sym (ap (list_any test) (sym (take-append-drop first ps)) ∙ list_any-append test (take first ps) (drop first ps)
+          ∙ ap (λ b. b || list_any test (drop first ps)) (list_any_none test (take first ps) front)
+          ∙ ap (list_any test) (sym is)
+          ∙ ap (list_any test) (sym (take-append-drop count rest)) ∙ list_any-append test (take count rest) (drop count rest)
+          ∙ ap (λ b. list_any test (take count rest) || b) (list_any_none test (drop count rest) back)
+          ∙ or_false (list_any test (take count rest)));
+    }
+
+-- postings by rising id are postings by rising range
+pub rising_ranges : (ps : List Place) → IsNonDecreasingBy (λ p. p.id) ps → IsNonDecreasingBy (λ p. p.id / 64) ps
+rising_ranges ps up i j d le inside = let h = up i j d le inside in omega (arith, h)
+
+-- ---- the mask of a term
+
+-- one posting more
+pub bits_more : (block : List Place) (k mask : ℕ) (d : Place) → k < length block → ((i : ℕ) → i < 64 → bit_at mask i ≡ cond (list_any (λ p. p.id % 64 == i) (take k block)) 1 0)
+    → (i : ℕ) → i < 64 → bit_at (bit_or mask (1 * 2 ^ ((get_or block k d).id % 64) % 2 ^ 64)) i ≡ cond (list_any (λ p. p.id % 64 == i) (take (k + 1) block)) 1 0
+bits_more block k mask d inside so_far i small =
+    let test : Place → Bool = λ p. p.id % 64 == i in
+    bit_more mask ((get_or block k d).id % 64) i (list_any test (take k block)) (omega arith) small (so_far i small)
+    ∙ sym (ap (λ b. cond b 1 0) (list_any_more test block k d inside))
+
+pub IsMask-block : (t : List ℕ) (range : ℕ) (docs : List Document) (all block : List Place) (mask : ℕ) → all ≡ postings_of t docs → IsBlock range all block
+    → ((i : ℕ) → i < 64 → bit_at mask i ≡ cond (list_any (λ p. p.id % 64 == i) block) 1 0) → IsMask (has_term t) range docs mask
+IsMask-block t range docs all block mask is h bits = record {
+  bits = λ i small.
+      let id = 64 * range + i in
+      bits i small ∙ ap (λ b. cond b 1 0) (same_ids range i block small h.inside ∙ h.whole i small
+      ∙ ap (λ ps. list_any (λ p. p.id == id) ps) is ∙ some_at id (postings_of t docs) ∙ ap some (at_any id t docs) ∙ some_place t (document_at docs id));
+}
+
+pub IsMask-absent : (t : List ℕ) (range : ℕ) (docs : List Document) → (Occurs t docs → ⊥) → IsMask (has_term t) range docs 0
+IsMask-absent t range docs none = record {
+  bits = λ i small.
+      let id = 64 * range + i in
+      bit_at-zero i ∙ sym (ap (λ b. cond b 1 0) (sym (some_place t (document_at docs id)) ∙ ap some (absent_at id t docs none)));
+}

@@ -1,0 +1,5 @@
+use Rattle.range_masks.proofs.PostingLemmas.{bits_more}
+use Rattle.range_masks.proofs.sealed.mask_of_ids.Goals as goal
+
+pub loop-place-preserved : goal.loop-place-preserved
+loop-place-preserved c = λ i small. bits_more c.args.block.now c.loop-place.place-index c.loop-place.mask _ c.loop-place-test.true c.loop-place.invariant i small

@@ -19,7 +19,7 @@ use Rattle.ri_base.specs.declared.places.Place.{Place}
 use Rattle.ri_base.proofs.PlacesLemmas.{occurs_at}
 use Rattle.ri_base.proofs.VocabularyLemmas.{IsVocabulary-same}
 use Rattle.seg_codec.specs.Blocks.{tokens_of}
-use Rattle.seg_codec.specs.Held.{AreAgreed, AreOfPostings, Holds, IsKept, lengths, lengths_of, rank_at, rebuilt, terms_of}
+use Rattle.seg_codec.specs.Held.{AreRanked, Holds, IsKept, lengths, lengths_of, rank_at, rebuilt, terms_of}
 use Rattle.seg_codec.specs.Rising.{Rise}
 use Rattle.seg_codec.specs.Segment.{entry_of}
 use Rattle.seg_codec.specs.declared.dictionary.TermBlocks.{TermBlocks}
@@ -80,13 +80,6 @@ same_rank terms i j up lt under e = elim (cases_order i j) [
         absurd cc
 
 -- ---- ranks of all tokens
-
--- ranks told at all places of the documents
-pub record AreRanked (w : Whole) (ranks : List (List ℕ)) : Type 0 where
-  pub shape : lengths ranks ≡ lengths_of w.documents
-  pub only : AreOfPostings w.postings ranks
-  pub each : AreAgreed w.postings ranks
-  pub full : All (λ (rs : List ℕ). All (λ r. r < length w.postings) rs) ranks
 
 word_is : (w : Whole) (ranks : List (List ℕ)) (p : Place) → AreRanked w ranks → p.id < length w.documents → p.at < tokens_of w.documents p.id
     → word_of (rebuilt (terms_of w.terms) w.documents ranks) p.id p.at ≡ get_or (terms_of w.terms) (rank_at (length w.postings) ranks p) []

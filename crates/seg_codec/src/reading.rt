@@ -7,7 +7,7 @@ ghost use Rattle.seg_codec.specs.Segment.{segment};
 ghost use Rattle.seg_codec.specs.Whole.{Fault, IsBlockFault, IsFaultOf, grammar};
 ghost use Rattle.seg_codec.specs.declared.whole.Whole.{Whole};
 
-use crate::held::documents_held;
+use crate::held::{documents_held, ranks_held};
 use crate::twice::place_told_twice;
 use crate::whole::whole_of;
 use ri_base::{Doc, FileName, List, PartName, SegFault};
@@ -25,8 +25,8 @@ pub fn read_segment(alloc: Global, bytes: &[u8], file: FileName) -> Result<List<
     ensures across { (w : Whole) → grammar bytes.now ≡ Ok w → IfErr result (IsBlockFault file) }
 {
     let whole = whole_of(alloc, bytes, file)?;
-    match documents_held(alloc, &whole)? {
-        Some(documents) => Ok(documents),
+    match ranks_held(alloc, &whole)? {
+        Some(ranks) => Ok(documents_held(alloc, whole, &ranks)?),
         None => Err(SegFault::Malformed {
             file,
             part: PartName::Block,

@@ -15,6 +15,7 @@ use Rattle.std.proofs.lemmas.List.Sums.{sum_by-cons}
 use Rattle.std.proofs.lemmas.Map.Text.{is_eq-slice_cmp}
 use Rattle.file_fields.specs.Fields.{is_before}
 use Rattle.file_fields.specs.Reading.{AllFit}
+use Rattle.file_fields.proofs.Order.{before_from_less}
 use Rattle.ri_base.specs.Collection.{field_names, names_of, token_count}
 use Rattle.ri_base.specs.Documents.{Document, Field, IsBefore, IsDocument}
 use Rattle.ri_base.specs.Text.{is_docno_byte, is_name, is_name_byte, starts_with_letter}
@@ -120,9 +121,6 @@ name_length [] h = absurd cc
 name_length (b ∷ x) h =
     and_from (nat_le 1 (length (b ∷ x))) (nat_le (length (b ∷ x)) NAME_BYTES) (le-leb 1 (length (b ∷ x)) (omega arith))
     (and_parts (starts_with_letter (b ∷ x)) (nat_le (length (b ∷ x)) NAME_BYTES) (and_parts (starts_with_letter (b ∷ x) && nat_le (length (b ∷ x)) NAME_BYTES) (list_all is_name_byte (b ∷ x)) h).0).1
-
-before_from_less : (a b : List ℕ) → slice_cmp nat_cmp a b ≡ Less → is_before a b ≡ true
-before_from_less a b e = ap (λ o. match_ordering o true false false) e
 
 rising_names_fit : (before : List ℕ) (ns : List (List ℕ)) → AllByRecursion (λ y. slice_cmp nat_cmp before y ≡ Less) ns → IsStrictlySortedBy (slice_cmp nat_cmp) ns → AllByRecursion (λ n. is_name n ≡ true) ns → AllFit FitsName (λ _ x. x) before ns
 unfolding IsStrictlySortedBy

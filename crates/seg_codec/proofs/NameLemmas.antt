@@ -21,6 +21,7 @@ use Rattle.ri_base.specs.Vocabulary.{IsVocabulary, Occurs, vocabulary_of, with_t
 use Rattle.ri_base.proofs.ListLemmas.{Contains-cases, Contains-here, Contains-later, Contains-none}
 use Rattle.ri_base.proofs.PlacesLemmas.{absent}
 use Rattle.ri_base.proofs.VocabularyLemmas.{IsVocabulary-vocabulary_of}
+use Rattle.file_fields.proofs.Order.{same_itself}
 use Rattle.seg_codec.specs.Documents.{names_in_order}
 use Rattle.seg_codec.specs.Segment.{entry_of}
 use Rattle.seg_codec.specs.Spelling.{number_of}
@@ -92,9 +93,6 @@ names_counted docs = length-from_keys nat_list_eq_equiv ns (field_names docs) (I
         (is_member-Decides bytes_eq-Decides (field_names docs) q)
 
 -- ---- the numbers of names
-
-same_itself : (a : List ℕ) → bytes_eq a a ≡ true
-same_itself a = sym (is_eq-slice_cmp a a) ∙ ap is_eq (tied_itself nat_list_cmp_total a)
 
 pub number_of-there : (ns : List (List ℕ)) (x : List ℕ) → Contains ns x → (number_of ns x < length ns) × (get_or ns (number_of ns x) [] ≡ x)
 number_of-there [] x c = absurd (Contains-none x c)

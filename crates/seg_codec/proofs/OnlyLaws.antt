@@ -18,6 +18,7 @@ use Rattle.ri_base.specs.declared.places.Place.{Place}
 use Rattle.ri_base.proofs.ListLemmas.{Contains-here, Contains-later}
 use Rattle.ri_base.proofs.PlacesLemmas.{occurs_at}
 use Rattle.ri_base.proofs.VocabularyLemmas.{IsVocabulary-vocabulary_of}
+use Rattle.file_fields.proofs.Order.{same_itself}
 use Rattle.seg_codec.specs.Blocks.{tokens_of}
 use Rattle.seg_codec.specs.Held.{AreAgreed, AreFilled, AreOfPostings, Clash, Gap, Holds, IsKept, lengths, rank_at, terms_of}
 use Rattle.seg_codec.specs.Segment.{entry_of}
@@ -25,13 +26,10 @@ use Rattle.seg_codec.specs.declared.dictionary.TermBlocks.{TermBlocks}
 use Rattle.seg_codec.specs.declared.documents.Entry.{Entry}
 use Rattle.seg_codec.specs.declared.whole.Whole.{Whole}
 use Rattle.seg_codec.proofs.DocumentFits.{counted}
-use Rattle.seg_codec.proofs.HeldLaws.{ranks_few, ranks_long, same_rank}
+use Rattle.seg_codec.proofs.HeldLaws.{ranks_few, ranks_long, same_rank, terms_counted}
 use Rattle.seg_codec.proofs.PostingLemmas.{posting_stands, token_posted}
 use Rattle.seg_codec.proofs.RisingPlaces.{tokens_of-documents}
-use Rattle.seg_codec.proofs.SpreadLaws.{word_of}
-
-abbrev at_place : ℕ → ℕ → Place
-at_place id at = record { id = id; at = at }
+use Rattle.seg_codec.proofs.SpreadLaws.{at_place, word_of}
 
 -- ---- the postings of a rank
 
@@ -50,7 +48,7 @@ no_clash w docs ranks kept h only filled clash =
     let p : Place = clash.place in
     let r : ℕ = clash.rank in
     let found : ℕ = rank_at (length w.postings) ranks p in
-    let number : length (terms_of w.terms) ≡ length w.postings = length-map w.terms (λ (t : TermBlocks). t.term) ∙ sym kept.counted in
+    let number : length (terms_of w.terms) ≡ length w.postings = terms_counted w kept in
     let below : found < length w.postings = All-contains (λ (q : Place). rank_at (length w.postings) ranks q < length w.postings) (get_or w.postings r []) p (filled r [] clash.known) clash.posted in
     let one : word_of docs p.id p.at ≡ get_or (terms_of w.terms) r [] = posting_word w docs r p h clash.known clash.posted in
     let other : word_of docs p.id p.at ≡ get_or (terms_of w.terms) found [] = posting_word w docs found p h below (only p below) in
@@ -116,9 +114,6 @@ held_once w a b ha hb =
     (λ id at inside within. let k = token_rank w a id at ha inside within in k.is ∙ sym (posting_word w b k.rank (record { id = id; at = at }) hb k.known k.posted))
 
 -- ---- there are no fewer postings than tokens
-
-same_itself : (a : List ℕ) → bytes_eq a a ≡ true
-same_itself a = sym (is_eq-slice_cmp a a) ∙ ap is_eq (tied_itself nat_list_cmp_total a)
 
 abbrev one_if : List ℕ → List ℕ → ℕ
 one_if x t = cond (bytes_eq x t) 1 0

@@ -14,14 +14,8 @@ use Rattle.ri_base.specs.Places.{places, places_from, postings_from, postings_of
 use Rattle.ri_base.specs.Vocabulary.{Occurs}
 use Rattle.ri_base.specs.declared.places.Place.{Place}
 use Rattle.ri_base.proofs.ListLemmas.{Contains-cases, Contains-here, Contains-later, Contains-none}
-use Rattle.seg_codec.proofs.SpreadLaws.{AllTold, word_of}
-
--- the place of a token
-abbrev at_place : ℕ → ℕ → Place
-at_place id at = record { id = id; at = at }
-
-same_itself : (a : List ℕ) → bytes_eq a a ≡ true
-same_itself a = sym (is_eq-slice_cmp a a) ∙ ap is_eq (tied_itself nat_list_cmp_total a)
+use Rattle.file_fields.proofs.Order.{same_itself}
+use Rattle.seg_codec.proofs.SpreadLaws.{AllTold, at_place, word_of}
 
 -- ---- at each posting stands the term
 

@@ -1,10 +1,11 @@
-use Rattle.std.proofs.Common.{List, ◌<◌, ◌^◌, length, sym, subst, arith}
+use Rattle.std.proofs.Common.{refl, List, ◌<◌, ◌^◌, length, sym, subst, arith}
 use Rattle.std.proofs.lemmas.Result.{err_from_is_err_and}
 use Rattle.ri_base.specs.Documents.{Document}
 use Rattle.file_fields.proofs.Codec.{IsBytes}
 use Rattle.seg_codec.specs.Held.{AreRanked, Holds}
+use Rattle.seg_codec.specs.Whole.{grammar}
 use Rattle.seg_codec.proofs.HeldSteps.{none_of, some_of}
-use Rattle.seg_codec.proofs.ReadingLemmas.{broken_only, held_found, held_only, kept_if_read, none_only}
+use Rattle.seg_codec.proofs.ReadingLemmas.{broken_across, broken_only, ends_within, place_across, held_found, held_only, kept_if_read, none_only}
 use Rattle.seg_codec.proofs.reading.read_segment.Goals as goal
 
 pub returns-in_err-whole-clause-only : goal.returns-in_err-whole-clause-only
@@ -41,3 +42,19 @@ returns-clause-only c docs part is =
     let room : length c.args.bytes.now < 2 ^ 64 = omega arith in
     let none = none_of c.in_ok-ranks_held.field-0 c.in-None.is ((docs : List Document) → Holds docs w → ⊥) c.in_ok-ranks_held.ensures.none in
     none_only c.args.bytes.now w docs c.in_ok-whole.ensures none room part is
+
+pub returns-in_err-whole-clause-across : goal.returns-in_err-whole-clause-across
+returns-in_err-whole-clause-across c w is =
+    let p = err_from_is_err_and c.from_residual.result c.from_residual.ensures.1 in
+    rw (p.1, p.2) (broken_across c.in_err-whole.field-0.0 (grammar c.args.bytes.now) c.args.file (length c.args.bytes.now) w c.in_err-whole.ensures is)
+
+pub place_told_twice-requires : goal.place_told_twice-requires
+place_told_twice-requires c =
+    let small : IsBytes c.args.bytes.now = record { small = λ i. omega (arith, c.type_inv.bytes i) } in
+    let end = ends_within c.args.bytes.now c.in_ok-whole.whole small c.in_ok-whole.ensures in
+    let room : length c.args.bytes.now < 2 ^ 64 = omega arith in
+    omega (arith, end)
+
+pub returns-clause-across : goal.returns-clause-across
+returns-clause-across c w is =
+    (refl, refl, place_across (grammar c.args.bytes.now) c.in_ok-whole.whole w c.in_ok-place_told_twice.field-0 c.unwrap_or.result (length c.args.bytes.now) c.in_ok-whole.ensures is c.in_ok-place_told_twice.ensures c.unwrap_or.ensures)

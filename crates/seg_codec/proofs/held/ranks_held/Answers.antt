@@ -30,19 +30,19 @@ returns-in-Some-clause-found c =
     let es = c.as_slice-documents.result.now in
     let pss = c.as_slice-postings.result.now in
     ranked_if_full (λ v. v.items) c.args.whole.now es pss c.in-Some.ranks.items c.full_ranks.result c.as_slice-documents.ensures.same c.as_slice-postings.ensures
-    (some_of c.in_ok-ranks_at.field-0 c.in-Some.ranks c.in-Some.is (λ v. lengths v.items ≡ lengths_of es) c.in_ok-ranks_at.ensures.shape)
-    (some_of c.in_ok-ranks_at.field-0 c.in-Some.ranks c.in-Some.is (λ v. AreOfPostings pss v.items) c.in_ok-ranks_at.ensures.only)
-    (some_of c.in_ok-ranks_at.field-0 c.in-Some.ranks c.in-Some.is (λ v. AreAgreed pss v.items) c.in_ok-ranks_at.ensures.each) c.full_ranks.ensures.same c.full_ranks.ensures.full
+    (some_of c.in_ok-ranks.field-0 c.in-Some.ranks c.in-Some.is (λ v. lengths v.items ≡ lengths_of es) c.in_ok-ranks.ensures.shape)
+    (some_of c.in_ok-ranks.field-0 c.in-Some.ranks c.in-Some.is (λ v. AreOfPostings pss v.items) c.in_ok-ranks.ensures.only)
+    (some_of c.in_ok-ranks.field-0 c.in-Some.ranks c.in-Some.is (λ v. AreAgreed pss v.items) c.in_ok-ranks.ensures.each) c.full_ranks.ensures.same c.full_ranks.ensures.full
 
 pub returns-in-Some-clause-none : goal.returns-in-Some-clause-none
 returns-in-Some-clause-none c =
     let es = c.as_slice-documents.result.now in
     let pss = c.as_slice-postings.result.now in
     none_if_gap c.args.whole.now es pss c.in-Some.ranks.items c.full_ranks.result c.as_slice-documents.ensures.same c.as_slice-postings.ensures
-    (some_of c.in_ok-ranks_at.field-0 c.in-Some.ranks c.in-Some.is (λ v. lengths v.items ≡ lengths_of es) c.in_ok-ranks_at.ensures.shape)
-    (some_of c.in_ok-ranks_at.field-0 c.in-Some.ranks c.in-Some.is (λ v. AreAgreed pss v.items) c.in_ok-ranks_at.ensures.each) c.full_ranks.ensures.none
+    (some_of c.in_ok-ranks.field-0 c.in-Some.ranks c.in-Some.is (λ v. lengths v.items ≡ lengths_of es) c.in_ok-ranks.ensures.shape)
+    (some_of c.in_ok-ranks.field-0 c.in-Some.ranks c.in-Some.is (λ v. AreAgreed pss v.items) c.in_ok-ranks.ensures.each) c.full_ranks.ensures.none
 
 pub returns-in-None-clause-none : goal.returns-in-None-clause-none
 returns-in-None-clause-none c docs h =
-    let clash = none_of c.in_ok-ranks_at.field-0 c.in-None.is (IsClashing c.as_slice-postings.result.now) c.in_ok-ranks_at.ensures.none in
+    let clash = none_of c.in_ok-ranks.field-0 c.in-None.is (IsClashing c.as_slice-postings.result.now) c.in_ok-ranks.ensures.none in
     none_if_clash c.args.whole.now docs c.requires (subst IsClashing c.as_slice-postings.ensures clash) h

@@ -10,17 +10,12 @@ use Rattle.seg_codec.proofs.HeldLaws.{ranks_few}
 use Rattle.seg_codec.proofs.HeldSteps.{rebuilt_more, tokens_counted}
 use Rattle.seg_codec.proofs.held.rebuilt.Goals as goal
 
-pub index-ranks-id-requires : goal.index-ranks-id-requires
-index-ranks-id-requires c =
-    let t = YieldsList-turn (YieldsList-from_vec c.args.documents.items cc cc) c.loop-entry.yielded _ c.loop-entry.yielded_by _ _ c.in-Some.entry c.in-Some.is c.next.ensures.steps in
-    omega (arith, t.0, c.loop-entry.invariant.count, ranks_few c.args.documents.items c.args.ranks.now c.requires.shape)
-
 pub terms_at-requires : goal.terms_at-requires
 terms_at-requires c =
     let es = c.args.documents.items in
     let ranks = c.args.ranks.now in
     let id = c.loop-entry.id in
-    let t = YieldsList-turn (YieldsList-from_vec es cc cc) c.loop-entry.yielded _ c.loop-entry.yielded_by _ _ c.in-Some.entry c.in-Some.is c.next.ensures.steps in
+    let t = YieldsList-turn (YieldsList-from_vec {s = c.into_iter-entry-iterator.result} es (cc) (cc)) c.loop-entry.yielded c.loop-entry.entry-iterator c.loop-entry.yielded_by _ c.next.new.self c.in-Some.entry c.in-Some.is c.next.ensures.steps in
     let under : id < length ranks = omega (arith, t.0, c.loop-entry.invariant.count, ranks_few es ranks c.requires.shape) in
     let own : c.as_slice.result.now ≡ get_or ranks id [] = c.as_slice.ensures ∙ get_or_read ranks id c.index-ranks-id.result under c.index-ranks-id.is [] in
     subst (All (λ (r : ℕ). r < length c.args.terms.now)) (sym own) (c.requires.known id [] under)
@@ -31,7 +26,7 @@ document_of-requires c =
     let ranks = c.args.ranks.now in
     let id = c.loop-entry.id in
     let e = c.in-Some.entry in
-    let t = YieldsList-turn (YieldsList-from_vec es cc cc) c.loop-entry.yielded _ c.loop-entry.yielded_by _ _ e c.in-Some.is c.next.ensures.steps in
+    let t = YieldsList-turn (YieldsList-from_vec {s = c.into_iter-entry-iterator.result} es (cc) (cc)) c.loop-entry.yielded c.loop-entry.entry-iterator c.loop-entry.yielded_by _ c.next.new.self e c.in-Some.is c.next.ensures.steps in
     let lt : id < length es = omega (arith, t.0, c.loop-entry.invariant.count) in
     let is : e ≡ get_or es id e = t.1 ∙ ap (λ (n : ℕ). get_or es n e) (sym c.loop-entry.invariant.count) in
     let own : c.as_slice.result.now ≡ get_or ranks id [] = c.as_slice.ensures ∙ get_or_read ranks id c.index-ranks-id.result (omega (arith, lt, ranks_few es ranks c.requires.shape)) c.index-ranks-id.is [] in
@@ -48,7 +43,7 @@ loop-entry-preserved c =
     let id = c.loop-entry.id in
     let e = c.in-Some.entry in
     let row = c.as_slice.result.now in
-    let t = YieldsList-turn (YieldsList-from_vec es cc cc) c.loop-entry.yielded _ c.loop-entry.yielded_by _ _ e c.in-Some.is c.next.ensures.steps in
+    let t = YieldsList-turn (YieldsList-from_vec {s = c.into_iter-entry-iterator.result} es (cc) (cc)) c.loop-entry.yielded c.loop-entry.entry-iterator c.loop-entry.yielded_by _ c.next.new.self e c.in-Some.is c.next.ensures.steps in
     let lt : id < length es = omega (arith, t.0, c.loop-entry.invariant.count) in
     let under : id < length ranks = omega (arith, lt, ranks_few es ranks c.requires.shape) in
     let is : e ≡ get_or es id e = t.1 ∙ ap (λ (n : ℕ). get_or es n e) (sym c.loop-entry.invariant.count) in
@@ -63,7 +58,7 @@ returns c =
     let es = c.args.documents.items in
     let ranks = c.args.ranks.now in
     let id = c.loop-entry.id in
-    let t = YieldsList-end (YieldsList-from_vec es cc cc) c.loop-entry.yielded _ c.loop-entry.yielded_by _ _ c.in-None.is c.next.ensures.steps in
+    let t = YieldsList-end (YieldsList-from_vec {s = c.into_iter-entry-iterator.result} es (cc) (cc)) c.loop-entry.yielded c.loop-entry.entry-iterator c.loop-entry.yielded_by _ c.next.new.self c.in-None.is c.next.ensures.steps in
     let terms = terms_of c.args.terms.now in
     let most = ranks_few es ranks c.requires.shape in
-    c.loop-entry.invariant.made ∙ ap (λ (xs : List Entry). rebuilt terms xs (take id ranks)) (take_all id es (omega (arith, t.1, c.loop-entry.invariant.count))) ∙ ap (rebuilt terms es) (take_all id ranks (omega (arith, t.1, c.loop-entry.invariant.count, most)))
+    c.of.ensures ∙ c.loop-entry.invariant.made ∙ ap (λ (xs : List Entry). rebuilt terms xs (take id ranks)) (take_all id es (omega (arith, t.1, c.loop-entry.invariant.count))) ∙ ap (rebuilt terms es) (take_all id ranks (omega (arith, t.1, c.loop-entry.invariant.count, most)))

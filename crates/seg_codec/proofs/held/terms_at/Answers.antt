@@ -3,9 +3,6 @@ use Rattle.seg_codec.specs.declared.dictionary.TermBlocks.{TermBlocks}
 use Rattle.seg_codec.proofs.HeldSteps.{terms_more}
 use Rattle.seg_codec.proofs.held.terms_at.Goals as goal
 
-pub index-terms-rank-requires : goal.index-terms-rank-requires
-index-terms-rank-requires c = c.requires c.loop-rank.rank-index _ c.loop-rank-test.true
-
 pub loop-rank-preserved : goal.loop-rank-preserved
 loop-rank-preserved c =
     let i = c.loop-rank.rank-index in

@@ -23,24 +23,24 @@ pub documents_held-requires : goal.documents_held-requires
 documents_held-requires c =
     let w = c.in_ok-whole.whole in
     let small : IsBytes c.args.bytes.now = record { small = λ i. omega (arith, c.type_inv.bytes i) } in
-    let ranked = some_of c.in_ok-ranks_held.field-0 c.in-Some.ranks c.in-Some.is (λ v. AreRanked w v.items) c.in_ok-ranks_held.ensures.found in
+    let ranked = some_of c.in_ok-ranks.field-0 c.in-Some.ranks c.in-Some.is (λ v. AreRanked w v.items) c.in_ok-ranks.ensures.found in
     record { kept = kept_if_read c.args.bytes.now w small c.in_ok-whole.ensures; ranked = subst (AreRanked w) (sym c.deref.ensures.value) ranked }
 
-pub returns-in-Some-clause-found : goal.returns-in-Some-clause-found
-returns-in-Some-clause-found c =
+pub returns-in_ok-documents_held-in-Some-clause-found : goal.returns-in_ok-documents_held-in-Some-clause-found
+returns-in_ok-documents_held-in-Some-clause-found c =
     let small : IsBytes c.args.bytes.now = record { small = λ i. omega (arith, c.type_inv.bytes i) } in
     held_found c.args.bytes.now c.in_ok-whole.whole c.in_ok-documents_held-in-Some.field-0 small c.in_ok-whole.ensures c.in_ok-documents_held-in-Some.ensures
 
-pub returns-in-Some-clause-only : goal.returns-in-Some-clause-only
-returns-in-Some-clause-only c docs part is =
+pub returns-in_ok-documents_held-in-Some-clause-only : goal.returns-in_ok-documents_held-in-Some-clause-only
+returns-in_ok-documents_held-in-Some-clause-only c docs part is =
     let room : length c.args.bytes.now < 2 ^ 64 = omega arith in
     held_only c.args.bytes.now c.in_ok-whole.whole c.in_ok-documents_held-in-Some.field-0 docs c.in_ok-whole.ensures c.in_ok-documents_held-in-Some.ensures room part is
 
-pub returns-clause-only : goal.returns-clause-only
-returns-clause-only c docs part is =
+pub returns-in_ok-place_told_twice-in-None-clause-only : goal.returns-in_ok-place_told_twice-in-None-clause-only
+returns-in_ok-place_told_twice-in-None-clause-only c docs part is =
     let w = c.in_ok-whole.whole in
     let room : length c.args.bytes.now < 2 ^ 64 = omega arith in
-    let none = none_of c.in_ok-ranks_held.field-0 c.in-None.is ((docs : List Document) → Holds docs w → ⊥) c.in_ok-ranks_held.ensures.none in
+    let none = none_of c.in_ok-ranks.field-0 c.in-None.is ((docs : List Document) → Holds docs w → ⊥) c.in_ok-ranks.ensures.none in
     none_only c.args.bytes.now w docs c.in_ok-whole.ensures none room part is
 
 pub returns-in_err-whole-clause-across : goal.returns-in_err-whole-clause-across

@@ -33,12 +33,6 @@ pub broken_only : (e : SegFault) (bytes : List ℕ) (file : FileName) (docs : Li
 broken_only e bytes file docs h room part is =
     fault_read e (grammar bytes) file (whole_of docs) docs h (ap grammar is ∙ segment_reads docs part (subst (λ (x : List ℕ). length x < 2 ^ 64) is room))
 
-pub broken_first : (e : SegFault) (read : Result Whole Fault) (file : FileName) (fault : Fault) → AnswersWhole (Err e) read file → read ≡ Err fault → IsFaultOf {X = List Document} (Err e) file fault
-broken_first (Malformed f p place) read file fault h is = (h.0, cc)
-broken_first (Missing f) read file fault h is = h
-broken_first Store read file fault h is = h
-broken_first Memory read file fault h is = tt
-
 pub broken_across : (e : SegFault) (read : Result Whole Fault) (file : FileName) (size : ℕ) (w : Whole) → AnswersWhole (Err e) read file → read ≡ Ok w → IsAcross file size w e
 broken_across (Malformed f p place) read file size w h is = absurd cc
 broken_across (Missing f) read file size w h is = h
@@ -66,10 +60,6 @@ held_only bytes w found docs is h room part own = held_once w found docs h (hold
 
 pub none_only : (bytes : List ℕ) (w : Whole) (docs : List Document) → grammar bytes ≡ Ok w → ((docs : List Document) → Holds docs w → ⊥) → length bytes < 2 ^ 64 → IsPart docs → bytes ≡ segment docs → ⊥
 none_only bytes w docs is none room part own = none docs (holds_own bytes w docs is room part own)
-
--- one reading isn't both
-pub not_both : {A : Type 0} (read : Result Whole Fault) (w : Whole) (fault : Fault) → read ≡ Ok w → read ≡ Err fault → A
-not_both read w fault a b = absurd cc
 
 -- its blocks end where the file does
 pub ends_within : (bytes : List ℕ) (w : Whole) → IsBytes bytes → grammar bytes ≡ Ok w → w.header.blocks_at + sum_by (λ (ps : List Place). length (blocks_of ps)) w.postings ≡ length bytes

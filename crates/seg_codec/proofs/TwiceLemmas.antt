@@ -1,5 +1,6 @@
 -- the first posting that stands a second time
 use Rattle.std.proofs.Common.{◌≡◌, ◌<◌, ◌≤◌, ℕ, ◌+◌, Bool, true, false, cond, ◌||◌, List, [], ◌∷◌, ◌++◌, length, get_or, map, take, drop, Option, Some, None, refl, sym, ap, ◌∙◌}
+use Rattle.std.specs.Prelude.{not}
 use Rattle.std.specs.BTreeSet.{BTreeSet, Updates, contains}
 use Rattle.std.specs.Cmp.{both_tied, unsigned_ties}
 use Rattle.std.specs.List.{list_any}
@@ -28,6 +29,15 @@ pub seen_more : (seen new : BTreeSet (ℕ × ℕ)) (xs : List Place) (x : Place)
 seen_more seen new xs x known u q =
     u.0 (q.id, q.at) ∙ ap (λ (b : Bool). cond b true (contains pair_cmp seen (q.id, q.at))) (sym (ties x q)) ∙ ap (λ (b : Bool). cond (is_same x q) true b) (known q)
     ∙ one_more (is_same x q) (list_any (λ (y : Place). is_same y q) xs) ∙ sym (list_any-append (λ (y : Place). is_same y q) xs (x ∷ []))
+
+-- whether it was there before it is put there
+pub was_there : (b added : Bool) → added ≡ not b → added ≡ false → b ≡ true
+was_there true added e f = refl
+was_there false added e f = absurd cc
+
+pub was_new : (b added : Bool) → added ≡ not b → added ≡ true → b ≡ false
+was_new true added e f = absurd cc
+was_new false added e f = refl
 
 abbrev pub posted : List Standing → List Place
 posted all = map (λ (s : Standing). s.posting) all

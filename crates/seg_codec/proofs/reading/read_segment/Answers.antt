@@ -55,6 +55,6 @@ place_told_twice-requires c =
     let room : length c.args.bytes.now < 2 ^ 64 = omega arith in
     omega (arith, end)
 
-pub returns-clause-across : goal.returns-clause-across
-returns-clause-across c w is =
-    (refl, refl, place_across (grammar c.args.bytes.now) c.in_ok-whole.whole w c.in_ok-place_told_twice.field-0 c.unwrap_or.result (length c.args.bytes.now) c.in_ok-whole.ensures is c.in_ok-place_told_twice.ensures c.unwrap_or.ensures)
+pub returns-in_ok-place_told_twice-in-None-clause-across : goal.returns-in_ok-place_told_twice-in-None-clause-across
+returns-in_ok-place_told_twice-in-None-clause-across c w is =
+    (refl, refl, place_across (grammar c.args.bytes.now) c.in_ok-whole.whole w c.in_ok-place_told_twice-in-None.field-0 c.unwrap_or.result (length c.args.bytes.now) c.in_ok-whole.ensures is c.in_ok-place_told_twice-in-None.ensures c.unwrap_or.ensures)

@@ -11,7 +11,7 @@ use Rattle.seg_codec.specs.Held.{AreRead, Holds, IsKept, whole_of}
 use Rattle.seg_codec.specs.Part.{IsPart}
 use Rattle.seg_codec.specs.Segment.{blocks_of, segment}
 use Rattle.seg_codec.specs.Twice.{IsAcross, told_twice}
-use Rattle.seg_codec.specs.Whole.{AnswersFile, Fault, IsFaultOf, grammar}
+use Rattle.seg_codec.specs.Whole.{AnswersFile, Fault, grammar}
 use Rattle.seg_codec.specs.declared.whole.Whole.{Whole}
 use Rattle.seg_codec.proofs.FileLaws.{blocks_end, file_is_read}
 use Rattle.seg_codec.proofs.OnlyLaws.{held_once}

@@ -1,16 +1,14 @@
 -- how many bytes the blocks of postings have
-use Rattle.std.proofs.Common.{◌≡◌, ◌<◌, ◌≤◌, ℕ, suc, ◌+◌, ◌-◌, ◌/◌, List, [], ◌∷◌, ◌++◌, length, get_or, map, drop, Bool, true, false, cond, eqb, Option, Some, None, refl, sym, ap, subst, ◌∙◌, append_assoc, arith}
-use Rattle.std.specs.Int.{w32, to_le_bytes}
+use Rattle.std.proofs.Common.{◌≡◌, ◌<◌, ◌≤◌, ℕ, ◌+◌, ◌-◌, ◌/◌, List, [], ◌∷◌, ◌++◌, length, get_or, map, drop, Bool, true, false, cond, eqb, Option, Some, None, refl, sym, ap, subst, ◌∙◌, append_assoc, arith}
 use Rattle.std.specs.List.{flat_map}
 use Rattle.std.proofs.lemmas.Bool.{eqb-true, eqb-false, ne_eqb}
 use Rattle.std.specs.Prelude.{sum_by}
 use Rattle.std.proofs.lemmas.List.{drop_more, length-append}
 use Rattle.std.proofs.lemmas.List.Sums.{sum_by-cons}
 use Rattle.ri_base.specs.declared.places.Place.{Place}
-use Rattle.seg_codec.specs.Segment.{ahead, block_entry_of, block_of, blocks_of, cut, first, id_of, range_of}
+use Rattle.seg_codec.specs.Segment.{ahead, block_entry_of, block_of, blocks_of, cut, id_of, range_of}
 use Rattle.seg_codec.specs.Spelling.{block_bytes, spelled_block_entry}
 use Rattle.seg_codec.specs.Twice.{all_standing, size_behind, sizes, standing}
-use Rattle.seg_codec.specs.declared.blocks.BlockEntry.{BlockEntry}
 use Rattle.seg_codec.specs.declared.twice.Standing.{Standing}
 use Rattle.seg_codec.proofs.CutLemmas.{cut_shape}
 
@@ -70,18 +68,6 @@ size_fits end before ps i d r total limit lt is so_far fits = omega (arith, ap (
 pub size_moves : (end : ℕ) (before : Option Place) (ps : List Place) (i : ℕ) (d : Place) (r total : ℕ) → i < length ps → r ≡ size_behind before (get_or ps i d) → end + sizes before (drop i ps) ≡ total
     → (end + r) + sizes (Some (get_or ps i d)) (drop (i + 1) ps) ≡ total
 size_moves end before ps i d r total lt is so_far = omega (arith, ap (sizes before) (drop_more ps i d lt))
-
-least_size : (before : Option Place) (p : Place) → 4 ≤ size_behind before p
-least_size None p = omega arith
-least_size (Some q) p = by (eqb p.id q.id) (eqb (p.id / 64) (q.id / 64))
-  where
-    by : (b c : Bool) → 4 ≤ cond b 4 (cond c 9 10)
-    by true c = omega arith
-    by false true = omega arith
-    by false false = omega arith
-
-pub size_some : (end : ℕ) (before : Option Place) (p : Place) (r : ℕ) → r ≡ size_behind before p → 4 ≤ end + r
-size_some end before p r is = omega (arith, least_size before p)
 
 pub standing_moves : (end : ℕ) (before : Option Place) (ps : List Place) (i : ℕ) (d : Place) (r : ℕ) (out more total : List Standing) → i < length ps → r ≡ size_behind before (get_or ps i d) → more ≡ out ++ record { posting = get_or ps i d; place = end + r - 4 } ∷ []
     → out ++ standing end before (drop i ps) ≡ total → more ++ standing (end + r) (Some (get_or ps i d)) (drop (i + 1) ps) ≡ total

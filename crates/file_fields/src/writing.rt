@@ -4,26 +4,33 @@ ghost use Rattle.std.specs.Int.{w16, w32, w64, to_le_bytes};
 ghost use Rattle.ri_base.specs.Text.{is_docno, is_name, is_term};
 ghost use Rattle.file_fields.specs.Spelling.{spelled_text};
 
+use byteorder::{ByteOrder, LittleEndian};
 use ri_base::{Docno, Name, NoMemory, Term};
 
 pub fn put_u16(out: &mut Vec<u8>, number: u16) -> Result<(), NoMemory>
     ensures { OnOk result (out.new.items ≡ out.old.items ++ to_le_bytes w16 number) }
 {
-    out.extend_from_slice(&number.to_le_bytes())?;
+    let mut bytes = [0u8; 2];
+    LittleEndian::write_u16(&mut bytes, number);
+    out.extend_from_slice(&bytes)?;
     Ok(())
 }
 
 pub fn put_u32(out: &mut Vec<u8>, number: u32) -> Result<(), NoMemory>
     ensures { OnOk result (out.new.items ≡ out.old.items ++ to_le_bytes w32 number) }
 {
-    out.extend_from_slice(&number.to_le_bytes())?;
+    let mut bytes = [0u8; 4];
+    LittleEndian::write_u32(&mut bytes, number);
+    out.extend_from_slice(&bytes)?;
     Ok(())
 }
 
 pub fn put_u64(out: &mut Vec<u8>, number: u64) -> Result<(), NoMemory>
     ensures { OnOk result (out.new.items ≡ out.old.items ++ to_le_bytes w64 number) }
 {
-    out.extend_from_slice(&number.to_le_bytes())?;
+    let mut bytes = [0u8; 8];
+    LittleEndian::write_u64(&mut bytes, number);
+    out.extend_from_slice(&bytes)?;
     Ok(())
 }
 

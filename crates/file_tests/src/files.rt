@@ -3,6 +3,7 @@ ghost use Rattle.std.specs.Prelude.{◌≤◌, IfOk};
 ghost use Rattle.ri_base.specs.Documents.{AreFields};
 
 use crate::documents::{bytes_of, doc};
+use crate::places::with_bytes;
 use crate::segments::BYTES;
 use ri_base::{
     Doc, Docno, FieldSpan, FileName, List, Name, PartName, SegFault, Spans, Term, Terms,
@@ -150,6 +151,17 @@ fn a_bad_field_is_told_first(rt: HostRuntime) -> Result<(), Fail> {
         fault_in(rt.alloc(), &bytes)?,
         Some((PartName::Block, end as u64 - 10))
     );
+    Ok(())
+}
+
+/// `d3` has the token `a` twice. Where its places 0 and 1 are exchanged, the second is refused.
+#[test]
+fn places_out_of_order(rt: HostRuntime) -> Result<(), Fail> {
+    let mut documents = List::new(rt.alloc());
+    documents.push(doc(rt.alloc(), "d3", "a a")?)?;
+    let bytes = bytes_of(rt.alloc(), documents.as_slice())?;
+    let bytes = with_bytes(rt.alloc(), bytes.as_slice(), 101, &[1, 0, 0, 0, 0, 0, 0, 0])?;
+    assert_eq!(rt; fault_in(rt.alloc(), &bytes)?, Some((PartName::Block, 105)));
     Ok(())
 }
 

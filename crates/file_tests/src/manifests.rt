@@ -1,5 +1,5 @@
 // Manifests that were written out by hand.
-use crate::places::fault_place;
+use crate::places::{fault_place, with_bytes};
 use manifest::{manifest_bytes, read_manifest};
 use std::alloc::Global;
 use std::process::Abort;
@@ -25,8 +25,12 @@ static ALL: [u8; 84] = [
     4, 0, 0, 0, 0, 0, 0, 0, 5, 0, 0, 0, 0, 0, 0, 0, 1, 2, 0x61, 0x62, 8, 0, 0, 0, 0, 0, 0, 0,
 ];
 
-/// The fields of the last begin here.
-static BEGINS: [usize; 15] = [0, 8, 12, 20, 24, 32, 36, 40, 44, 48, 56, 64, 72, 73, 74];
+/// The fields of these begin here.
+static EMPTY_BEGINS: [usize; 6] = [0, 8, 12, 20, 24, 32];
+static ONE_BEGINS: [usize; 9] = [0, 8, 12, 20, 24, 32, 36, 40, 48];
+static ALL_BEGINS: [usize; 16] = [
+    0, 8, 12, 20, 24, 32, 36, 40, 44, 48, 56, 64, 72, 73, 74, 76,
+];
 
 /// The manifest of these bytes, as bytes again, or the place of the fault.
 fn again(alloc: Global, bytes: &[u8]) -> Result<Result<Vec<u8>, u64>, Fail> {
@@ -55,24 +59,36 @@ fn place_of(alloc: Global, bytes: &[u8]) -> Result<Option<u64>, Fail> {
     Ok(again(alloc, bytes)?.err())
 }
 
-/// A front of the bytes is broken at the begin of the field that isn't whole.
-#[test]
-fn no_front_is_read(rt: HostRuntime) -> Result<(), Fail> {
-    for n in 0..84usize {
-        let mut begin = 76;
-        for b in BEGINS.iter().rev() {
-            if n < begin {
-                begin = *b;
-            }
-        }
-        let found = place_of(rt.alloc(), &ALL[..n])?;
-        if n < 76 {
-            assert_eq!(rt; found, Some(begin as u64), "{n}");
-        } else {
-            assert_eq!(rt; found, Some(76), "{n}");
+/// The last begin of a field that isn't behind this place.
+fn begin_at(begins: &[usize], place: usize) -> u64 {
+    let mut begin = 0;
+    for next in begins {
+        if *next <= place {
+            begin = *next;
         }
     }
+    begin as u64
+}
+
+/// A front of the bytes is broken at the begin of the field that isn't whole.
+fn assert_fronts(
+    rt: &impl Abort,
+    alloc: Global,
+    bytes: &[u8],
+    begins: &[usize],
+) -> Result<(), Fail> {
+    for n in 0..bytes.len() {
+        let found = place_of(alloc, &bytes[..n])?;
+        assert_eq!(rt; found, Some(begin_at(begins, n)), "{n}");
+    }
     Ok(())
+}
+
+#[test]
+fn no_front_is_read(rt: HostRuntime) -> Result<(), Fail> {
+    assert_fronts(&rt, rt.alloc(), &EMPTY, &EMPTY_BEGINS)?;
+    assert_fronts(&rt, rt.alloc(), &ONE, &ONE_BEGINS)?;
+    assert_fronts(&rt, rt.alloc(), &ALL, &ALL_BEGINS)
 }
 
 /// A byte of the last manifest, what stands there instead, and the place of the fault.
@@ -108,14 +124,65 @@ fn changed_bytes(rt: HostRuntime) -> Result<(), Fail> {
     Ok(())
 }
 
-/// Each byte of the empty manifest one more: only the next number may be another.
+/// Whether these bytes with a byte one more are those of a manifest. What is read of them is written as they are.
+fn raised_is_read(alloc: Global, bytes: &[u8], at: usize) -> Result<bool, Fail> {
+    let Some(byte) = bytes.get(at) else {
+        return Err(Fail::from("no such byte"));
+    };
+    let raised = with_bytes(alloc, bytes, at, &[byte.wrapping_add(1)])?;
+    match again(alloc, &raised)? {
+        Ok(written) if written != raised => Err(Fail::from("it is written otherwise")),
+        Ok(_) => Ok(true),
+        Err(_) => Ok(false),
+    }
+}
+
+/// Only the next number may be greater, and the number of documents.
 #[test]
 fn raised_bytes(rt: HostRuntime) -> Result<(), Fail> {
     for n in 0..33usize {
-        let mut bytes = EMPTY;
-        bytes[n] = bytes[n].saturating_add(1);
-        let found = place_of(rt.alloc(), &bytes)?;
-        assert_eq!(rt; found.is_none(), 12 <= n && n < 20, "{n}");
+        assert_eq!(rt; raised_is_read(rt.alloc(), &EMPTY, n)?, 12 <= n && n < 20, "{n}");
+    }
+    for n in 0..49usize {
+        let is_other = (12 <= n && n < 20) || (32 <= n && n < 35);
+        assert_eq!(rt; raised_is_read(rt.alloc(), &ONE, n)?, is_other, "{n}");
+    }
+    Ok(())
+}
+
+/// Bytes of the manifest with one segment, from a place on, and the place of the fault: very many segments, numbers of
+/// files that are one too great or just not, as many documents as there may be, one more, and none; eight priors, which
+/// aren't there, and nine.
+static LIMITS: [(usize, &[u8], Option<u64>); 8] = [
+    (20, &[0xff, 0xff, 0xff, 0xff], Some(40)),
+    (
+        12,
+        &[
+            0xff, 0xff, 0xff, 0xff, 0xff, 0xff, 0xff, 0xff, 1, 0, 0, 0, 0xfe, 0xff, 0xff, 0xff, 0xff,
+            0xff, 0xff, 0xff,
+        ],
+        None,
+    ),
+    (
+        12,
+        &[
+            0xff, 0xff, 0xff, 0xff, 0xff, 0xff, 0xff, 0xff, 1, 0, 0, 0, 0xff, 0xff, 0xff, 0xff, 0xff,
+            0xff, 0xff, 0xff,
+        ],
+        Some(24),
+    ),
+    (32, &[0, 0, 0x10, 0], None),
+    (32, &[1, 0, 0x10, 0], Some(32)),
+    (32, &[0, 0, 0, 0], Some(32)),
+    (48, &[8], Some(49)),
+    (48, &[9], Some(48)),
+];
+
+#[test]
+fn numbers_at_their_limits(rt: HostRuntime) -> Result<(), Fail> {
+    for (at, others, place) in &LIMITS {
+        let bytes = with_bytes(rt.alloc(), &ONE, *at, others)?;
+        assert_eq!(rt; place_of(rt.alloc(), &bytes)?, *place, "{at}");
     }
     Ok(())
 }

@@ -1,5 +1,5 @@
 // The file of a prior that was written out by hand.
-use crate::places::fault_place;
+use crate::places::{fault_place, with_bytes};
 use manifest::{prior_bytes, read_prior};
 use std::alloc::Global;
 use std::test::Fail;
@@ -60,6 +60,33 @@ fn changed_bytes(rt: HostRuntime) -> Result<(), Fail> {
         bytes[*at] = *byte;
         let found = again(rt.alloc(), &bytes)?.err();
         assert_eq!(rt; found, *place, "{at}");
+    }
+    Ok(())
+}
+
+/// Bytes from a place on, and the place of the fault: p and q that are one too great or just not, as many rows as there
+/// may be, which aren't there, and one more.
+static LIMITS: [(usize, &[u8], Option<u64>); 6] = [
+    (9, &[0, 0, 0x64, 0xa7, 0xb3, 0xb6, 0xe0, 0x0d], Some(9)),
+    (17, &[0, 0, 0x64, 0xa7, 0xb3, 0xb6, 0xe0, 0x0d], Some(17)),
+    (17, &[0xff, 0xff, 0x63, 0xa7, 0xb3, 0xb6, 0xe0, 0x0d], None),
+    (
+        9,
+        &[
+            0xff, 0xff, 0x63, 0xa7, 0xb3, 0xb6, 0xe0, 0x0d, 0xff, 0xff, 0x63, 0xa7, 0xb3, 0xb6, 0xe0,
+            0x0d,
+        ],
+        None,
+    ),
+    (25, &[0, 0, 0x10, 0], Some(65)),
+    (25, &[1, 0, 0x10, 0], Some(25)),
+];
+
+#[test]
+fn numbers_at_their_limits(rt: HostRuntime) -> Result<(), Fail> {
+    for (at, others, place) in &LIMITS {
+        let bytes = with_bytes(rt.alloc(), &BYTES, *at, others)?;
+        assert_eq!(rt; again(rt.alloc(), &bytes)?.err(), *place, "{at}");
     }
     Ok(())
 }

@@ -1,7 +1,7 @@
 // A segment that was written out by hand: `d1` has the tokens `a b`, and `d2` the token `a`.
 use crate::documents::{bytes_of, doc};
-use crate::places::fault_place;
-use ri_base::{FileName, List, SegFault};
+use crate::places::place_of;
+use ri_base::{FileName, List};
 use seg_codec::{Documents, Header, read_block, read_dictionary, read_documents, read_header};
 use std::alloc::Global;
 use std::test::Fail;
@@ -23,14 +23,6 @@ fn the_bytes_of_two_documents(rt: HostRuntime) -> Result<(), Fail> {
     let bytes = bytes_of(rt.alloc(), documents.as_slice())?;
     assert_eq!(rt; bytes.as_slice(), BYTES.as_slice());
     Ok(())
-}
-
-/// What is read, or the place of the fault.
-fn place_of<T: Drop>(found: Result<T, SegFault>) -> Result<Result<T, u64>, Fail> {
-    match found {
-        Ok(value) => Ok(Ok(value)),
-        Err(fault) => Ok(Err(fault_place(fault)?)),
-    }
 }
 
 fn header_of(bytes: &[u8]) -> Result<Result<Header, u64>, Fail> {

@@ -256,7 +256,7 @@ fn priors_from(
 ) -> Result<(Vec<PriorEntry>, &[u8]), Broken>
     ensures { Gives (λ x. (x.0.items, x.1.now)) result (repeat (prior next) behind_prior count (record { names = []; used = before.keys }) bytes.now) }
 {
-    let mut priors = Vec::with_capacity(alloc, usize::from(count))?;
+    let mut priors = Vec::with_capacity(alloc, usize::from(count).min(bytes.len() / 10))?;
     let mut used = before;
     let mut rest = bytes;
     for _ in 0..count {

@@ -4,19 +4,19 @@ use Rattle.std.specs.Cmp.Lexicographic.{slice_cmp}
 use Rattle.std.specs.Int.{w32, to_le_bytes}
 use Rattle.std.specs.List.{All, AllByRecursion, AllPairs, flat_map}
 use Rattle.std.specs.List.Sorted.{IsStrictlySortedBy}
-use Rattle.std.specs.Ordering.{is_eq, match_ordering, nat_cmp}
+use Rattle.std.specs.Ordering.{nat_cmp}
 use Rattle.std.specs.Str.{bytes_eq}
 use Rattle.std.specs.declared.cmp.Ordering.TheVariants.{Less}
 use Rattle.std.proofs.lemmas.Bool.{and_from, eq-eqb, le-leb, lt-ltb}
-use Rattle.std.proofs.lemmas.Cmp.{nat_list_cmp_total, tied_itself}
+use Rattle.std.proofs.lemmas.Cmp.{nat_list_cmp_total}
 use Rattle.std.proofs.lemmas.List.{length-append, length-map}
 use Rattle.std.proofs.lemmas.List.Concat.{flat_map-cons}
 use Rattle.std.proofs.lemmas.List.Elements.{All-contains, All-head, All-tail, All-weaker, recursion_from_All}
 use Rattle.std.proofs.lemmas.List.Sums.{sum_by-cons}
 use Rattle.std.proofs.lemmas.Map.Keys.{sorted_from_all_adjacent}
-use Rattle.std.proofs.lemmas.Map.Text.{is_eq-slice_cmp}
 use Rattle.file_fields.specs.Fields.{is_before}
 use Rattle.file_fields.specs.Reading.{AllFit}
+use Rattle.file_fields.proofs.Order.{before_from_less, same_itself}
 use Rattle.ri_base.specs.Documents.{Document}
 use Rattle.ri_base.specs.Places.{places, places_from, postings_from, postings_of}
 use Rattle.ri_base.specs.Text.{is_term}
@@ -136,9 +136,6 @@ dictionary_length at (t ∷ ts) docs =
 
 -- ---- the terms of documents
 
-same_itself : (a : List ℕ) → bytes_eq a a ≡ true
-same_itself a = sym (is_eq-slice_cmp a a) ∙ ap is_eq (tied_itself nat_list_cmp_total a)
-
 place_there : (i : ℕ) (t : List ℕ) (words : List (List ℕ)) (k : ℕ) → k < length words → get_or words k t ≡ t → 0 < length (places_from i t words)
 place_there i t [] k lt e = absurd (omega arith)
 place_there i t (x ∷ words) zero lt e =
@@ -171,9 +168,6 @@ occurring_is_term : (t : List ℕ) (docs : List Document) → All IsFormed docs 
 occurring_is_term t [] h o = elim o [ ]
 occurring_is_term t (d ∷ docs) h (inl c) = All-contains (λ t. is_term t ≡ true) d.tokens t (All-head IsFormed d docs h).terms c
 occurring_is_term t (d ∷ docs) h (inr o) = occurring_is_term t docs (All-tail IsFormed d docs h) o
-
-before_from_less : (a b : List ℕ) → slice_cmp nat_cmp a b ≡ Less → is_before a b ≡ true
-before_from_less a b e = ap (λ o. match_ordering o true false false) e
 
 rising_terms_fit : (docs : List Document) (before : List ℕ) (ts : List (List ℕ)) → AllByRecursion (λ y. slice_cmp nat_cmp before y ≡ Less) ts → IsStrictlySortedBy (slice_cmp nat_cmp) ts
     → AllByRecursion (λ t. Occurs t docs) ts → All IsFormed docs → TermsFit docs before ts

@@ -1,11 +1,11 @@
 -- the documents part of documents keeps what a documents part keeps
-use Rattle.std.proofs.Common.{◌≡◌, ◌<◌, ◌≤◌, ℕ, zero, suc, ◌+◌, ◌^◌, List, [], ◌∷◌, length, map, true, false, ◌&&◌, nat_lt, nat_le, refl, sym, ap, subst, ◌∙◌, inl, inr, arith}
+use Rattle.std.proofs.Common.{◌≡◌, ◌<◌, ◌≤◌, ℕ, zero, suc, ◌+◌, ◌^◌, List, [], ◌∷◌, length, map, true, ◌&&◌, nat_lt, nat_le, refl, sym, ap, subst, ◌∙◌, inl, inr, arith}
 use Rattle.std.specs.Prelude.{◌==◌, IsTrue, sum_by}
 use Rattle.std.specs.Bool.{nat_eq}
 use Rattle.std.specs.Cmp.Lexicographic.{pointwise, slice_cmp}
 use Rattle.std.specs.List.{All, AllByRecursion, AllPairs, Contains, list_all}
 use Rattle.std.specs.List.Sorted.{IsStrictlySortedBy}
-use Rattle.std.specs.Ordering.{is_eq, match_ordering, nat_cmp}
+use Rattle.std.specs.Ordering.{is_eq, nat_cmp}
 use Rattle.std.specs.declared.cmp.Ordering.TheVariants.{Less}
 use Rattle.std.proofs.lemmas.Bool.{and_from, and_parts, eq-eqb, le-leb, lt-ltb, or_left, or_right}
 use Rattle.std.proofs.lemmas.Cmp.{nat_list_cmp_total, tied_itself}
@@ -15,6 +15,7 @@ use Rattle.std.proofs.lemmas.List.Sums.{sum_by-cons}
 use Rattle.std.proofs.lemmas.Map.Text.{is_eq-slice_cmp}
 use Rattle.file_fields.specs.Fields.{is_before}
 use Rattle.file_fields.specs.Reading.{AllFit}
+use Rattle.file_fields.proofs.Order.{before_from_less}
 use Rattle.ri_base.specs.Collection.{field_names, names_of, token_count}
 use Rattle.ri_base.specs.Documents.{Document, Field, IsBefore, IsDocument}
 use Rattle.ri_base.specs.Text.{is_docno_byte, is_name, is_name_byte, starts_with_letter}
@@ -120,9 +121,6 @@ name_length [] h = absurd cc
 name_length (b ∷ x) h =
     and_from (nat_le 1 (length (b ∷ x))) (nat_le (length (b ∷ x)) NAME_BYTES) (le-leb 1 (length (b ∷ x)) (omega arith))
     (and_parts (starts_with_letter (b ∷ x)) (nat_le (length (b ∷ x)) NAME_BYTES) (and_parts (starts_with_letter (b ∷ x) && nat_le (length (b ∷ x)) NAME_BYTES) (list_all is_name_byte (b ∷ x)) h).0).1
-
-before_from_less : (a b : List ℕ) → slice_cmp nat_cmp a b ≡ Less → is_before a b ≡ true
-before_from_less a b e = ap (λ o. match_ordering o true false false) e
 
 rising_names_fit : (before : List ℕ) (ns : List (List ℕ)) → AllByRecursion (λ y. slice_cmp nat_cmp before y ≡ Less) ns → IsStrictlySortedBy (slice_cmp nat_cmp) ns → AllByRecursion (λ n. is_name n ≡ true) ns → AllFit FitsName (λ _ x. x) before ns
 unfolding IsStrictlySortedBy

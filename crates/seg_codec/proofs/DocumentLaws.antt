@@ -1,18 +1,16 @@
 -- the documents part: one spelling
 use Rattle.std.proofs.Common.{◌≡◌, ℕ, zero, suc, ◌^◌, ◌<◌, ◌&&◌, nat_le, nat_lt, true, false, List, [], ◌∷◌, ◌++◌, length, map, get_or, Ok, refl, sym, ap, subst, ◌∙◌, arith}
 use Rattle.std.specs.Cmp.Lexicographic.{pointwise, same_text, slice_cmp}
-use Rattle.std.specs.List.{flat_map, AllByRecursion}
+use Rattle.std.specs.List.{flat_map}
 use Rattle.std.specs.List.Sorted.{IsStrictlySortedBy}
 use Rattle.std.specs.Int.{w16, w32, to_le_bytes}
-use Rattle.std.specs.Ordering.{nat_cmp, is_eq, match_ordering}
-use Rattle.std.specs.declared.cmp.Ordering.{Ordering}
-use Rattle.std.specs.declared.cmp.Ordering.TheVariants.{Less, Equal, Greater}
+use Rattle.std.specs.Ordering.{nat_cmp, is_eq}
+use Rattle.std.specs.declared.cmp.Ordering.TheVariants.{Less}
 use Rattle.std.specs.Bool.{nat_eq}
 use Rattle.std.specs.Prelude.{sum_by, ◌==◌}
 use Rattle.std.specs.Str.{bytes_eq}
 use Rattle.std.proofs.lemmas.Bool.{and_parts, ltb-true}
-use Rattle.std.proofs.lemmas.Cmp.{nat_list_cmp_total, tied_itself}
-use Rattle.std.proofs.lemmas.List.Elements.{All-from_recursion, All-weaker, recursion_from_All}
+use Rattle.std.proofs.lemmas.List.Elements.{All-from_recursion}
 use Rattle.std.proofs.lemmas.Map.Text.{is_eq-slice_cmp}
 use Rattle.seg_codec.specs.Fits.{end_rule, FitsRow, FitRows, FitFields, length_rule, FitsEntry, FitsName, FitNames, FitEntries, FitListed, FitDocuments}
 use Rattle.seg_codec.specs.declared.header.Header.{Header}
@@ -27,6 +25,7 @@ use Rattle.seg_codec.specs.Spelling.{spelled_row, spelled_rows, spelled_entry, n
 use Rattle.seg_codec.specs.declared.documents.Entry.{Entry}
 use Rattle.seg_codec.specs.declared.documents.Row.{Row}
 use Rattle.file_fields.proofs.Codec.{IsCodec, codec_then, codec_as, number_codec, ruled_codec, text_codec, repeat_codec, IsBytes, whole_takes, whole_again, wide16, wide32}
+use Rattle.file_fields.proofs.Order.{Rises, less_from_before, same_itself, sorted_from}
 
 pub row_codec : (names tokens : ℕ) (before : Row) → IsCodec (row names tokens before) spelled_row (FitsRow names tokens before)
 unfolding row
@@ -65,19 +64,8 @@ rows_codec names tokens =
 abbrev pub IsRising : List (List ℕ) → Type 0
 IsRising names = IsStrictlySortedBy (slice_cmp nat_cmp) names
 
-less_from_before : (a b : List ℕ) → is_before a b ≡ true → slice_cmp nat_cmp a b ≡ Less
-less_from_before a b h = by (slice_cmp nat_cmp a b) refl h
-  where
-    by : (o : Ordering) → slice_cmp nat_cmp a b ≡ o → match_ordering o true false false ≡ true → slice_cmp nat_cmp a b ≡ Less
-    by Less e h = e
-    by Equal e h = absurd cc
-    by Greater e h = absurd cc
-
 not_same : (a b : List ℕ) → slice_cmp nat_cmp a b ≡ Less → bytes_eq a b ≡ false
 not_same a b e = sym (is_eq-slice_cmp a b) ∙ ap is_eq e
-
-same_itself : (a : List ℕ) → bytes_eq a a ≡ true
-same_itself a = sym (is_eq-slice_cmp a a) ∙ ap is_eq (tied_itself nat_list_cmp_total a)
 
 pub number_of-place : (names : List (List ℕ)) (k : ℕ) → IsRising names → k < length names → number_of names (get_or names k []) ≡ k
 unfolding IsStrictlySortedBy
@@ -126,15 +114,9 @@ entry_codec names up =
 
 -- ---- the names, and then the documents
 
-rising_from : (before : List ℕ) (ns : List (List ℕ)) → AllFit FitsName (λ _ x. x) before ns → AllByRecursion (λ y. slice_cmp nat_cmp before y ≡ Less) ns × IsRising ns
-unfolding IsStrictlySortedBy
-rising_from before [] h = (tt, tt)
-rising_from before (n ∷ ns) h =
-    let first : slice_cmp nat_cmp before n ≡ Less = less_from_before before n (and_parts (is_name n) (is_before before n) h.0.1).1 in
-    let rest = rising_from n ns h.1 in
-    let all : AllByRecursion (λ y. slice_cmp nat_cmp before y ≡ Less) ns =
-    recursion_from_All (λ y. slice_cmp nat_cmp before y ≡ Less) ns (All-weaker (λ y. slice_cmp nat_cmp n y ≡ Less) (λ y. slice_cmp nat_cmp before y ≡ Less) (λ y p. nat_list_cmp_total.trans before n y first p) ns (All-from_recursion (λ y. slice_cmp nat_cmp n y ≡ Less) ns rest.0)) in
-    ((first, all), rest)
+names_rise : (before : List ℕ) (ns : List (List ℕ)) → AllFit FitsName (λ _ x. x) before ns → Rises before ns
+names_rise before [] h = tt
+names_rise before (n ∷ ns) h = (less_from_before before n (and_parts (is_name n) (is_before before n) h.0.1).1, names_rise n ns h.1)
 
 abbrev pub spelled_listed : Listed → List ℕ
 spelled_listed x = flat_map spelled_text x.0 ++ flat_map (spelled_entry x.0) x.1
@@ -149,7 +131,7 @@ listed_codec names docs =
     (λ x. x.0)
     (repeat_codec name_behind spelled_text FitsName (λ _ x. x) (λ before. text_codec NAME_BYTES (λ x. is_name x && is_before before x)) names [])
     (λ ns h. codec_as (repeat {S = ℕ} (λ _. entry ns) (λ s _. s) docs 0) (flat_map (spelled_entry ns)) (FitEntries docs ns) (λ es. (ns, es)) (λ x. x.1)
-    (repeat_codec {S = ℕ} (λ _. entry ns) (spelled_entry ns) (λ _. FitsEntry ns) (λ s _. s) (λ _. entry_codec ns (rising_from [] ns h.1).1) docs 0) (λ es h. refl))
+    (repeat_codec {S = ℕ} (λ _. entry ns) (spelled_entry ns) (λ _. FitsEntry ns) (λ s _. s) (λ _. entry_codec ns (sorted_from [] ns (names_rise [] ns h.1)).1) docs 0) (λ es h. refl))
     (λ ns x _ h. sym (ap (λ (y : Listed). y.0) h.1))
 
 lists_same : (xs ys : List ℕ) → pointwise nat_eq xs ys ≡ true → xs ≡ ys

@@ -8,6 +8,7 @@ use Rattle.std.proofs.Math.Seq.{take-add}
 use Rattle.std.proofs.lemmas.Bool.{and_parts, eqb-true, leb-true}
 use Rattle.std.proofs.lemmas.List.{drop-drop, length-drop, length-map, length-take, take_all}
 use Rattle.std.proofs.lemmas.List.Concat.{flat_map-cons}
+use Rattle.std.proofs.lemmas.List.Sums.{sum_by-cons}
 use Rattle.file_fields.specs.Reading.{AllFit}
 use Rattle.file_fields.proofs.Codec.{IsBytes, IsBytes-drop, IsBytes-take}
 use Rattle.ri_base.specs.Collection.{token_count}
@@ -251,3 +252,27 @@ file_is_segment bytes w docs small r entries match terms =
     sym (parts ∙ ap (λ x. between bytes 0 64 ++ (between bytes 64 h.dictionary_at ++ x)) (between_join bytes h.dictionary_at h.blocks_at (length bytes) le2 le3)
     ∙ ap (λ x. between bytes 0 64 ++ x) (between_join bytes 64 h.dictionary_at (length bytes) le1 (omega arith))
     ∙ between_join bytes 0 64 (length bytes) (omega arith) (omega arith) ∙ between_all bytes)
+
+-- ---- the blocks of a file that was read end where it does
+
+sizes_read : (bytes : List ℕ) (es : List Entry) (n : ℕ) (s : BehindTerm) (ts : List TermBlocks) (pss : List (List Place)) → IsBytes bytes → AllFit (FitsTermBlocks n) behind_term s ts → end_of_all s.at ts ≤ length bytes → all_postings bytes es ts ≡ Ok pss
+    → s.at + sum_by (λ (ps : List Place). length (blocks_of ps)) pss ≡ end_of_all s.at ts
+unfolding all_postings
+sizes_read bytes es n s [] pss small fit within e = subst (λ (x : List (List Place)). s.at + sum_by (λ (ps : List Place). length (blocks_of ps)) x ≡ s.at) (made_is [] pss e) (omega arith)
+sizes_read bytes es n s (t ∷ ts) pss small fit within e =
+    let a = and_then_ok (term_postings bytes es t.blocks) (λ x. and_then (all_postings bytes es ts) (λ xs. Ok (x ∷ xs))) pss e in
+    let c = and_then_ok (all_postings bytes es ts) (λ xs. Ok (a.0 ∷ xs)) pss a.2 in
+    let end : ℕ = end_of s.at t.blocks in
+    let first : s.at ≤ end = (places_within n (length bytes) (record { low = 0; at = s.at }) t.blocks fit.0.1.0.1.1).0 in
+    let later : end ≤ end_of_all end ts = (terms_within n (length bytes) (behind_term s t) ts fit.1).0 in
+    let here = term_read bytes es n 0 s.at t.blocks a.0 small fit.0.1.0.1.1 (omega arith) a.1 in
+    let size : length (blocks_of a.0) ≡ end - s.at = ap length here.spelled ∙ between_length bytes s.at end first (omega arith) in
+    let rest = sizes_read bytes es n (behind_term s t) ts c.0 small fit.1 within c.1 in
+    subst (λ (x : List (List Place)). s.at + sum_by (λ (ps : List Place). length (blocks_of ps)) x ≡ end_of_all end ts) (made_is (a.0 ∷ c.0) pss c.2)
+    (omega (arith, first, size, rest, sum_by-cons (λ (ps : List Place). length (blocks_of ps)) a.0 c.0))
+
+pub blocks_end : (bytes : List ℕ) (w : Whole) → IsBytes bytes → IsRead bytes w → w.header.blocks_at + sum_by (λ (ps : List Place). length (blocks_of ps)) w.postings ≡ length bytes
+blocks_end bytes w small r =
+    let placed = header_placed (docs_told (take 64 bytes)) (length bytes) w.header r.header_fits in
+    let end : end_of_all w.header.blocks_at w.terms ≡ length bytes = eqb-true (end_of_all w.header.blocks_at w.terms) w.header.length r.terms_fit.1 ∙ placed.length_is in
+    sizes_read bytes w.documents w.header.docs (record { before = []; at = w.header.blocks_at }) w.terms w.postings small r.terms_fit.0.1 (omega (arith, end)) r.postings_are ∙ end

@@ -19,7 +19,7 @@ use Rattle.ri_base.specs.declared.places.Place.{Place}
 use Rattle.ri_base.proofs.PlacesLemmas.{occurs_at}
 use Rattle.ri_base.proofs.VocabularyLemmas.{IsVocabulary-same}
 use Rattle.seg_codec.specs.Blocks.{tokens_of}
-use Rattle.seg_codec.specs.Held.{AreAgreed, AreOfPostings, Holds, IsKept, lengths, lengths_of, rank_at, rebuilt, terms_of}
+use Rattle.seg_codec.specs.Held.{AreRanked, Holds, IsKept, lengths, lengths_of, rank_at, rebuilt, terms_of}
 use Rattle.seg_codec.specs.Rising.{Rise}
 use Rattle.seg_codec.specs.Segment.{entry_of}
 use Rattle.seg_codec.specs.declared.dictionary.TermBlocks.{TermBlocks}
@@ -81,15 +81,27 @@ same_rank terms i j up lt under e = elim (cases_order i j) [
 
 -- ---- ranks of all tokens
 
--- ranks told at all places of the documents
-pub record AreRanked (w : Whole) (ranks : List (List ℕ)) : Type 0 where
-  pub shape : lengths ranks ≡ lengths_of w.documents
-  pub only : AreOfPostings w.postings ranks
-  pub each : AreAgreed w.postings ranks
-  pub full : All (λ (rs : List ℕ). All (λ r. r < length w.postings) rs) ranks
+pub terms_counted : (w : Whole) → IsKept w → length (terms_of w.terms) ≡ length w.postings
+terms_counted w kept = length-map w.terms (λ (t : TermBlocks). t.term) ∙ sym kept.counted
+
+abbrev documents_with : Whole → List (List ℕ) → List Document
+documents_with w ranks = rebuilt (terms_of w.terms) w.documents ranks
+
+documents_few : (w : Whole) (ranks : List (List ℕ)) → AreRanked w ranks → length (documents_with w ranks) ≡ length w.documents
+documents_few w ranks h = sym (length-map (documents_with w ranks) entry_of) ∙ ap length (rebuilt_entries (terms_of w.terms) w.documents ranks h.shape)
+
+documents_long : (w : Whole) (ranks : List (List ℕ)) (k : ℕ) → AreRanked w ranks → k < length (documents_with w ranks) → tokens_of w.documents k ≡ length (document_at (documents_with w ranks) k).tokens
+documents_long w ranks k h inside =
+    ap (λ (xs : List Entry). tokens_of xs k) (sym (rebuilt_entries (terms_of w.terms) w.documents ranks h.shape)) ∙ tokens_of-documents (documents_with w ranks) k inside
+
+rank_below : (w : Whole) (ranks : List (List ℕ)) (p : Place) → AreRanked w ranks → p.id < length w.documents → p.at < tokens_of w.documents p.id → rank_at (length w.postings) ranks p < length w.postings
+rank_below w ranks p h inside within =
+    let in_ranks : p.id < length ranks = omega (arith, inside, ranks_few w.documents ranks h.shape) in
+    let in_row : p.at < length (get_or ranks p.id []) = omega (arith, within, ranks_long w.documents ranks p.id h.shape inside) in
+    h.full p.id [] in_ranks p.at (length w.postings) in_row
 
 word_is : (w : Whole) (ranks : List (List ℕ)) (p : Place) → AreRanked w ranks → p.id < length w.documents → p.at < tokens_of w.documents p.id
-    → word_of (rebuilt (terms_of w.terms) w.documents ranks) p.id p.at ≡ get_or (terms_of w.terms) (rank_at (length w.postings) ranks p) []
+    → word_of (documents_with w ranks) p.id p.at ≡ get_or (terms_of w.terms) (rank_at (length w.postings) ranks p) []
 word_is w ranks p h inside within = rebuilt_word (terms_of w.terms) w.documents ranks p.id p.at (length w.postings) h.shape inside within
 
 told_all : (n : ℕ) (tokens : ℕ → ℕ) (word : ℕ → ℕ → List ℕ) (terms : List (List ℕ)) (rank : Place → ℕ) (r id at : ℕ) (ps : List Place) → ((p : Place) → p.id < n → p.at < tokens p.id → word p.id p.at ≡ get_or terms (rank p) [])
@@ -99,93 +111,60 @@ told_all n tokens word terms rank r id at (p ∷ ps) known up all =
     (known p up.0.inside up.0.within ∙ ap (λ k. get_or terms k []) (All-head (λ (q : Place). rank q ≡ r) p ps all), told_all n tokens word terms rank r p.id (p.at + 1) ps known up.1 (All-tail (λ (q : Place). rank q ≡ r) p ps all))
 
 -- the postings of each term are those of the rebuilt documents
-term_held : (w : Whole) (ranks : List (List ℕ)) (r : ℕ) → IsKept w → AreRanked w ranks → r < length w.postings
-    → postings_of (get_or (terms_of w.terms) r []) (rebuilt (terms_of w.terms) w.documents ranks) ≡ get_or w.postings r []
+term_held : (w : Whole) (ranks : List (List ℕ)) (r : ℕ) → IsKept w → AreRanked w ranks → r < length w.postings → postings_of (get_or (terms_of w.terms) r []) (documents_with w ranks) ≡ get_or w.postings r []
 term_held w ranks r kept h lt =
-    spread_is_postings docs (tokens_of es) (get_or terms r []) (get_or w.postings r []) known
-    (subst (λ (n : ℕ). Rise n (tokens_of es) 0 0 (get_or w.postings r [])) (sym count) (kept.rise r [] lt))
-    (told_all (length es) (tokens_of es) (word_of docs) terms (rank_at (length w.postings) ranks) r 0 0 (get_or w.postings r []) (λ p inside within. word_is w ranks p h inside within) (kept.rise r [] lt) (h.each r lt))
+    let few : length (documents_with w ranks) ≡ length w.documents = documents_few w ranks h in
+    spread_is_postings (documents_with w ranks) (tokens_of w.documents) (get_or (terms_of w.terms) r []) (get_or w.postings r []) (λ k inside. documents_long w ranks k h inside)
+    (subst (λ (n : ℕ). Rise n (tokens_of w.documents) 0 0 (get_or w.postings r [])) (sym few) (kept.rise r [] lt))
+    (told_all (length w.documents) (tokens_of w.documents) (word_of (documents_with w ranks)) (terms_of w.terms) (rank_at (length w.postings) ranks) r 0 0 (get_or w.postings r []) (λ p inside within. word_is w ranks p h inside within) (kept.rise r [] lt) (h.each r lt))
     there
   where
-    es : List Entry
-    es = w.documents
-
-    terms : List (List ℕ)
-    terms = terms_of w.terms
-
-    docs : List Document
-    docs = rebuilt (terms_of w.terms) w.documents ranks
-
-    count : length docs ≡ length es
-    count = sym (length-map docs entry_of) ∙ ap length (rebuilt_entries terms es ranks h.shape)
-
-    known : (k : ℕ) → k < length docs → tokens_of es k ≡ length (document_at docs k).tokens
-    known k inside = ap (λ (xs : List Entry). tokens_of xs k) (sym (rebuilt_entries terms es ranks h.shape)) ∙ tokens_of-documents docs k inside
-
-    number : length terms ≡ length w.postings
-    number = length-map w.terms (λ (t : TermBlocks). t.term) ∙ sym kept.counted
-
-    there : AllThere (length docs) (tokens_of es) (word_of docs) (get_or terms r []) 0 0 (get_or w.postings r [])
+    there : AllThere (length (documents_with w ranks)) (tokens_of w.documents) (word_of (documents_with w ranks)) (get_or (terms_of w.terms) r []) 0 0 (get_or w.postings r [])
     there id at inside within le from is =
         let p : Place = record { id = id; at = at } in
-        let in_es : id < length es = omega (arith, count) in
-        let in_ranks : id < length ranks = omega (arith, ranks_few es ranks h.shape) in
-        let in_row : at < length (get_or ranks id []) = omega (arith, ranks_long es ranks id h.shape in_es) in
-        let below : rank_at (length w.postings) ranks p < length w.postings = h.full id [] in_ranks at (length w.postings) in_row in
-        let same : rank_at (length w.postings) ranks p ≡ r = same_rank terms (rank_at (length w.postings) ranks p) r kept.sorted (omega (arith, below, number)) (omega (arith, lt, number)) (sym (word_is w ranks p h in_es within) ∙ is) in
+        let in_es : id < length w.documents = omega (arith, inside, documents_few w ranks h) in
+        let below : rank_at (length w.postings) ranks p < length w.postings = rank_below w ranks p h in_es within in
+        let number = terms_counted w kept in
+        let same : rank_at (length w.postings) ranks p ≡ r = same_rank (terms_of w.terms) (rank_at (length w.postings) ranks p) r kept.sorted (omega (arith, below, number)) (omega (arith, lt, number)) (sym (word_is w ranks p h in_es within) ∙ is) in
         subst (λ (k : ℕ). Contains (get_or w.postings k []) p) same (h.only p below)
 
 -- ---- the vocabulary
 
-vocabulary_held : (w : Whole) (ranks : List (List ℕ)) → IsKept w → AreRanked w ranks → IsVocabulary (terms_of w.terms) (rebuilt (terms_of w.terms) w.documents ranks)
+vocabulary_held : (w : Whole) (ranks : List (List ℕ)) → IsKept w → AreRanked w ranks → IsVocabulary (terms_of w.terms) (documents_with w ranks)
 vocabulary_held w ranks kept h = record { rising = up; only = used; all = known }
   where
-    es : List Entry
-    es = w.documents
-
     terms : List (List ℕ)
     terms = terms_of w.terms
 
     docs : List Document
-    docs = rebuilt (terms_of w.terms) w.documents ranks
-
-    number : length terms ≡ length w.postings
-    number = length-map w.terms (λ (t : TermBlocks). t.term) ∙ sym kept.counted
-
-    count : length docs ≡ length es
-    count = sym (length-map docs entry_of) ∙ ap length (rebuilt_entries terms es ranks h.shape)
-
-    long : (k : ℕ) → k < length docs → tokens_of es k ≡ length (document_at docs k).tokens
-    long k inside = ap (λ (xs : List Entry). tokens_of xs k) (sym (rebuilt_entries terms es ranks h.shape)) ∙ tokens_of-documents docs k inside
+    docs = documents_with w ranks
 
     up : AllPairs IsTermBefore terms
     up i j d lower inside = Less-from_sorted (slice_cmp nat_cmp) terms i j d kept.sorted lower inside
 
-    stands : (r : ℕ) (ps : List Place) → r < length w.postings → 0 < length ps → Rise (length es) (tokens_of es) 0 0 ps → All (λ (p : Place). rank_at (length w.postings) ranks p ≡ r) ps → Occurs (get_or terms r []) docs
+    stands : (r : ℕ) (ps : List Place) → r < length w.postings → 0 < length ps → Rise (length w.documents) (tokens_of w.documents) 0 0 ps → All (λ (p : Place). rank_at (length w.postings) ranks p ≡ r) ps → Occurs (get_or terms r []) docs
     stands r [] lt some rise all = absurd (omega arith)
     stands r (p ∷ ps) lt some rise all =
-        let inside : p.id < length docs = omega (arith, count, rise.0.inside) in
-        let within : p.at < length (document_at docs p.id).tokens = omega (arith, long p.id inside, rise.0.within) in
+        let inside : p.id < length docs = omega (arith, documents_few w ranks h, rise.0.inside) in
+        let within : p.at < length (document_at docs p.id).tokens = omega (arith, documents_long w ranks p.id h inside, rise.0.within) in
         let word : word_of docs p.id p.at ≡ get_or terms r [] = word_is w ranks p h rise.0.inside rise.0.within ∙ ap (λ k. get_or terms k []) (All-head (λ (q : Place). rank_at (length w.postings) ranks q ≡ r) p ps all) in
         let read : get_or (document_at docs p.id).tokens p.at (get_or terms r []) ≡ get_or terms r [] = get_or_default (document_at docs p.id).tokens p.at (get_or terms r []) [] within ∙ word in
         occurs_at p.id (get_or terms r []) docs inside (p.at, within, read)
 
     used : All (λ t. Occurs t docs) terms
     used r d lt =
-        let below : r < length w.postings = omega (arith, number) in
+        let below : r < length w.postings = omega (arith, lt, terms_counted w kept) in
         subst (λ (t : List ℕ). Occurs t docs) (get_or_default terms r [] d lt) (stands r (get_or w.postings r []) below (kept.some r [] below) (kept.rise r [] below) (h.each r below))
 
     known : (t : List ℕ) → Occurs t docs → Contains terms t
     known t o =
         let s = occurs_stands t docs o in
         let p : Place = record { id = s.id; at = s.at } in
-        let in_es : s.id < length es = omega (arith, count, s.inside) in
-        let in_length : s.at < tokens_of es s.id = omega (arith, long s.id s.inside, s.within) in
-        let in_ranks : s.id < length ranks = omega (arith, ranks_few es ranks h.shape) in
-        let in_row : s.at < length (get_or ranks s.id []) = omega (arith, ranks_long es ranks s.id h.shape in_es) in
-        let below : rank_at (length w.postings) ranks p < length w.postings = h.full s.id [] in_ranks s.at (length w.postings) in_row in
+        let in_es : s.id < length w.documents = omega (arith, documents_few w ranks h, s.inside) in
+        let in_length : s.at < tokens_of w.documents s.id = omega (arith, documents_long w ranks s.id h s.inside, s.within) in
+        let below : rank_at (length w.postings) ranks p < length w.postings = rank_below w ranks p h in_es in_length in
         let same : get_or terms (rank_at (length w.postings) ranks p) [] ≡ t = sym (word_is w ranks p h in_es in_length) ∙ s.is in
-        subst (Contains terms) same (Contains-get_or terms (rank_at (length w.postings) ranks p) [] (omega (arith, below, number)))
+        subst (Contains terms) same (Contains-get_or terms (rank_at (length w.postings) ranks p) [] (omega (arith, below, terms_counted w kept)))
 
 -- the parts hold the documents that are rebuilt
 pub ranked_holds : (w : Whole) (ranks : List (List ℕ)) → IsKept w → AreRanked w ranks → Holds (rebuilt (terms_of w.terms) w.documents ranks) w
@@ -195,17 +174,14 @@ ranked_holds w ranks kept h = record { documents = rebuilt_entries terms w.docum
     terms = terms_of w.terms
 
     docs : List Document
-    docs = rebuilt (terms_of w.terms) w.documents ranks
-
-    number : length terms ≡ length w.postings
-    number = length-map w.terms (λ (t : TermBlocks). t.term) ∙ sym kept.counted
+    docs = documents_with w ranks
 
     vocabulary : terms ≡ vocabulary_of docs
     vocabulary = IsVocabulary-same terms docs (vocabulary_held w ranks kept h)
 
     count : length (map (λ (t : List ℕ). postings_of t docs) terms) ≡ length w.postings
-    count = length-map terms (λ (t : List ℕ). postings_of t docs) ∙ number
+    count = length-map terms (λ (t : List ℕ). postings_of t docs) ∙ terms_counted w kept
 
     each : map (λ (t : List ℕ). postings_of t docs) terms ≡ w.postings
     each = ext_get_or [] (map (λ (t : List ℕ). postings_of t docs) terms) w.postings count
-        (λ r lt. get_or-map (λ (t : List ℕ). postings_of t docs) terms r [] [] (omega (arith, number, count)) ∙ term_held w ranks r kept h (omega (arith, count)))
+        (λ r lt. get_or-map (λ (t : List ℕ). postings_of t docs) terms r [] [] (omega (arith, lt, terms_counted w kept, count)) ∙ term_held w ranks r kept h (omega (arith, lt, count)))

@@ -1,12 +1,12 @@
 -- how documents are rebuilt one after the other, and what their answer says
-use Rattle.std.proofs.Common.{◌≡◌, ◌<◌, ◌≤◌, ℕ, ◌+◌, List, [], ◌∷◌, ◌++◌, length, get_or, take, Result, Option, Ok, Err, Some, None, refl, sym, ap, subst, ◌∙◌, arith}
+use Rattle.std.proofs.Common.{◌≡◌, ◌<◌, ℕ, ◌+◌, List, [], ◌∷◌, ◌++◌, length, get_or, take, Option, Some, None, Result, Ok, Err, refl, sym, ap, subst, ◌∙◌, arith}
 use Rattle.std.specs.Prelude.{IfNone, IfOk, IfSome, OnSome}
 use Rattle.std.specs.List.{All}
 use Rattle.std.proofs.lemmas.List.{get_or-map, length-map, length-take-le, map_more, take_more}
 use Rattle.ri_base.specs.Documents.{Document}
 use Rattle.ri_base.specs.Inversion.{by_number}
 use Rattle.ri_base.specs.declared.places.Place.{Place}
-use Rattle.seg_codec.specs.Held.{AreAgreed, AreOfPostings, Gap, Holds, IsClashing, IsKept, Untold, lengths, lengths_of, rebuilt, terms_of}
+use Rattle.seg_codec.specs.Held.{AreAgreed, AreOfPostings, AreRanked, Gap, Holds, IsClashing, IsKept, lengths, lengths_of, rebuilt, terms_of}
 use Rattle.seg_codec.specs.declared.dictionary.TermBlocks.{TermBlocks}
 use Rattle.seg_codec.specs.declared.documents.Entry.{Entry}
 use Rattle.seg_codec.specs.declared.whole.Whole.{Whole}
@@ -48,59 +48,41 @@ pub tokens_counted : (terms : List (List ℕ)) (es : List Entry) (ranks : List (
 tokens_counted terms es ranks i e r tokens shape lt e_is r_is tokens_are =
     ap length tokens_are ∙ length-map r (λ n. get_or terms n []) ∙ ap length r_is ∙ ranks_long es ranks i shape lt ∙ get_or-map (λ (x : Entry). x.tokens) es i e 0 lt ∙ ap (λ (x : Entry). x.tokens) (sym e_is)
 
-pub gap_at : (count : ℕ) (ranks : List (List ℕ)) (i : ℕ) (r : List ℕ) → i < length ranks → r ≡ get_or ranks i [] → Untold count r → Gap count ranks
-gap_at count ranks i r lt is u = record {
-  place = record { id = i; at = u.at };
-  inside = lt;
-  within = subst (λ (x : List ℕ). u.at < length x) is u.within;
-  free = subst (λ (x : List ℕ). count ≤ get_or x u.at 0) is u.free;
-}
-
 -- ---- what an option holds
 
 pub some_of : {X : Type 0} (o : Option X) (x : X) → o ≡ Some x → (P : X → Type 0) → IfSome o P → P x
 some_of o x e P h = subst (λ o. IfSome o P) e h
 
-pub on_some_of : {X : Type 0} (o : Option X) (x : X) → o ≡ Some x → (P : Type 0) → OnSome o P → P
-on_some_of o x e P h = subst (λ o. OnSome o P) e h
-
 pub none_of : {X : Type 0} (o : Option X) → o ≡ None → (P : Type 0) → IfNone o P → P
 none_of o e P h = subst (λ o. IfNone o P) e h
 
--- ---- what the answer says
-
-pub held_if_rebuilt : {E : Type 0} (w : Whole) (ranks : List (List ℕ)) (answer : Result (Option (List Document)) E) → IsKept w → lengths ranks ≡ lengths_of w.documents → AreOfPostings w.postings ranks → AreAgreed w.postings ranks
-    → IfOk answer (λ o. IfSome o (λ docs. docs ≡ rebuilt (terms_of w.terms) w.documents ranks)) → IfOk answer (λ o. OnSome o (All (λ (rs : List ℕ). All (λ r. r < length w.terms) rs) ranks))
-    → IfOk answer (λ o. IfSome o (λ docs. Holds docs w))
-held_if_rebuilt w ranks (Ok (Some docs)) kept shape only each found full =
-    let all : All (λ (rs : List ℕ). All (λ r. r < length w.postings) rs) ranks = subst (λ (n : ℕ). All (λ (rs : List ℕ). All (λ r. r < n) rs) ranks) (sym kept.counted) full in
-    subst (λ (x : List Document). Holds x w) (sym found) (ranked_holds w ranks kept (record { shape = shape; only = only; each = each; full = all }))
-held_if_rebuilt w ranks (Ok None) kept shape only each found full = tt
-held_if_rebuilt w ranks (Err e) kept shape only each found full = tt
-
-pub none_if_gap : {E : Type 0} (w : Whole) (ranks : List (List ℕ)) (answer : Result (Option (List Document)) E) → IsKept w → lengths ranks ≡ lengths_of w.documents → AreAgreed w.postings ranks
-    → IfOk answer (λ o. IfNone o (Gap (length w.terms) ranks)) → IfOk answer (λ o. IfNone o ((docs : List Document) → Holds docs w → ⊥))
-none_if_gap w ranks (Ok (Some docs)) kept shape each gap = tt
-none_if_gap w ranks (Ok None) kept shape each gap = λ docs h. no_gap w docs ranks h shape each (subst (λ (n : ℕ). Gap n ranks) (sym kept.counted) gap)
-none_if_gap w ranks (Err e) kept shape each gap = tt
+-- ---- what the answer says, of ranks in a value
 
 pub none_if_clash : (w : Whole) (docs : List Document) → IsKept w → IsClashing w.postings → Holds docs w → ⊥
 none_if_clash w docs kept k h = no_clash w docs k.ranks kept h k.only k.filled k.clash
 
--- the same of lists that are those of the parts
-pub held_answer : {E : Type 0} (w : Whole) (ts : List TermBlocks) (es : List Entry) (pss : List (List Place)) (rs ranks : List (List ℕ)) (answer : Result (Option (List Document)) E) → ts ≡ w.terms → es ≡ w.documents → pss ≡ w.postings → rs ≡ ranks → IsKept w
-    → lengths ranks ≡ lengths_of es → AreOfPostings pss ranks → AreAgreed pss ranks → IfOk answer (λ o. IfSome o (λ docs. docs ≡ rebuilt (terms_of ts) es rs)) → IfOk answer (λ o. OnSome o (All (λ (xs : List ℕ). All (λ r. r < length ts) xs) rs))
-    → IfOk answer (λ o. IfSome o (λ docs. Holds docs w))
-held_answer w ts es pss rs ranks answer ts_are es_are pss_are rs_are kept shape only each found full =
-    held_if_rebuilt w ranks answer kept (shape ∙ ap lengths_of es_are) (subst (λ (x : List (List Place)). AreOfPostings x ranks) pss_are only) (subst (λ (x : List (List Place)). AreAgreed x ranks) pss_are each)
-    (subst (λ (x : List TermBlocks). IfOk answer (λ o. IfSome o (λ docs. docs ≡ rebuilt (terms_of x) w.documents ranks))) ts_are
-    (subst (λ (y : List Entry). IfOk answer (λ o. IfSome o (λ docs. docs ≡ rebuilt (terms_of ts) y ranks))) es_are
-    (subst (λ (z : List (List ℕ)). IfOk answer (λ o. IfSome o (λ docs. docs ≡ rebuilt (terms_of ts) es z))) rs_are found)))
-    (subst (λ (x : List TermBlocks). IfOk answer (λ o. OnSome o (All (λ (xs : List ℕ). All (λ r. r < length x) xs) ranks))) ts_are
-    (subst (λ (z : List (List ℕ)). IfOk answer (λ o. OnSome o (All (λ (xs : List ℕ). All (λ r. r < length ts) xs) z))) rs_are full))
+pub ranked_if_full : {V : Type 0} (items : V → List (List ℕ)) (w : Whole) (es : List Entry) (pss : List (List Place)) (ranks : List (List ℕ)) (answer : Option V) → es ≡ w.documents → pss ≡ w.postings
+    → lengths ranks ≡ lengths_of es → AreOfPostings pss ranks → AreAgreed pss ranks → IfSome answer (λ v. items v ≡ ranks) → OnSome answer (All (λ (rs : List ℕ). All (λ r. r < length pss) rs) ranks)
+    → IfSome answer (λ v. AreRanked w (items v))
+ranked_if_full items w es pss ranks (Some v) es_are pss_are shape only each same full =
+    subst (AreRanked w) (sym same)
+    (record {
+      shape = shape ∙ ap lengths_of es_are;
+      only = subst (λ (x : List (List Place)). AreOfPostings x ranks) pss_are only;
+      each = subst (λ (x : List (List Place)). AreAgreed x ranks) pss_are each;
+      full = subst (λ (x : List (List Place)). All (λ (rs : List ℕ). All (λ r. r < length x) rs) ranks) pss_are full;
+    })
+ranked_if_full items w es pss ranks None es_are pss_are shape only each same full = tt
 
-pub none_answer : {E : Type 0} (w : Whole) (ts : List TermBlocks) (es : List Entry) (pss : List (List Place)) (rs ranks : List (List ℕ)) (answer : Result (Option (List Document)) E) → ts ≡ w.terms → es ≡ w.documents → pss ≡ w.postings → rs ≡ ranks → IsKept w
-    → lengths ranks ≡ lengths_of es → AreAgreed pss ranks → IfOk answer (λ o. IfNone o (Gap (length ts) rs)) → IfOk answer (λ o. IfNone o ((docs : List Document) → Holds docs w → ⊥))
-none_answer w ts es pss rs ranks answer ts_are es_are pss_are rs_are kept shape each gap =
-    none_if_gap w ranks answer kept (shape ∙ ap lengths_of es_are) (subst (λ (x : List (List Place)). AreAgreed x ranks) pss_are each)
-    (subst (λ (x : List TermBlocks). IfOk answer (λ o. IfNone o (Gap (length x) ranks))) ts_are (subst (λ (z : List (List ℕ)). IfOk answer (λ o. IfNone o (Gap (length ts) z))) rs_are gap))
+pub none_if_gap : {V : Type 0} (w : Whole) (es : List Entry) (pss : List (List Place)) (ranks : List (List ℕ)) (answer : Option V) → es ≡ w.documents → pss ≡ w.postings → lengths ranks ≡ lengths_of es → AreAgreed pss ranks
+    → IfNone answer (Gap (length pss) ranks) → IfNone answer ((docs : List Document) → Holds docs w → ⊥)
+none_if_gap w es pss ranks (Some v) es_are pss_are shape each gap = tt
+none_if_gap w es pss ranks None es_are pss_are shape each gap =
+    λ docs h. no_gap w docs ranks h (shape ∙ ap lengths_of es_are) (subst (λ (x : List (List Place)). AreAgreed x ranks) pss_are each) (subst (λ (x : List (List Place)). Gap (length x) ranks) pss_are gap)
+
+pub held_if_rebuilt : {E : Type 0} (w : Whole) (ranks : List (List ℕ)) (ts : List TermBlocks) (es : List Entry) (answer : Result (List Document) E) → IsKept w → AreRanked w ranks → ts ≡ w.terms → es ≡ w.documents
+    → IfOk answer (λ docs. docs ≡ rebuilt (terms_of ts) es ranks) → IfOk answer (λ docs. Holds docs w)
+held_if_rebuilt w ranks ts es (Ok docs) kept ranked ts_are es_are found =
+    let are : docs ≡ rebuilt (terms_of w.terms) w.documents ranks = found ∙ ap (λ (x : List TermBlocks). rebuilt (terms_of x) es ranks) ts_are ∙ ap (λ (x : List Entry). rebuilt (terms_of w.terms) x ranks) es_are in
+    subst (λ (x : List Document). Holds x w) (sym are) (ranked_holds w ranks kept ranked)
+held_if_rebuilt w ranks ts es (Err e) kept ranked ts_are es_are found = tt

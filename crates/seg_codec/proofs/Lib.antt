@@ -28,4 +28,6 @@ pub mod ReadLaws
 pub mod OnlyLaws
 pub mod RankLemmas
 pub mod HeldSteps
+pub mod SizeLaws
+pub mod TwiceLemmas
 pub mod ReadingLemmas

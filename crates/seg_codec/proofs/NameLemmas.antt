@@ -3,7 +3,7 @@ use Rattle.std.proofs.Common.{◌≡◌, ◌≢◌, ◌<◌, ◌⊎◌, ℕ, zer
 use Rattle.std.specs.Cmp.Lexicographic.{slice_cmp}
 use Rattle.std.specs.List.{Contains}
 use Rattle.std.specs.List.Sorted.{IsBinarySearchResult, IsStrictlySortedBy}
-use Rattle.std.specs.Ordering.{is_eq, nat_cmp}
+use Rattle.std.specs.Ordering.{nat_cmp}
 use Rattle.std.specs.Set.{is_member}
 use Rattle.std.specs.Str.{bytes_eq}
 use Rattle.std.specs.declared.cmp.Ordering.TheVariants.{Less, Equal}
@@ -13,7 +13,6 @@ use Rattle.std.proofs.lemmas.Cmp.{nat_list_cmp_total, nat_list_eq_equiv, tied_it
 use Rattle.std.proofs.lemmas.List.Elements.{Contains-append_cases, Contains-append_left, Contains-append_right, All-contains, All-contains_itself, All-weaker}
 use Rattle.std.proofs.lemmas.Map.Keys.{Less-from_sorted}
 use Rattle.std.proofs.lemmas.Map.Made.{IsDistinct-from_AllPairs, is_member-Decides, length-from_keys}
-use Rattle.std.proofs.lemmas.Map.Text.{is_eq-slice_cmp}
 use Rattle.std.proofs.lemmas.Slice.Eq.{bytes_eq-Decides}
 use Rattle.ri_base.specs.Collection.{field_names, name_count, names_of}
 use Rattle.ri_base.specs.Documents.{Document, Field}
@@ -21,6 +20,7 @@ use Rattle.ri_base.specs.Vocabulary.{IsVocabulary, Occurs, vocabulary_of, with_t
 use Rattle.ri_base.proofs.ListLemmas.{Contains-cases, Contains-here, Contains-later, Contains-none}
 use Rattle.ri_base.proofs.PlacesLemmas.{absent}
 use Rattle.ri_base.proofs.VocabularyLemmas.{IsVocabulary-vocabulary_of}
+use Rattle.file_fields.proofs.Order.{same_itself}
 use Rattle.seg_codec.specs.Documents.{names_in_order}
 use Rattle.seg_codec.specs.Segment.{entry_of}
 use Rattle.seg_codec.specs.Spelling.{number_of}
@@ -92,9 +92,6 @@ names_counted docs = length-from_keys nat_list_eq_equiv ns (field_names docs) (I
         (is_member-Decides bytes_eq-Decides (field_names docs) q)
 
 -- ---- the numbers of names
-
-same_itself : (a : List ℕ) → bytes_eq a a ≡ true
-same_itself a = sym (is_eq-slice_cmp a a) ∙ ap is_eq (tied_itself nat_list_cmp_total a)
 
 pub number_of-there : (ns : List (List ℕ)) (x : List ℕ) → Contains ns x → (number_of ns x < length ns) × (get_or ns (number_of ns x) [] ≡ x)
 number_of-there [] x c = absurd (Contains-none x c)

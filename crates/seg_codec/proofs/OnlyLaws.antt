@@ -1,15 +1,12 @@
 -- the documents that parts hold are told by them, and their ranks are never refused
 use Rattle.std.proofs.Common.{◌≡◌, ◌<◌, ◌≤◌, ℕ, suc, ◌+◌, List, [], ◌∷◌, ◌++◌, length, get_or, map, Bool, true, false, cond, nat_le, refl, sym, ap, subst, ◌∙◌, inl, inr, arith}
 use Rattle.std.specs.List.{All, Contains, sum_by}
-use Rattle.std.specs.Ordering.{is_eq}
 use Rattle.std.specs.Str.{bytes_eq}
 use Rattle.std.proofs.lemmas.Bool.{le-leb}
-use Rattle.std.proofs.lemmas.Cmp.{nat_list_cmp_total, tied_itself}
 use Rattle.std.proofs.lemmas.List.{ext_get_or, get_or-map, get_or_default, length-append, length-map}
 use Rattle.std.proofs.lemmas.List.Elements.{All-contains}
 use Rattle.std.proofs.lemmas.List.Folds.{fold-map}
 use Rattle.std.proofs.lemmas.List.Sums.{get_or-le-sum_by, sum_by-cons, sum_by-le-sum_by}
-use Rattle.std.proofs.lemmas.Map.Text.{is_eq-slice_cmp}
 use Rattle.ri_base.specs.Collection.{document_at, token_count}
 use Rattle.ri_base.specs.Documents.{Document, Field}
 use Rattle.ri_base.specs.Places.{places, places_from, postings_from, postings_of}
@@ -18,20 +15,17 @@ use Rattle.ri_base.specs.declared.places.Place.{Place}
 use Rattle.ri_base.proofs.ListLemmas.{Contains-here, Contains-later}
 use Rattle.ri_base.proofs.PlacesLemmas.{occurs_at}
 use Rattle.ri_base.proofs.VocabularyLemmas.{IsVocabulary-vocabulary_of}
+use Rattle.file_fields.proofs.Order.{same_itself}
 use Rattle.seg_codec.specs.Blocks.{tokens_of}
 use Rattle.seg_codec.specs.Held.{AreAgreed, AreFilled, AreOfPostings, Clash, Gap, Holds, IsKept, lengths, rank_at, terms_of}
 use Rattle.seg_codec.specs.Segment.{entry_of}
-use Rattle.seg_codec.specs.declared.dictionary.TermBlocks.{TermBlocks}
 use Rattle.seg_codec.specs.declared.documents.Entry.{Entry}
 use Rattle.seg_codec.specs.declared.whole.Whole.{Whole}
 use Rattle.seg_codec.proofs.DocumentFits.{counted}
-use Rattle.seg_codec.proofs.HeldLaws.{ranks_few, ranks_long, same_rank}
+use Rattle.seg_codec.proofs.HeldLaws.{ranks_few, ranks_long, same_rank, terms_counted}
 use Rattle.seg_codec.proofs.PostingLemmas.{posting_stands, token_posted}
 use Rattle.seg_codec.proofs.RisingPlaces.{tokens_of-documents}
-use Rattle.seg_codec.proofs.SpreadLaws.{word_of}
-
-abbrev at_place : ℕ → ℕ → Place
-at_place id at = record { id = id; at = at }
+use Rattle.seg_codec.proofs.SpreadLaws.{at_place, word_of}
 
 -- ---- the postings of a rank
 
@@ -50,7 +44,7 @@ no_clash w docs ranks kept h only filled clash =
     let p : Place = clash.place in
     let r : ℕ = clash.rank in
     let found : ℕ = rank_at (length w.postings) ranks p in
-    let number : length (terms_of w.terms) ≡ length w.postings = length-map w.terms (λ (t : TermBlocks). t.term) ∙ sym kept.counted in
+    let number : length (terms_of w.terms) ≡ length w.postings = terms_counted w kept in
     let below : found < length w.postings = All-contains (λ (q : Place). rank_at (length w.postings) ranks q < length w.postings) (get_or w.postings r []) p (filled r [] clash.known) clash.posted in
     let one : word_of docs p.id p.at ≡ get_or (terms_of w.terms) r [] = posting_word w docs r p h clash.known clash.posted in
     let other : word_of docs p.id p.at ≡ get_or (terms_of w.terms) found [] = posting_word w docs found p h below (only p below) in
@@ -116,9 +110,6 @@ held_once w a b ha hb =
     (λ id at inside within. let k = token_rank w a id at ha inside within in k.is ∙ sym (posting_word w b k.rank (record { id = id; at = at }) hb k.known k.posted))
 
 -- ---- there are no fewer postings than tokens
-
-same_itself : (a : List ℕ) → bytes_eq a a ≡ true
-same_itself a = sym (is_eq-slice_cmp a a) ∙ ap is_eq (tied_itself nat_list_cmp_total a)
 
 abbrev one_if : List ℕ → List ℕ → ℕ
 one_if x t = cond (bytes_eq x t) 1 0

@@ -1,12 +1,9 @@
 -- where a term stands in documents, and its postings
 use Rattle.std.proofs.Common.{◌≡◌, ◌<◌, ℕ, zero, suc, ◌+◌, List, [], ◌∷◌, ◌++◌, length, get_or, map, Bool, true, false, cond, refl, sym, ap, subst, ◌∙◌, inl, inr, arith}
 use Rattle.std.specs.List.{Contains}
-use Rattle.std.specs.Ordering.{is_eq}
 use Rattle.std.specs.Str.{bytes_eq}
-use Rattle.std.proofs.lemmas.Cmp.{nat_list_cmp_total, tied_itself}
 use Rattle.std.proofs.lemmas.List.{get_or_default}
 use Rattle.std.proofs.lemmas.List.Elements.{Contains-append_right}
-use Rattle.std.proofs.lemmas.Map.Text.{is_eq-slice_cmp}
 use Rattle.std.proofs.lemmas.Slice.Eq.{bytes_eq-Decides}
 use Rattle.ri_base.specs.Collection.{document_at}
 use Rattle.ri_base.specs.Documents.{Document}
@@ -14,14 +11,8 @@ use Rattle.ri_base.specs.Places.{places, places_from, postings_from, postings_of
 use Rattle.ri_base.specs.Vocabulary.{Occurs}
 use Rattle.ri_base.specs.declared.places.Place.{Place}
 use Rattle.ri_base.proofs.ListLemmas.{Contains-cases, Contains-here, Contains-later, Contains-none}
-use Rattle.seg_codec.proofs.SpreadLaws.{AllTold, word_of}
-
--- the place of a token
-abbrev at_place : ℕ → ℕ → Place
-at_place id at = record { id = id; at = at }
-
-same_itself : (a : List ℕ) → bytes_eq a a ≡ true
-same_itself a = sym (is_eq-slice_cmp a a) ∙ ap is_eq (tied_itself nat_list_cmp_total a)
+use Rattle.file_fields.proofs.Order.{same_itself}
+use Rattle.seg_codec.proofs.SpreadLaws.{AllTold, at_place, word_of}
 
 -- ---- at each posting stands the term
 

@@ -1,12 +1,12 @@
 -- ranks that are told at places
-use Rattle.std.proofs.Common.{◌≡◌, ◌≢◌, ◌<◌, ◌⊎◌, ℕ, zero, suc, ◌+◌, List, [], ◌∷◌, length, get_or, set, take, map, replicate, refl, sym, ap, subst, ◌∙◌, inl, inr, arith}
+use Rattle.std.proofs.Common.{◌≡◌, ◌≢◌, ◌<◌, ◌≤◌, ◌⊎◌, ℕ, zero, suc, ◌+◌, List, [], ◌∷◌, length, get_or, set, take, map, replicate, refl, sym, ap, subst, ◌∙◌, inl, inr, arith}
 use Rattle.std.specs.List.{All, Contains}
 use Rattle.std.proofs.lemmas.Bool.{cases_eq}
 use Rattle.std.proofs.lemmas.List.{get_or-map, get_or-set_other, get_or-set_same, get_or_default, length-map, length-replicate, length-set, map-set, set-get_or}
 use Rattle.std.proofs.lemmas.List.Elements.{All-cons, All-more, All-nil, All-weaker, Contains-get_or}
 use Rattle.ri_base.specs.declared.places.Place.{Place}
 use Rattle.seg_codec.specs.Blocks.{tokens_of}
-use Rattle.seg_codec.specs.Held.{AreFilled, AreOfPostings, IsKept, IsWithin, lengths, lengths_of, rank_at, told}
+use Rattle.seg_codec.specs.Held.{AreFilled, AreOfPostings, Gap, IsKept, IsWithin, Untold, lengths, lengths_of, rank_at, told}
 use Rattle.seg_codec.specs.Rising.{Rise}
 use Rattle.seg_codec.specs.declared.documents.Entry.{Entry}
 use Rattle.seg_codec.specs.declared.whole.Whole.{Whole}
@@ -165,3 +165,13 @@ pub untold_lengths : (es : List Entry) (n : ℕ) → lengths (map (λ (e : Entry
 untold_lengths [] n = refl
 untold_lengths (e ∷ es) n =
     ap (λ (k : ℕ). k ∷ lengths (map (λ (e : Entry). replicate e.tokens n) es)) (length-replicate e.tokens n) ∙ ap (λ (ks : List ℕ). e.tokens ∷ ks) (untold_lengths es n)
+
+-- ---- none is told at a place
+
+pub gap_at : (count : ℕ) (ranks : List (List ℕ)) (i : ℕ) (r : List ℕ) → i < length ranks → r ≡ get_or ranks i [] → Untold count r → Gap count ranks
+gap_at count ranks i r lt is u = record {
+  place = record { id = i; at = u.at };
+  inside = lt;
+  within = subst (λ (x : List ℕ). u.at < length x) is u.within;
+  free = subst (λ (x : List ℕ). count ≤ get_or x u.at 0) is u.free;
+}

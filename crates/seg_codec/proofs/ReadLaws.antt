@@ -1,20 +1,16 @@
 -- what is known of the parts of a file that was read
-use Rattle.std.proofs.Common.{◌≡◌, ◌<◌, ◌≤◌, ℕ, ◌+◌, List, [], ◌∷◌, ◌++◌, length, map, take, Ok, true, false, refl, sym, ap, subst, ◌∙◌, arith, nat_le}
-use Rattle.std.specs.Cmp.Lexicographic.{pointwise, slice_cmp}
+use Rattle.std.proofs.Common.{◌≡◌, ◌<◌, ◌≤◌, ℕ, ◌+◌, List, [], ◌∷◌, ◌++◌, length, map, take, Ok, true, refl, sym, ap, subst, ◌∙◌, arith, nat_le}
+use Rattle.std.specs.Cmp.Lexicographic.{pointwise}
 use Rattle.std.specs.Bool.{nat_eq}
-use Rattle.std.specs.List.{All, AllByRecursion}
-use Rattle.std.specs.List.Sorted.{IsStrictlySortedBy}
-use Rattle.std.specs.Ordering.{match_ordering, nat_cmp}
+use Rattle.std.specs.List.{All}
 use Rattle.std.specs.Prelude.{◌==◌, IsTrue, sum_by}
-use Rattle.std.specs.declared.cmp.Ordering.{Ordering}
-use Rattle.std.specs.declared.cmp.Ordering.TheVariants.{Less, Equal, Greater}
 use Rattle.std.proofs.lemmas.Bool.{and_parts, eqb-true, leb-true}
-use Rattle.std.proofs.lemmas.Cmp.{nat_list_cmp_total}
 use Rattle.std.proofs.lemmas.List.{length-append, length-map}
-use Rattle.std.proofs.lemmas.List.Elements.{All-cons, All-from_recursion, All-head, All-nil, All-tail, All-weaker, recursion_from_All}
+use Rattle.std.proofs.lemmas.List.Elements.{All-cons, All-head, All-nil, All-tail}
 use Rattle.file_fields.specs.Fields.{is_before}
 use Rattle.file_fields.specs.Reading.{AllFit}
 use Rattle.file_fields.proofs.Codec.{IsBytes}
+use Rattle.file_fields.proofs.Order.{Rises, less_from_before, sorted_from}
 use Rattle.ri_base.specs.Collection.{name_count, token_count}
 use Rattle.ri_base.specs.Documents.{Document}
 use Rattle.ri_base.specs.Places.{postings_of}
@@ -88,26 +84,9 @@ all_known bytes es n s (t ∷ ts) pss small fit e =
 
 -- ---- terms in order
 
-less_from_before : (a b : List ℕ) → is_before a b ≡ true → slice_cmp nat_cmp a b ≡ Less
-less_from_before a b h = by (slice_cmp nat_cmp a b) refl h
-  where
-    by : (o : Ordering) → slice_cmp nat_cmp a b ≡ o → match_ordering o true false false ≡ true → slice_cmp nat_cmp a b ≡ Less
-    by Less e h = e
-    by Equal e h = absurd cc
-    by Greater e h = absurd cc
-
-terms_sorted : (n : ℕ) (s : BehindTerm) (ts : List TermBlocks) → AllFit (FitsTermBlocks n) behind_term s ts
-    → AllByRecursion (λ y. slice_cmp nat_cmp s.before y ≡ Less) (terms_of ts) × IsStrictlySortedBy (slice_cmp nat_cmp) (terms_of ts)
-unfolding IsStrictlySortedBy
-terms_sorted n s [] fit = (tt, tt)
-terms_sorted n s (t ∷ ts) fit =
-    let here : slice_cmp nat_cmp s.before t.term ≡ Less = less_from_before s.before t.term (and_parts (is_term t.term) (is_before s.before t.term) fit.0.0.1).1 in
-    let rest = terms_sorted n (behind_term s t) ts fit.1 in
-    let all : AllByRecursion (λ y. slice_cmp nat_cmp s.before y ≡ Less) (terms_of ts) =
-    recursion_from_All (λ y. slice_cmp nat_cmp s.before y ≡ Less) (terms_of ts)
-    (All-weaker (λ y. slice_cmp nat_cmp t.term y ≡ Less) (λ y. slice_cmp nat_cmp s.before y ≡ Less) (λ y p. nat_list_cmp_total.trans s.before t.term y here p) (terms_of ts)
-    (All-from_recursion (λ y. slice_cmp nat_cmp t.term y ≡ Less) (terms_of ts) rest.0)) in
-    ((here, all), rest)
+terms_rise : (n : ℕ) (s : BehindTerm) (ts : List TermBlocks) → AllFit (FitsTermBlocks n) behind_term s ts → Rises s.before (terms_of ts)
+terms_rise n s [] fit = tt
+terms_rise n s (t ∷ ts) fit = (less_from_before s.before t.term (and_parts (is_term t.term) (is_before s.before t.term) fit.0.0.1).1, terms_rise n (behind_term s t) ts fit.1)
 
 pub read_sound : (bytes : List ℕ) (w : Whole) → IsRead bytes w → All IsSound w.documents
 read_sound bytes w r = documents_sound w.header w.documents r.documents_fit
@@ -122,7 +101,7 @@ read_kept bytes w small r =
       counted = known.counted;
       rise = known.rise;
       some = known.some;
-      sorted = (terms_sorted w.header.docs start w.terms fit).1;
+      sorted = (sorted_from [] (terms_of w.terms) (terms_rise w.header.docs start w.terms fit)).1;
       sound = read_sound bytes w r;
       tokens = eqb-true _ _ rule.0;
       few = omega (arith, r.terms_fit.0.0, r.header_fits.1.0.1.0);

@@ -1,16 +1,19 @@
 -- what the reading of a whole file answers
-use Rattle.std.proofs.Common.{◌≡◌, ◌<◌, ℕ, ◌^◌, List, length, Result, Ok, Err, ap, subst, ◌∙◌}
+use Rattle.std.proofs.Common.{◌≡◌, ◌<◌, ℕ, ◌+◌, ◌^◌, Option, List, length, Result, Ok, Err, ap, subst, ◌∙◌}
+use Rattle.std.specs.Prelude.{sum_by, unwrap_or}
 use Rattle.file_fields.proofs.Codec.{IsBytes}
 use Rattle.ri_base.specs.Documents.{Document}
+use Rattle.ri_base.specs.declared.places.Place.{Place}
 use Rattle.ri_base.specs.declared.seg_fault.FileName.{FileName}
 use Rattle.ri_base.specs.declared.seg_fault.SegFault.{SegFault}
 use Rattle.ri_base.specs.declared.seg_fault.SegFault.TheVariants.{Malformed, Missing, Store, Memory}
 use Rattle.seg_codec.specs.Held.{AreRead, Holds, IsKept, whole_of}
 use Rattle.seg_codec.specs.Part.{IsPart}
-use Rattle.seg_codec.specs.Segment.{segment}
-use Rattle.seg_codec.specs.Whole.{AnswersFile, Fault, IsBlockFault, IsFaultOf, grammar}
+use Rattle.seg_codec.specs.Segment.{blocks_of, segment}
+use Rattle.seg_codec.specs.Twice.{IsAcross, told_twice}
+use Rattle.seg_codec.specs.Whole.{AnswersFile, Fault, grammar}
 use Rattle.seg_codec.specs.declared.whole.Whole.{Whole}
-use Rattle.seg_codec.proofs.FileLaws.{file_is_read}
+use Rattle.seg_codec.proofs.FileLaws.{blocks_end, file_is_read}
 use Rattle.seg_codec.proofs.OnlyLaws.{held_once}
 use Rattle.seg_codec.proofs.ReadLaws.{held_part, held_segment, read_kept}
 use Rattle.seg_codec.proofs.SegmentReads.{segment_reads, whole_holds}
@@ -30,17 +33,11 @@ pub broken_only : (e : SegFault) (bytes : List ℕ) (file : FileName) (docs : Li
 broken_only e bytes file docs h room part is =
     fault_read e (grammar bytes) file (whole_of docs) docs h (ap grammar is ∙ segment_reads docs part (subst (λ (x : List ℕ). length x < 2 ^ 64) is room))
 
-pub broken_first : (e : SegFault) (read : Result Whole Fault) (file : FileName) (fault : Fault) → AnswersWhole (Err e) read file → read ≡ Err fault → IsFaultOf {X = List Document} (Err e) file fault
-broken_first (Malformed f p place) read file fault h is = (h.0, cc)
-broken_first (Missing f) read file fault h is = h
-broken_first Store read file fault h is = h
-broken_first Memory read file fault h is = tt
-
-pub broken_across : (e : SegFault) (read : Result Whole Fault) (file : FileName) (w : Whole) → AnswersWhole (Err e) read file → read ≡ Ok w → IsBlockFault file e
-broken_across (Malformed f p place) read file w h is = absurd cc
-broken_across (Missing f) read file w h is = h
-broken_across Store read file w h is = h
-broken_across Memory read file w h is = tt
+pub broken_across : (e : SegFault) (read : Result Whole Fault) (file : FileName) (size : ℕ) (w : Whole) → AnswersWhole (Err e) read file → read ≡ Ok w → IsAcross file size w e
+broken_across (Malformed f p place) read file size w h is = absurd cc
+broken_across (Missing f) read file size w h is = h
+broken_across Store read file size w h is = h
+broken_across Memory read file size w h is = tt
 
 -- ---- each part keeps its grammar
 
@@ -64,6 +61,12 @@ held_only bytes w found docs is h room part own = held_once w found docs h (hold
 pub none_only : (bytes : List ℕ) (w : Whole) (docs : List Document) → grammar bytes ≡ Ok w → ((docs : List Document) → Holds docs w → ⊥) → length bytes < 2 ^ 64 → IsPart docs → bytes ≡ segment docs → ⊥
 none_only bytes w docs is none room part own = none docs (holds_own bytes w docs is room part own)
 
--- one reading isn't both
-pub not_both : {A : Type 0} (read : Result Whole Fault) (w : Whole) (fault : Fault) → read ≡ Ok w → read ≡ Err fault → A
-not_both read w fault a b = absurd cc
+-- its blocks end where the file does
+pub ends_within : (bytes : List ℕ) (w : Whole) → IsBytes bytes → grammar bytes ≡ Ok w → w.header.blocks_at + sum_by (λ (ps : List Place). length (blocks_of ps)) w.postings ≡ length bytes
+ends_within bytes w small is = blocks_end bytes w small (file_is_read bytes w small is)
+
+-- the place where a posting stands a second time, else the end of the file
+pub place_across : (read : Result Whole Fault) (w v : Whole) (found : Option ℕ) (place size : ℕ) → read ≡ Ok w → read ≡ Ok v → found ≡ told_twice w → place ≡ unwrap_or found size → place ≡ unwrap_or (told_twice v) size
+place_across read w v found place size a b told is =
+    let same : w ≡ v = cc in
+    is ∙ ap (λ (o : Option ℕ). unwrap_or o size) (told ∙ ap told_twice same)

@@ -1,21 +1,19 @@
 -- rising places, which are just those where a term stands, are its postings
 use Rattle.std.proofs.Common.{◌≡◌, ◌≢◌, ◌<◌, ◌≤◌, ℕ, suc, ◌+◌, List, [], ◌∷◌, ◌++◌, length, get_or, map, Bool, true, false, cond, refl, sym, ap, subst, ◌∙◌, inl, inr, arith}
 use Rattle.std.specs.List.{Contains}
-use Rattle.std.specs.Ordering.{is_eq}
 use Rattle.std.specs.Str.{bytes_eq}
 use Rattle.std.proofs.lemmas.Bool.{cases_eq}
-use Rattle.std.proofs.lemmas.Cmp.{nat_list_cmp_total, tied_itself}
-use Rattle.std.proofs.lemmas.Map.Text.{is_eq-slice_cmp}
 use Rattle.std.proofs.lemmas.Slice.Eq.{bytes_eq-Decides}
 use Rattle.ri_base.specs.Collection.{document_at}
 use Rattle.ri_base.specs.Documents.{Document}
 use Rattle.ri_base.specs.Places.{places, places_from, postings_from, postings_of}
 use Rattle.ri_base.specs.declared.places.Place.{Place}
 use Rattle.ri_base.proofs.ListLemmas.{Contains-cases, Contains-none}
+use Rattle.file_fields.proofs.Order.{same_itself}
 use Rattle.seg_codec.specs.Rising.{Rise}
 
 -- the place of a token
-abbrev at_place : ℕ → ℕ → Place
+abbrev pub at_place : ℕ → ℕ → Place
 at_place id at = record { id = id; at = at }
 
 member_follows : (n : ℕ) (tokens : ℕ → ℕ) (id at : ℕ) (ps : List Place) (q : Place) → Rise n tokens id at ps → Contains ps q → (id ≤ q.id) × (q.id ≡ id → at ≤ q.at)
@@ -57,9 +55,6 @@ AllTold word t (p ∷ ps) = (word p.id p.at ≡ t) × AllTold word t ps
 -- from this document and place on, each place where the term stands is one of these
 abbrev pub AllThere : ℕ → (ℕ → ℕ) → (ℕ → ℕ → List ℕ) → List ℕ → ℕ → ℕ → List Place → Type 0
 AllThere n tokens word t i low ps = (id at : ℕ) → id < n → at < tokens id → i ≤ id → (id ≡ i → low ≤ at) → word id at ≡ t → Contains ps (record { id = id; at = at })
-
-same_itself : (a : List ℕ) → bytes_eq a a ≡ true
-same_itself a = sym (is_eq-slice_cmp a a) ∙ ap is_eq (tied_itself nat_list_cmp_total a)
 
 next_document : (n : ℕ) (tokens : ℕ → ℕ) (i low : ℕ) (ps : List Place) → tokens i ≡ low → Rise n tokens i low ps → Rise n tokens (i + 1) 0 ps
 next_document n tokens i low [] e up = tt

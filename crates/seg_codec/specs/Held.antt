@@ -88,6 +88,13 @@ AreFilled count ranks ps = All (λ p. rank_at count ranks p < count) ps
 abbrev pub AreAgreed : List (List Place) → List (List ℕ) → Type 0
 AreAgreed postings ranks = (r : ℕ) → r < length postings → All (λ p. rank_at (length postings) ranks p ≡ r) (slice_index_or postings r [])
 
+-- ranks of terms that are told at all places of the documents, each by a posting of its term, and at each posting its own
+pub record AreRanked (w : Whole) (ranks : List (List ℕ)) : Type 0 where
+  pub shape : lengths ranks ≡ lengths_of w.documents
+  pub only : AreOfPostings w.postings ranks
+  pub each : AreAgreed w.postings ranks
+  pub full : All (λ (rs : List ℕ). All (λ r. r < length w.postings) rs) ranks
+
 -- one of these places, at which another rank is told
 pub record Differs (none : ℕ) (ranks : List (List ℕ)) (ps : List Place) (rank : ℕ) : Type 0 where
   pub place : Place

@@ -9,3 +9,4 @@ pub mod Part
 pub mod Rising
 pub mod Whole
 pub mod Held
+pub mod Twice

@@ -120,10 +120,3 @@ IsFaultOf (Err (faults.Malformed f p place)) file fault = (f ≡ file) × (recor
 IsFaultOf (Err (faults.Missing f)) file fault = ⊥
 IsFaultOf (Err faults.Store) file fault = ⊥
 IsFaultOf (Err faults.Memory) file fault = Unit {0}
-
--- a fault of the blocks of this file, or want of memory
-abbrev pub IsBlockFault : FileName → SegFault → Type 0
-IsBlockFault file (faults.Malformed f p place) = (f ≡ file) × (p ≡ parts.Block)
-IsBlockFault file (faults.Missing f) = ⊥
-IsBlockFault file faults.Store = ⊥
-IsBlockFault file faults.Memory = Unit {0}

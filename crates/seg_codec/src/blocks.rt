@@ -127,7 +127,7 @@ fn block_entries_from<'a>(
     requires few { length docs.now < 2 ^ 32 }
     ensures { Gives (λ x. (x.0.items, x.1.now)) result (repeat (block_entry docs.now range) (λ _ e. e.id + 1) count 0 bytes.now) }
 {
-    let mut entries = Vec::with_capacity(alloc, usize::from(count))?;
+    let mut entries = Vec::with_capacity(alloc, usize::from(count).min(bytes.len() / 9))?;
     let mut low = 0u64;
     let mut rest = bytes;
     for _ in 0..count {

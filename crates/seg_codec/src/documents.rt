@@ -64,6 +64,12 @@ impl Documents {
     {
         self.entries.as_slice()
     }
+
+    pub(crate) fn into_entries(self) -> Vec<Entry>
+        ensures { result.items ≡ self }
+    {
+        self.entries
+    }
 }
 
 #[tactic(auto, unfolding(file_fields::specs::Fields::ruled))]

@@ -1,15 +1,14 @@
 // The documents that the parts of a file hold.
-ghost use Rattle.std.specs.Prelude.{◌≡◌, ◌<◌, ◌≤◌, ℕ, List, length, slice_index_or, sum_by, nat_le, IfOk, IfSome, IfNone, OnSome};
+ghost use Rattle.std.specs.Prelude.{◌≡◌, ◌<◌, ℕ, List, length, sum_by, nat_le, IfOk, IfSome, IfNone};
 ghost use Rattle.std.specs.List.{All};
 ghost use Rattle.ri_base.specs.Documents.{Document};
 ghost use Rattle.ri_base.specs.Inversion.{by_number};
-ghost use Rattle.ri_base.specs.declared.places.Place.{Place};
-ghost use Rattle.seg_codec.specs.Held.{Gap, Holds, IsKept, Untold, lengths, lengths_of, rebuilt, terms_of};
+ghost use Rattle.seg_codec.specs.Held.{AreRanked, Holds, IsKept, lengths, lengths_of, rebuilt, terms_of};
 ghost use Rattle.seg_codec.specs.Whole.{IsSound};
 
 use crate::dictionary::TermBlocks;
 use crate::documents::Entry;
-use crate::ranks::{Ranks, ranks_at};
+use crate::ranks::{Ranks, full_ranks, ranks_at};
 use crate::whole::Whole;
 use ri_base::{Doc, List, NoMemory, Places, Terms};
 use std::alloc::Global;
@@ -25,60 +24,10 @@ fn are_enough(postings: &[Places], tokens: u64) -> bool
     left == 0
 }
 
-/// The terms of these ranks, where each is that of one.
-fn terms_at(alloc: Global, terms: &[TermBlocks], ranks: &[u32]) -> Result<Option<Terms>, NoMemory>
-    ensures found { IfOk result (λ o. IfSome o (λ ts. ts ≡ by_number (terms_of terms.now) ranks.now)) }
-    ensures full { IfOk result (λ o. OnSome o (All (λ r. r < length terms.now) ranks.now)) }
-    ensures none { IfOk result (λ o. IfNone o (Untold (length terms.now) ranks.now)) }
-{
-    let mut found = Vec::with_capacity(alloc, ranks.len())?;
-    for rank in ranks {
-        let rank = *rank as usize;
-        if rank >= terms.len() {
-            return Ok(None);
-        }
-        found.push(terms[rank].term.clone_in(alloc)?)?;
-    }
-    Ok(Some(List::of(found)))
-}
-
-fn document_of(alloc: Global, entry: &Entry, tokens: Terms) -> Result<Doc, NoMemory>
-    requires sound { IsSound entry.now }
-    requires count { length tokens ≡ entry.now.tokens }
-    ensures { IfOk result (λ d. d ≡ record { docno = entry.now.docno; tokens = tokens; fields = entry.now.fields }) }
-{
-    let docno = entry.docno.clone_in(alloc)?;
-    let fields = entry.fields.clone_in(alloc)?;
-    Doc::new(alloc, docno, tokens, fields)
-}
-
-/// The documents with the terms of these ranks, where each is that of one.
-fn rebuilt(
-    alloc: Global,
-    terms: &[TermBlocks],
-    documents: &[Entry],
-    ranks: &[Ranks],
-) -> Result<Option<List<Doc>>, NoMemory>
-    requires shape { lengths ranks.now ≡ lengths_of documents.now }
-    requires sound { All IsSound documents.now }
-    ensures found { IfOk result (λ o. IfSome o (λ docs. docs ≡ rebuilt (terms_of terms.now) documents.now ranks.now)) }
-    ensures full { IfOk result (λ o. OnSome o (All (λ (rs : List ℕ). All (λ r. r < length terms.now) rs) ranks.now)) }
-    ensures none { IfOk result (λ o. IfNone o (Gap (length terms.now) ranks.now)) }
-{
-    let mut found = Vec::with_capacity(alloc, documents.len())?;
-    for id in 0..documents.len() {
-        match terms_at(alloc, terms, ranks[id].as_slice())? {
-            Some(tokens) => found.push(document_of(alloc, &documents[id], tokens)?)?,
-            None => return Ok(None),
-        }
-    }
-    Ok(Some(List::of(found)))
-}
-
-/// The documents that the parts of a file hold, where there are some: those of which its postings are the postings.
-pub fn documents_held(alloc: Global, whole: &Whole) -> Result<Option<List<Doc>>, NoMemory>
+/// The rank of the term at each place of the documents, where their postings tell just one of each.
+pub fn ranks_held(alloc: Global, whole: &Whole) -> Result<Option<Vec<Ranks>>, NoMemory>
     requires { IsKept whole.now }
-    ensures found { IfOk result (λ o. IfSome o (λ docs. Holds docs whole.now)) }
+    ensures found { IfOk result (λ o. IfSome o (λ v. AreRanked whole.now v.items)) }
     ensures none { IfOk result (λ o. IfNone o ((docs : List Document) → Holds docs whole.now → ⊥)) }
 {
     let documents = whole.documents.as_slice();
@@ -87,7 +36,70 @@ pub fn documents_held(alloc: Global, whole: &Whole) -> Result<Option<List<Doc>>,
         return Ok(None);
     }
     match ranks_at(alloc, documents, postings)? {
-        Some(ranks) => rebuilt(alloc, whole.terms.as_slice(), documents, &ranks),
+        Some(ranks) => Ok(full_ranks(ranks, postings.len())),
         None => Ok(None),
     }
+}
+
+/// The terms of these ranks.
+fn terms_at(alloc: Global, terms: &[TermBlocks], ranks: &[u32]) -> Result<Terms, NoMemory>
+    requires { All (λ r. r < length terms.now) ranks.now }
+    ensures { IfOk result (λ ts. ts ≡ by_number (terms_of terms.now) ranks.now) }
+{
+    let mut found = Vec::with_capacity(alloc, ranks.len())?;
+    for rank in ranks {
+        found.push(terms[*rank as usize].term.clone_in(alloc)?)?;
+    }
+    Ok(List::of(found))
+}
+
+fn document_of(alloc: Global, entry: Entry, tokens: Terms) -> Result<Doc, NoMemory>
+    requires sound { IsSound entry }
+    requires count { length tokens ≡ entry.tokens }
+    ensures { IfOk result (λ d. d ≡ record { docno = entry.docno; tokens = tokens; fields = entry.fields }) }
+{
+    let Entry {
+        docno,
+        tokens: _,
+        fields,
+    } = entry;
+    Doc::new(alloc, docno, tokens, fields)
+}
+
+/// The documents with the terms of these ranks.
+fn rebuilt(
+    alloc: Global,
+    terms: &[TermBlocks],
+    documents: Vec<Entry>,
+    ranks: &[Ranks],
+) -> Result<List<Doc>, NoMemory>
+    requires shape { lengths ranks.now ≡ lengths_of documents.items }
+    requires sound { All IsSound documents.items }
+    requires known { All (λ (rs : List ℕ). All (λ r. r < length terms.now) rs) ranks.now }
+    ensures { IfOk result (λ docs. docs ≡ rebuilt (terms_of terms.now) documents.items ranks.now) }
+{
+    let mut found = Vec::with_capacity(alloc, documents.len())?;
+    let mut id = 0usize;
+    for entry in documents {
+        let tokens = terms_at(alloc, terms, ranks[id].as_slice())?;
+        found.push(document_of(alloc, entry, tokens)?)?;
+        id += 1;
+    }
+    Ok(List::of(found))
+}
+
+/// The documents that the parts of a file hold, with the terms of these ranks. The postings are given back first.
+pub fn documents_held(alloc: Global, whole: Whole, ranks: &[Ranks]) -> Result<List<Doc>, NoMemory>
+    requires kept { IsKept whole }
+    requires ranked { AreRanked whole ranks.now }
+    ensures { IfOk result (λ docs. Holds docs whole) }
+{
+    let Whole {
+        header: _,
+        documents,
+        terms,
+        postings,
+    } = whole;
+    drop(postings);
+    rebuilt(alloc, terms.as_slice(), documents.into_entries(), ranks)
 }

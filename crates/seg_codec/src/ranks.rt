@@ -1,8 +1,8 @@
 // The ranks of the terms that stand at the places of documents.
-ghost use Rattle.std.specs.Prelude.{◌≡◌, ◌<◌, ◌^◌, ℕ, true, false, length, map, replicate, slice_index_or, slice_set, IfOk, IfSome, IfNone, []};
+ghost use Rattle.std.specs.Prelude.{◌≡◌, ◌<◌, ◌^◌, ℕ, List, true, false, length, map, replicate, slice_index_or, slice_set, IfOk, IfSome, IfNone, OnSome, []};
 ghost use Rattle.std.specs.List.{All};
 ghost use Rattle.ri_base.specs.declared.places.Place.{Place};
-ghost use Rattle.seg_codec.specs.Held.{AreAgreed, AreFilled, AreOfPostings, Clash, Differs, IsClashing, IsWithin, lengths, lengths_of, rank_at, told};
+ghost use Rattle.seg_codec.specs.Held.{AreAgreed, AreFilled, AreOfPostings, Clash, Differs, Gap, IsClashing, IsWithin, Untold, lengths, lengths_of, rank_at, told};
 
 use crate::documents::Entry;
 use ri_base::{NoMemory, Place, Places};
@@ -152,5 +152,44 @@ pub fn ranks_at(
         Ok(Some(ranks))
     } else {
         Ok(None)
+    }
+}
+
+/// Whether each rank is that of one of so many terms.
+fn is_full(ranks: &[u32], terms: usize) -> bool
+    ensures yes { result ≡ true → All (λ r. r < terms) ranks.now }
+    ensures no { result ≡ false → Untold terms ranks.now }
+{
+    for rank in ranks {
+        if *rank as usize >= terms {
+            return false;
+        }
+    }
+    true
+}
+
+/// Whether a rank of one of so many terms is told at each place.
+fn are_full(ranks: &[Ranks], terms: usize) -> bool
+    ensures yes { result ≡ true → All (λ (rs : List ℕ). All (λ r. r < terms) rs) ranks.now }
+    ensures no { result ≡ false → Gap terms ranks.now }
+{
+    for row in ranks {
+        if !is_full(row.as_slice(), terms) {
+            return false;
+        }
+    }
+    true
+}
+
+/// The ranks, where one of so many terms is told at each place.
+pub fn full_ranks(ranks: Vec<Ranks>, terms: usize) -> Option<Vec<Ranks>>
+    ensures same { IfSome result (λ v. v.items ≡ ranks.items) }
+    ensures full { OnSome result (All (λ (rs : List ℕ). All (λ r. r < terms) rs) ranks.items) }
+    ensures none { IfNone result (Gap terms ranks.items) }
+{
+    if are_full(&ranks, terms) {
+        Some(ranks)
+    } else {
+        None
     }
 }

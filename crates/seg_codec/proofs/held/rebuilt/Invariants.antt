@@ -1,10 +1,9 @@
-use Rattle.std.proofs.Common.{◌≡◌, ◌<◌, List, ℕ, length, take}
-use Rattle.std.specs.List.{All}
+use Rattle.std.proofs.Common.{◌≡◌, length, take}
 use Rattle.seg_codec.specs.Held.{rebuilt, terms_of}
 use Rattle.seg_codec.proofs.held.rebuilt.Given as goal
 
-abbrev pub invariant-loop-id : goal.invariant-loop-id
-invariant-loop-id l = record {
-  made : l.found.items ≡ rebuilt (terms_of l.terms) (take l.id l.documents) (take l.id l.ranks);
-  full : All (λ (rs : List ℕ). All (λ r. r < length l.terms) rs) (take l.id l.ranks);
+abbrev pub invariant-loop-entry : goal.invariant-loop-entry
+invariant-loop-entry l = record {
+  count : l.id ≡ length l.yielded;
+  made : l.found.items ≡ rebuilt (terms_of l.terms) (take l.id l.fn.documents.items) (take l.id l.ranks);
 }

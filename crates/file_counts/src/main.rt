@@ -1,0 +1,85 @@
+//! Writes or reads a segment again and again, so that this can be measured. It does so once for each line of standard
+//! input, and says in a line what came of it.
+//!
+//! - `write N SPREAD`: the segment of N documents, whose words are told by SPREAD. A line that isn't empty is the name of a
+//!   file, to which the bytes go.
+//! - `read FILE`: the segment in this file.
+#![tactic(auto)]
+
+mod documents;
+
+use anyhow::{Context, Result, bail};
+use documents::sealed_of;
+use ri_base::{Doc, FileName, Postings, SegFault};
+use seg_codec::{read_segment, seg_bytes};
+use std::alloc::Global;
+use std::{env, fs};
+
+fn write_segments(rt: &HostRuntime, documents: u32, spread: u64) -> Result<()> {
+    let sealed = sealed_of(rt.alloc(), documents, spread)?;
+    println!(rt; "{} documents, {} tokens", sealed.docs(), sealed.token_count())?;
+    for line in rt.lines(rt.alloc()) {
+        let path = line?;
+        let bytes = seg_bytes(rt.alloc(), &sealed)?;
+        if !path.is_empty() {
+            fs::write(rt, path.as_str(), bytes.as_slice())?;
+        }
+        println!(rt; "{} bytes", bytes.len())?;
+    }
+    Ok(())
+}
+
+/// How many tokens the documents have together.
+fn token_count(documents: &[Doc]) -> u64 {
+    let mut count = 0u64;
+    for doc in documents {
+        count = count.saturating_add(u64::from(doc.len()));
+    }
+    count
+}
+
+/// What is read of the bytes, or where they are broken.
+fn shown(alloc: Global, bytes: &[u8]) -> Result<String> {
+    let mut text = String::new(alloc);
+    match read_segment(alloc, bytes, FileName::Segment(1)) {
+        Ok(found) => write!(text,
+            "{} documents, {} tokens",
+            found.len(),
+            token_count(found.as_slice())
+        )?,
+        Err(
+            SegFault::Malformed {
+                file: _,
+                part,
+                place,
+            },
+        ) => write!(text, "{part:?} {place}")?,
+        Err(_) => bail!("not read"),
+    }
+    Ok(text)
+}
+
+fn read_segments(rt: &HostRuntime, path: &str) -> Result<()> {
+    let bytes = fs::read(rt, path)?;
+    println!(rt; "{} bytes", bytes.len())?;
+    for line in rt.lines(rt.alloc()) {
+        let _line = line?;
+        let found = shown(rt.alloc(), &bytes)?;
+        println!(rt; "{found}")?;
+    }
+    Ok(())
+}
+
+fn main(rt: HostRuntime) -> Result<()> {
+    let mut words = env::args(&rt)?.skip(1);
+    let command = words.next().context("no command")?;
+    let word = words.next().context("no word behind the command")?;
+    match command.as_str() {
+        "write" => {
+            let spread = words.next().context("no spread")?;
+            write_segments(&rt, word.parse::<u32>()?, spread.parse::<u64>()?)
+        }
+        "read" => read_segments(&rt, &word),
+        _ => bail!("no such command"),
+    }
+}

@@ -95,49 +95,69 @@ fn snapshot<T: Store>(alloc: Global, store: &mut T) -> Result<Snapshot, Fail> {
     Ok(Snapshot::of(alloc, &parts)?)
 }
 
-fn counts_of(alloc: Global, slots: usize) -> Result<Counts, AllocError> {
-    Counts::new(alloc, NonZeroUsize::new(slots).unwrap_or(NonZeroUsize::MIN))
+/// A snapshot with what is kept of its sums and of its blocks.
+#[derive(Drop)]
+struct Held {
+    snapshot: Snapshot,
+    counts: Counts,
+    cache: BlockCache,
 }
 
-/// The sums of a word in one generation.
+/// With so many slots for sums and for blocks.
+fn held<T: Store>(alloc: Global, store: &mut T, slots: usize) -> Result<Held, Fail> {
+    let snapshot = snapshot(alloc, store)?;
+    let counts = Counts::new(alloc, NonZeroUsize::new(slots).unwrap_or(NonZeroUsize::MIN))?;
+    let cache = cache_of(alloc, slots)?;
+    Ok(Held {
+        snapshot,
+        counts,
+        cache,
+    })
+}
+
+/// The sums of a word in one generation, in the fields of a name where one is given.
 fn sums<T: Store>(
     alloc: Global,
-    counts: &mut Counts,
-    word: &str,
-    snapshot: &Snapshot,
+    held: &mut Held,
+    word: &Term,
+    context: Option<&Name>,
     generation: u64,
     store: &mut T,
-    cache: &mut BlockCache,
-) -> Result<Result<LeafStats, SegFault>, Fail> {
-    let expr = ExtentExpr::Word(term(alloc, word)?);
-    Ok(counts.leaf(alloc, &expr, None, snapshot, generation, store, cache))
+) -> Result<LeafStats, SegFault> {
+    let expr = ExtentExpr::Word(word.clone_in(alloc)?);
+    held.counts.leaf(
+        alloc,
+        &expr,
+        context,
+        &held.snapshot,
+        generation,
+        store,
+        &mut held.cache,
+    )
 }
 
-/// The sums of a word in fields `t`.
-fn sums_inside<T: Store>(
+/// The sums of a word, which may be counted in fields `t` alone.
+fn sums_of<T: Store>(
     alloc: Global,
-    counts: &mut Counts,
-    word: &str,
-    snapshot: &Snapshot,
+    held: &mut Held,
+    text: &str,
+    is_inside: bool,
+    generation: u64,
     store: &mut T,
-    cache: &mut BlockCache,
 ) -> Result<Result<LeafStats, SegFault>, Fail> {
-    let expr = ExtentExpr::Word(term(alloc, word)?);
+    let word = term(alloc, text)?;
+    if !is_inside {
+        return Ok(sums(alloc, held, &word, None, generation, store));
+    }
     let name = name(alloc)?;
-    Ok(counts.leaf(alloc, &expr, Some(&name), snapshot, 7, store, cache))
+    Ok(sums(alloc, held, &word, Some(&name), generation, store))
 }
 
-/// The first of the rows whose sums are others, if one is, with so many slots for sums and for blocks.
+/// The first of the rows whose sums are others, if one is.
 fn first_wrong<T: Store>(alloc: Global, store: &mut T, slots: usize) -> Result<Option<usize>, Fail> {
-    let snapshot = snapshot(alloc, store)?;
-    let mut counts = counts_of(alloc, slots)?;
-    let mut cache = cache_of(alloc, slots)?;
-    for (i, (word, inside, cf, total)) in SUMS.iter().enumerate() {
-        let found = if *inside {
-            sums_inside(alloc, &mut counts, word, &snapshot, store, &mut cache)?
-        } else {
-            sums(alloc, &mut counts, word, &snapshot, 7, store, &mut cache)?
-        };
+    let mut held = held(alloc, store, slots)?;
+    for (i, (word, is_inside, cf, total)) in SUMS.iter().enumerate() {
+        let found = sums_of(alloc, &mut held, word, *is_inside, 7, store)?;
         if !matches!(found, Ok(stats) if stats.cf == *cf && stats.total == *total) {
             return Ok(Some(i));
         }
@@ -172,44 +192,63 @@ fn over_a_folder(rt: HostRuntime) -> Result<(), Fail> {
     Ok(())
 }
 
-// The files are gone, so what is answered was read from none. For another generation, and for another word, they are wanted, but
-// not for a word that no part has.
+/// How often the word occurs; none where that can't be read.
+fn cf(
+    alloc: Global,
+    held: &mut Held,
+    text: &str,
+    generation: u64,
+    store: &mut MemStore,
+) -> Result<Option<u64>, Fail> {
+    match sums_of(alloc, held, text, false, generation, store)? {
+        Ok(stats) => Ok(Some(stats.cf)),
+        Err(_) => Ok(None),
+    }
+}
+
+/// A word, a generation, and how often the word occurs where there is no file any more and no block is kept.
+static LATER: [(&str, u64, Option<u64>); 4] =
+    [("a", 7, Some(3)), ("a", 8, None), ("b", 7, None), ("d", 7, Some(0))];
+
+/// The first of these rows that is answered otherwise, if one is.
+fn first_read_again(alloc: Global, held: &mut Held) -> Result<Option<usize>, Fail> {
+    let mut gone = MemStore::new(alloc, Vec::new(alloc), Vec::new(alloc));
+    for (i, (word, generation, wanted)) in LATER.iter().enumerate() {
+        if cf(alloc, held, word, *generation, &mut gone)? != *wanted {
+            return Ok(Some(i));
+        }
+    }
+    Ok(None)
+}
+
+// Where the files are gone, a sum that is kept needs none. For another generation, and for another word, they are wanted, but not
+// for a word that no part has.
 #[test]
 fn what_is_kept_is_not_read_again(rt: HostRuntime) -> Result<(), Fail> {
-    let alloc = rt.alloc();
-    let mut store = store_of(alloc, &BYTES, Vec::new(alloc))?;
-    let snapshot = snapshot(alloc, &mut store)?;
-    let mut counts = counts_of(alloc, 2)?;
-    let mut cache = cache_of(alloc, 4)?;
-    let first = sums(alloc, &mut counts, "a", &snapshot, 7, &mut store, &mut cache)?;
-    assert!(rt; matches!(first, Ok(stats) if stats.cf == 3));
-    let mut gone = MemStore::new(alloc, Vec::new(alloc), Vec::new(alloc));
-    let mut empty = cache_of(alloc, 4)?;
-    for (word, generation, wanted) in
-        [("a", 7, Some(3)), ("a", 8, None), ("b", 7, None), ("d", 7, Some(0))].iter()
-    {
-        let again = sums(alloc, &mut counts, word, &snapshot, *generation, &mut gone, &mut empty)?;
-        assert_eq!(rt; again.ok().map(|stats| stats.cf), *wanted);
-    }
+    let mut store = store_of(rt.alloc(), &BYTES, Vec::new(rt.alloc()))?;
+    let mut held = held(rt.alloc(), &mut store, 2)?;
+    assert!(rt; cf(rt.alloc(), &mut held, "a", 7, &mut store)? == Some(3));
+    held.cache = cache_of(rt.alloc(), 2)?;
+    assert_eq!(rt; first_read_again(rt.alloc(), &mut held)?, None);
     Ok(())
 }
 
-// The call that reads the first block fails, and then doesn't.
-#[test]
-fn a_sum_that_fails_is_not_kept(rt: HostRuntime) -> Result<(), Fail> {
-    let alloc = rt.alloc();
+/// A store in which the call that reads the first block fails.
+fn failing(alloc: Global) -> Result<MemStore, Fail> {
     let mut fails = Vec::new(alloc);
     fails.push(StoreFail {
         call: 5,
         left: Left::Old,
     })?;
-    let mut store = store_of(alloc, &BYTES, fails)?;
-    let snapshot = snapshot(alloc, &mut store)?;
-    let mut counts = counts_of(alloc, 2)?;
-    let mut cache = cache_of(alloc, 4)?;
-    let failed = sums(alloc, &mut counts, "b", &snapshot, 7, &mut store, &mut cache)?;
+    Ok(store_of(alloc, &BYTES, fails)?)
+}
+
+#[test]
+fn a_sum_that_fails_is_not_kept(rt: HostRuntime) -> Result<(), Fail> {
+    let mut store = failing(rt.alloc())?;
+    let mut held = held(rt.alloc(), &mut store, 2)?;
+    let failed = sums_of(rt.alloc(), &mut held, "b", false, 7, &mut store)?;
     assert!(rt; matches!(failed, Err(SegFault::Store)));
-    let read = sums(alloc, &mut counts, "b", &snapshot, 7, &mut store, &mut cache)?;
-    assert!(rt; matches!(read, Ok(stats) if stats.cf == 1));
+    assert!(rt; cf(rt.alloc(), &mut held, "b", 7, &mut store)? == Some(1));
     Ok(())
 }

@@ -1,5 +1,5 @@
 -- Where a byte splits a text, and that it does.
-use Rattle.std.proofs.Common.{ℕ, suc, ◌≡◌, ◌<◌, ◌+◌, ◌==◌, Bool, true, false, not, List, [], ◌∷◌, ◌++◌, length, take, drop, get_or, Some, None, refl, ap, ◌∙◌, arith, length-append}
+use Rattle.std.proofs.Common.{ℕ, suc, ◌≡◌, ◌<◌, ◌+◌, ◌==◌, Bool, true, false, not, List, [], ◌∷◌, ◌++◌, length, drop, get_or, Some, None, refl, ap, ◌∙◌, arith, length-append}
 use Rattle.std.specs.Prelude.{if◌then◌else◌, nat_lt}
 use Rattle.std.specs.List.{after_first, before_first, list_all, position_or_len}
 use Rattle.std.proofs.Math.Seq.{take-append_seam}

@@ -1,5 +1,5 @@
 -- The form of lines.
-use Rattle.std.proofs.Common.{ℕ, zero, suc, ◌≡◌, ◌<◌, ◌≤◌, ◌+◌, ◌-◌, Bool, true, false, List, [], ◌∷◌, ◌++◌, length, take, drop, refl, sym, ap, ◌∙◌, arith, length-append, subst}
+use Rattle.std.proofs.Common.{ℕ, suc, ◌≡◌, ◌<◌, ◌≤◌, ◌+◌, ◌-◌, Bool, true, false, List, [], ◌∷◌, ◌++◌, length, take, drop, refl, sym, ap, ◌∙◌, arith, length-append, subst}
 use Rattle.std.specs.Prelude.{nat_lt, slice_index, ◌==◌}
 use Rattle.std.specs.List.{after_first, before_first, position_or_len}
 use Rattle.std.proofs.Math.Seq.{take-append_seam}

@@ -1,12 +1,13 @@
 #!/usr/bin/env python3
 """Measures the time and the memory of reading a session script, as LLVM builds the reader. It stands apart from the gate.
 
-usage: bench/scripts.py [--rounds N] [--mega N] [--program FILE]
+usage: bench/scripts.py [--rounds N] [--mega N] [--program FILE] [ROW..]
 
 The program that is measured is script_counts: it reads the script at its standard input item by item, keeps none, and
 writes how many there are. `rt run <stdin` in crates/script_counts builds it, and proves it first.
 
-The scripts are made in a temporary folder, the same ones each time, of 20 MB, which --mega changes:
+The scripts are made in a temporary folder, the same ones each time, of 20 MB, which --mega changes. Without a row all of these
+are measured:
 
     one add             documents of some 60 bytes in one `add`
     large documents     documents of some 30 KB in one `add`
@@ -178,8 +179,10 @@ class Table:
         self.is_within = False
         return f"{shown} above the bound {bound}"
 
-    def best(self, way, path):
-        return min(way(self.program, path).seconds for _ in range(self.rounds))
+    def best(self, way, paths):
+        """The best time of each file. They are taken in the same rounds, one after the other."""
+        rounds = [[way(self.program, path).seconds for path in paths] for _ in range(self.rounds)]
+        return [min(times) for times in zip(*rounds)]
 
     def counted(self, said, counts):
         """What is shown where the counts aren't these."""
@@ -196,8 +199,8 @@ class Table:
         for shown, way in WAYS.items():
             looked_at = way(self.program, whole, peak=True)
             peak = looked_at.peak / MEGA
-            seconds = self.best(way, whole)
-            grown = self.best(way, twice) / seconds
+            seconds, longer = self.best(way, (whole, twice))
+            grown = longer / seconds
             cells = (
                 self.at_most(f"{seconds:6.3f} s", seconds, SECONDS),
                 self.at_most(f"peak {peak:4.2f} MB", peak, PEAK_MEGA),
@@ -211,15 +214,19 @@ def main():
     parser.add_argument("--rounds", type=int, default=3, help="a time is the best of so many (3)")
     parser.add_argument("--mega", type=int, default=20, help="the size of a script in MB (20)")
     parser.add_argument("--program", type=Path, default=PROGRAM, help="the program that is measured")
+    parser.add_argument("rows", nargs="*", metavar="ROW", help="a row that is measured: " + ", ".join(SCRIPTS))
     chosen = parser.parse_args()
+    unknown = [name for name in chosen.rows if name not in SCRIPTS]
+    if unknown:
+        parser.error(f"no row '{unknown[0]}'")
     if chosen.rounds < 1 or chosen.mega < 1:
         parser.error("a number is below 1")
     if not os.access(chosen.program, os.X_OK):
         sys.exit("the program isn't built: `rt run <stdin` in crates/script_counts builds it")
     with tempfile.TemporaryDirectory() as folder:
         table = Table(chosen.program.resolve(), chosen.rounds, chosen.mega * MEGA, Path(folder))
-        for name, make in SCRIPTS.items():
-            table.row(name, make)
+        for name in chosen.rows or SCRIPTS:
+            table.row(name, SCRIPTS[name])
     sys.exit(0 if table.is_within else 1)
 
 

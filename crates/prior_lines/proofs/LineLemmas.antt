@@ -6,6 +6,7 @@ use Rattle.std.proofs.lemmas.List.Elements.{filter-append}
 use Rattle.std.specs.Option.{option_map}
 use Rattle.line_reader.specs.Texts.{Placed, placed, text_answer, texts_at, trimmed}
 use Rattle.line_reader.specs.declared.line.Line.{Line}
+use Rattle.line_reader.proofs.TextLemmas.{texts_then}
 use Rattle.prior_lines.specs.Rows.{Kept, Outcome, Step, is_refusal, refused_of, line_step, outcome, outcome_at, row_answer, with_line}
 use Rattle.prior_lines.specs.declared.line.RowLine.{RowLine}
 
@@ -16,22 +17,13 @@ stepped kept now said text texts is = sym (ap (λ (s : Step). with_line s.1 (out
 
 pub some_given : (line : Line) (text : List ℕ) (kept now : Kept) (said : RowLine) (offset at : ℕ) (old new : Option (List ℕ)) → (now, said) ≡ line_step kept (placed line (trimmed text)) → option_map (texts_at offset) old ≡ option_map (text_answer (Some line) text at) new
     → option_map (outcome_at kept offset) old ≡ option_map (row_answer (Some said) now at) new
-some_given line text kept now said offset at None None is e = refl
-some_given line text kept now said offset at None (Some ys) is e = cc
-some_given line text kept now said offset at (Some xs) None is e = cc
-some_given line text kept now said offset at (Some xs) (Some ys) is e =
-    let same : texts_at offset xs ≡ text_answer (Some line) text at ys = cc in
-    ap Some (ap (outcome kept) same ∙ stepped kept now said (placed line (trimmed text)) (texts_at at ys) is)
+some_given line text kept now said offset at old new is e =
+    texts_then (outcome kept) offset (text_answer (Some line) text at) (row_answer (Some said) now at) old new e (λ rest. stepped kept now said (placed line (trimmed text)) (texts_at at rest) is)
 
 pub none_given : (text : List ℕ) (kept : Kept) (offset at : ℕ) (old new : Option (List ℕ)) → option_map (texts_at offset) old ≡ option_map (text_answer None text at) new
     → option_map (outcome_at kept offset) old ≡ option_map (row_answer None kept at) new
 unfolding outcome
-none_given text kept offset at None None e = refl
-none_given text kept offset at None (Some ys) e = cc
-none_given text kept offset at (Some xs) None e = cc
-none_given text kept offset at (Some xs) (Some ys) e =
-    let same : texts_at offset xs ≡ text_answer None text at ys = cc in
-    ap Some (ap (outcome kept) same)
+none_given text kept offset at old new e = texts_then (outcome kept) offset (text_answer None text at) (row_answer None kept at) old new e (λ rest. refl)
 
 abbrev outcome_of : Kept → List RowLine → Outcome
 outcome_of kept lines = (kept, lines)

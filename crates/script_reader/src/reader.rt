@@ -1,5 +1,5 @@
 // A reader of items to which its source is lent.
-ghost use Rattle.std.specs.Prelude.{◌≡◌, ◌+◌, ◌-◌, ◌*◌, ◌^◌, ◌<◌, ◌≤◌, ◌++◌, ℕ, List, Option, [], Some, None, IfOk, IfSome, OnOk, OnSome, IsErrOf, MatchOption, length, take, drop, true, false, is_none, is_some, ◌==◌, if◌then◌else◌};
+ghost use Rattle.std.specs.Prelude.{◌≡◌, ◌+◌, ◌-◌, ◌*◌, ◌^◌, ◌<◌, ◌≤◌, ◌++◌, ◌||◌, ℕ, List, Option, [], Some, None, IfOk, IfSome, OnOk, OnSome, IsErrOf, MatchOption, length, take, drop, true, false, is_none, is_some, ◌==◌, if◌then◌else◌};
 ghost use Rattle.std.specs.Bool.{OnFalse, OnTrue};
 ghost use Rattle.std.specs.Option.{option_map};
 ghost use Rattle.read_ahead.specs.Ahead.{Moves};
@@ -251,7 +251,7 @@ impl ItemReader {
         // The answer is the first of the items that were left.
         ensures items { IfOk result (λ found. GivesItem found self.old (S.left source.old) self.new (S.left source.new)) }
         ensures none { IfOk result (λ found. is_none found ≡ is_ended self.old) }
-        ensures ended { IfOk result (λ found. OnSome found (is_ended self.new ≡ is_end found)) }
+        ensures ended { IfOk result (λ found. is_ended self.new ≡ (is_none found || is_end found)) }
 
         ensures ready { OnOk result (IsReady self.new (S.left source.new) (S.can_give source.new)) }
         ensures lowers { IfOk result (λ found. OnSome found (work_left self.new (S.can_give source.new) < work_left self.old (S.can_give source.old))) }

@@ -1,5 +1,5 @@
 // A reader of items that owns its source.
-ghost use Rattle.std.specs.Prelude.{◌≡◌, ◌<◌, ◌≤◌, ℕ, List, Option, [], ◌∷◌, IfOk, OnOk, MatchOption, OnSome, is_none, is_ok, true, false};
+ghost use Rattle.std.specs.Prelude.{◌≡◌, ◌<◌, ◌≤◌, ◌||◌, ℕ, List, Option, [], ◌∷◌, IfOk, OnOk, MatchOption, is_none, is_ok, true, false};
 ghost use Rattle.std.specs.Option.{option_map};
 ghost use Rattle.read_ahead.specs.Causes.{ReadRose};
 ghost use Rattle.script_reader.specs.Items.{items};
@@ -59,7 +59,7 @@ impl<S: Source> ScriptReader<S> {
         requires { self.old.is_usable ≡ true }
         ensures items { IfOk result (λ found. GivesFirst found self.old.left self.new.left) }
         ensures none { IfOk result (λ found. is_none found ≡ self.old.is_ended) }
-        ensures ended { IfOk result (λ found. OnSome found (self.new.is_ended ≡ is_end found)) }
+        ensures ended { IfOk result (λ found. self.new.is_ended ≡ (is_none found || is_end found)) }
         ensures form { IfOk result (λ found. MatchOption found (Unit {0}) IsItem) }
         ensures usable { self.new.is_usable ≡ is_ok result }
         ensures layers { self.new.layers ≡ self.old.layers }

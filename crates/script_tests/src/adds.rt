@@ -1,13 +1,12 @@
 // Documents between the lines of a script.
 use crate::shown::{assert_items, items_of};
-use ri_base::limits::MAX_DOC_TOKENS;
 use ri_ends::MemSource;
 use script_reader::{ScriptFault, ScriptReader};
 use std::alloc::Global;
 use std::test::Fail;
 
 /// Scripts with the bytes of an `add`, and their items. The bytes are cut by a refusal, by the end of the input, or not.
-static ROWS: [(&[u8], &str); 14] = [
+static ROWS: [(&[u8], &str); 27] = [
     (b"add 3\nabcflush\n", "NotADoc { at: 0 }; flush; end"),
     (
         b"add 9\n\nflush\nx\nmerge\n",
@@ -61,6 +60,37 @@ static ROWS: [(&[u8], &str); 14] = [
         b"add 1\n\nadd 2\n\r\nadd 5\nx\nendend\nflush",
         "NotADoc { at: 0 }; end",
     ),
+    (b"add 0\nflush\n", "BadEvent 0; flush; end"),
+    (b"add 0\nend\nflush\n", "BadEvent 0; end"),
+    (
+        b"add 0\n<DOC><DOCNO>d1</DOCNO>a b</DOC>\nend\n",
+        "BadEvent 0; BadEvent 6; end",
+    ),
+    (b"add 1\n flush\nend\nmerge\n", "flush; end"),
+    (b"add 1\r\n\nend\nflush\n", "end"),
+    (b"add 1\nxend\nflush\n", "NotADoc { at: 0 }; end"),
+    (b"add 3\nabcend\nflush\n", "NotADoc { at: 0 }; end"),
+    (
+        b"add 36\n<DOC><DOCNO>d1</DOCNO>a b</DOC><DOC>end\nmerge\n",
+        "doc d1 2; DocOpen { at: 31 }; end",
+    ),
+    (
+        b"add 31\n<DOC><DOCNO>d1</DOCNO>a b</DOC>end",
+        "doc d1 2; end",
+    ),
+    (
+        b"add 32\n<DOC><DOCNO>d1</DOCNO>a b</DOC>\nend\r\nflush\n",
+        "doc d1 2; end",
+    ),
+    (b"add 10\n\n \n", "ShortAdd 0; end"),
+    (
+        b"add 1073741824\n<DOC><DOCNO>d1</DOCNO>a b</DOC>end\n",
+        "doc d1 2; NotADoc { at: 31 }; ShortAdd 0; end",
+    ),
+    (
+        b"add 1073741825\nend\n<DOC><DOCNO>d1</DOCNO>a b</DOC>",
+        "BadEvent 0; end",
+    ),
 ];
 
 #[test]
@@ -103,20 +133,72 @@ fn reads_that_fail(rt: HostRuntime) -> Result<(), Fail> {
     Ok(())
 }
 
-/// An `add` of a document of a word more than a document may have, and a line behind it.
-fn too_many_words_of(alloc: Global) -> Result<Vec<u8>, Fail> {
-    let mut script = b"add 2097183\n<DOC><DOCNO>d1</DOCNO>".to_vec(alloc)?;
-    for _ in 0..=MAX_DOC_TOKENS {
-        script.extend_from_slice(b"a ")?;
+/// An `add` line, a document of so many of these words, and what stands behind it.
+fn add_of(
+    alloc: Global,
+    line: &[u8],
+    word: &[u8],
+    count: usize,
+    behind: &[u8],
+) -> Result<Vec<u8>, Fail> {
+    let mut script = line.to_vec(alloc)?;
+    script.extend_from_slice(b"<DOC><DOCNO>d1</DOCNO>")?;
+    for _ in 0..count {
+        script.extend_from_slice(word)?;
     }
-    script.extend_from_slice(b"</DOC>\n\nflush\n")?;
+    script.extend_from_slice(b"</DOC>")?;
+    script.extend_from_slice(behind)?;
     Ok(script)
 }
 
+/// Documents of a word or a field more than a document may have: their `add` line, such a word, how many there are, what
+/// stands behind the document, and the items.
+static REFUSED: [(&[u8], &[u8], usize, &[u8], &str); 5] = [
+    (
+        b"add 2097182\n",
+        b"a ",
+        1_048_577,
+        b"end\nflush\n",
+        "TooManyTokens; end",
+    ),
+    (
+        b"add 2097183\n",
+        b"a ",
+        1_048_577,
+        b"\nflush\n",
+        "TooManyTokens; flush; end",
+    ),
+    (
+        b"add 524316\n",
+        b"<f>x</f>",
+        65_536,
+        b"end\nflush\n",
+        "TooManyFields; end",
+    ),
+    (
+        b"add 524318\n",
+        b"<f>x</f>",
+        65_536,
+        b"\nxflush\n",
+        "TooManyFields; NotADoc { at: 524317 }; flush; end",
+    ),
+    (
+        b"add 524317\n",
+        b"<f>x</f>",
+        65_536,
+        b"",
+        "TooManyFields; ShortAdd 0; end",
+    ),
+];
+
 #[test]
-fn too_many_words(rt: HostRuntime) -> Result<(), Fail> {
-    let script = too_many_words_of(rt.alloc())?;
-    let found = items_of(rt.alloc(), script, 65536)?;
-    assert_eq!(rt; found.as_str(), "TooManyTokens; flush; end");
+fn documents_with_too_much(rt: HostRuntime) -> Result<(), Fail> {
+    for (line, word, count, behind, wanted) in &REFUSED {
+        for piece in [1, 2, 3, 7, 100] {
+            let script = add_of(rt.alloc(), line, word, *count, behind)?;
+            let found = items_of(rt.alloc(), script, piece)?;
+            assert_eq!(rt; found.as_str(), *wanted, "{count} in pieces of {piece}");
+        }
+    }
     Ok(())
 }

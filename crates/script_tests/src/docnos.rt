@@ -61,31 +61,41 @@ fn docnos_of_lines(rt: HostRuntime) -> Result<(), Fail> {
     Ok(())
 }
 
-/// So many white bytes, a docno of so many bytes, and `d` on the next line.
-fn long_docno(alloc: Global, white: usize, count: usize) -> Result<Vec<u8>, Fail> {
+/// So many white bytes, a docno of so many bytes, the end of its line, and `d` on the next.
+fn long_docno(alloc: Global, white: usize, count: usize, end: &[u8]) -> Result<Vec<u8>, Fail> {
     let mut text = Vec::new(alloc);
     text.resize(white, b' ')?;
     for _ in 0..count {
         text.push(b'x')?;
     }
-    text.extend_from_slice(b"\nd")?;
+    text.extend_from_slice(end)?;
+    text.push(b'd')?;
     Ok(text)
 }
 
-/// How many white bytes and how many of a docno a line has, and how long the text is that tells what is read.
-static LENGTHS: [(usize, usize, usize); 4] = [
-    (0, 255, 260),
-    (65281, 255, 260),
-    (0, 256, 15),
-    (65282, 255, 18),
+/// How many white bytes and how many of a docno a line has, its end, and how long the text is that tells what is read.
+static LENGTHS: [(usize, usize, &[u8], usize); 6] = [
+    (0, 255, b"\n", 260),
+    (65281, 255, b"\n", 260),
+    (65281, 255, b"\r\n", 260),
+    (0, 256, b"\n", 15),
+    (65282, 255, b"\n", 18),
+    (65282, 255, b"\r\n", 18),
 ];
 
 #[test]
 fn long_docnos(rt: HostRuntime) -> Result<(), Fail> {
-    for (white, count, wanted) in &LENGTHS {
-        let found = docnos_of(rt.alloc(), long_docno(rt.alloc(), *white, *count)?, 1000)?;
-        assert_eq!(rt; found.len(), *wanted, "{white} and {count}");
-        assert!(rt; found.as_str().ends_with("; d; "));
+    for (white, count, end, wanted) in &LENGTHS {
+        for piece in [1, 2, 3, 7, 100, 1000] {
+            let text = long_docno(rt.alloc(), *white, *count, end)?;
+            let found = docnos_of(rt.alloc(), text, piece)?;
+            assert_eq!(rt;
+                found.len(),
+                *wanted,
+                "{white} and {count} in pieces of {piece}"
+            );
+            assert!(rt; found.as_str().ends_with("; d; "));
+        }
     }
     Ok(())
 }

@@ -3,35 +3,53 @@ use crate::shown::items_of;
 use std::alloc::Global;
 use std::test::Fail;
 
-/// A line `scan ..` of so many bytes with this end, and a flush behind it.
-fn long_line(alloc: Global, count: usize, end: &[u8]) -> Result<Vec<u8>, Fail> {
-    let mut script = b"scan ".to_vec(alloc)?;
-    script.resize(count, b'a')?;
-    script.extend_from_slice(end)?;
-    script.extend_from_slice(b"flush")?;
+/// A line `flush`, then a line `scan ..` of so many bytes, and what stands behind it.
+fn long_line(alloc: Global, count: usize, behind: &[u8]) -> Result<Vec<u8>, Fail> {
+    let mut script = b"flush\nscan ".to_vec(alloc)?;
+    script.resize(count.saturating_add(6), b'a')?;
+    script.extend_from_slice(behind)?;
     Ok(script)
 }
 
-/// Ends of a line.
-static ENDS: [&[u8]; 2] = [b"\n", b"\r\n"];
-
-/// How many bytes a line has, and what is read.
-static ROWS: [(usize, &str); 4] = [
-    (65536, "scan [65531 bytes]; flush; end"),
-    (65537, "LineTooLong 0; flush; end"),
-    (65538, "LineTooLong 0; flush; end"),
-    (300_000, "LineTooLong 0; flush; end"),
+/// How many bytes a line has, what stands behind it, and the items.
+static ROWS: [(usize, &[u8], &str); 16] = [
+    (65536, b"\nmerge", "flush; scan [65531 bytes]; merge; end"),
+    (65536, b"\r\nmerge", "flush; scan [65531 bytes]; merge; end"),
+    (65536, b"", "flush; scan [65531 bytes]; end"),
+    (65536, b"\r", "flush; scan [65531 bytes]; end"),
+    (65537, b"\nmerge", "flush; LineTooLong 6; merge; end"),
+    (65537, b"\r\nmerge", "flush; LineTooLong 6; merge; end"),
+    (65537, b"", "flush; LineTooLong 6; end"),
+    (65537, b"\r", "flush; LineTooLong 6; end"),
+    (
+        65535,
+        b"\r\r\nmerge",
+        "flush; scan [65531 bytes]; merge; end",
+    ),
+    (65536, b"\r\r\nmerge", "flush; LineTooLong 6; merge; end"),
+    (65538, b"\nmerge", "flush; LineTooLong 6; merge; end"),
+    (65538, b"\r", "flush; LineTooLong 6; end"),
+    (300_000, b"\r\nmerge", "flush; LineTooLong 6; merge; end"),
+    (300_000, b"", "flush; LineTooLong 6; end"),
+    (65537, b"\nend\nmerge", "flush; LineTooLong 6; end"),
+    (
+        65536,
+        b"\nadd 1\n",
+        "flush; scan [65531 bytes]; ShortAdd 65543; end",
+    ),
 ];
 
 #[test]
 fn long_lines(rt: HostRuntime) -> Result<(), Fail> {
-    for (count, wanted) in &ROWS {
-        for end in &ENDS {
-            for piece in [1, 1000, 65536, 1_000_000] {
-                let script = long_line(rt.alloc(), *count, end)?;
-                let found = items_of(rt.alloc(), script, piece)?;
-                assert_eq!(rt; found.as_str(), *wanted, "{count} in pieces of {piece}");
-            }
+    for (count, behind, wanted) in &ROWS {
+        for piece in [1, 2, 3, 7, 100, 65536, 1_000_000] {
+            let script = long_line(rt.alloc(), *count, behind)?;
+            let found = items_of(rt.alloc(), script, piece)?;
+            assert_eq!(rt;
+                found.as_str(),
+                *wanted,
+                "{count} and {behind:?} in pieces of {piece}"
+            );
         }
     }
     Ok(())

@@ -61,7 +61,7 @@ fn rows_of(alloc: Global, text: Vec<u8>, piece: usize) -> Result<String, Fail> {
     Ok(out)
 }
 
-static ROWS: [(&[u8], &str); 12] = [
+static ROWS: [(&[u8], &str); 14] = [
     (b"", ""),
     (b" \n\r\n", ""),
     (
@@ -95,6 +95,14 @@ static ROWS: [(&[u8], &str); 12] = [
         "BadRow 0; BadRow 15; ** 1/2; ",
     ),
     (
+        b"a 1/999999999999999999\nb 999999999999999999/999999999999999998\nc 1000000000000000000/1000000000000000000\nd 1/1000000000000000000\ne 000000000000000000/1\n",
+        "BadRow 23; BadRow 63; BadRow 105; BadRow 129; a 1/999999999999999999; ",
+    ),
+    (
+        b"* 0/1\n*  1/2\n* 2/1\n * 1/1 \n* 1/2\n*\n",
+        "BadRow 0; BadRow 6; BadRow 13; RepeatedRow *; BadRow 33; * 1/1; ",
+    ),
+    (
         b"a -1/2\na +1/2\na 1/2x\na 1.0/2\n",
         "BadRow 0; BadRow 7; BadRow 14; BadRow 21; ",
     ),
@@ -122,20 +130,26 @@ fn long_row(alloc: Global, docno: usize, line: usize) -> Result<Vec<u8>, Fail> {
     Ok(text)
 }
 
+/// How many bytes the docno has and the line, how long the text is that tells what is read, and whether the line is too
+/// long.
+static LENGTHS: [(usize, usize, usize, bool); 4] = [
+    (255, 259, 268, false),
+    (256, 260, 17, false),
+    (255, 65536, 268, false),
+    (255, 65537, 22, true),
+];
+
 #[test]
 fn long_rows(rt: HostRuntime) -> Result<(), Fail> {
-    for (docno, line, length, is_too_long) in [
-        (255, 259, 268, false),
-        (256, 260, 17, false),
-        (255, 65536, 268, false),
-        (255, 65537, 22, true),
-    ] {
-        let found = rows_of(rt.alloc(), long_row(rt.alloc(), docno, line)?, 1000)?;
-        assert_eq!(rt;
-            (found.len(), found.as_str().starts_with("LineTooLong 0; ")),
-            (length, is_too_long),
-            "{docno} and {line}"
-        );
+    for (docno, line, length, is_too_long) in &LENGTHS {
+        for piece in [1, 2, 3, 7, 100, 1000] {
+            let found = rows_of(rt.alloc(), long_row(rt.alloc(), *docno, *line)?, piece)?;
+            assert_eq!(rt;
+                (found.len(), found.as_str().starts_with("LineTooLong 0; ")),
+                (*length, *is_too_long),
+                "{docno} and {line} in pieces of {piece}"
+            );
+        }
     }
     Ok(())
 }

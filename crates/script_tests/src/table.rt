@@ -3,7 +3,7 @@ use crate::shown::assert_items;
 use std::test::Fail;
 
 /// Scripts and their items. The number of each line stands at both ends of its range and past it.
-static ROWS: [(&[u8], &str); 23] = [
+static ROWS: [(&[u8], &str); 26] = [
     (
         b"add 0\nadd 01\nadd  1\nadd 1 \nADD 1\n add 1\nadd\nadd \nadd -1\nadd 1x\nadd\t1\nadd 1073741825\nadd 18446744073709551617\nadd 1\n\nadd 10\n \t\r\n \t\r\n \nflush\nadd 1073741824\n",
         "BadEvent 0; BadEvent 6; BadEvent 13; BadEvent 20; BadEvent 27; BadEvent 33; BadEvent 40; BadEvent 44; BadEvent 49; BadEvent 56; BadEvent 63; BadEvent 69; BadEvent 84; flush; ShortAdd 139; end",
@@ -39,6 +39,18 @@ static ROWS: [(&[u8], &str); 23] = [
     (
         b"scan a\nscan \nscan\nscan  a \nscan #1(a b).x\nscan \xff\xfe\nscan \xe2\x82\xac\nscan a\xe2\x82\nSCAN a\nscan\ta\n",
         "scan [a]; scan []; BadEvent 13; scan [ a ]; scan [#1(a b).x]; BadEvent 42; scan [€]; BadEvent 59; BadEvent 68; BadEvent 75; end",
+    ),
+    (
+        b"close  q\nclose q\r\nclose q_\nclose Q7z\nclose 7\nexplain  q 1\nexplain q 00\nexplain Q9 1000 \nexplain QQ 1000\nstep q 00\nstep q  4294967296\nstep Q1 4294967295\nturn 01\nopen q 00 a\nopen Q 1000  \nopen q 1 a \nEND\nend x\nmerge x\nend\nend\n",
+        "BadEvent 0; close q; BadEvent 18; close q7z; BadEvent 37; BadEvent 45; BadEvent 58; BadEvent 71; explain qq 1000; BadEvent 104; BadEvent 114; step q1 4294967295; BadEvent 152; BadEvent 160; open q 1000 [ ]; open q 1 [a ]; BadEvent 198; BadEvent 202; BadEvent 208; end",
+    ),
+    (
+        b"SHOW q\ndelete Wire-0301\nFLUSH\nflush x\nshow q q\nadd 1 1\nadd 1073741824 \nadd  1073741824\nadd 01073741824\nend\n",
+        "BadEvent 0; delete Wire-0301; BadEvent 24; BadEvent 30; BadEvent 38; BadEvent 47; BadEvent 55; BadEvent 71; BadEvent 87; end",
+    ),
+    (
+        b"scan \xed\xa0\x80\nscan \xc0\x80\nscan \xf4\x90\x80\x80\nscan \xf0\x9f\x98\x80\nopen q 1 \xe2\x82\nopen q 1 \xe2\x82\xac\nopen \xc3\xa9 1 a\nshow \xc3\xa9\ndelete \xc3\xa9\n",
+        "BadEvent 0; BadEvent 9; BadEvent 17; scan [😀]; BadEvent 37; open q 1 [€]; BadEvent 62; BadEvent 74; BadEvent 82; end",
     ),
     (b"", "end"),
     (b"\n\r\n\n", "end"),

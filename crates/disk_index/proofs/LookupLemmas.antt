@@ -88,6 +88,11 @@ module _ (xs : List TermBlocks) (t : List ℕ) (i : ℕ) (all : AllPairs (λ a b
   pub term_at-none : IsBinarySearchResult (λ y. slice_cmp nat_cmp y.term t) xs (Err i) → find (λ y. bytes_eq y.term t) xs ≡ None
   term_at-none found = found_none (slice_cmp nat_cmp) nat_list_cmp_total (λ a b. exact_bytes a b) bytes_eq bytes-yes bytes-no (λ (y : TermBlocks). y.term) t xs i all found
 
+-- a term of the dictionary is found at its own place
+pub term_at-own : (xs : List TermBlocks) (i : ℕ) (d : TermBlocks) → AllPairs (λ a b. IsTermBefore a.term b.term) xs → i < length xs → find (λ y. bytes_eq y.term (get_or xs i d).term) xs ≡ Some (get_or xs i d)
+term_at-own xs i d all inside =
+    find_at (slice_cmp nat_cmp) nat_list_cmp_total (λ a b. exact_bytes a b) bytes_eq bytes-yes bytes-no (λ (y : TermBlocks). y.term) (get_or xs i d).term xs i d all inside refl
+
 less : (a b : ℕ) → a < b → nat_cmp a b ≡ Less
 less a b h = let t = lt-ltb a b h in rw t refl
 

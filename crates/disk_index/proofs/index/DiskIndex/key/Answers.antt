@@ -7,4 +7,4 @@ use Rattle.disk_index.proofs.index.DiskIndex.key.Goals as goal
 
 pub returns-in-Some-clause-fits : goal.returns-in-Some-clause-fits
 returns-in-Some-clause-fits c =
-    place-fits c.as_slice.result.now c.args.term.now c.args.range c.in-Some.found (subst (λ (l : List TermBlocks). All ArePlaces l) (sym c.as_slice.ensures) c.self.invariant.places) c.in-Some.ensures
+    place-fits c.as_slice.result.now c.args.term.now c.args.range c.in-Some.place (subst (λ (l : List TermBlocks). All ArePlaces l) (sym c.as_slice.ensures) c.self.invariant.kept.places) c.in-Some.ensures

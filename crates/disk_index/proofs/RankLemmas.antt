@@ -109,7 +109,7 @@ AreRows-more count rank ts t rows new a is h = record {
   same_count = h.same_count ∙ a.same_count;
   each = λ range inside.
       h.each range (subst (λ n. range < n) (sym a.same_count) inside) ∙ ap (λ l. l ++ own_rank range rank t.blocks) (a.each range inside)
-      ∙ ap (λ n. ranks_from range 0 ts ++ own_rank range n t.blocks) is ∙ sym (ranks_from-push range 0 ts t);
+      ∙ ap (λ n. ranks_from range 0 ts ++ own_rank range n t.blocks) (omega (arith, is)) ∙ sym (ranks_from-push range 0 ts t);
 }
 
 pub AreRanks-from : (docs count : ℕ) (ts : List TermBlocks) (rows : List (List ℕ)) → count ≡ div_ceil docs 64 → AreRows count ts rows → AreRanks docs ts rows
@@ -119,7 +119,7 @@ AreRanks-from docs count ts rows is a = record { count = a.same_count ∙ is; ea
 -- ---- what ranks there are
 
 -- ranks that rise from one on, below another
-pub RiseBelow : ℕ → ℕ → List ℕ → Type 0
+unfoldable pub RiseBelow : ℕ → ℕ → List ℕ → Type 0
 RiseBelow low end [] = Unit {0}
 RiseBelow low end (k ∷ ks) = (low ≤ k) × ((k < end) × RiseBelow (k + 1) end ks)
 

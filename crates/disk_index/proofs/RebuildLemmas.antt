@@ -57,13 +57,12 @@ set-behind {X} (x ∷ front) s t rest = ap (λ (l : List X). x ∷ l) (set-behin
 put-places : (rank : ℕ) (t : List ℕ) (f g : List ℕ → Option ℕ) → ((x : List ℕ) → bytes_eq x t ≡ true → (f x ≡ None) × (g x ≡ Some rank)) → ((x : List ℕ) → bytes_eq x t ≡ false → g x ≡ f x)
     → (front : Slots) (i : ℕ) (toks : List (List ℕ)) → i ≡ length front → put_places rank (places_from i t toks) (front ++ map f toks) ≡ Some (front ++ map g toks)
 put-places rank t f g own other front i [] is = refl
-put-places rank t f g own other front i (x ∷ xs) is = by (bytes_eq x t) refl
+put-places rank t f g own other front i (x ∷ xs) is =
+    by (bytes_eq x t) refl (λ s. put-places rank t f g own other (front ++ s ∷ []) (i + 1) xs (let n = length-append front (s ∷ []) in omega (arith, n, is)))
   where
-    rest : (s : Option ℕ) → put_places rank (places_from (i + 1) t xs) ((front ++ s ∷ []) ++ map f xs) ≡ Some ((front ++ s ∷ []) ++ map g xs)
-    rest s = put-places rank t f g own other (front ++ s ∷ []) (i + 1) xs (let n = length-append front (s ∷ []) in omega (arith, n, is))
-
-    by : (b : Bool) → bytes_eq x t ≡ b → put_places rank (cond b (i ∷ places_from (i + 1) t xs) (places_from (i + 1) t xs)) (front ++ f x ∷ map f xs) ≡ Some (front ++ g x ∷ map g xs)
-    by true e =
+    by : (b : Bool) → bytes_eq x t ≡ b → ((s : Option ℕ) → put_places rank (places_from (i + 1) t xs) ((front ++ s ∷ []) ++ map f xs) ≡ Some ((front ++ s ∷ []) ++ map g xs))
+        → put_places rank (cond b (i ∷ places_from (i + 1) t xs) (places_from (i + 1) t xs)) (front ++ f x ∷ map f xs) ≡ Some (front ++ g x ∷ map g xs)
+    by true e rest =
         let o = own x e in
         let slots : Slots = front ++ f x ∷ map f xs in
         let free : is_free slots i ≡ true =
@@ -72,7 +71,7 @@ put-places rank t f g own other front i (x ∷ xs) is = by (bytes_eq x t) refl
         ap (λ b. cond b (put_places rank (places_from (i + 1) t xs) (set slots i (Some rank))) None) free
         ∙ ap (put_places rank (places_from (i + 1) t xs)) put ∙ rest (Some rank)
         ∙ ap Some (append_assoc front (Some rank ∷ []) (map g xs) ∙ ap (λ (s : Option ℕ). front ++ s ∷ map g xs) (sym o.1))
-    by false e =
+    by false e rest =
         let o = other x e in
         ap (put_places rank (places_from (i + 1) t xs)) (sym (append_assoc front (f x ∷ []) (map f xs))) ∙ rest (f x)
         ∙ ap Some (append_assoc front (f x ∷ []) (map g xs) ∙ ap (λ (s : Option ℕ). front ++ s ∷ map g xs) (sym o))
@@ -100,18 +99,18 @@ module _ (rank range : ℕ) (t : List ℕ) (f g : List ℕ → Option ℕ) (own 
   put-rows : (front : List Slots) (id : ℕ) (ds : List Document) → id ≡ 64 * range + length front → length front + length ds ≤ 64
       → put_entries rank (entries_from id t ds) (front ++ map (row f) ds) ≡ Some (front ++ map (row g) ds)
   put-rows front id [] is few = refl
-  put-rows front id (d ∷ ds) is few = by (places t d) (own-row d (places t d) refl)
+  put-rows front id (d ∷ ds) is few =
+      let n = length-append front (row g d ∷ []) in
+      by (places t d) (own-row d (places t d) refl)
+      (put-rows (front ++ row g d ∷ []) (id + 1) ds (omega (arith, n, is)) (omega (arith, n, few)) ∙ ap Some (append_assoc front (row g d ∷ []) (map (row g) ds)))
     where
-      rest : put_entries rank (entries_from (id + 1) t ds) ((front ++ row g d ∷ []) ++ map (row f) ds) ≡ Some (front ++ row g d ∷ map (row g) ds)
-      rest =
-          let n = length-append front (row g d ∷ []) in
-          put-rows (front ++ row g d ∷ []) (id + 1) ds (omega (arith, n, is)) (omega (arith, n, few)) ∙ ap Some (append_assoc front (row g d ∷ []) (map (row g) ds))
-
-      by : (ps : List ℕ) → put_places rank ps (row f d) ≡ Some (row g d) → put_entries rank (entry_of_places id ps ++ entries_from (id + 1) t ds) (front ++ row f d ∷ map (row f) ds) ≡ Some (front ++ row g d ∷ map (row g) ds)
-      by [] e =
+      by : (ps : List ℕ) → put_places rank ps (row f d) ≡ Some (row g d)
+          → put_entries rank (entries_from (id + 1) t ds) ((front ++ row g d ∷ []) ++ map (row f) ds) ≡ Some (front ++ row g d ∷ map (row g) ds)
+          → put_entries rank (entry_of_places id ps ++ entries_from (id + 1) t ds) (front ++ row f d ∷ map (row f) ds) ≡ Some (front ++ row g d ∷ map (row g) ds)
+      by [] e rest =
           ap (λ (r : Slots). put_entries rank (entries_from (id + 1) t ds) (front ++ r ∷ map (row f) ds)) (same_Some (row f d) (row g d) e)
           ∙ ap (put_entries rank (entries_from (id + 1) t ds)) (sym (append_assoc front (row g d ∷ []) (map (row f) ds))) ∙ rest
-      by (p ∷ ps) e =
+      by (p ∷ ps) e rest =
           let local : id % 64 ≡ length front = omega (arith, is, few) in
           ap (λ (o : Option (List Slots)). option_and_then (put_entries rank (entries_from (id + 1) t ds)) o) (put-own rank (record { id = id; positions = p ∷ ps }) front (row f d) (row g d) (map (row f) ds) local e) ∙ rest
 
@@ -122,16 +121,16 @@ module _ (rank range : ℕ) (t : List ℕ) (f g : List ℕ → Option ℕ) (own 
 -- ---- ranks by term
 
 find-behind-none : (p : ℕ → Bool) (xs : List ℕ) (x : ℕ) → find p xs ≡ None → p x ≡ true → find p (xs ++ x ∷ []) ≡ Some x
-find-behind-none p [] x none yes = ap (λ b. cond b (Some x) None) yes
-find-behind-none p (y ∷ ys) x none yes = by (p y) none (find-behind-none p ys x)
+find-behind-none p [] x none holds = ap (λ b. cond b (Some x) None) holds
+find-behind-none p (y ∷ ys) x none holds = by (p y) none (find-behind-none p ys x)
   where
     by : (b : Bool) → cond b (Some y) (find p ys) ≡ None → (find p ys ≡ None → p x ≡ true → find p (ys ++ x ∷ []) ≡ Some x) → cond b (Some y) (find p (ys ++ x ∷ [])) ≡ Some x
     by true n rest = absurd cc
-    by false n rest = rest n yes
+    by false n rest = rest n holds
 
 find-behind-no : (p : ℕ → Bool) (xs : List ℕ) (x : ℕ) → p x ≡ false → find p (xs ++ x ∷ []) ≡ find p xs
-find-behind-no p [] x no = ap (λ b. cond b (Some x) None) no
-find-behind-no p (y ∷ ys) x no = ap (λ o. cond (p y) (Some y) o) (find-behind-no p ys x no)
+find-behind-no p [] x fails = ap (λ b. cond b (Some x) None) fails
+find-behind-no p (y ∷ ys) x fails = ap (λ o. cond (p y) (Some y) o) (find-behind-no p ys x fails)
 
 find-none-all : (p : ℕ → Bool) (xs : List ℕ) → All (λ x. p x ≡ false) xs → find p xs ≡ None
 find-none-all p [] all = refl
@@ -225,25 +224,25 @@ terms-known dictionary ks (x ∷ xs) each =
     ∙ ap (λ (o : Option (List (List ℕ))). option_map (λ ts. x ∷ ts) o) rest
 
 found-one : (p : ℕ → Bool) (ks : List ℕ) (k : ℕ) → Contains ks k → p k ≡ true → (j : ℕ) × (find p ks ≡ Some j)
-found-one p [] k there yes = absurd (Contains-none k there)
-found-one p (x ∷ xs) k there yes = by (p x) refl
+found-one p [] k there holds = absurd (Contains-none k there)
+found-one p (x ∷ xs) k there holds = by (p x) refl (λ later. found-one p xs k later holds)
   where
-    by : (b : Bool) → p x ≡ b → (j : ℕ) × (cond b (Some x) (find p xs) ≡ Some j)
-    by true e = (x, refl)
-    by false e = elim (Contains-cases x xs k there) [
+    by : (b : Bool) → p x ≡ b → (Contains xs k → (j : ℕ) × (find p xs ≡ Some j)) → (j : ℕ) × (cond b (Some x) (find p xs) ≡ Some j)
+    by true e rest = (x, refl)
+    by false e rest = elim (Contains-cases x xs k there) [
       | inl same ↦ absurd (let f = ap p same in cc)
-      | inr later ↦ found-one p xs k later yes
+      | inr later ↦ rest later
     ]
 
 places-some : (i : ℕ) (t : List ℕ) (toks : List (List ℕ)) → Contains toks t → places_from i t toks ≡ [] → ⊥
 places-some i t [] there none = Contains-none t there
-places-some i t (x ∷ xs) there none = by (bytes_eq x t) refl none
+places-some i t (x ∷ xs) there none = by (bytes_eq x t) refl none (places-some (i + 1) t xs)
   where
-    by : (b : Bool) → bytes_eq x t ≡ b → cond b (i ∷ places_from (i + 1) t xs) (places_from (i + 1) t xs) ≡ [] → ⊥
-    by true e n = cc
-    by false e n = elim (Contains-cases x xs t there) [
+    by : (b : Bool) → bytes_eq x t ≡ b → cond b (i ∷ places_from (i + 1) t xs) (places_from (i + 1) t xs) ≡ [] → (Contains xs t → places_from (i + 1) t xs ≡ [] → ⊥) → ⊥
+    by true e n rest = cc
+    by false e n rest = elim (Contains-cases x xs t there) [
       | inl same ↦ (let y = same-yes x t same in cc)
-      | inr later ↦ places-some (i + 1) t xs later n
+      | inr later ↦ rest later n
     ]
 
 ranks_from-has : (range i k : ℕ) (ts : List TermBlocks) (t : TermBlocks) → k < length ts → get_or ts k t ≡ t → is_some (place_in range t) ≡ true → Contains (ranks_from range i ts) (i + k)
@@ -276,15 +275,17 @@ module _ (file : List ℕ) (kept : Kept) (docs : List Document) (laid : IsLaid f
       let own : t.term ≡ x = sym (get_or-map term kept.dictionary k no_term x within) ∙ c.2 in
       let named : term_of kept.dictionary k ≡ x = get_or-map term kept.dictionary k no_term [] within ∙ own in
       let has : HasBlocks file kept.outlines docs t = laid.each k no_term within in
-      let some : is_some (place_in (id / 64) t) ≡ true = by t x (place_in (id / 64) t) refl own (has (id / 64)) in
-      (k, within, ranks_from-has (id / 64) 0 k kept.dictionary t within (sym (get_or_default kept.dictionary k no_term t within)) some, named)
+      let some : is_some (place_in (id / 64) t) ≡ true = by t (place_in (id / 64) t) refl own (has (id / 64)) in
+      let there : Contains (ranks_from (id / 64) 0 kept.dictionary) k =
+      subst (λ n. Contains (ranks_from (id / 64) 0 kept.dictionary) n) (omega arith) (ranks_from-has (id / 64) 0 k kept.dictionary t within (sym (get_or_default kept.dictionary k no_term t within)) some) in
+      (k, within, there, named)
     where
-      by : (t : TermBlocks) (x : List ℕ) (o : Option BlockPlace) → place_in (id / 64) t ≡ o → t.term ≡ x → StandsAt file kept.outlines (id / 64) o (block_of t.term (id / 64) docs) → is_some o ≡ true
-      by t x None e own s =
+      by : (t : TermBlocks) (o : Option BlockPlace) → place_in (id / 64) t ≡ o → t.term ≡ x → StandsAt file kept.outlines (id / 64) o (block_of t.term (id / 64) docs) → is_some o ≡ true
+      by t None e own s =
           let none : places_from 0 x (document_at docs id).tokens ≡ [] =
           sym (places_of-block x id docs inside) ∙ ap (λ (y : List ℕ). places_of id (block_of y (id / 64) docs)) (sym own) ∙ ap (places_of id) s in
           absurd (places-some 0 x (document_at docs id).tokens there none)
-      by t x (Some p) e own s = refl
+      by t (Some p) e own s = refl
 
   ranks-below : (low : ℕ) (ks : List ℕ) → RiseBelow low (length kept.dictionary) ks → All (λ k. k < length kept.dictionary) ks
   unfolding RiseBelow
@@ -342,11 +343,11 @@ set-lengths (r ∷ rs) (suc n) s is = ap (λ (l : List ℕ). length r ∷ l) (se
 
 places-length : (rank : ℕ) (ps : List ℕ) (slots out : Slots) → put_places rank ps slots ≡ Some out → length out ≡ length slots
 places-length rank [] slots out e = ap (λ (l : Slots). length l) (sym (same_Some slots out e))
-places-length rank (p ∷ ps) slots out e = by (is_free slots p) e
+places-length rank (p ∷ ps) slots out e = by (is_free slots p) e (places-length rank ps (set slots p (Some rank)) out)
   where
-    by : (b : Bool) → cond b (put_places rank ps (set slots p (Some rank))) None ≡ Some out → length out ≡ length slots
-    by true e = places-length rank ps (set slots p (Some rank)) out e ∙ length-set slots p (Some rank)
-    by false e = absurd cc
+    by : (b : Bool) → cond b (put_places rank ps (set slots p (Some rank))) None ≡ Some out → (put_places rank ps (set slots p (Some rank)) ≡ Some out → length out ≡ length (set slots p (Some rank))) → length out ≡ length slots
+    by true e rest = rest e ∙ length-set slots p (Some rank)
+    by false e rest = absurd cc
 
 entry-lengths : (rank : ℕ) (e : BlockEntry) (rows out : List Slots) → put_entry rank e rows ≡ Some out → lengths out ≡ lengths rows
 entry-lengths rank e rows out h = by (ltb (e.id % 64) (length rows)) h
@@ -363,38 +364,40 @@ entry-lengths rank e rows out h = by (ltb (e.id % 64) (length rows)) h
 -- telling a rank leaves each row as long as it was
 pub entries-lengths : (rank : ℕ) (es : List BlockEntry) (rows out : List Slots) → put_entries rank es rows ≡ Some out → lengths out ≡ lengths rows
 entries-lengths rank [] rows out h = ap lengths (sym (same_Some rows out h))
-entries-lengths rank (e ∷ es) rows out h = by (put_entry rank e rows) refl h
+entries-lengths rank (e ∷ es) rows out h = by (put_entry rank e rows) refl h (λ mid. entries-lengths rank es mid out)
   where
-    by : (o : Option (List Slots)) → put_entry rank e rows ≡ o → option_and_then (put_entries rank es) o ≡ Some out → lengths out ≡ lengths rows
-    by None is h = absurd cc
-    by (Some mid) is h = entries-lengths rank es mid out h ∙ entry-lengths rank e rows mid is
+    by : (o : Option (List Slots)) → put_entry rank e rows ≡ o → option_and_then (put_entries rank es) o ≡ Some out → ((mid : List Slots) → put_entries rank es mid ≡ Some out → lengths out ≡ lengths mid) → lengths out ≡ lengths rows
+    by None is h rest = absurd cc
+    by (Some mid) is h rest = rest mid h ∙ entry-lengths rank e rows mid is
 
 pub terms-length : (dictionary : List TermBlocks) (slots : Slots) (ts : List (List ℕ)) → all_terms dictionary slots ≡ Some ts → length ts ≡ length slots
 terms-length dictionary [] ts e = ap (λ (l : List (List ℕ)). length l) (sym (same_Some [] ts e))
-terms-length dictionary (s ∷ ss) ts e = by (term_in dictionary s) (all_terms dictionary ss) refl e
+terms-length dictionary (s ∷ ss) ts e = by (term_in dictionary s) (all_terms dictionary ss) refl e (terms-length dictionary ss)
   where
-    by : (o : Option (List ℕ)) (r : Option (List (List ℕ))) → all_terms dictionary ss ≡ r → option_and_then (λ t. option_map (λ xs. t ∷ xs) r) o ≡ Some ts → length ts ≡ suc (length ss)
-    by None r q e = absurd cc
-    by (Some t) None q e = absurd cc
-    by (Some t) (Some xs) q e = ap (λ (l : List (List ℕ)). length l) (sym (same_Some (t ∷ xs) ts e)) ∙ ap suc (terms-length dictionary ss xs q)
+    by : (o : Option (List ℕ)) (r : Option (List (List ℕ))) → all_terms dictionary ss ≡ r → option_and_then (λ t. option_map (λ xs. t ∷ xs) r) o ≡ Some ts
+        → ((xs : List (List ℕ)) → all_terms dictionary ss ≡ Some xs → length xs ≡ length ss) → length ts ≡ suc (length ss)
+    by None r q e rest = absurd cc
+    by (Some t) None q e rest = absurd cc
+    by (Some t) (Some xs) q e rest = ap (λ (l : List (List ℕ)). length l) (sym (same_Some (t ∷ xs) ts e)) ∙ ap suc (rest xs q)
 
 -- documents without their tokens are their outlines
 pub documents-outlines : (dictionary : List TermBlocks) (os : List Entry) (rows : List Slots) (ds : List Document) → lengths rows ≡ lengths_of os → documents_of dictionary os rows ≡ Some ds → map entry_of ds ≡ os
 documents-outlines dictionary [] rows ds shape e = ap (λ (l : List Document). map entry_of l) (sym (same_Some [] ds e))
 documents-outlines dictionary (o ∷ os) [] ds shape e = absurd cc
-documents-outlines dictionary (o ∷ os) (r ∷ rs) ds shape e = by (all_terms dictionary r) (documents_of dictionary os rs) refl refl e
+documents-outlines dictionary (o ∷ os) (r ∷ rs) ds shape e = by (all_terms dictionary r) (documents_of dictionary os rs) refl refl e (documents-outlines dictionary os rs)
   where
     by : (t : Option (List (List ℕ))) (q : Option (List Document)) → all_terms dictionary r ≡ t → documents_of dictionary os rs ≡ q
-        → option_and_then (λ d. option_map (λ xs. d ∷ xs) q) (option_map (λ ts. record { docno = o.docno; tokens = ts; fields = o.fields }) t) ≡ Some ds → map entry_of ds ≡ o ∷ os
-    by None q a b e = absurd cc
-    by (Some ts) None a b e = absurd cc
-    by (Some ts) (Some xs) a b e =
+        → option_and_then (λ d. option_map (λ xs. d ∷ xs) q) (option_map (λ ts. record { docno = o.docno; tokens = ts; fields = o.fields }) t) ≡ Some ds
+        → ((xs : List Document) → lengths rs ≡ lengths_of os → documents_of dictionary os rs ≡ Some xs → map entry_of xs ≡ os) → map entry_of ds ≡ o ∷ os
+    by None q a b e again = absurd cc
+    by (Some ts) None a b e again = absurd cc
+    by (Some ts) (Some xs) a b e again =
         let d : Document = record { docno = o.docno; tokens = ts; fields = o.fields } in
         let first : length r ≡ o.tokens = cc in
         let rest : lengths rs ≡ lengths_of os = cc in
         let size : length ts ≡ o.tokens = terms-length dictionary r ts a ∙ first in
         ap (λ (l : List Document). map entry_of l) (sym (same_Some (d ∷ xs) ds e)) ∙ ap (λ n. record { docno = o.docno; tokens = n; fields = o.fields } ∷ map entry_of xs) size
-        ∙ ap (λ (l : List Entry). o ∷ l) (documents-outlines dictionary os rs xs rest b)
+        ∙ ap (λ (l : List Entry). o ∷ l) (again xs rest b)
 
 pub All-range : {X : Type 0} (P : X → Type 0) (range : ℕ) (xs : List X) → All P xs → All P (of_range range xs)
 All-range P range xs all = All-take P 64 (drop (64 * range) xs) (All-drop P (64 * range) xs all)

@@ -71,14 +71,15 @@ pub(crate) fn ranked_place(
 }
 
 /// Of documents by id those of the range.
+#[tactic(auto, using(crate::proofs::LookupLemmas::all_taken))]
 pub(crate) fn of_range(outlines: &[Entry], range: u32) -> &[Entry]
     requires { 64 * range < length outlines.now }
     ensures { result.now ≡ of_range range outlines.now }
 {
-    let behind = &outlines[64 * range as usize..];
-    if behind.len() > 64 {
-        &behind[..64]
-    } else {
-        behind
+    let (_before, behind) = outlines.split_at(64 * range as usize);
+    if behind.len() <= 64 {
+        return behind;
     }
+    let (front, _rest) = behind.split_at(64);
+    front
 }

@@ -164,8 +164,9 @@ fn documents_in_memory(
     ensures honest { IfErr result IsOutside }
     ensures store { result ≡ Err SegFault.Store → ⊥ }
 {
+    let total = sealed.docs();
     let first = 64 * range;
-    let count = (sealed.docs() - first).min(64);
+    let count = (total - first).min(64);
     let mut docs = List::with_capacity(alloc, count as usize)?;
     for i in 0..count {
         docs.push(sealed.doc(alloc, first + i)?)?;

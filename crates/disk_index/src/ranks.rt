@@ -36,7 +36,7 @@ fn empty_rows(alloc: Global, count: u32) -> Result<Vec<Ranks>, NoMemory>
     ensures { IfOk result (λ rows. rows.items ≡ replicate count []) }
 {
     let mut rows = Vec::with_capacity(alloc, count as usize)?;
-    for _ in 0..count {
+    for _range in 0..count {
         rows.push(Ranks::new(alloc))?;
     }
     Ok(rows)

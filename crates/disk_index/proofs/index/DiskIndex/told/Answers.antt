@@ -15,7 +15,7 @@ use Rattle.disk_index.specs.Rebuild.{Slots, lengths, put_entries, rows_of}
 use Rattle.disk_index.proofs.FaultLemmas.{malformed-apart, malformed-fault}
 use Rattle.disk_index.proofs.RankLemmas.{ranks-before, ranks-inside}
 use Rattle.disk_index.proofs.RebuildLemmas.{entries-lengths, rank-more, untold-lengths, untold-range}
-use Rattle.disk_index.proofs.documents.DiskIndex.told.Goals as goal
+use Rattle.disk_index.proofs.index.DiskIndex.told.Goals as goal
 
 pub loop-rank-init : goal.loop-rank-init
 loop-rank-init g c =
@@ -33,8 +33,8 @@ pub ranked_block-requires : goal.ranked_block-requires
 ranked_block-requires g c =
     ranks-inside c.args.range c.args.self.now.dictionary c.ranks-ranks.result.now c.loop-rank.rank-index c.ranks-ranks.ensures.are c.loop-rank-test.true
 
-pub ranked_begin-requires : goal.ranked_begin-requires
-ranked_begin-requires g c =
+pub ranked_begin-last-requires : goal.ranked_begin-last-requires
+ranked_begin-last-requires g c =
     ranks-inside c.args.range c.args.self.now.dictionary c.ranks-ranks.result.now c.loop-rank.rank-index c.ranks-ranks.ensures.are c.loop-rank-test.true
 
 pub returns-in_err-block-clause-honest : goal.returns-in_err-block-clause-honest

@@ -6,7 +6,7 @@ use Rattle.disk_index.specs.Blocks.{of_range}
 use Rattle.disk_index.specs.Cache.{CacheKeeps, IsCacheBacked}
 use Rattle.disk_index.specs.Reads.{IsBacked}
 use Rattle.disk_index.specs.Rebuild.{lengths, rows_of}
-use Rattle.disk_index.proofs.documents.DiskIndex.told.Given as goal
+use Rattle.disk_index.proofs.index.DiskIndex.told.Given as goal
 
 abbrev pub invariant-loop-rank : goal.invariant-loop-rank
 invariant-loop-rank g l = record {

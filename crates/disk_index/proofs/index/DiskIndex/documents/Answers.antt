@@ -9,7 +9,7 @@ use Rattle.disk_index.specs.Blocks.{of_range}
 use Rattle.disk_index.specs.Rebuild.{Slots, documents_of, lengths}
 use Rattle.disk_index.proofs.FaultLemmas.{malformed-apart, malformed-fault}
 use Rattle.disk_index.proofs.RebuildLemmas.{documents-outlines, range-again}
-use Rattle.disk_index.proofs.documents.DiskIndex.documents.Goals as goal
+use Rattle.disk_index.proofs.index.DiskIndex.documents.Goals as goal
 
 pub returns-in_err-told-clause-honest : goal.returns-in_err-told-clause-honest
 returns-in_err-told-clause-honest g c = λ docs b kept.
@@ -27,7 +27,7 @@ documents_of-requires-clause-shape g c = ap lengths c.deref.ensures.value ∙ c.
 pub returns-in-Some-clause-exact : goal.returns-in-Some-clause-exact
 returns-in-Some-clause-exact g c = λ docs b kept.
     same_Some c.in-Some.docs (of_range c.args.range docs)
-    (sym c.in-Some.is ∙ c.in_ok-documents_of.ensures
+    (sym c.in-Some.is ∙ c.in_ok-docs.ensures
     ∙ ap (λ (d : List TermBlocks). documents_of d c.outlines.result.now c.deref.result.now) c.dictionary.ensures
     ∙ ap (λ (os : List Entry). documents_of c.args.self.now.dictionary os c.deref.result.now) c.outlines.ensures.are
     ∙ ap (documents_of c.args.self.now.dictionary (of_range c.args.range c.args.self.now.outlines)) (c.deref.ensures.value ∙ c.in_ok-told.ensures.exact docs b kept)
@@ -36,20 +36,20 @@ returns-in-Some-clause-exact g c = λ docs b kept.
 pub returns-in-Some-clause-kept : goal.returns-in-Some-clause-kept
 returns-in-Some-clause-kept g c =
     documents-outlines c.dictionary.result.now c.outlines.result.now c.deref.result.now c.in-Some.docs (ap lengths c.deref.ensures.value ∙ c.in_ok-told.ensures.shape ∙ ap lengths_of (sym c.outlines.ensures.are))
-    (sym c.in_ok-documents_of.ensures ∙ c.in-Some.is) ∙ c.outlines.ensures.are
+    (sym c.in_ok-docs.ensures ∙ c.in-Some.is) ∙ c.outlines.ensures.are
 
-pub returns-in-None-clause-honest : goal.returns-in-None-clause-honest
-returns-in-None-clause-honest g c = λ docs b kept.
+pub returns-clause-honest : goal.returns-clause-honest
+returns-clause-honest g c = λ docs b kept.
     let fails : None ≡ Some (of_range c.args.range docs) =
-    sym c.in-None.is ∙ c.in_ok-documents_of.ensures
+    sym c.in-None.is ∙ c.in_ok-docs.ensures
     ∙ ap (λ (d : List TermBlocks). documents_of d c.outlines.result.now c.deref.result.now) c.dictionary.ensures
     ∙ ap (λ (os : List Entry). documents_of c.args.self.now.dictionary os c.deref.result.now) c.outlines.ensures.are
     ∙ ap (documents_of c.args.self.now.dictionary (of_range c.args.range c.args.self.now.outlines)) (c.deref.ensures.value ∙ c.in_ok-told.ensures.exact docs b kept)
     ∙ range-again (g.T.Store.files c.args.store.now) c.args.self.now docs c.args.range b in
     absurd cc
 
-pub returns-in-None-clause-fault : goal.returns-in-None-clause-fault
-returns-in-None-clause-fault g c = λ f is_told. malformed-fault f c.args.self.now.number c.malformed.result c.malformed.ensures
+pub returns-clause-fault : goal.returns-clause-fault
+returns-clause-fault g c = λ f is_told. malformed-fault f c.args.self.now.number c.malformed.result c.malformed.ensures
 
-pub returns-in-None-clause-store : goal.returns-in-None-clause-store
-returns-in-None-clause-store g c = λ is. absurd (malformed-apart c.args.self.now.number c.malformed.result c.malformed.ensures cc)
+pub returns-clause-store : goal.returns-clause-store
+returns-clause-store g c = λ is. absurd (malformed-apart c.args.self.now.number c.malformed.result c.malformed.ensures cc)

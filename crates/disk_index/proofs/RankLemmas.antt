@@ -1,5 +1,5 @@
 -- The ranks of terms by range.
-use Rattle.std.proofs.Common.{◌≡◌, ◌≢◌, ◌<◌, ◌≤◌, ◌⊎◌, ℕ, zero, suc, ◌+◌, ◌||◌, ◌==◌, List, [], ◌∷◌, ◌++◌, length, take, drop, map, get_or, replicate, set, length-set, Bool, true, false, cond, Option, Some, None, refl, sym, ap, subst, ◌∙◌, inl, inr, append_assoc, add-zero, arith}
+use Rattle.std.proofs.Common.{◌≡◌, ◌≢◌, ◌<◌, ◌≤◌, ◌⊎◌, ℕ, zero, suc, ◌+◌, ◌||◌, ◌==◌, List, [], ◌∷◌, ◌++◌, length, take, get_or, replicate, set, length-set, Bool, true, false, cond, Some, None, refl, sym, ap, subst, ◌∙◌, inl, inr, append_assoc, add-zero, arith}
 use Rattle.std.specs.Int.{div_ceil}
 use Rattle.std.specs.Prelude.{is_some}
 use Rattle.std.specs.List.{All, AllPairs, find}
@@ -10,7 +10,6 @@ use Rattle.std.proofs.lemmas.List.{append-nil, get_or-replicate, get_or-set_othe
 use Rattle.std.proofs.lemmas.List.Elements.{All-cons, All-head, All-nil, All-tail}
 use Rattle.seg_codec.specs.declared.dictionary.BlockPlace.{BlockPlace}
 use Rattle.seg_codec.specs.declared.dictionary.TermBlocks.{TermBlocks}
-use Rattle.disk_index.specs.Kept.{ArePlaces}
 use Rattle.disk_index.specs.Ranks.{AreRanks, IsRanked, own_rank, ranks_from, ranks_of}
 
 -- ---- one block more

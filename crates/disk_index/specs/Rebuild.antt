@@ -1,5 +1,5 @@
 -- Documents put together again from the blocks of a range.
-use Rattle.std.specs.Prelude.{◌≡◌, ℕ, ◌%◌, Bool, false, List, [], ◌∷◌, length, map, set, Option, Some, None, slice_get, slice_index_or, is_none, nat_lt, if◌then◌else◌}
+use Rattle.std.specs.Prelude.{ℕ, ◌%◌, Bool, false, List, [], ◌∷◌, length, map, set, Option, Some, None, slice_get, slice_index_or, is_none, nat_lt, if◌then◌else◌}
 use Rattle.std.specs.List.{find}
 use Rattle.std.specs.Option.{option_and_then, option_map, option_map_or}
 use Rattle.std.specs.Str.{bytes_eq}

@@ -57,11 +57,7 @@ pub(crate) fn place_of(dictionary: &[TermBlocks], term: &Term, range: u32) -> Op
 }
 
 /// Where the block of the term of this rank for the range stands.
-pub(crate) fn ranked_place(
-    dictionary: &[TermBlocks],
-    rank: usize,
-    range: u32,
-) -> Option<BlockPlace>
+pub(crate) fn ranked_place(dictionary: &[TermBlocks], rank: usize, range: u32) -> Option<BlockPlace>
     requires inside { rank < length dictionary.now }
     requires terms { AllPairs (λ a b. IsTermBefore a.term b.term) dictionary.now }
     requires places { All ArePlaces dictionary.now }

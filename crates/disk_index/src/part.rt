@@ -15,9 +15,7 @@ ghost use Rattle.disk_index.specs.Cache.{CacheKeeps, IsCacheBacked};
 ghost use Rattle.disk_index.specs.Parts.{IsFileOf, IsPartBacked, IsPartFault, IsSourceFault, reads, size, source_of};
 
 use crate::{BlockCache, DiskIndex};
-use ri_base::{
-    Doc, Docno, FieldSpan, List, NoMemory, Positions, Postings, Sealed, SegFault, Term,
-};
+use ri_base::{Doc, Docno, FieldSpan, List, NoMemory, Positions, Postings, Sealed, SegFault, Term};
 use std::alloc::Global;
 use std::rc::Rc;
 use store_ends::Store;
@@ -154,11 +152,7 @@ fn in_memory(alloc: Global, sealed: &Sealed, term: &Term, id: u32) -> Result<Pos
     Ok(sealed.places(alloc, term, id)?)
 }
 
-fn documents_in_memory(
-    alloc: Global,
-    sealed: &Sealed,
-    range: u32,
-) -> Result<List<Doc>, SegFault>
+fn documents_in_memory(alloc: Global, sealed: &Sealed, range: u32) -> Result<List<Doc>, SegFault>
     requires { 64 * range < length sealed.now }
     ensures exact { IfOk result (λ ds. ds ≡ of_range range sealed.now) }
     ensures honest { IfErr result IsOutside }

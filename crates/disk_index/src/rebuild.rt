@@ -91,12 +91,7 @@ fn put_places(slots: &mut Slots, places: &[u32], rank: u32, begin: u64) -> Resul
 }
 
 /// Tells the rank at the places of an entry, the first of which stands there in the file.
-fn put_entry(
-    rows: &mut Vec<Slots>,
-    entry: &BlockEntry,
-    rank: u32,
-    begin: u64,
-) -> Result<(), Taken>
+fn put_entry(rows: &mut Vec<Slots>, entry: &BlockEntry, rank: u32, begin: u64) -> Result<(), Taken>
     ensures ok { OnOk result (put_entry rank entry.now rows.old.items ≡ Some rows.new.items) }
     ensures err { OnErr result (put_entry rank entry.now rows.old.items ≡ None) }
 {

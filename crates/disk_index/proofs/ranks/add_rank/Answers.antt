@@ -1,5 +1,5 @@
-use Rattle.std.proofs.Common.{◌≡◌, ◌+◌, ◌∷◌, ◌++◌, [], List, take, get_or, subst, sym, refl}
-use Rattle.std.proofs.lemmas.List.{take_all, take_more}
+use Rattle.std.proofs.Common.{List, take, get_or, subst, sym, refl}
+use Rattle.std.proofs.lemmas.List.{take_more}
 use Rattle.seg_codec.specs.declared.dictionary.BlockPlace.{BlockPlace}
 use Rattle.disk_index.specs.Ranks.{IsRanked}
 use Rattle.disk_index.proofs.RankLemmas.{IsRanked-more, IsRanked-start, lower-ranges, no_place}

@@ -1,4 +1,4 @@
-use Rattle.std.proofs.Common.{arith, ◌≡◌, List, [], ◌∷◌, ◌++◌, get_or, set, sym, ◌∙◌, ap}
+use Rattle.std.proofs.Common.{arith, ◌≡◌, [], ◌∷◌, ◌++◌, get_or, set, sym, ◌∙◌, ap}
 use Rattle.std.proofs.lemmas.List.{get_or_default, set_past}
 use Rattle.disk_index.proofs.ranks.put_rank.Goals as goal
 

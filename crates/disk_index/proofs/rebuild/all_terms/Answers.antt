@@ -1,5 +1,5 @@
-use Rattle.std.proofs.Common.{◌≡◌, sym, ap, ◌∙◌}
-use Rattle.disk_index.proofs.RebuildLemmas.{terms-end, terms-step, terms-stop}
+use Rattle.std.proofs.Common.{sym}
+use Rattle.disk_index.proofs.RebuildLemmas.{terms-end}
 use Rattle.disk_index.proofs.rebuild.all_terms.Goals as goal
 
 pub returns : goal.returns

@@ -1,4 +1,4 @@
-use Rattle.std.proofs.Common.{◌≡◌, length, sym, ap, ◌∙◌}
+use Rattle.std.proofs.Common.{length, sym, ap, ◌∙◌}
 use Rattle.disk_index.specs.Rebuild.{Slots}
 use Rattle.disk_index.proofs.RebuildLemmas.{terms-length}
 use Rattle.disk_index.proofs.rebuild.document_of.Goals as goal

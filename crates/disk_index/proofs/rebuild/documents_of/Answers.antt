@@ -1,8 +1,4 @@
-use Rattle.std.proofs.Common.{◌≡◌, ◌<◌, List, ℕ, [], length, get_or, map, sym, ap, subst, ◌∙◌, arith}
-use Rattle.std.proofs.lemmas.List.{get_or-map, length-map}
-use Rattle.seg_codec.specs.Held.{lengths_of}
-use Rattle.seg_codec.specs.declared.documents.Entry.{Entry}
-use Rattle.disk_index.specs.Rebuild.{Slots, lengths}
+use Rattle.std.proofs.Common.{sym, ◌∙◌, arith}
 use Rattle.disk_index.proofs.RebuildLemmas.{docs-end, docs-step, docs-stop, rows-many, rows-size}
 use Rattle.disk_index.proofs.rebuild.documents_of.Goals as goal
 

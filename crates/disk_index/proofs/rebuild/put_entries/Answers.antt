@@ -1,4 +1,4 @@
-use Rattle.std.proofs.Common.{◌≡◌, List, sym, ◌∙◌}
+use Rattle.std.proofs.Common.{sym}
 use Rattle.std.proofs.lemmas.Result.{err_from_is_err_and}
 use Rattle.disk_index.proofs.RebuildLemmas.{entries-end, entries-step}
 use Rattle.disk_index.proofs.rebuild.put_entries.Goals as goal

@@ -1,4 +1,4 @@
-use Rattle.std.proofs.Common.{◌≡◌, refl, sym, ◌∙◌, rules}
+use Rattle.std.proofs.Common.{refl, sym, ◌∙◌, rules}
 use Rattle.disk_index.proofs.RebuildLemmas.{free-below, places-end, places-step, places-stop}
 use Rattle.disk_index.proofs.rebuild.put_places.Goals as goal
 

@@ -1,4 +1,4 @@
-use Rattle.std.proofs.Common.{◌≡◌, ◌≤◌, List, None, inl, inr, ap, ◌∙◌, arith}
+use Rattle.std.proofs.Common.{None, inl, inr, ap, ◌∙◌, arith}
 use Rattle.disk_index.specs.Parts.{size}
 use Rattle.disk_index.proofs.LiveLemmas.{documents-more, tokens-more}
 use Rattle.disk_index.proofs.snapshot.fits_snapshot.Goals as goal

@@ -1,12 +1,11 @@
-use Rattle.std.proofs.Common.{◌≡◌, List, None, Some, length, map, refl, subst, sym, ap, ◌∙◌}
+use Rattle.std.proofs.Common.{◌≡◌, List, None, Some, sym, ap, ◌∙◌}
 use Rattle.std.proofs.lemmas.Option.{same_Some}
 use Rattle.std.proofs.lemmas.Result.{err_from_is_err_and}
-use Rattle.ri_base.specs.Documents.{Document}
 use Rattle.seg_codec.specs.Held.{lengths_of}
 use Rattle.seg_codec.specs.declared.dictionary.TermBlocks.{TermBlocks}
 use Rattle.seg_codec.specs.declared.documents.Entry.{Entry}
 use Rattle.disk_index.specs.Blocks.{of_range}
-use Rattle.disk_index.specs.Rebuild.{Slots, documents_of, lengths}
+use Rattle.disk_index.specs.Rebuild.{documents_of, lengths}
 use Rattle.disk_index.proofs.FaultLemmas.{malformed-apart, malformed-fault}
 use Rattle.disk_index.proofs.RebuildLemmas.{documents-outlines, range-again}
 use Rattle.disk_index.proofs.index.DiskIndex.documents.Goals as goal

@@ -1,8 +1,8 @@
-use Rattle.std.proofs.Common.{◌≡◌, List, sym, ap, subst, ◌∙◌}
+use Rattle.std.proofs.Common.{List, sym, ap, subst, ◌∙◌}
 use Rattle.std.specs.List.{All}
 use Rattle.seg_codec.specs.declared.documents.Entry.{Entry}
 use Rattle.disk_index.specs.Blocks.{of_range}
-use Rattle.disk_index.specs.Kept.{IsOutline, Kept}
+use Rattle.disk_index.specs.Kept.{IsOutline}
 use Rattle.disk_index.proofs.RebuildLemmas.{All-range}
 use Rattle.disk_index.proofs.index.DiskIndex.outlines.Goals as goal
 

@@ -1,17 +1,15 @@
-use Rattle.std.proofs.Common.{◌≡◌, ◌+◌, ◌<◌, ◌∷◌, ◌++◌, [], ℕ, List, Option, None, Some, length, map, take, get_or, replicate, refl, subst, sym, ap, ◌∙◌, arith}
+use Rattle.std.proofs.Common.{◌≡◌, ◌∷◌, ◌++◌, [], ℕ, List, Option, None, Some, map, take, get_or, replicate, subst, sym, ap, ◌∙◌, arith}
 use Rattle.std.proofs.lemmas.List.{take_all, take_more}
 use Rattle.std.proofs.lemmas.Result.{err_from_is_err_and}
-use Rattle.ri_base.specs.Documents.{Document}
-use Rattle.seg_codec.specs.Held.{lengths_of}
 use Rattle.seg_codec.specs.declared.blocks.BlockEntry.{BlockEntry}
 use Rattle.seg_codec.specs.declared.documents.Entry.{Entry}
 use Rattle.store_ends.specs.Files.{Files}
 use Rattle.disk_index.specs.Blocks.{block_of, of_range}
 use Rattle.disk_index.specs.Cache.{IsCacheBacked}
 use Rattle.disk_index.specs.QuietLaws.{CacheKeeps-after, CacheKeeps-same, IsCacheBacked-kept, IsQuiet-same, IsQuiet-then}
-use Rattle.disk_index.specs.Ranks.{ranks_of, term_of}
+use Rattle.disk_index.specs.Ranks.{term_of}
 use Rattle.disk_index.specs.Reads.{IsBacked}
-use Rattle.disk_index.specs.Rebuild.{Slots, lengths, put_entries, rows_of}
+use Rattle.disk_index.specs.Rebuild.{lengths, put_entries, rows_of}
 use Rattle.disk_index.proofs.FaultLemmas.{malformed-apart, malformed-fault}
 use Rattle.disk_index.proofs.RankLemmas.{ranks-before, ranks-inside}
 use Rattle.disk_index.proofs.RebuildLemmas.{entries-lengths, rank-more, untold-lengths, untold-range}

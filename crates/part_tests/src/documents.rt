@@ -58,23 +58,19 @@ fn each_document_in_memory(rt: HostRuntime) -> Result<(), Fail> {
     Ok(())
 }
 
-/// Bytes of the file, what stands there instead, and the place of the fault: a place that stands twice is told by its own place, and
-/// one that is missing by that of the last block.
-static CHANGES: [([(usize, u8); 2], u64); 2] = [
-    ([(151, 0), (151, 0)], 151),
-    ([(16, 4), (67, 3)], 145),
-];
+/// Two bytes of the file with what stands there instead, and the place of the fault: a place that stands twice is told by its own
+/// place, and one that is missing by that of the last block.
+static CHANGES: [(usize, u8, usize, u8, u64); 2] = [(151, 0, 151, 0, 151), (16, 4, 67, 3, 145)];
 
 #[test]
 fn blocks_that_are_not_whole(rt: HostRuntime) -> Result<(), Fail> {
-    for (changes, wanted) in &CHANGES {
+    for (first, one, second, other, wanted) in &CHANGES {
         let mut bytes = BYTES;
-        for (at, byte) in changes {
-            if *at >= 155 {
-                return Err(Fail::from("no such byte"));
-            }
-            bytes[*at] = *byte;
+        if *first >= 155 || *second >= 155 {
+            return Err(Fail::from("no such byte"));
         }
+        bytes[*first] = *one;
+        bytes[*second] = *other;
         let mut store = store_of(rt.alloc(), &bytes, Vec::new(rt.alloc()))?;
         let part = open(rt.alloc(), &mut store)?;
         match documents(rt.alloc(), &part, &mut store) {

@@ -230,7 +230,7 @@ in_order docs size h fit =
     let first : 64 ≡ h.documents_at = ap (λ (x : Header). x.documents_at) made in
     let last : size ≡ h.length = ap (λ (x : Header). x.length) made in
     let small : size < 2 ^ 64 = places.1.0.1.0.0 in
-    record { documents = omega (arith, d, first); dictionary = b; blocks = omega (arith, f, last); file = omega (arith, small, last) }
+    record { documents = omega (arith, d, first); dictionary = b; blocks = omega (arith, f, last); file = omega (arith, small, last); terms = fit.1.0.1.0 }
 
 -- ---- what was read
 
@@ -245,3 +245,7 @@ read-terms h bytes (Err e) p = tt
 pub read-places : (h : Header) (bytes : List ℕ) (r : Result (List TermBlocks) SegFault) → h.length < 2 ^ 64 → IfOk r (λ v. (bytes ≡ dictionary_bytes v) × FitDictionary h v) → IfOk r (All ArePlaces)
 read-places h bytes (Ok xs) small p = are_places h xs small p.1
 read-places h bytes (Err e) small p = tt
+
+pub read-few : (h : Header) (bytes : List ℕ) (r : Result (List TermBlocks) SegFault) → h.terms < 2 ^ 32 → IfOk r (λ v. (bytes ≡ dictionary_bytes v) × FitDictionary h v) → IfOk r (λ ts. length ts < 2 ^ 32)
+read-few h bytes (Ok xs) small p = let count = p.1.0.0 in omega (arith, count, small)
+read-few h bytes (Err e) small p = tt

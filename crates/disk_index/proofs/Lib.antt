@@ -10,6 +10,8 @@ pub mod LiveLemmas
 pub mod NameLemmas
 pub mod OpeningLaws
 pub mod PresenceLemmas
+pub mod RankLemmas
 pub mod ReadingLemmas
+pub mod RebuildLemmas
 pub mod RebuiltLemmas
 pub mod SameBlock

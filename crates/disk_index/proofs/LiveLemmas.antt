@@ -1,7 +1,7 @@
 -- Live documents: how many there are, and sums over them with one more of them, and with one fewer.
-use Rattle.std.proofs.Common.{◌≡◌, ◌<◌, ◌≤◌, ℕ, zero, suc, ◌+◌, ◌-◌, Bool, true, false, not, if◌then◌else◌, List, [], ◌∷◌, ◌++◌, Option, None, length, take, set, get_or, sum_by, flat_map, refl, sym, ap, subst, ◌∙◌, arith}
+use Rattle.std.proofs.Common.{◌≡◌, ◌<◌, ◌≤◌, ℕ, zero, suc, ◌+◌, ◌-◌, Bool, true, false, not, if◌then◌else◌, List, [], ◌∷◌, ◌++◌, Option, None, length, take, set, get_or, sum_by, refl, sym, ap, ◌∙◌, arith}
 use Rattle.std.proofs.lemmas.List.{length-append, length-set, take_all}
-use Rattle.std.proofs.lemmas.List.Sums.{sum_by-append, sum_by-cons, sum_by-le-sum_by, sum_by_more}
+use Rattle.std.proofs.lemmas.List.Sums.{sum_by-append, sum_by-cons, sum_by-le-sum_by, sum_by-take-le, sum_by_more}
 use Rattle.deletion_list.specs.Marks.{marked_count}
 use Rattle.ri_base.specs.Collection.{document_at, empty_document, token_count}
 use Rattle.ri_base.specs.Documents.{Document}
@@ -157,3 +157,17 @@ pub live-short : (told : Option Files) (parts : List Marked) → sum_by (λ m. t
 live-short told parts =
     sum_by-le-sum_by (λ (m : Marked). token_count (live_in told m)) (λ (m : Marked). token_count (reads told m.source)) parts
     (λ m. sum-unmarked-le (λ (d : Document). length d.tokens) (reads told m.source) m.marks)
+
+-- the first parts and one more hold no more than all
+held-more : (f : Marked → ℕ) (parts : List Marked) (i : ℕ) (m : Marked) → i < length parts → m ≡ get_or parts i m → sum_by f (take i parts) + f m ≤ sum_by f parts
+held-more f parts i m inside is =
+    let more = sum_by_more f parts i m inside in
+    let same = ap f is in
+    let part = sum_by-take-le f parts (i + 1) in
+    omega (arith, more, same, part)
+
+pub documents-more : (parts : List Marked) (i : ℕ) (m : Marked) → i < length parts → m ≡ get_or parts i m → documents_held (take i parts) + size m.source ≤ documents_held parts
+documents-more parts i m inside is = held-more (λ (p : Marked). size p.source) parts i m inside is
+
+pub tokens-more : (told : Option Files) (parts : List Marked) (i : ℕ) (m : Marked) → i < length parts → m ≡ get_or parts i m → tokens_held told (take i parts) + token_count (reads told m.source) ≤ tokens_held told parts
+tokens-more told parts i m inside is = held-more (λ (p : Marked). token_count (reads told p.source)) parts i m inside is

@@ -1,5 +1,5 @@
 -- What a binary search finds is what a search from the front finds.
-use Rattle.std.proofs.Common.{◌≡◌, ◌<◌, ◌≤◌, ◌⊎◌, ℕ, zero, suc, ◌+◌, ◌==◌, eqb, List, [], ◌∷◌, length, get_or, Bool, true, false, cond, Some, None, Ok, Err, refl, sym, ap, subst, ◌∙◌, inl, inr, arith}
+use Rattle.std.proofs.Common.{◌≡◌, ◌<◌, ◌≤◌, ◌⊎◌, ℕ, zero, suc, ◌+◌, ◌==◌, eqb, List, [], ◌∷◌, length, get_or, take, Bool, true, false, cond, Some, None, Ok, Err, refl, sym, ap, subst, ◌∙◌, inl, inr, arith}
 use Rattle.std.specs.Cmp.Lexicographic.{slice_cmp}
 use Rattle.std.specs.List.{All, AllPairs, find}
 use Rattle.std.specs.List.Sorted.{IsBinarySearchResult, IsPartitionPoint, IsSortedBy}
@@ -9,6 +9,7 @@ use Rattle.std.specs.declared.cmp.Ordering.{Ordering}
 use Rattle.std.specs.declared.cmp.Ordering.TheVariants.{Less, Equal, Greater}
 use Rattle.std.proofs.lemmas.Bool.{cases_lt, eq-eqb, false_from_ne_true, lt-ltb, ne_eqb}
 use Rattle.std.proofs.lemmas.Cmp.{nat_cmp_total, nat_list_cmp_total, tied_itself}
+use Rattle.std.proofs.lemmas.List.{take_all}
 use Rattle.std.proofs.lemmas.List.Elements.{All-head, All-tail}
 use Rattle.std.proofs.lemmas.List.Sorted.{searchable_from_sorted}
 use Rattle.std.proofs.lemmas.Map.Lookups.{exact_bytes, exact_unsigned}
@@ -17,6 +18,7 @@ use Rattle.std.specs.Str.{bytes_eq}
 use Rattle.ri_base.specs.Vocabulary.{IsTermBefore}
 use Rattle.seg_codec.specs.declared.dictionary.BlockPlace.{BlockPlace}
 use Rattle.seg_codec.specs.declared.dictionary.TermBlocks.{TermBlocks}
+use Rattle.seg_codec.specs.declared.documents.Entry.{Entry}
 
 module _ {K X : Type 0} (cmp : K → K → Ordering) (total : IsTotalOrder cmp) (exact : (a b : K) → cmp a b ≡ Equal → a ≡ b) (eq : K → K → Bool) (yes : (a b : K) → a ≡ b → eq a b ≡ true) (no : (a b : K) → (a ≡ b → ⊥) → eq a b ≡ false) (key : X → K) (x : K) where
   abbrev AreApart : List X → Type 0
@@ -88,6 +90,11 @@ module _ (xs : List TermBlocks) (t : List ℕ) (i : ℕ) (all : AllPairs (λ a b
   pub term_at-none : IsBinarySearchResult (λ y. slice_cmp nat_cmp y.term t) xs (Err i) → find (λ y. bytes_eq y.term t) xs ≡ None
   term_at-none found = found_none (slice_cmp nat_cmp) nat_list_cmp_total (λ a b. exact_bytes a b) bytes_eq bytes-yes bytes-no (λ (y : TermBlocks). y.term) t xs i all found
 
+-- a term of the dictionary is found at its own place
+pub term_at-own : (xs : List TermBlocks) (i : ℕ) (d : TermBlocks) → AllPairs (λ a b. IsTermBefore a.term b.term) xs → i < length xs → find (λ y. bytes_eq y.term (get_or xs i d).term) xs ≡ Some (get_or xs i d)
+term_at-own xs i d all inside =
+    find_at (slice_cmp nat_cmp) nat_list_cmp_total (λ a b. exact_bytes a b) bytes_eq bytes-yes bytes-no (λ (y : TermBlocks). y.term) (get_or xs i d).term xs i d all inside refl
+
 less : (a b : ℕ) → a < b → nat_cmp a b ≡ Less
 less a b h = let t = lt-ltb a b h in rw t refl
 
@@ -109,3 +116,7 @@ find-has {X} P test (y ∷ ys) x all h = by (test y) refl h (find-has P test ys 
     by : (b : Bool) → test y ≡ b → cond b (Some y) (find test ys) ≡ Some x → (find test ys ≡ Some x → P x × (test x ≡ true)) → P x × (test x ≡ true)
     by true e h rest = let same : y ≡ x = cc in subst (λ (z : X). P z × (test z ≡ true)) same (All-head P y ys all, e)
     by false e h rest = rest h
+
+-- of no more documents than a range has all are taken
+pub all_taken : (xs : List Entry) → length xs ≤ 64 → xs ≡ take 64 xs
+all_taken xs few = sym (take_all 64 xs few)

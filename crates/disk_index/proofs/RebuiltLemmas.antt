@@ -72,6 +72,17 @@ module _ (kept : Kept) (file : List ℕ) where
         let is = rebuilt-tokens in
         record { short = subst (λ n. n ≤ MAX_DOC_TOKENS) (sym is) o.0; sound = subst (λ n. AreFields n (get_or kept.outlines k d).fields) (sym is) o.1 }
 
+documents_from-outlines : (at : ℕ → ℕ → List ℕ) (i : ℕ) (os : List Entry) → map entry_of (documents_from at i os) ≡ os
+documents_from-outlines at i [] = refl
+documents_from-outlines at i (o ∷ os) =
+    ap (λ n. record { docno = o.docno; tokens = n; fields = o.fields } ∷ map entry_of (documents_from at (i + 1) os)) (terms_from-length (at i) 0 o.tokens)
+    ∙ ap (λ (l : List Entry). o ∷ l) (documents_from-outlines at (i + 1) os)
+
+-- without their tokens they are what is kept
+pub rebuilt-outlines : (kept : Kept) (file : List ℕ) → map entry_of (rebuilt kept file) ≡ kept.outlines
+unfolding rebuilt
+rebuilt-outlines kept file = documents_from-outlines (term_at file kept.outlines kept.dictionary) 0 kept.outlines
+
 pub reads-length : (told : Option Files) (p : Source) → length (reads told p) ≡ size p
 reads-length told (InMemory docs) = refl
 reads-length told (OnDisk kept) = rebuilt-length kept (told_file told kept.number)

@@ -27,9 +27,13 @@ abbrev pub entries_from : ℕ → List ℕ → List Document → List BlockEntry
 entries_from id term [] = []
 entries_from id term (d ∷ docs) = entry_of_places id (places term d) ++ entries_from (id + 1) term docs
 
--- the block of a term for a range: of the documents with the ids from 64 * range on, 64 at most, those that have it
+-- of a list by id those with the ids from 64 * range on, 64 at most
+abbrev pub of_range : {A : Type 0} → ℕ → List A → List A
+of_range range xs = take 64 (drop (64 * range) xs)
+
+-- the block of a term for a range: of the documents of the range those that have it
 unfoldable pub block_of : List ℕ → ℕ → List Document → List BlockEntry
-block_of term range docs = entries_from (64 * range) term (take 64 (drop (64 * range) docs))
+block_of term range docs = entries_from (64 * range) term (of_range range docs)
 
 -- the places that a block has in one document
 abbrev pub places_of : ℕ → List BlockEntry → List ℕ

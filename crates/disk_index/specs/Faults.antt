@@ -1,5 +1,5 @@
 -- Why the places of a document of a part on disk can't be told.
-use Rattle.std.specs.Prelude.{◌≡◌, ◌<◌, ◌⊎◌, ◌/◌, ℕ, List}
+use Rattle.std.specs.Prelude.{◌≡◌, ◌<◌, ◌⊎◌, ◌/◌, ℕ, List, None}
 use Rattle.std.specs.List.{All, Contains}
 use Rattle.std.specs.List.Sorted.{IsStrictlyIncreasing}
 use Rattle.std.specs.Option.{MatchOption}
@@ -18,6 +18,7 @@ use Rattle.seg_codec.specs.declared.documents.Entry.{Entry}
 use Rattle.disk_index.specs.Blocks.{IsBlockFault, places_of}
 use Rattle.disk_index.specs.Cache.{KeptBlock}
 use Rattle.disk_index.specs.Kept.{Kept, key_of, place_of}
+use Rattle.disk_index.specs.Names.{segment_name}
 use Rattle.disk_index.specs.declared.cache.BlockKey.{BlockKey}
 
 -- a block that was kept under this key, or is one of these documents
@@ -49,3 +50,18 @@ IsPlacesFault files kept docs id key Memory = Unit {0}
 abbrev pub IsTermFault : Files → List KeptBlock → Kept → List ℕ → ℕ → SegFault → Type 0
 IsTermFault files cached kept term id fault =
     MatchOption (place_of kept.dictionary term (id / 64)) (IsOutside fault) (λ p. IsPlacesFault files cached kept.outlines id (key_of kept.number (id / 64) p) fault)
+
+-- Why the documents of a range can't be put together: a block of the file is malformed, which it also is where the blocks of the range
+-- don't have each token once, or there is no such file.
+abbrev pub IsRangeFault : Files → ℕ → SegFault → Type 0
+IsRangeFault files number (Malformed file part place) = (file ≡ Segment number) × (part ≡ parts.Block)
+IsRangeFault files number (Missing file) = (file ≡ Segment number) × (files (segment_name number) ≡ None)
+IsRangeFault files number Store = Unit {0}
+IsRangeFault files number Memory = Unit {0}
+
+-- a block of this file is malformed
+abbrev pub IsMalformedBlock : ℕ → SegFault → Type 0
+IsMalformedBlock number (Malformed file part place) = (file ≡ Segment number) × (part ≡ parts.Block)
+IsMalformedBlock number (Missing file) = ⊥
+IsMalformedBlock number Store = ⊥
+IsMalformedBlock number Memory = ⊥

@@ -1,5 +1,5 @@
 -- What a part on disk keeps of its file.
-use Rattle.std.specs.Prelude.{◌≡◌, ◌≤◌, ◌<◌, ◌+◌, ◌==◌, ◌^◌, ℕ, List, map, Option}
+use Rattle.std.specs.Prelude.{◌≡◌, ◌≤◌, ◌<◌, ◌+◌, ◌==◌, ◌^◌, ℕ, List, length, map, Option}
 use Rattle.std.specs.List.{All, AllPairs, find}
 use Rattle.std.specs.Option.{option_and_then}
 use Rattle.std.specs.Str.{bytes_eq}
@@ -53,3 +53,4 @@ pub record AreKept (outlines : List Entry) (dictionary : List TermBlocks) : Type
   pub each : All IsOutline outlines
   pub terms : AllPairs (λ a b. IsTermBefore a.term b.term) dictionary
   pub places : All ArePlaces dictionary
+  pub few : length dictionary < 2 ^ 32

@@ -7,5 +7,7 @@ pub mod Opening
 pub mod Parts
 pub mod Presence
 pub mod QuietLaws
+pub mod Ranks
 pub mod Reads
+pub mod Rebuild
 pub mod Snapshots

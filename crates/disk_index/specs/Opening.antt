@@ -29,12 +29,13 @@ documents_in file h = stretch file h.documents_at h.dictionary_at
 abbrev pub dictionary_in : List ℕ → Header → List ℕ
 dictionary_in file h = stretch file h.dictionary_at h.blocks_at
 
--- the parts stand one behind the other, and their places are those of a file
+-- the parts stand one behind the other, their places are those of a file, and the number of terms has its size
 pub record AreInOrder (h : Header) : Type 0 where
   pub documents : h.documents_at ≤ h.dictionary_at
   pub dictionary : h.dictionary_at ≤ h.blocks_at
   pub blocks : h.blocks_at ≤ h.length
   pub file : h.length < 2 ^ 64
+  pub terms : h.terms < 2 ^ 32
 
 -- the file begins with the header of a segment of so many documents, and what is kept are the parts behind it
 pub record IsOpened (file : List ℕ) (docs : ℕ) (kept : Kept) : Type 0 where

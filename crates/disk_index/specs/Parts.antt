@@ -6,7 +6,7 @@ use Rattle.ri_base.specs.declared.seg_fault.SegFault.{SegFault}
 use Rattle.store_ends.specs.Files.{Files, IsQuiet}
 use Rattle.disk_index.specs.Blocks.{told_file}
 use Rattle.disk_index.specs.Cache.{CacheKeeps, KeptBlock}
-use Rattle.disk_index.specs.Faults.{IsTermFault}
+use Rattle.disk_index.specs.Faults.{IsRangeFault, IsTermFault}
 use Rattle.disk_index.specs.Kept.{Kept}
 use Rattle.disk_index.specs.Reads.{IsBacked, rebuilt}
 use Rattle.disk_index.specs.declared.part.Part.{Part}
@@ -45,6 +45,11 @@ IsPartBacked told (OnDisk kept) = (docs : List Document) × IsBacked told kept d
 abbrev pub IsPartFault : Files → List KeptBlock → Source → List ℕ → ℕ → SegFault → Type 0
 IsPartFault files cached (InMemory docs) term id fault = IsOutside fault
 IsPartFault files cached (OnDisk kept) term id fault = IsTermFault files cached kept term id fault
+
+-- why documents of the part can't be put together; of one in memory no file is to blame
+abbrev pub IsSourceFault : Files → Source → SegFault → Type 0
+IsSourceFault files (InMemory docs) fault = IsOutside fault
+IsSourceFault files (OnDisk kept) fault = IsRangeFault files kept.number fault
 
 -- A reader's second state differs from the first by no more than reading may change: the part is the same, store and cache stand
 -- behind the same references, the store is as a reading call leaves it, and the cache has nothing new but blocks of the part's file.

@@ -1,6 +1,6 @@
 // A part of the collection that lies in a file.
-ghost use Rattle.std.specs.Prelude.{◌≡◌, ◌≤◌, ◌<◌, ◌+◌, ◌^◌, ℕ, List, Some, Err, IfOk, IfErr, IfSome, MatchOption, if◌then◌else◌, length, slice_index_or, IsTrue, [], is_some};
-ghost use Rattle.std.specs.List.{All};
+ghost use Rattle.std.specs.Prelude.{◌≡◌, ◌≤◌, ◌<◌, ◌+◌, ◌*◌, ◌^◌, ℕ, List, Some, Err, IfOk, IfErr, IfSome, MatchOption, if◌then◌else◌, length, slice_index_or, IsTrue, [], is_some};
+ghost use Rattle.std.specs.List.{All, AllPairs};
 ghost use Rattle.std.specs.List.Sorted.{IsStrictlyIncreasing};
 ghost use Rattle.std.specs.Option.{option_map, option_map_or};
 ghost use Rattle.ri_base.specs.Collection.{document_at};
@@ -8,22 +8,25 @@ ghost use Rattle.ri_base.specs.Documents.{Document, IsDocument};
 ghost use Rattle.ri_base.specs.Faults.{IsOutside};
 ghost use Rattle.ri_base.specs.Keeps.{Rose};
 ghost use Rattle.ri_base.specs.Places.{places};
+ghost use Rattle.ri_base.specs.Vocabulary.{IsTermBefore};
 ghost use Rattle.ri_base.specs.declared.limits.TheConstants.{MAX_DOC_TOKENS};
 ghost use Rattle.store_ends.specs.Files.{Files, IsQuiet};
 ghost use Rattle.seg_codec.specs.Blocks.{tokens_of};
-ghost use Rattle.disk_index.specs.Blocks.{IsBlockFault, block_of, file_of};
+ghost use Rattle.disk_index.specs.Blocks.{IsBlockFault, block_of, file_of, of_range};
 ghost use Rattle.disk_index.specs.Cache.{CacheKeeps, IsCacheBacked};
-ghost use Rattle.disk_index.specs.Faults.{ArePlacesIn, CameFrom, IsTermFault};
-ghost use Rattle.disk_index.specs.Kept.{IsOutline, IsSegmentOf, kept_of, key_of, place_of};
+ghost use Rattle.disk_index.specs.Faults.{ArePlacesIn, CameFrom, IsRangeFault, IsTermFault};
+ghost use Rattle.disk_index.specs.Kept.{AreKept, IsOutline, IsSegmentOf, kept_of, key_of, place_of};
 ghost use Rattle.disk_index.specs.Opening.{IsOpenFault, IsOpened};
+ghost use Rattle.disk_index.specs.Ranks.{ranks_of, term_of};
 ghost use Rattle.disk_index.specs.Reads.{HasSegment, IsBacked, rebuilt};
 
-use crate::lookup::place_of;
-use crate::opening::{docs_within, kept_within, read_kept};
+use crate::lookup::{of_range, place_of, ranked_place};
+use crate::opening::{KeptParts, docs_within, kept_within, read_kept};
+use crate::ranks::{Ranks, ranks_by_range};
 use crate::reading::file_length;
 use crate::{Block, BlockCache, BlockKey};
 use ri_base::{Docno, FieldSpan, FileName, NoMemory, PartName, Positions, SegFault, Steps, Term};
-use seg_codec::{Dictionary, Documents, Entry};
+use seg_codec::{BlockPlace, Dictionary, Documents, Entry, TermBlocks};
 use std::alloc::{AllocError, Global};
 use std::marker::{Brand, Model};
 use std::sync::ledger::{Blank, Ledger};
@@ -36,16 +39,21 @@ pub struct DiskIndex {
     number: u64,
     documents: Documents,
     dictionary: Dictionary,
+    /// The ranks of the terms that have a block for each range.
+    ranks: Vec<Ranks>,
+    /// Where the blocks begin in the file.
+    blocks_at: u64,
 }
 
 impl Model for DiskIndex {
-    ghost use Rattle.disk_index.specs.Kept.{Kept, AreKept};
+    ghost use Rattle.disk_index.specs.Kept.{Kept};
+    ghost use Rattle.disk_index.specs.Ranks.{AreHeld};
 
     ghost Value = { Kept };
 
     ghost view = { λ x. record { number = x.number; outlines = x.documents; dictionary = x.dictionary } };
 
-    ghost invariant = { λ x. AreKept x.documents x.dictionary };
+    ghost invariant = { λ x. AreHeld x.documents x.dictionary x.ranks.items };
 }
 
 impl DiskIndex {
@@ -69,12 +77,8 @@ impl DiskIndex {
         ensures store { result ≡ Err SegFault.Store → Rose (T.faults store.old) (T.faults store.new) }
     {
         let size = file_length(store, number)?;
-        let (documents, dictionary) = read_kept(alloc, store, number, docs, size)?;
-        Ok(DiskIndex {
-            number,
-            documents,
-            dictionary,
-        })
+        let parts = read_kept(alloc, store, number, docs, size)?;
+        Ok(DiskIndex::of(alloc, number, parts)?)
     }
 
     /// The same of bytes that are a segment, as those of the file of this number. No store is read.
@@ -84,13 +88,30 @@ impl DiskIndex {
     {
         let docs = docs_within(bytes)?;
         match kept_within(alloc, bytes, number, docs) {
-            Ok((documents, dictionary)) => Ok(DiskIndex {
-                number,
-                documents,
-                dictionary,
-            }),
+            Ok(parts) => DiskIndex::of(alloc, number, parts),
             Err(_) => Err(AllocError),
         }
+    }
+
+    /// What is kept of a file, with the ranks of its terms by range.
+    fn of(alloc: Global, number: u64, parts: KeptParts) -> Result<DiskIndex, NoMemory>
+        requires { AreKept parts.documents parts.dictionary }
+        ensures { IfOk result (λ x. x ≡ record { number = number; outlines = parts.documents; dictionary = parts.dictionary }) }
+    {
+        let KeptParts {
+            documents,
+            dictionary,
+            blocks_at,
+        } = parts;
+        let docs = documents.as_slice().len() as u32;
+        let ranks = ranks_by_range(alloc, dictionary.as_slice(), docs)?;
+        Ok(DiskIndex {
+            number,
+            documents,
+            dictionary,
+            ranks,
+            blocks_at,
+        })
     }
 
     /// How many documents there are.
@@ -143,13 +164,104 @@ impl DiskIndex {
         ensures fits { IfSome result (λ key. key.place + key.length < 2 ^ 64) }
     {
         match place_of(self.dictionary.as_slice(), term, range) {
-            Some(found) => Some(BlockKey {
-                number: self.number,
-                range,
-                place: found.place,
-                length: found.length,
-            }),
+            Some(place) => Some(self.key_at(range, place)),
             None => None,
+        }
+    }
+
+    /// The number of its file.
+    pub(crate) fn number(&self) -> u64
+        ensures { result ≡ self.now.number }
+    {
+        self.number
+    }
+
+    /// Where the blocks begin in its file.
+    pub(crate) fn blocks_at(&self) -> u64 {
+        self.blocks_at
+    }
+
+    /// The terms, each with the places of its blocks.
+    pub(crate) fn dictionary(&self) -> &[TermBlocks]
+        ensures { result.now ≡ self.now.dictionary }
+    {
+        self.dictionary.as_slice()
+    }
+
+    /// The documents of the range without their tokens.
+    pub(crate) fn outlines(&self, range: u32) -> &[Entry]
+        requires { 64 * range < length self.now.outlines }
+        ensures are { result.now ≡ of_range range self.now.outlines }
+        ensures kept { All IsOutline result.now }
+    {
+        of_range(self.documents.as_slice(), range)
+    }
+
+    /// The ranks of the terms that have a block for the range.
+    pub(crate) fn ranks(&self, range: u32) -> &[u32]
+        requires { 64 * range < length self.now.outlines }
+        ensures are { result.now ≡ ranks_of range self.now.dictionary }
+        ensures order { AllPairs (λ a b. IsTermBefore a.term b.term) self.now.dictionary }
+    {
+        self.ranks[range as usize].as_slice()
+    }
+
+    /// The block of the term of this rank for the range.
+    pub(crate) fn ranked_block<T: Store>(
+        &self,
+        alloc: Global,
+        store: &mut T,
+        cache: &mut BlockCache,
+        rank: u32,
+        range: u32,
+    ) -> Result<Block, SegFault>
+        requires { rank < length self.now.dictionary }
+        ensures exact { (docs : List Document) → IsBacked (T.files store.old) self.now docs → IsCacheBacked (T.files store.old) cache.old
+            → IfOk result (λ b. b ≡ block_of (term_of self.now.dictionary rank) range docs) }
+        ensures honest { (docs : List Document) → IsBacked (T.files store.old) self.now docs → IfErr result IsOutside }
+        ensures fault { (f : Files) → T.files store.old ≡ Some f → IfErr result (IsRangeFault f self.now.number) }
+        ensures cache { CacheKeeps (T.files store.old) (λ n. n ≡ self.now.number) cache.old cache.new }
+        ensures quiet { IsQuiet T.files T.layers T.clock T.since T.longest T.held store.old store.new }
+        ensures later { T.faults store.old ≤ T.faults store.new }
+        ensures store { result ≡ Err SegFault.Store → Rose (T.faults store.old) (T.faults store.new) }
+    {
+        match self.ranked_key(rank, range) {
+            None => Ok(Block::empty(alloc)?),
+            Some(key) => cache.fetch(alloc, store, key, &self.documents),
+        }
+    }
+
+    /// Where the block of the term of this rank for the range begins in the file; where there is none, the begin of all blocks.
+    pub(crate) fn ranked_begin(&self, rank: u32, range: u32) -> u64
+        requires { rank < length self.now.dictionary }
+    {
+        match self.ranked_key(rank, range) {
+            Some(key) => key.place,
+            None => self.blocks_at,
+        }
+    }
+
+    /// Where the block of the term of this rank for the range stands.
+    fn ranked_key(&self, rank: u32, range: u32) -> Option<BlockKey>
+        requires { rank < length self.now.dictionary }
+        ensures key { result ≡ option_map (key_of self.now.number range) (place_of self.now.dictionary (term_of self.now.dictionary rank) range) }
+        ensures fits { IfSome result (λ key. key.place + key.length < 2 ^ 64) }
+    {
+        match ranked_place(self.dictionary.as_slice(), rank as usize, range) {
+            Some(place) => Some(self.key_at(range, place)),
+            None => None,
+        }
+    }
+
+    /// The key of the block of the range that stands there.
+    fn key_at(&self, range: u32, place: BlockPlace) -> BlockKey
+        ensures { result ≡ key_of self.now.number range place }
+    {
+        BlockKey {
+            number: self.number,
+            range,
+            place: place.place,
+            length: place.length,
         }
     }
 

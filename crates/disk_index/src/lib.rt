@@ -4,6 +4,7 @@
 
 mod block;
 mod cache;
+mod documents;
 mod index;
 pub mod limits;
 mod lookup;
@@ -12,8 +13,10 @@ mod name;
 mod opening;
 mod part;
 mod presence;
+mod ranks;
 mod reader;
 mod reading;
+mod rebuild;
 mod snapshot;
 
 pub use block::Block;

@@ -1,15 +1,17 @@
-// Looking a term and a range up in a dictionary.
-ghost use Rattle.std.specs.Prelude.{◌≡◌, ◌<◌, ◌==◌, Some, None, length, IfSome, IfNone};
+// Looking a term and a range up in a dictionary, and a range in the documents.
+ghost use Rattle.std.specs.Prelude.{◌≡◌, ◌<◌, ◌*◌, ◌==◌, Some, None, length, IfSome, IfNone};
 ghost use Rattle.std.specs.Cmp.Lexicographic.{slice_cmp};
 ghost use Rattle.std.specs.Ordering.{nat_cmp};
 ghost use Rattle.std.specs.List.{All, AllPairs, find};
 ghost use Rattle.std.specs.Option.{option_map, option_copied};
 ghost use Rattle.std.specs.Str.{bytes_eq};
 ghost use Rattle.ri_base.specs.Vocabulary.{IsTermBefore};
+ghost use Rattle.disk_index.specs.Blocks.{of_range};
 ghost use Rattle.disk_index.specs.Kept.{ArePlaces, place_of};
+ghost use Rattle.disk_index.specs.Ranks.{term_of};
 
 use ri_base::Term;
-use seg_codec::{BlockPlace, TermBlocks};
+use seg_codec::{BlockPlace, Entry, TermBlocks};
 use std::cmp::Ordering;
 
 /// The term with its blocks.
@@ -52,4 +54,28 @@ pub(crate) fn place_of(dictionary: &[TermBlocks], term: &Term, range: u32) -> Op
         Some(found) => block_in(found.blocks.as_slice(), range),
         None => None,
     }
+}
+
+/// Where the block of the term of this rank for the range stands.
+pub(crate) fn ranked_place(dictionary: &[TermBlocks], rank: usize, range: u32) -> Option<BlockPlace>
+    requires inside { rank < length dictionary.now }
+    requires terms { AllPairs (λ a b. IsTermBefore a.term b.term) dictionary.now }
+    requires places { All ArePlaces dictionary.now }
+    ensures { result ≡ place_of dictionary.now (term_of dictionary.now rank) range }
+{
+    block_in(dictionary[rank].blocks.as_slice(), range)
+}
+
+/// Of documents by id those of the range.
+#[tactic(auto, using(crate::proofs::LookupLemmas::all_taken))]
+pub(crate) fn of_range(outlines: &[Entry], range: u32) -> &[Entry]
+    requires { 64 * range < length outlines.now }
+    ensures { result.now ≡ of_range range outlines.now }
+{
+    let (_before, behind) = outlines.split_at(64 * range as usize);
+    if behind.len() <= 64 {
+        return behind;
+    }
+    let (front, _rest) = behind.split_at(64);
+    front
 }

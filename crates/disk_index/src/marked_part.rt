@@ -73,6 +73,14 @@ impl MarkedPart {
         &self.part
     }
 
+    /// The marks of its documents.
+    pub fn marks(&self) -> &DelList
+        ensures marks { result.now ≡ self.now.marks }
+        ensures whole { length self.now.marks ≡ size self.now.source }
+    {
+        &self.marks
+    }
+
     /// Whether the document is dead.
     pub fn is_marked(&self, id: u32) -> bool
         requires { id < size self.now.source }

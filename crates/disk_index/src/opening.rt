@@ -24,6 +24,14 @@ const HEADER_LENGTH: usize = 64;
 /// Where a header tells the number of documents.
 const DOCS_PLACE: usize = 12;
 
+/// What is kept of a segment's file, and where its blocks begin.
+#[derive(Drop)]
+pub(crate) struct KeptParts {
+    pub documents: Documents,
+    pub dictionary: Dictionary,
+    pub blocks_at: u64,
+}
+
 /// The header of the file, of a segment of so many documents and bytes.
 fn header_of<T: Store>(
     alloc: Global,
@@ -73,6 +81,7 @@ fn dictionary_of<T: Store>(
     requires { AreInOrder header.now }
     ensures terms { IfOk result (AllPairs (λ a b. IsTermBefore a.term b.term)) }
     ensures places { IfOk result (All ArePlaces) }
+    ensures few { IfOk result (λ ts. length ts < 2 ^ 32) }
     ensures found { (f : Files) → T.files store.old ≡ Some f → IfOk result (λ ts. dictionary header.now (dictionary_in (file_of f number) header.now) ≡ Ok ts) }
     ensures fault { (f : Files) (docs : ℕ) (es : List Entry) → T.files store.old ≡ Some f → header_in (file_of f number) docs ≡ Ok header.now
         → documents header.now (documents_in (file_of f number) header.now) ≡ Ok es → IfErr result (IsOpenFault f number docs) }
@@ -93,10 +102,10 @@ pub(crate) fn read_kept<T: Store>(
     number: u64,
     docs: u32,
     size: u64,
-) -> Result<(Documents, Dictionary), SegFault>
-    ensures kept { IfOk result (λ x. AreKept x.0 x.1) }
+) -> Result<KeptParts, SegFault>
+    ensures kept { IfOk result (λ x. AreKept x.documents x.dictionary) }
     ensures found { (f : Files) → T.files store.old ≡ Some f → size ≡ length (file_of f number)
-        → IfOk result (λ x. IsOpened (file_of f number) docs (record { number = number; outlines = x.0; dictionary = x.1 })) }
+        → IfOk result (λ x. IsOpened (file_of f number) docs (record { number = number; outlines = x.documents; dictionary = x.dictionary })) }
     ensures fault { (f : Files) → T.files store.old ≡ Some f → size ≡ length (file_of f number) → IfErr result (IsOpenFault f number docs) }
     ensures quiet { IsQuiet T.files T.layers T.clock T.since T.longest T.held store.old store.new }
     ensures later { T.faults store.old ≤ T.faults store.new }
@@ -105,7 +114,11 @@ pub(crate) fn read_kept<T: Store>(
     let header = header_of(alloc, store, number, docs, size)?;
     let documents = documents_of(alloc, store, number, &header)?;
     let dictionary = dictionary_of(alloc, store, number, &header)?;
-    Ok((documents, dictionary))
+    Ok(KeptParts {
+        documents,
+        dictionary,
+        blocks_at: header.blocks_at,
+    })
 }
 
 /// The first bytes, so many, or all where there are no more.
@@ -156,6 +169,7 @@ fn dictionary_within(
     requires size { header.now.length ≡ length bytes.now }
     ensures terms { IfOk result (AllPairs (λ a b. IsTermBefore a.term b.term)) }
     ensures places { IfOk result (All ArePlaces) }
+    ensures few { IfOk result (λ ts. length ts < 2 ^ 32) }
     ensures found { IfOk result (λ ts. dictionary header.now (dictionary_in bytes.now header.now) ≡ Ok ts) }
 {
     let part = &bytes[header.dictionary_at as usize..header.blocks_at as usize];
@@ -168,15 +182,19 @@ pub(crate) fn kept_within(
     bytes: &[u8],
     number: u64,
     docs: u32,
-) -> Result<(Documents, Dictionary), SegFault>
-    ensures kept { IfOk result (λ x. AreKept x.0 x.1) }
+) -> Result<KeptParts, SegFault>
+    ensures kept { IfOk result (λ x. AreKept x.documents x.dictionary) }
     ensures small { IfOk result (λ _. length bytes.now < 2 ^ 64) }
-    ensures found { IfOk result (λ x. IsOpened bytes.now docs (record { number = number; outlines = x.0; dictionary = x.1 })) }
+    ensures found { IfOk result (λ x. IsOpened bytes.now docs (record { number = number; outlines = x.documents; dictionary = x.dictionary })) }
 {
     let header = header_within(bytes, number, docs)?;
     let documents = documents_within(alloc, bytes, number, &header)?;
     let dictionary = dictionary_within(alloc, bytes, number, &header)?;
-    Ok((documents, dictionary))
+    Ok(KeptParts {
+        documents,
+        dictionary,
+        blocks_at: header.blocks_at,
+    })
 }
 
 /// How many documents the segment has that these bytes are. Of bytes that are no segment nothing is said.

@@ -1,5 +1,5 @@
 // Parts of the collection, in memory or in a file.
-ghost use Rattle.std.specs.Prelude.{◌≡◌, ◌<◌, ◌≤◌, Option, Some, length, Err, IfOk, IfErr};
+ghost use Rattle.std.specs.Prelude.{◌≡◌, ◌<◌, ◌≤◌, ◌*◌, Option, Some, length, map, Err, IfOk, IfErr};
 ghost use Rattle.std.specs.List.{All};
 ghost use Rattle.std.specs.List.Sorted.{IsStrictlyIncreasing};
 ghost use Rattle.ri_base.specs.Collection.{document_at};
@@ -9,11 +9,13 @@ ghost use Rattle.ri_base.specs.Keeps.{Rose};
 ghost use Rattle.ri_base.specs.Places.{places};
 ghost use Rattle.ri_base.specs.declared.limits.TheConstants.{MAX_DOC_TOKENS};
 ghost use Rattle.store_ends.specs.Files.{Files, IsQuiet};
+ghost use Rattle.seg_codec.specs.Segment.{entry_of};
+ghost use Rattle.disk_index.specs.Blocks.{of_range};
 ghost use Rattle.disk_index.specs.Cache.{CacheKeeps, IsCacheBacked};
-ghost use Rattle.disk_index.specs.Parts.{IsFileOf, IsPartBacked, IsPartFault, reads, size, source_of};
+ghost use Rattle.disk_index.specs.Parts.{IsFileOf, IsPartBacked, IsPartFault, IsSourceFault, reads, size, source_of};
 
 use crate::{BlockCache, DiskIndex};
-use ri_base::{Docno, FieldSpan, NoMemory, Positions, Postings, Sealed, SegFault, Term};
+use ri_base::{Doc, Docno, FieldSpan, List, NoMemory, Positions, Postings, Sealed, SegFault, Term};
 use std::alloc::Global;
 use std::rc::Rc;
 use store_ends::Store;
@@ -108,6 +110,35 @@ impl Part {
             Part::Disk(index) => index.positions(alloc, store, cache, term, id),
         }
     }
+
+    /// The documents with the ids from `64 * range` on, 64 at most, each whole.
+    pub fn documents<T: Store>(
+        &self,
+        alloc: Global,
+        store: &mut T,
+        cache: &mut BlockCache,
+        range: u32,
+    ) -> Result<List<Doc>, SegFault>
+        requires { 64 * range < size (source_of self.now) }
+        ensures exact { IsPartBacked (T.files store.old) (source_of self.now) → IsCacheBacked (T.files store.old) cache.old
+            → IfOk result (λ ds. ds ≡ of_range range (reads (T.files store.old) (source_of self.now))) }
+        ensures honest { IsPartBacked (T.files store.old) (source_of self.now) → IsCacheBacked (T.files store.old) cache.old
+            → IfErr result IsOutside }
+
+        // Without their tokens they are those of the part, whatever the file has.
+        ensures kept { IfOk result (λ ds. map entry_of ds ≡ map entry_of (of_range range (reads (T.files store.old) (source_of self.now)))) }
+
+        ensures fault { (f : Files) → T.files store.old ≡ Some f → IfErr result (IsSourceFault f (source_of self.now)) }
+        ensures cache { CacheKeeps (T.files store.old) (IsFileOf (source_of self.now)) cache.old cache.new }
+        ensures quiet { IsQuiet T.files T.layers T.clock T.since T.longest T.held store.old store.new }
+        ensures later { T.faults store.old ≤ T.faults store.new }
+        ensures store { result ≡ Err SegFault.Store → Rose (T.faults store.old) (T.faults store.new) }
+    {
+        match self {
+            Part::Memory(sealed) => documents_in_memory(alloc, sealed, range),
+            Part::Disk(index) => index.documents(alloc, store, cache, range),
+        }
+    }
 }
 
 fn in_memory(alloc: Global, sealed: &Sealed, term: &Term, id: u32) -> Result<Positions, SegFault>
@@ -119,4 +150,20 @@ fn in_memory(alloc: Global, sealed: &Sealed, term: &Term, id: u32) -> Result<Pos
     ensures store { result ≡ Err SegFault.Store → ⊥ }
 {
     Ok(sealed.places(alloc, term, id)?)
+}
+
+fn documents_in_memory(alloc: Global, sealed: &Sealed, range: u32) -> Result<List<Doc>, SegFault>
+    requires { 64 * range < length sealed.now }
+    ensures exact { IfOk result (λ ds. ds ≡ of_range range sealed.now) }
+    ensures honest { IfErr result IsOutside }
+    ensures store { result ≡ Err SegFault.Store → ⊥ }
+{
+    let total = sealed.docs();
+    let first = 64 * range;
+    let count = (total - first).min(64);
+    let mut docs = List::with_capacity(alloc, count as usize)?;
+    for i in 0..count {
+        docs.push(sealed.doc(alloc, first + i)?)?;
+    }
+    Ok(docs)
 }

@@ -78,7 +78,8 @@ impl Snapshot {
 
 /// Whether the parts are few and short enough for a snapshot.
 pub fn fits_snapshot(parts: &[MarkedPart]) -> bool
-    ensures { IsTrue result → IsSnapshot parts.now }
+    ensures yes { IsTrue result → IsSnapshot parts.now }
+    ensures no { IsSnapshot parts.now → IsTrue result }
 {
     let mut documents = 0u64;
     let mut tokens = 0u64;

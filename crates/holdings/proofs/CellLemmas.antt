@@ -1,8 +1,9 @@
 -- The places of documents where one is added or marked.
 use Rattle.std.proofs.Common.{◌≡◌, ℕ, zero, suc, Bool, true, false, List, [], ◌∷◌, ◌++◌, length, map, set, get_or, refl, ap, sym, ◌∙◌, arith, Option, Some, None, inl, inr}
 use Rattle.std.proofs.lemmas.Bool.{cases_eq}
+use Rattle.disk_index.specs.Snapshots.{Marked}
 use Rattle.holdings.specs.Kept.{cell, marked_at, row}
-use Rattle.holdings.specs.MarkedParts.{Marked, docnos_in}
+use Rattle.holdings.specs.MarkedParts.{docnos_in}
 use Rattle.holdings.specs.Marks.{cells}
 
 pub push-other : {A : Type 0} (xs : List A) (x : A) (i : ℕ) (d : A) → (i ≡ length xs → ⊥) → get_or (xs ++ x ∷ []) i d ≡ get_or xs i d

@@ -5,16 +5,19 @@ use Rattle.std.specs.Map.{lookup}
 use Rattle.std.specs.Prelude.{is_some}
 use Rattle.std.specs.Str.{bytes_eq}
 use Rattle.std.proofs.lemmas.Bool.{false_from_ne_true}
-use Rattle.std.proofs.lemmas.List.{append-nil, length-map, length-set}
+use Rattle.std.proofs.lemmas.List.{append-nil, get_or_append_left, length-map, length-set}
 use Rattle.std.proofs.lemmas.List.Elements.{All-cons, All-head, All-push, All-tail}
 use Rattle.std.proofs.lemmas.List.Folds.{list_any-append}
+use Rattle.std.proofs.lemmas.Map.Keys.{IsDistinct-from_apart, apart_from_distinct}
 use Rattle.std.proofs.lemmas.Slice.Eq.{bytes_eq-Decides}
 use Rattle.ri_base.specs.Documents.{Document}
 use Rattle.store_ends.specs.Files.{Files}
 use Rattle.disk_index.specs.Parts.{InMemory}
+use Rattle.disk_index.specs.Snapshots as snapshots
+use Rattle.disk_index.specs.Snapshots.{Marked, live_in, unmarked}
 use Rattle.holdings.specs.Kept.{AreKept, cell, marked_at, row}
-use Rattle.holdings.specs.MarkedParts.{IsWhole, IsWritable, Marked, docnos_in, docnos_of, filled, live_in, live_of}
-use Rattle.holdings.specs.Marks.{cells, unmarked}
+use Rattle.holdings.specs.MarkedParts.{IsWhole, IsWritable, docnos_in, docnos_of, filled}
+use Rattle.holdings.specs.Marks.{cells}
 use Rattle.holdings.specs.declared.spot.Spot.{Spot}
 use Rattle.holdings.proofs.CellLemmas.{cell-added, cell-last, cell-marked, cell-unmarked, cells-push, length-row, map-push, past-end, push-last}
 use Rattle.holdings.proofs.LiveLemmas.{flat_map-more, flat_map-push, unmarked-push}
@@ -85,12 +88,7 @@ CanWrite m = IsWritable m.source
 
 -- what holds of all parts holds of those before the last
 pub All-front : (P : Marked → Type 0) (xs : List Marked) (x : Marked) → All P (xs ++ x ∷ []) → All P xs
-All-front P xs x all = λ j e below. subst P (front xs j e below) (all j e (omega (arith, below, length-append xs (x ∷ []))))
-  where
-    front : (ys : List Marked) (j : ℕ) (e : Marked) → j < length ys → get_or (ys ++ x ∷ []) j e ≡ get_or ys j e
-    front [] j e below = absurd (omega (arith, below))
-    front (y ∷ ys) zero e below = refl
-    front (y ∷ ys) (suc j) e below = front ys j e (omega (arith, below))
+All-front P xs x all = λ j e below. subst P (get_or_append_left xs (x ∷ []) e j below) (all j e (omega (arith, below, length-append xs (x ∷ []))))
 
 -- each document of the last part has a mark
 pub last-whole : (parts : List Marked) (docs : List Document) (marks : List Bool) → All IsWhole (parts ++ filled docs marks ∷ []) → length marks ≡ length docs
@@ -239,7 +237,7 @@ AreKept-close most places parts kept =
 
 -- the live documents with one more behind them
 pub live-added : (most : ℕ) (places : List (List ℕ × Spot)) (parts : List Marked) (docs : List Document) (marks : List Bool) (d : Document) → AreKept most places (parts ++ filled docs marks ∷ [])
-    → (files : Option Files) → live_of files (parts ++ filled (docs ++ d ∷ []) (marks ++ false ∷ []) ∷ []) ≡ live_of files (parts ++ filled docs marks ∷ []) ++ d ∷ []
+    → (files : Option Files) → snapshots.live files (parts ++ filled (docs ++ d ∷ []) (marks ++ false ∷ []) ∷ []) ≡ snapshots.live files (parts ++ filled docs marks ∷ []) ++ d ∷ []
 live-added most places parts docs marks d kept files =
     flat_map-more (live_in files) parts (filled docs marks) (filled (docs ++ d ∷ []) (marks ++ false ∷ [])) d (unmarked-push docs marks d (last-whole parts docs marks kept.whole))
 
@@ -281,3 +279,14 @@ kept-distinct most places parts kept =
     let t : Spot = record { part = q; id = j } in
     let st : s ≡ t = some_same s t (sym ((kept.placed k s).1 a) ∙ (kept.placed k t).1 b) in
     (ap (λ (x : Spot). x.part) st, ap (λ (x : Spot). x.id) st)))
+
+-- those of the parts without the last are too
+pub front-distinct : (parts : List Marked) (last : Marked) → IsDistinct bytes_eq (docnos_of (parts ++ last ∷ [])) → IsDistinct bytes_eq (docnos_of parts)
+front-distinct parts last distinct =
+    let xs = docnos_of parts in
+    let ys = unmarked (docnos_in last.source) last.marks in
+    let all : IsDistinct bytes_eq (xs ++ ys) = subst (IsDistinct bytes_eq) (flat_map-push (λ m. unmarked (docnos_in m.source) m.marks) parts last) distinct in
+    let size = length-append xs ys in
+    IsDistinct-from_apart bytes_eq xs (λ i j d less inside.
+    ap (bytes_eq (get_or xs i d)) (sym (get_or_append_left xs ys d j inside)) ∙ ap (λ (k : List ℕ). bytes_eq k (get_or (xs ++ ys) j d)) (sym (get_or_append_left xs ys d i (omega (arith, less, inside))))
+    ∙ apart_from_distinct bytes_eq (xs ++ ys) i j d all less (omega (arith, inside, size)))

@@ -5,53 +5,41 @@ use Rattle.std.specs.Prelude.{sum_by}
 use Rattle.std.proofs.lemmas.List.{append-nil, length-map, map-append}
 use Rattle.std.proofs.lemmas.List.Elements.{filter-append}
 use Rattle.std.proofs.lemmas.List.Sums.{sum_by-append, sum_by-cons}
+use Rattle.std.proofs.lemmas.Simd.{map-map}
 use Rattle.ri_base.specs.Collection.{token_count}
 use Rattle.ri_base.specs.Documents.{Document}
+use Rattle.seg_codec.specs.Segment.{entry_of}
 use Rattle.seg_codec.specs.declared.documents.Entry.{Entry}
 use Rattle.store_ends.specs.Files.{Files}
 use Rattle.disk_index.specs.Blocks.{told_file}
-use Rattle.disk_index.specs.Kept.{Kept}
 use Rattle.disk_index.specs.Parts.{Source, InMemory, OnDisk, reads, size}
-use Rattle.disk_index.specs.Reads.{documents_from, rebuilt, term_at, terms_from}
-use Rattle.disk_index.proofs.RebuiltLemmas.{reads-length}
-use Rattle.holdings.specs.MarkedParts.{Marked, docnos_in, docnos_of, documents_held, documents_of, live_in, live_of, marked_with, tokens_held, tokens_in}
-use Rattle.holdings.specs.Marks.{marks_with, unmarked}
+use Rattle.disk_index.specs.Reads.{rebuilt}
+use Rattle.disk_index.specs.Snapshots as snapshots
+use Rattle.disk_index.specs.Snapshots.{Marked, documents_held, live_in, unmarked}
+use Rattle.disk_index.proofs.RebuiltLemmas.{reads-length, rebuilt-outlines}
+use Rattle.holdings.specs.MarkedParts.{docnos_in, docnos_of, documents_of, marked_with, tokens_held, tokens_in}
+use Rattle.holdings.specs.Marks.{marks_with}
 use Rattle.holdings.specs.Parts.{without}
 use Rattle.holdings.proofs.MarkLemmas.{unmarked-marks_with}
 
 -- ---- what is known of a part without its file
 
-terms_from-length : (f : ℕ → List ℕ) (p n : ℕ) → length (terms_from f p n) ≡ n
-terms_from-length f p zero = refl
-terms_from-length f p (suc n) = let rest = terms_from-length f (p + 1) n in omega arith
-
-docnos-from : (at : ℕ → ℕ → List ℕ) (id : ℕ) (os : List Entry) → map (λ (d : Document). d.docno) (documents_from at id os) ≡ map (λ (o : Entry). o.docno) os
-docnos-from at id [] = refl
-docnos-from at id (o ∷ os) = ap (λ l. o.docno ∷ l) (docnos-from at (id + 1) os)
-
-tokens-from : (at : ℕ → ℕ → List ℕ) (id : ℕ) (os : List Entry) → token_count (documents_from at id os) ≡ sum_by (λ (o : Entry). o.tokens) os
-tokens-from at id [] = refl
-tokens-from at id (o ∷ os) =
-    let head : Document = record { docno = o.docno; tokens = terms_from (at id) 0 o.tokens; fields = o.fields } in
-    let here = terms_from-length (at id) 0 o.tokens in
-    let rest = tokens-from at (id + 1) os in
-    omega (arith, here, rest, sum_by-cons (λ (d : Document). length d.tokens) head (documents_from at (id + 1) os), sum_by-cons (λ (x : Entry). x.tokens) o os)
-
-docnos-rebuilt : (kept : Kept) (file : List ℕ) → map (λ (d : Document). d.docno) (rebuilt kept file) ≡ map (λ (o : Entry). o.docno) kept.outlines
-unfolding rebuilt
-docnos-rebuilt kept file = docnos-from (term_at file kept.outlines kept.dictionary) 0 kept.outlines
-
-tokens-rebuilt : (kept : Kept) (file : List ℕ) → token_count (rebuilt kept file) ≡ sum_by (λ (o : Entry). o.tokens) kept.outlines
-unfolding rebuilt
-tokens-rebuilt kept file = tokens-from (term_at file kept.outlines kept.dictionary) 0 kept.outlines
+tokens-outlines : (docs : List Document) → token_count docs ≡ sum_by (λ (o : Entry). o.tokens) (map entry_of docs)
+tokens-outlines [] = refl
+tokens-outlines (d ∷ ds) =
+    sum_by-cons (λ (x : Document). length x.tokens) d ds ∙ ap (λ n. length d.tokens + n) (tokens-outlines ds) ∙ sym (sum_by-cons (λ (o : Entry). o.tokens) (entry_of d) (map entry_of ds))
 
 docnos-reads : (told : Option Files) (source : Source) → map (λ (d : Document). d.docno) (reads told source) ≡ docnos_in source
 docnos-reads told (InMemory docs) = refl
-docnos-reads told (OnDisk kept) = docnos-rebuilt kept (told_file told kept.number)
+docnos-reads told (OnDisk kept) =
+    let docs = rebuilt kept (told_file told kept.number) in
+    sym (map-map (λ (o : Entry). o.docno) entry_of docs) ∙ ap (λ (os : List Entry). map (λ (o : Entry). o.docno) os) (rebuilt-outlines kept (told_file told kept.number))
 
 tokens-reads : (told : Option Files) (source : Source) → token_count (reads told source) ≡ tokens_in source
 tokens-reads told (InMemory docs) = refl
-tokens-reads told (OnDisk kept) = tokens-rebuilt kept (told_file told kept.number)
+tokens-reads told (OnDisk kept) =
+    let docs = rebuilt kept (told_file told kept.number) in
+    tokens-outlines docs ∙ ap (λ (os : List Entry). sum_by (λ (o : Entry). o.tokens) os) (rebuilt-outlines kept (told_file told kept.number))
 
 pub length-docnos_in : (source : Source) → length (docnos_in source) ≡ size source
 length-docnos_in (InMemory docs) = length-map docs (λ (d : Document). d.docno)
@@ -64,6 +52,13 @@ length-documents_of told (m ∷ ms) =
     let here = reads-length told m.source in
     let rest = length-documents_of told ms in
     omega (arith, here, rest, length-append (reads told m.source) (documents_of told ms), sum_by-cons (λ (x : Marked). size x.source) m ms)
+
+pub tokens-held : (told : Option Files) (parts : List Marked) → snapshots.tokens_held told parts ≡ tokens_held parts
+tokens-held told [] = refl
+tokens-held told (m ∷ ms) =
+    let here = tokens-reads told m.source in
+    let rest = tokens-held told ms in
+    omega (arith, here, rest, sum_by-cons (λ (x : Marked). token_count (reads told x.source)) m ms, sum_by-cons (λ (x : Marked). tokens_in x.source) m ms)
 
 pub token_count-documents_of : (told : Option Files) (parts : List Marked) → token_count (documents_of told parts) ≡ tokens_held parts
 token_count-documents_of told [] = refl
@@ -80,13 +75,13 @@ map-unmarked f (x ∷ xs) (true ∷ ms) = map-unmarked f xs ms
 map-unmarked f (x ∷ xs) (false ∷ ms) = ap (λ l. f x ∷ l) (map-unmarked f xs ms)
 
 -- the live docnos need no file
-pub docnos-live_of : (told : Option Files) (parts : List Marked) → map (λ (d : Document). d.docno) (live_of told parts) ≡ docnos_of parts
-docnos-live_of told [] = refl
-docnos-live_of told (m ∷ ms) =
+pub docnos-live : (told : Option Files) (parts : List Marked) → map (λ (d : Document). d.docno) (snapshots.live told parts) ≡ docnos_of parts
+docnos-live told [] = refl
+docnos-live told (m ∷ ms) =
     let here : map (λ (d : Document). d.docno) (live_in told m) ≡ unmarked (docnos_in m.source) m.marks =
     map-unmarked _ (reads told m.source) m.marks ∙ ap (λ l. unmarked l m.marks) (docnos-reads told m.source) in
-    map-append (λ (d : Document). d.docno) (live_in told m) (live_of told ms) ∙ ap (λ l. l ++ map (λ (d : Document). d.docno) (live_of told ms)) here
-    ∙ ap (λ l. unmarked (docnos_in m.source) m.marks ++ l) (docnos-live_of told ms)
+    map-append (λ (d : Document). d.docno) (live_in told m) (snapshots.live told ms) ∙ ap (λ l. l ++ map (λ (d : Document). d.docno) (snapshots.live told ms)) here
+    ∙ ap (λ l. unmarked (docnos_in m.source) m.marks ++ l) (docnos-live told ms)
 
 -- ---- one document more
 
@@ -108,9 +103,9 @@ flat_map-more f parts m n x e =
 
 -- ---- the documents of a docno are marked
 
-pub live_of-marked_with : (told : Option Files) (k : List ℕ) (parts : List Marked) → live_of told (map (marked_with k) parts) ≡ without k (live_of told parts)
-live_of-marked_with told k [] = refl
-live_of-marked_with told k (m ∷ ms) =
+pub live-marked_with : (told : Option Files) (k : List ℕ) (parts : List Marked) → snapshots.live told (map (marked_with k) parts) ≡ without k (snapshots.live told parts)
+live-marked_with told k [] = refl
+live-marked_with told k (m ∷ ms) =
     let here : live_in told (marked_with k m) ≡ without k (live_in told m) =
     ap (λ l. unmarked (reads told m.source) (marks_with k l m.marks)) (sym (docnos-reads told m.source)) ∙ unmarked-marks_with k (reads told m.source) m.marks in
-    ap (λ l. l ++ live_of told (map (marked_with k) ms)) here ∙ ap (λ l. without k (live_in told m) ++ l) (live_of-marked_with told k ms) ∙ sym (filter-append _ (live_in told m) (live_of told ms))
+    ap (λ l. l ++ snapshots.live told (map (marked_with k) ms)) here ∙ ap (λ l. without k (live_in told m) ++ l) (live-marked_with told k ms) ∙ sym (filter-append _ (live_in told m) (snapshots.live told ms))

@@ -4,9 +4,10 @@ use Rattle.std.specs.Str.{bytes_eq}
 use Rattle.std.proofs.lemmas.Bool.{false_from_ne_true}
 use Rattle.std.proofs.lemmas.Slice.Eq.{bytes_eq-Decides}
 use Rattle.ri_base.specs.Documents.{Document}
+use Rattle.disk_index.specs.Snapshots.{Marked, unmarked}
 use Rattle.holdings.specs.Kept.{cell, marked_at, row}
-use Rattle.holdings.specs.MarkedParts.{Marked, docnos_in, marked_with}
-use Rattle.holdings.specs.Marks.{cells, marks_with, unmarked}
+use Rattle.holdings.specs.MarkedParts.{docnos_in, marked_with}
+use Rattle.holdings.specs.Marks.{cells, marks_with}
 use Rattle.holdings.specs.Parts.{without}
 use Rattle.holdings.proofs.PlacedLemmas.{some_same}
 

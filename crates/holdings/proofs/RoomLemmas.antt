@@ -10,13 +10,15 @@ use Rattle.ri_base.specs.Documents.{Document, Field, IsDocument}
 use Rattle.ri_base.specs.declared.limits.TheConstants.{MAX_PART_NAMES}
 use Rattle.store_ends.specs.Files.{Files}
 use Rattle.disk_index.specs.Parts.{InMemory}
+use Rattle.disk_index.specs.Snapshots as snapshots
+use Rattle.disk_index.specs.Snapshots.{Marked, live_in, unmarked}
 use Rattle.holdings.specs.Kept.{AreKept}
-use Rattle.holdings.specs.MarkedParts.{IsWritable, Marked, filled, live_in, live_of, marked_with}
+use Rattle.holdings.specs.MarkedParts.{IsWritable, filled, marked_with}
 use Rattle.holdings.specs.Parts.{Parts, all_parts, appended, closed_by, has_room, live, parts_of, sealed, with_document, with_room, without, without_docno}
 use Rattle.holdings.specs.declared.spot.Spot.{Spot}
 use Rattle.holdings.proofs.CellLemmas.{map-push}
 use Rattle.holdings.proofs.KeptLemmas.{AreKept-add, AreKept-close, live-added}
-use Rattle.holdings.proofs.LiveLemmas.{flat_map-push, live_of-marked_with}
+use Rattle.holdings.proofs.LiveLemmas.{flat_map-push, live-marked_with}
 
 is-less : (a b : ℕ) → a < b → nat_lt a b ≡ true
 is-less a b h = grind arith
@@ -67,6 +69,15 @@ live-closed_by told p (d ∷ docs) = flat_map-push (live_in told) (all_parts p) 
 
 pub live-sealed : (told : Option Files) (p : Parts) → live told (sealed p) ≡ live told p
 live-sealed told p = live-closed_by told p p.filling
+
+closed-live_by : (told : Option Files) (p : Parts) (docs : List Document) → p.filling ≡ docs → snapshots.live told (closed_by p docs).closed ≡ live told p
+closed-live_by told p [] is =
+    sym (flat_map-push (live_in told) p.closed (filled p.filling p.marks) ∙ ap (λ (l : List Document). snapshots.live told p.closed ++ unmarked l p.marks) is ∙ append-nil (snapshots.live told p.closed))
+closed-live_by told p (d ∷ docs) is = refl
+
+-- once the last part is closed, all live documents are those of closed parts
+pub live-closed : (told : Option Files) (p : Parts) → snapshots.live told (sealed p).closed ≡ live told p
+live-closed told p = closed-live_by told p p.filling refl
 
 -- ---- room for one more document
 
@@ -197,4 +208,4 @@ without_docno-seen p k closed marks seen =
     ∙ ap (λ (m : Marked). record { most = p.most; closed = map (marked_with k) p.closed; filling = p.filling; marks = m.marks }) same.1
 
 pub live-without_docno : (told : Option Files) (p : Parts) (k : List ℕ) → live told (without_docno p k) ≡ without k (live told p)
-live-without_docno told p k = ap (live_of told) (all_parts-without_docno p k) ∙ live_of-marked_with told k (all_parts p)
+live-without_docno told p k = ap (snapshots.live told) (all_parts-without_docno p k) ∙ live-marked_with told k (all_parts p)

@@ -5,11 +5,13 @@ use Rattle.std.proofs.lemmas.List.Sums.{sum_by-append, sum_by-cons}
 use Rattle.ri_base.specs.Collection.{token_count}
 use Rattle.ri_base.specs.Documents.{Document}
 use Rattle.disk_index.specs.Parts.{Source, InMemory, size}
+use Rattle.disk_index.specs.Snapshots.{IsSnapshot, Marked, documents_held}
 use Rattle.holdings.specs.Contents.{Contents, is_full}
 use Rattle.holdings.specs.Kept.{AreCounted}
-use Rattle.holdings.specs.MarkedParts.{Marked, documents_held, filled, marked_with, tokens_held, tokens_in}
+use Rattle.holdings.specs.MarkedParts.{filled, marked_with, tokens_held, tokens_in}
 use Rattle.holdings.specs.Parts.{Parts, all_parts, appended, closed_by, has_room, sealed, with_document, with_room, without_docno}
 use Rattle.holdings.specs.declared.limits.Limits.{Limits}
+use Rattle.holdings.proofs.LiveLemmas.{tokens-held}
 use Rattle.holdings.proofs.RoomLemmas.{all_parts-without_docno}
 
 module _ (f : Source → ℕ) where
@@ -116,6 +118,16 @@ module _ (p : Parts) (l : Limits) (n t : ℕ) (counted : AreCounted p l n t) whe
     tokens_fit = counted.tokens_fit;
     most = counted.most;
   }
+
+  -- the closed parts are few and short enough for a snapshot
+  pub closed-fits : IsSnapshot p.closed
+  closed-fits =
+      let docs = sum-push size p.closed (filled p.filling p.marks) in
+      let tokens = sum-push tokens_in p.closed (filled p.filling p.marks) in
+      record {
+        few = omega (arith, docs, counted.documents_are, counted.documents_fit, l.docs_fit);
+        short = λ told. let same = tokens-held told p.closed in omega (arith, same, tokens, counted.tokens_are, counted.tokens_fit, l.tokens_fit);
+      }
 
 -- ---- room within the limits
 

@@ -1,8 +1,9 @@
 -- What is held, within its limits, and what becomes of a document.
 use Rattle.std.specs.Prelude.{◌≡◌, ◌⊎◌, ◌||◌, ◌+◌, ◌-◌, ◌^◌, ℕ, Bool, List, [], Result, Ok, Err, length, min, nat_lt, if◌then◌else◌}
 use Rattle.ri_base.specs.Documents.{Document}
+use Rattle.disk_index.specs.Snapshots.{documents_held}
 use Rattle.holdings.specs.Parts.{Parts, all_parts, is_live, sealed, with_document, without_docno}
-use Rattle.holdings.specs.MarkedParts.{documents_held, tokens_held}
+use Rattle.holdings.specs.MarkedParts.{tokens_held}
 use Rattle.holdings.specs.declared.limits.Limits.{Limits}
 use Rattle.holdings.specs.declared.refusals.AddRefusal.{AddRefusal}
 use Rattle.holdings.specs.declared.refusals.AddRefusal.TheVariants.{Repeated, CollectionFull, Memory}

@@ -4,9 +4,10 @@ use Rattle.std.specs.List.{All}
 use Rattle.std.specs.Map.{lookup}
 use Rattle.std.specs.Str.{bytes_eq}
 use Rattle.ri_base.specs.declared.limits.TheConstants.{MAX_PART_DOCS}
+use Rattle.disk_index.specs.Snapshots.{Marked, documents_held}
 use Rattle.holdings.specs.Marks.{cells}
 use Rattle.holdings.specs.Parts.{Parts, all_parts}
-use Rattle.holdings.specs.MarkedParts.{IsWhole, IsWritable, Marked, docnos_in, docnos_of, documents_held, tokens_held}
+use Rattle.holdings.specs.MarkedParts.{IsWhole, IsWritable, docnos_in, docnos_of, tokens_held}
 use Rattle.holdings.specs.declared.limits.Limits.{Limits}
 use Rattle.holdings.specs.declared.spot.Spot.{Spot}
 

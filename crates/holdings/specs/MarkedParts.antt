@@ -6,12 +6,8 @@ use Rattle.ri_base.specs.Documents.{Document}
 use Rattle.ri_base.specs.declared.limits.TheConstants.{MAX_PART_DOCS, MAX_PART_NAMES}
 use Rattle.store_ends.specs.Files.{Files}
 use Rattle.disk_index.specs.Parts.{Source, InMemory, OnDisk, reads, size}
-use Rattle.holdings.specs.Marks.{marks_with, unmarked}
-
--- a part with its marks
-pub record Marked : Type 0 where
-  pub source : Source
-  pub marks : List Bool
+use Rattle.disk_index.specs.Snapshots.{Marked, unmarked}
+use Rattle.holdings.specs.Marks.{marks_with}
 
 -- it has a mark for each document
 abbrev pub IsWhole : Marked → Type 0
@@ -24,14 +20,6 @@ filled docs marks = record { source = InMemory docs; marks = marks }
 -- all documents of parts, the marked ones included
 abbrev pub documents_of : Option Files → List Marked → List Document
 documents_of told parts = flat_map (λ m. reads told m.source) parts
-
--- the documents of a part that aren't marked
-abbrev pub live_in : Option Files → Marked → List Document
-live_in told m = unmarked (reads told m.source) m.marks
-
--- those of parts, one part behind the other
-abbrev pub live_of : Option Files → List Marked → List Document
-live_of told parts = flat_map (live_in told) parts
 
 -- the docnos of a part's documents
 abbrev pub docnos_in : Source → List (List ℕ)
@@ -47,10 +35,7 @@ tokens_in (OnDisk kept) = sum_by (λ o. o.tokens) kept.outlines
 abbrev pub docnos_of : List Marked → List (List ℕ)
 docnos_of parts = flat_map (λ m. unmarked (docnos_in m.source) m.marks) parts
 
--- how many documents and tokens are held, the marked ones included
-abbrev pub documents_held : List Marked → ℕ
-documents_held parts = sum_by (λ m. size m.source) parts
-
+-- how many tokens all their documents have, the marked ones included
 abbrev pub tokens_held : List Marked → ℕ
 tokens_held parts = sum_by (λ m. tokens_in m.source) parts
 

@@ -1,15 +1,8 @@
--- What marks leave of a list, and the marks that a deletion makes.
+-- The places of a list that marks leave, and the marks that a deletion makes.
 use Rattle.std.specs.Prelude.{ℕ, Bool, true, false, ◌||◌, List, [], ◌∷◌, Option, Some, None}
 use Rattle.std.specs.Str.{bytes_eq}
 
--- the ones that aren't marked, in their order
-abbrev pub unmarked : {A : Type 0} → List A → List Bool → List A
-unmarked [] marks = []
-unmarked (x ∷ xs) [] = []
-unmarked (x ∷ xs) (true ∷ marks) = unmarked xs marks
-unmarked (x ∷ xs) (false ∷ marks) = x ∷ unmarked xs marks
-
--- each of them in its place, and nothing where it is marked
+-- each of a list in its place, and nothing where it is marked
 abbrev pub cells : {A : Type 0} → List A → List Bool → List (Option A)
 cells [] marks = []
 cells (x ∷ xs) [] = []

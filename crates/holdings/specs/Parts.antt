@@ -8,9 +8,11 @@ use Rattle.ri_base.specs.Documents.{Document}
 use Rattle.ri_base.specs.declared.limits.TheConstants.{MAX_PART_NAMES}
 use Rattle.store_ends.specs.Files.{Files}
 use Rattle.disk_index.specs.Parts.{InMemory}
+use Rattle.disk_index.specs.Snapshots as snapshots
+use Rattle.disk_index.specs.Snapshots.{Marked}
 use Rattle.memory_index.specs.Kept.{Index}
 use Rattle.holdings.specs.Marks.{marks_with}
-use Rattle.holdings.specs.MarkedParts.{Marked, docnos_in, docnos_of, filled, live_of, marked_with}
+use Rattle.holdings.specs.MarkedParts.{docnos_in, docnos_of, filled, marked_with}
 
 -- the parts that are closed, and the documents of the one that is being filled, with their marks; `most` is how many of these
 -- there may be
@@ -30,7 +32,7 @@ all_parts p = p.closed ++ filled p.filling p.marks ∷ []
 
 -- the live documents
 abbrev pub live : Option Files → Parts → List Document
-live told p = live_of told (all_parts p)
+live told p = snapshots.live told (all_parts p)
 
 -- a live document has this docno
 abbrev pub is_live : Parts → List ℕ → Bool

@@ -2,9 +2,8 @@
 ghost use Rattle.std.specs.Prelude.{◌≡◌, ◌++◌, ◌∷◌, [], length, OnOk, OnErr, MatchResult};
 ghost use Rattle.holdings.specs.MarkedParts.{filled};
 
-use crate::MarkedPart;
 use deletion_list::DelList;
-use disk_index::Part;
+use disk_index::{MarkedPart, Part};
 use memory_index::MemIndex;
 use ri_base::{NoMemory, Sealed};
 use std::alloc::{AllocError, Global};

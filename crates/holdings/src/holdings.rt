@@ -5,12 +5,15 @@ ghost use Rattle.std.specs.Str.{bytes_eq};
 ghost use Rattle.ri_base.specs.Collection.{token_count};
 ghost use Rattle.ri_base.specs.Documents.{Document};
 ghost use Rattle.store_ends.specs.Files.{Files};
+ghost use Rattle.disk_index.specs.Snapshots as snapshots;
+ghost use Rattle.disk_index.specs.Snapshots.{IsSnapshot, documents_held};
 ghost use Rattle.holdings.specs.Contents.{Answers, Contents, added, all_closed, answer, deleted, is_full, none_held};
-ghost use Rattle.holdings.specs.MarkedParts.{IsWhole, IsWritable, docnos_of, documents_held, documents_of, tokens_held};
-ghost use Rattle.holdings.specs.Parts.{all_parts, is_live, live, without};
+ghost use Rattle.holdings.specs.MarkedParts.{IsWhole, IsWritable, docnos_of, documents_of, tokens_held};
+ghost use Rattle.holdings.specs.Parts.{all_parts, is_live, live, sealed, without};
 
 use crate::live_parts::LiveParts;
-use crate::{AddRefusal, Limits, MarkedPart, NoSuchDoc};
+use crate::{AddRefusal, Limits, NoSuchDoc};
+use disk_index::{MarkedPart, Snapshot};
 use ri_base::{Doc, Docno, NoMemory};
 use std::alloc::Global;
 use std::marker::Model;
@@ -100,12 +103,15 @@ impl Holdings {
         self.limits
     }
 
-    /// The closed parts. Each has a mark for each document, and one in memory has no more documents and names of fields than
-    /// a segment can have.
+    /// The closed parts, of whose live documents no two have one docno. Each has a mark for each document, and one in memory has
+    /// no more documents and names of fields than a segment can have.
     pub fn closed_parts(&self) -> &[MarkedPart]
         ensures parts { result.now ≡ self.now.parts.closed }
         ensures whole { All IsWhole self.now.parts.closed }
         ensures writable { All (λ m. IsWritable m.source) self.now.parts.closed }
+        ensures docnos { (told : Option Files) → map (λ (d : Document). d.docno) (snapshots.live told self.now.parts.closed) ≡ docnos_of self.now.parts.closed }
+        ensures distinct { IsDistinct bytes_eq (docnos_of self.now.parts.closed) }
+        ensures fits { IsSnapshot self.now.parts.closed }
     {
         self.parts.closed()
     }
@@ -170,5 +176,18 @@ impl Holdings {
     {
         self.parts.seal(alloc, self.limits.part_docs)?;
         Ok(())
+    }
+
+    /// The live documents as they are now, of which no two have one docno. The part that is being filled is closed first, where
+    /// it has documents.
+    pub fn snapshot(&mut self, alloc: Global) -> Result<Snapshot, NoMemory>
+        ensures parts { IfOk result (λ s. s ≡ (sealed self.old.parts).closed) }
+        ensures documents { (told : Option Files) → IfOk result (λ s. snapshots.live told s ≡ live told self.old.parts) }
+        ensures distinct { IfOk result (λ s. IsDistinct bytes_eq (docnos_of s)) }
+        ensures closed { OnOk result (self.new ≡ all_closed self.old) }
+        ensures live { (told : Option Files) → live told self.new.parts ≡ live told self.old.parts }
+    {
+        self.seal(alloc)?;
+        Ok(Snapshot::of(alloc, self.closed_parts())?)
     }
 }

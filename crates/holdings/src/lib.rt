@@ -5,12 +5,10 @@ mod closing;
 mod holdings;
 mod limits;
 mod live_parts;
-mod marked_part;
 mod places;
 mod refusals;
 mod spot;
 
 pub use holdings::Holdings;
-pub use limits::{Limits, MAX_HELD_DOCS};
-pub use marked_part::MarkedPart;
+pub use limits::Limits;
 pub use refusals::{AddRefusal, NoSuchDoc};

@@ -1,12 +1,10 @@
 // How much is held.
 ghost use Rattle.std.specs.Prelude.{◌≡◌, ◌≤◌};
-ghost use Rattle.holdings.specs.declared.limits.TheConstants.{MAX_HELD_DOCS};
+ghost use Rattle.disk_index.specs.declared.limits.TheConstants.{MAX_HELD_DOCS};
 ghost use Rattle.ri_base.specs.declared.limits.TheConstants.{MAX_HELD_TOKENS, MAX_PART_DOCS};
 
+use disk_index::limits::MAX_HELD_DOCS;
 use ri_base::limits::{MAX_HELD_TOKENS, MAX_PART_DOCS};
-
-/// The documents that are held, at most: 2^22, four of the largest parts.
-pub const MAX_HELD_DOCS: u64 = 4_194_304;
 
 /// How many documents a part has at most, and how many documents and tokens are held at most, the deleted ones included
 /// until they are left out of the parts.
@@ -30,7 +28,7 @@ impl Limits {
     {
         Limits {
             part_docs: MAX_PART_DOCS as u32,
-            held_docs: MAX_HELD_DOCS,
+            held_docs: u64::from(MAX_HELD_DOCS),
             held_tokens: MAX_HELD_TOKENS,
         }
     }

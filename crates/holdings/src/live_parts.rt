@@ -11,11 +11,11 @@ ghost use Rattle.holdings.specs.Kept.{marked_at};
 ghost use Rattle.holdings.specs.MarkedParts.{IsWhole, IsWritable, docnos_of, filled};
 ghost use Rattle.holdings.specs.Parts.{all_parts, is_live, live, parts_of, sealed, with_document, with_room, without_docno};
 
-use crate::MarkedPart;
 use crate::closing::close;
 use crate::places::insert;
 use crate::spot::Spot;
 use deletion_list::DelList;
+use disk_index::MarkedPart;
 use indexmap::IndexMap;
 use memory_index::{MemIndex, MemRefusal};
 use ri_base::limits::MAX_PART_NAMES;
@@ -63,6 +63,7 @@ impl LiveParts {
         ensures parts { result.now ≡ self.now.closed }
         ensures whole { All IsWhole self.now.closed }
         ensures writable { All (λ m. IsWritable m.source) self.now.closed }
+        ensures distinct { IsDistinct bytes_eq (docnos_of self.now.closed) }
     {
         &self.closed
     }
@@ -223,12 +224,13 @@ fn append(
 
 /// Marks the document at this place.
 fn mark_at(closed: &mut Vec<MarkedPart>, marks: &mut DelList, spot: Spot)
-    requires { spot.id < length (slice_index_or (closed.old.items ++ filled [] marks.old ∷ []) spot.part (filled [] [])).marks }
+    requires room { spot.id < length (slice_index_or (closed.old.items ++ filled [] marks.old ∷ []) spot.part (filled [] [])).marks }
+    requires whole { All IsWhole closed.old.items }
     ensures { (docs : List Document) → closed.new.items ++ filled docs marks.new ∷ [] ≡ marked_at (closed.old.items ++ filled docs marks.old ∷ []) spot.part spot.id }
 {
     if spot.part < closed.len() {
         let marked = &mut closed[spot.part];
-        marked.mark(spot.id);
+        let _ = marked.mark(spot.id);
     } else {
         let _ = marks.mark(spot.id);
     }

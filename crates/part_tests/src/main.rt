@@ -4,7 +4,13 @@
 #[cfg(test)]
 mod broken;
 #[cfg(test)]
+mod documents;
+#[cfg(test)]
 mod failing;
+#[cfg(test)]
+mod kinds;
+#[cfg(test)]
+mod marked;
 #[cfg(test)]
 mod places;
 #[cfg(test)]

@@ -150,7 +150,7 @@ fn a_docno_is_free_again(rt: HostRuntime) -> Result<(), Fail> {
 fn closed(alloc: Global, held: &Holdings) -> Result<Vec<(u32, u32)>, Fail> {
     let mut parts = Vec::new(alloc);
     for marked in held.closed_parts() {
-        parts.push((marked.part().docs(), marked.marks().live_count()))?;
+        parts.push((marked.part().docs(), marked.live_count()))?;
     }
     Ok(parts)
 }
@@ -166,6 +166,19 @@ fn parts_are_closed(rt: HostRuntime) -> Result<(), Fail> {
             [(2, 1), (1, 1)].as_slice()
         );
     }
+    Ok(())
+}
+
+// A snapshot has the live documents of its moment.
+#[test]
+fn a_snapshot_stays(rt: HostRuntime) -> Result<(), Fail> {
+    let mut held = small(rt.alloc())?;
+    first_wrong(rt.alloc(), &mut held, &DOCUMENTS)?;
+    let before = held.snapshot(rt.alloc())?;
+    assert_eq!(rt; before.parts().len(), 2);
+    assert_eq!(rt; delete(rt.alloc(), &mut held, "d2")?, Answer::Deleted);
+    let after = held.snapshot(rt.alloc())?;
+    assert_eq!(rt; (before.live_count(), after.live_count()), (2, 1));
     Ok(())
 }
 

@@ -1,4 +1,4 @@
-use Rattle.disk_index.proofs.KeptLemmas.{read-places, read-terms}
+use Rattle.disk_index.proofs.KeptLemmas.{read-few, read-places, read-terms}
 use Rattle.disk_index.proofs.opening.dictionary_within.Goals as goal
 
 pub returns-clause-terms : goal.returns-clause-terms
@@ -6,3 +6,6 @@ returns-clause-terms c = read-terms c.args.header.now _ c.read_dictionary.result
 
 pub returns-clause-places : goal.returns-clause-places
 returns-clause-places c = read-places c.args.header.now _ c.read_dictionary.result c.requires.order.file c.read_dictionary.ensures.found
+
+pub returns-clause-few : goal.returns-clause-few
+returns-clause-few c = read-few c.args.header.now _ c.read_dictionary.result c.requires.order.terms c.read_dictionary.ensures.found

@@ -1,4 +1,4 @@
-use Rattle.std.proofs.Common.{◌≡◌, ◌<◌, ◌≤◌, ◌/◌, ltb, true, false, nat_lt, List, length, rules, sym, ◌∙◌, arith}
+use Rattle.std.proofs.Common.{◌≡◌, ◌/◌, ltb, false, nat_lt, List, length, rules, sym, ◌∙◌, arith}
 use Rattle.std.specs.List.Sorted.{IsNonDecreasingBy}
 use Rattle.std.proofs.lemmas.List.Sorted.{IsPartitionedBy-ltb, IsPartitionPoint-from_clause}
 use Rattle.ri_base.specs.declared.places.Place.{Place}

@@ -1,4 +1,4 @@
-use Rattle.std.proofs.Common.{◌≡◌, Option, length, subst, arith}
+use Rattle.std.proofs.Common.{◌≡◌, length, subst, arith}
 use Rattle.disk_index.specs.Parts.{reads, source_of}
 use Rattle.disk_index.specs.Snapshots.{Marked, live_in}
 use Rattle.disk_index.proofs.LiveLemmas.{unmarked-length}

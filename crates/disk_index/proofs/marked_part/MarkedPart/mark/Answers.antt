@@ -1,4 +1,4 @@
-use Rattle.std.proofs.Common.{◌≡◌, ◌<◌, ◌≤◌, ◌-◌, Bool, true, List, set, sym, subst, ◌∙◌}
+use Rattle.std.proofs.Common.{◌<◌, ◌-◌, Bool, List, sym, subst, ◌∙◌}
 use Rattle.disk_index.specs.Parts.{size, source_of}
 use Rattle.disk_index.specs.Snapshots.{AreCounted, Marked}
 use Rattle.disk_index.proofs.LiveLemmas.{counted-marked}

@@ -1,4 +1,4 @@
-use Rattle.std.proofs.Common.{◌≡◌, ◌<◌, ◌≤◌, Bool, false, get_or, refl, subst, ◌∙◌, arith}
+use Rattle.std.proofs.Common.{◌<◌, false, get_or, refl, subst, ◌∙◌, arith}
 use Rattle.disk_index.specs.Parts.{size, source_of}
 use Rattle.disk_index.proofs.LiveLemmas.{Unless, first-more, unless-le}
 use Rattle.disk_index.proofs.marked_part.MarkedPart.new.Goals as goal

@@ -1,7 +1,8 @@
 use Rattle.std.proofs.Common.{◌≡◌, ◌+◌, ◌∙◌, ap, sym, subst, false, length, arith, rules}
+use Rattle.disk_index.specs.Snapshots.{documents_held}
 use Rattle.holdings.specs.Contents.{Contents, is_full}
 use Rattle.holdings.specs.Kept.{AreCounted}
-use Rattle.holdings.specs.MarkedParts.{documents_held, tokens_held}
+use Rattle.holdings.specs.MarkedParts.{tokens_held}
 use Rattle.holdings.specs.Parts.{Parts, all_parts, with_document}
 use Rattle.holdings.proofs.SumLemmas.{AreCounted-with, documents-with, fits, tokens-filling, tokens-with}
 use Rattle.holdings.proofs.holdings.Holdings.add.Goals as goal

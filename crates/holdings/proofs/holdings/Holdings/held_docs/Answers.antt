@@ -1,6 +1,6 @@
 use Rattle.std.proofs.Common.{◌∙◌, ap, sym}
+use Rattle.disk_index.specs.Snapshots.{documents_held}
 use Rattle.holdings.specs.Contents.{Contents}
-use Rattle.holdings.specs.MarkedParts.{documents_held}
 use Rattle.holdings.specs.Parts.{all_parts}
 use Rattle.holdings.proofs.LiveLemmas.{length-documents_of}
 use Rattle.holdings.proofs.holdings.Holdings.held_docs.Goals as goal

@@ -1,7 +1,8 @@
 use Rattle.std.proofs.Common.{◌∙◌, ap, sym, subst}
+use Rattle.disk_index.specs.Snapshots.{documents_held}
 use Rattle.holdings.specs.Contents.{Contents}
 use Rattle.holdings.specs.Kept.{AreCounted}
-use Rattle.holdings.specs.MarkedParts.{documents_held, tokens_held}
+use Rattle.holdings.specs.MarkedParts.{tokens_held}
 use Rattle.holdings.specs.Parts.{Parts, all_parts, live}
 use Rattle.holdings.proofs.RoomLemmas.{live-sealed}
 use Rattle.holdings.proofs.SumLemmas.{AreCounted-sealed, documents-sealed, tokens-sealed}

@@ -2,17 +2,21 @@ use Rattle.std.proofs.Common.{◌≡◌, ◌∙◌, ap, sym, subst, List, Some, 
 use Rattle.std.specs.Map.{lookup}
 use Rattle.std.specs.Prelude.{is_some}
 use Rattle.std.specs.Str.{bytes_eq}
+use Rattle.disk_index.specs.Snapshots.{Marked}
 use Rattle.holdings.specs.Kept.{AreKept}
-use Rattle.holdings.specs.MarkedParts.{Marked}
+use Rattle.holdings.specs.MarkedParts.{IsWhole, filled}
 use Rattle.holdings.specs.Parts.{Parts, all_parts, is_live, parts_of, without_docno}
 use Rattle.holdings.specs.declared.spot.Spot.{Spot}
-use Rattle.holdings.proofs.KeptLemmas.{AreKept-mark, live-from_lookup, mark-room, once-kept}
+use Rattle.holdings.proofs.KeptLemmas.{All-front, AreKept-mark, live-from_lookup, mark-room, once-kept}
 use Rattle.holdings.proofs.MarkLemmas.{marked_at-marked_with}
 use Rattle.holdings.proofs.RoomLemmas.{without_docno-seen}
 use Rattle.holdings.proofs.live_parts.LiveParts.mark.Goals as goal
 
-pub mark_at-requires : goal.mark_at-requires
-mark_at-requires c =
+pub mark_at-requires-clause-whole : goal.mark_at-requires-clause-whole
+mark_at-requires-clause-whole c = All-front IsWhole c.self.inside.closed.items (filled c.self.inside.filling.documents c.self.inside.marks) c.self.invariant.whole
+
+pub mark_at-requires-clause-room : goal.mark_at-requires-clause-room
+mark_at-requires-clause-room c =
     let was : lookup (bytes_eq c.args.docno.now) c.self.inside.places.entries ≡ Some c.in-Some.spot = sym c.swap_remove.ensures.value ∙ c.in-Some.is in
     mark-room c.self.inside.closed.items c.self.inside.filling.documents c.self.inside.marks c.in-Some.spot.part c.in-Some.spot.id c.args.docno.now ((c.self.invariant.placed c.args.docno.now c.in-Some.spot).0 was)
 

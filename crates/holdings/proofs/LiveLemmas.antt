@@ -45,11 +45,11 @@ tokens-rebuilt : (kept : Kept) (file : List ℕ) → token_count (rebuilt kept f
 unfolding rebuilt
 tokens-rebuilt kept file = tokens-from (term_at file kept.outlines kept.dictionary) 0 kept.outlines
 
-docnos-reads : (told : Option Files) (source : Source) → map (λ (d : Document). d.docno) (reads told source) ≡ docnos_in source
+pub docnos-reads : (told : Option Files) (source : Source) → map (λ (d : Document). d.docno) (reads told source) ≡ docnos_in source
 docnos-reads told (InMemory docs) = refl
 docnos-reads told (OnDisk kept) = docnos-rebuilt kept (told_file told kept.number)
 
-tokens-reads : (told : Option Files) (source : Source) → token_count (reads told source) ≡ tokens_in source
+pub tokens-reads : (told : Option Files) (source : Source) → token_count (reads told source) ≡ tokens_in source
 tokens-reads told (InMemory docs) = refl
 tokens-reads told (OnDisk kept) = tokens-rebuilt kept (told_file told kept.number)
 

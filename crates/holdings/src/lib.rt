@@ -7,10 +7,12 @@ mod limits;
 mod live_parts;
 mod marked_part;
 mod places;
+mod placing;
 mod refusals;
 mod spot;
+mod sums;
 
 pub use holdings::Holdings;
 pub use limits::{Limits, MAX_HELD_DOCS};
 pub use marked_part::MarkedPart;
-pub use refusals::{AddRefusal, NoSuchDoc};
+pub use refusals::{AddRefusal, NoSuchDoc, PartsFault};

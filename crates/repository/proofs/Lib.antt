@@ -1,0 +1,3 @@
+pub mod ManifestLemmas
+pub mod MarkLemmas
+pub mod OpenLemmas

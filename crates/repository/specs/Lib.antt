@@ -1,0 +1,4 @@
+pub mod Names
+pub mod Opening
+pub mod Stands
+pub mod States

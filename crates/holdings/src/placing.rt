@@ -6,7 +6,6 @@ ghost use Rattle.disk_index.specs.Parts.{size, source_of};
 ghost use Rattle.holdings.specs.Kept.{ArePlaced};
 ghost use Rattle.holdings.specs.MarkedParts.{Marked, docnos_in, filled};
 ghost use Rattle.holdings.specs.Placing.{PlacesOne, Repeats};
-ghost use Rattle.holdings.specs.declared.spot.Spot.{Spot};
 
 use crate::MarkedPart;
 use crate::places::insert;

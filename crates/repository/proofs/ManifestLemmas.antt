@@ -69,7 +69,8 @@ IsStarted-made limits (Some f) now made = elim made [ inl old ↦ inl old | inr 
 
 pub Leaves-started : (limits : Limits) (past since : ℕ → Files → Type 0) (before : Option Files) → Leaves past since (OldOrNew manifest_name (Some (manifest_text empty_manifest)) before)
     → Leaves past since (IsStarted limits before)
-Leaves-started limits past since before leaves = Leaves-then past past since _ _ (Leaves-same past _) leaves (IsStarted-made limits before)
+Leaves-started limits past since before leaves = Leaves-then past past since (IsStarted limits before) (OldOrNew manifest_name (Some (manifest_text empty_manifest)) before) (Leaves-same past (IsStarted limits before)) leaves
+    (IsStarted-made limits before)
 
 -- ---- what a store tells of the manifest
 

@@ -35,7 +35,7 @@ fn text_bytes(text: &[u8]) -> u64 {
 
 /// How many bytes the names of the fields have.
 fn name_bytes(alloc: Global, index: &DiskIndex) -> Result<u64, NoMemory> {
-    let mut names = IndexSet::new(alloc);
+    let mut names = IndexSet::<Name>::new(alloc);
     let mut bytes = 0u64;
     for id in 0..index.docs() {
         for field in index.spans(id) {

@@ -112,12 +112,19 @@ fn of_manifest<T: Store>(
     ensures later { T.faults store.old ≤ T.faults store.new }
     ensures store { result ≡ Err SegFault.Store → Rose (T.faults store.old) (T.faults store.new) }
 {
-    let held = hold_entries(alloc, store, limits, list.segments.as_slice())?;
+    let Manifest {
+        version: _,
+        next,
+        segments,
+        stale,
+        priors,
+    } = list;
+    let held = hold_entries(alloc, store, limits, segments.as_slice())?;
     Ok(Repository {
         held,
-        next: list.next,
-        stale: list.stale.into_vec(),
-        priors: list.priors.into_vec(),
+        next,
+        stale: stale.into_vec(),
+        priors: priors.into_vec(),
         usable: true,
     })
 }

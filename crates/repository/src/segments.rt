@@ -7,7 +7,6 @@ ghost use Rattle.ri_base.specs.Keeps.{Rose};
 ghost use Rattle.store_ends.specs.Files.{Files, IsQuiet};
 ghost use Rattle.disk_index.specs.Opening.{IsOpenFault};
 ghost use Rattle.disk_index.specs.Parts.{OnDisk};
-ghost use Rattle.holdings.specs.declared.limits.Limits.{Limits};
 ghost use Rattle.repository.specs.Opening.{AreEntriesHeld, IsAcrossFault, IsEntryFault, IsEntryOpened};
 ghost use Rattle.repository.specs.Stands.{AreHeld, Collection, IsListed, marks_from};
 

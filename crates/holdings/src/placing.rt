@@ -92,10 +92,10 @@ pub fn place_all(
     let mut places = IndexMap::new(alloc);
     let mut number = 0;
     for part in parts {
-        if let Some(id) = place_part(alloc, &mut places, part, number)? {
-            return Ok(Err(Spot { part: number, id }));
+        match place_part(alloc, &mut places, part, number)? {
+            Some(id) => return Ok(Err(Spot { part: number, id })),
+            None => number += 1,
         }
-        number += 1;
     }
     Ok(Ok(places))
 }

@@ -30,12 +30,13 @@ pub fn held_sums(parts: &[MarkedPart], limits: Limits) -> Result<(u64, u64), Par
     let mut documents = 0;
     let mut tokens = 0;
     let mut number = 0;
-    for part in parts {
-        documents += u64::from(part.part().docs());
+    for marked in parts {
+        let part = marked.part();
+        documents += u64::from(part.docs());
         if documents > limits.held_docs {
             return Err(PartsFault::TooManyDocs { part: number });
         }
-        tokens += tokens_of(part.part());
+        tokens += tokens_of(part);
         if tokens > limits.held_tokens {
             return Err(PartsFault::TooManyTokens { part: number });
         }

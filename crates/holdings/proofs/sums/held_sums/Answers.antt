@@ -1,21 +1,21 @@
 use Rattle.std.proofs.Common.{◌≡◌, ◌+◌, ◌∙◌, sym, ap, arith, List, take, rules}
 use Rattle.std.proofs.lemmas.List.{take_all}
 use Rattle.std.proofs.lemmas.List.Sums.{sum_by_more}
-use Rattle.disk_index.specs.Parts.{size}
+use Rattle.disk_index.specs.Parts.{Source, size}
 use Rattle.holdings.specs.MarkedParts.{Marked, documents_held, tokens_held, tokens_in}
 use Rattle.holdings.proofs.sums.held_sums.Goals as goal
 
-pub loop-part-preserved : goal.loop-part-preserved
-loop-part-preserved c =
-    let inv = c.loop-part.invariant in
-    let m = c.part-item.result in
-    let documents = sum_by_more (λ (m : Marked). size m.source) c.args.parts.now c.loop-part.part-index m c.loop-part-test.true in
-    let tokens = sum_by_more (λ (m : Marked). tokens_in m.source) c.args.parts.now c.loop-part.part-index m c.loop-part-test.true in
-    let is = c.part-item.is in
+pub loop-marked-preserved : goal.loop-marked-preserved
+loop-marked-preserved c =
+    let inv = c.loop-marked.invariant in
+    let m = c.marked-item.result in
+    let is = ap (λ (m : Marked). m.source) c.marked-item.is in
+    let documents = sum_by_more (λ (m : Marked). size m.source) c.args.parts.now c.loop-marked.marked-index m c.loop-marked-test.true in
+    let tokens = sum_by_more (λ (m : Marked). tokens_in m.source) c.args.parts.now c.loop-marked.marked-index m c.loop-marked-test.true in
     record {
       counts = (let n = inv.counts in omega (arith, n));
-      documents = omega (arith, inv.documents, documents);
-      tokens = omega (arith, inv.tokens, tokens);
+      documents = omega (arith, inv.documents, documents, ap size is, ap size c.part-part.ensures.part, c.docs.ensures.size, c.from-documents.ensures);
+      tokens = omega (arith, inv.tokens, tokens, ap tokens_in is, ap tokens_in c.part-part.ensures.part, c.tokens_of-tokens.ensures.exact);
       documents_fit = omega arith;
       tokens_fit = omega arith;
     }

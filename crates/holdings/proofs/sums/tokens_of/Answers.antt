@@ -14,8 +14,8 @@ loop-id-preserved c =
     let inside : c.loop-id.id < size source = omega (arith, c.loop-id-test.true, c.docs-id-end.ensures.size) in
     let more = all-more docs c.loop-id.id (omega (arith, inside, reads-length None source)) in
     record {
-      short = omega (arith, c.loop-id.invariant.short, c.length.ensures.most, c.from.ensures);
-      first = omega (arith, c.loop-id.invariant.first, c.from.ensures, c.length.ensures.exact None, more);
+      short = omega (arith, c.loop-id.invariant.short, c.length.ensures.most, c.from-tokens.ensures);
+      first = omega (arith, c.loop-id.invariant.first, c.from-tokens.ensures, c.length.ensures.exact None, more);
     }
 
 pub returns-clause-exact : goal.returns-clause-exact

@@ -9,7 +9,7 @@ use Rattle.ri_base.specs.declared.seg_fault.FileName.TheVariants as names
 use Rattle.ri_base.specs.declared.seg_fault.PartName.TheVariants as parts
 use Rattle.ri_base.specs.declared.seg_fault.SegFault.{SegFault}
 use Rattle.ri_base.specs.declared.seg_fault.SegFault.TheVariants.{Malformed, Missing, Store, Memory}
-use Rattle.store_ends.specs.Files.{Files, Leaves, OldOrNew, with_file}
+use Rattle.store_ends.specs.Files.{Files, Leaves, LeavesNoMore, OldOrNew, with_file}
 use Rattle.store_ends.proofs.Files.{Leaves-same, Leaves-then, with_file-same}
 use Rattle.file_fields.specs.Answers.{AnswersPart}
 use Rattle.manifest.specs.Files.{manifest}
@@ -71,6 +71,16 @@ pub Leaves-started : (limits : Limits) (past since : ℕ → Files → Type 0) (
     → Leaves past since (IsStarted limits before)
 Leaves-started limits past since before leaves = Leaves-then past past since (IsStarted limits before) (OldOrNew manifest_name (Some (manifest_text empty_manifest)) before) (Leaves-same past (IsStarted limits before)) leaves
     (IsStarted-made limits before)
+
+-- the same where a reading call went before
+pub Leaves-created : (limits : Limits) (past mid since : ℕ → Files → Type 0) (a b : Option Files) (bytes : List ℕ) → LeavesNoMore past mid → b ≡ a → bytes ≡ manifest_text empty_manifest
+    → Leaves mid since (OldOrNew manifest_name (Some bytes) b) → Leaves past since (IsStarted limits a)
+Leaves-created limits past mid since a b bytes no_more files text leaves =
+    let exact : Leaves mid since (OldOrNew manifest_name (Some (manifest_text empty_manifest)) a) =
+    subst (λ (o : Option Files). Leaves mid since (OldOrNew manifest_name (Some (manifest_text empty_manifest)) o)) files
+    (subst (λ (l : List ℕ). Leaves mid since (OldOrNew manifest_name (Some l) b)) text leaves) in
+    let started = Leaves-started limits mid since a exact in
+    record { each = λ t f s. elim (started.each t f s) [ inl before ↦ inl (no_more t f before) | inr new ↦ inr new ] }
 
 -- ---- what a store tells of the manifest
 

@@ -1,6 +1,6 @@
 -- Parts that were opened over files that stand for a collection read as that collection.
-use Rattle.std.proofs.Common.{◌≡◌, ◌≤◌, ◌+◌, ℕ, Bool, List, [], ◌∷◌, ◌++◌, length, map, Option, Some, refl, sym, ap, subst, ◌∙◌, arith}
-use Rattle.std.specs.Prelude.{sum_by}
+use Rattle.std.proofs.Common.{◌≡◌, ◌≤◌, ◌<◌, ◌+◌, ℕ, zero, suc, get_or, Bool, true, false, List, [], ◌∷◌, ◌++◌, ◌⊎◌, inl, inr, length, map, Option, Some, None, refl, sym, ap, subst, ◌∙◌, arith}
+use Rattle.std.specs.Prelude.{is_some, sum_by}
 use Rattle.std.specs.List.{All, AllZip, IsDistinct}
 use Rattle.std.specs.Str.{bytes_eq}
 use Rattle.std.proofs.lemmas.List.{append-nil, length-map}
@@ -8,6 +8,8 @@ use Rattle.std.proofs.lemmas.List.Elements.{All-cons, All-nil}
 use Rattle.std.proofs.lemmas.List.Sums.{sum_by-cons}
 use Rattle.ri_base.specs.Collection.{token_count}
 use Rattle.ri_base.specs.Documents.{Document}
+use Rattle.ri_base.specs.Faults.{IsOutside}
+use Rattle.ri_base.specs.declared.seg_fault.SegFault.{SegFault}
 use Rattle.seg_codec.specs.Segment.{entry_of}
 use Rattle.seg_codec.specs.declared.documents.Entry.{Entry}
 use Rattle.store_ends.specs.Files.{Files}
@@ -23,11 +25,15 @@ use Rattle.holdings.specs.Contents.{Contents, closed_held}
 use Rattle.holdings.specs.MarkedParts.{IsWritable, Marked, docnos_of, documents_held, filled, live_of, tokens_held, tokens_in}
 use Rattle.holdings.specs.Marks.{unmarked}
 use Rattle.holdings.specs.Parts.{all_parts, live}
+use Rattle.holdings.specs.Placing.{IsPartsFault}
 use Rattle.holdings.specs.declared.limits.Limits.{Limits}
+use Rattle.holdings.specs.declared.refusals.PartsFault.{PartsFault}
+use Rattle.holdings.specs.declared.refusals.PartsFault.TheVariants.{TooManyDocs, TooManyTokens, Repeated, Memory}
 use Rattle.holdings.proofs.LiveLemmas.{docnos-live_of, flat_map-push, tokens-reads}
 use Rattle.holdings.proofs.SumLemmas.{AreCounted-closed}
-use Rattle.repository.specs.Opening.{AreEntriesHeld, IsEntryOpened, IsRepositoryOpened}
-use Rattle.repository.specs.Stands.{AreHeld, Collection, IsListed, IsPriorListed, Stands, live_listed, marks_from}
+use Rattle.repository.specs.Names.{manifest_name}
+use Rattle.repository.specs.Opening.{AreEntriesHeld, IsAcrossFault, IsEntryFault, IsEntryOpened, IsOpeningFault, IsPartOf, IsRepositoryOpened, of_all, of_entry, of_outside}
+use Rattle.repository.specs.Stands.{AreHeld, Collection, HasManifest, IsListed, IsPriorListed, Stands, live_listed, marks_from}
 use Rattle.repository.specs.States.{IsBacked as IsRepositoryBacked, ReadsAs, State, numbers_in, part_numbers}
 use Rattle.repository.proofs.ManifestLemmas.{HasManifest-same}
 
@@ -54,6 +60,20 @@ entry-marks told e m docs o l =
 
 entry-part : (told : Option Files) (e : SegEntry) (m : Marked) (docs : List Document) → IsEntryOpened told e m → IsListed told e docs → IsPartBacked told m.source
 entry-part told e m docs o l = subst (IsPartBacked told) (sym o.source) (docs, entry-backed told e m docs o l)
+
+-- the documents of the entry at a place
+pub listed-at : (told : Option Files) (es : List SegEntry) (dss : List (List Document)) (i : ℕ) (e : SegEntry) → AllZip (IsListed told) es dss → i < length es → e ≡ get_or es i e → (docs : List Document) × IsListed told e docs
+listed-at told [] dss i e listed below at = absurd (omega (arith, below))
+listed-at told (x ∷ es) [] i e listed below at = absurd listed
+listed-at told (x ∷ es) (ds ∷ dss) zero e listed below at = (ds, subst (λ (y : SegEntry). IsListed told y ds) (sym at) listed.0)
+listed-at told (x ∷ es) (ds ∷ dss) (suc i) e listed below at = listed-at told es dss i e listed.1 (omega (arith, below)) at
+
+-- a part of a fault is one of the entries
+pub part-of : (limits : Limits) (ms : List Marked) (n : ℕ) (fault : PartsFault) → length ms ≡ n → IsPartsFault limits ms fault → IsPartOf n fault
+part-of limits ms n (TooManyDocs part) long fault = omega (arith, long, fault.0)
+part-of limits ms n (TooManyTokens part) long fault = omega (arith, long, fault.0)
+part-of limits ms n (Repeated part id) long fault = omega (arith, long, fault.0)
+part-of limits ms n Memory long fault = tt
 
 -- ---- all entries
 
@@ -160,3 +180,32 @@ backed-opened told limits s c stands o =
       parts = subst (λ (x : Contents). All (λ (m : Marked). IsPartBacked told m.source) x.parts.closed) (sym h.same) (parts-opened told stands.list.segments stands.segments h.parts stands.listed opened);
       priors = (c.priors, subst (λ (l : List PriorEntry). AllZip (IsPriorListed told) l c.priors) (sym (o.priors_are ∙ ap (λ (m : Manifest). m.priors) same)) stands.priors);
     }
+
+-- ---- the manifest that was found is the one of a collection
+
+pub none-there : (told : Option Files) (list : Manifest) (found : Option Manifest) → HasManifest told list → ((f : Files) → told ≡ Some f → is_some found ≡ is_some (f manifest_name)) → found ≡ None → ⊥
+none-there told list found has there none =
+    let clash : false ≡ true = sym (ap (λ (o : Option Manifest). is_some o) none) ∙ there has.files has.is_told ∙ ap (λ (o : Option (List ℕ)). is_some o) has.file in
+    absurd cc
+
+module _ (limits : Limits) (told : Option Files) (list : Manifest) (c : Collection) (has : HasManifest told list) (stands : Stands limits told c) where
+  one-manifest : stands.list.segments ≡ list.segments
+  one-manifest = ap (λ (m : Manifest). m.segments) (HasManifest-same told stands.list list stands.has has)
+
+  pub found-listed : AllZip (IsListed told) list.segments stands.segments
+  found-listed = subst (λ (es : List SegEntry). AllZip (IsListed told) es stands.segments) one-manifest stands.listed
+
+  pub found-held : AreHeld limits list.segments stands.segments c
+  found-held = subst (λ (es : List SegEntry). AreHeld limits es stands.segments c) one-manifest stands.held
+
+pub opening-fault : (f : Files) (limits : Limits) (told : Option Files) (list : Manifest) (fault : SegFault) → told ≡ Some f → HasManifest told list
+    → IsOutside fault ⊎ (IsEntryFault f list.segments fault ⊎ IsAcrossFault told limits list.segments fault) → IsOpeningFault f limits fault
+opening-fault f limits told list fault is has why =
+    let there : HasManifest (Some f) list = subst (λ (o : Option Files). HasManifest o list) is has in
+    elim why [
+      | inl outside ↦ of_outside outside
+      | inr inside ↦ elim inside [
+        | inl entry ↦ of_entry list there entry
+        | inr across ↦ of_all list there (subst (λ (o : Option Files). IsAcrossFault o limits list.segments fault) is across)
+      ]
+    ]

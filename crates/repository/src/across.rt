@@ -39,7 +39,7 @@ fn name_bytes(alloc: Global, index: &DiskIndex) -> Result<u64, NoMemory> {
     let mut bytes = 0u64;
     for id in 0..index.docs() {
         for field in index.spans(id) {
-            if !names.contains(&field.name()) {
+            if !names.contains(field.name()) {
                 names.insert(field.name().clone_in(alloc)?)?;
                 bytes = bytes.saturating_add(text_bytes(field.name().as_bytes()));
             }

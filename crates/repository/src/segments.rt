@@ -1,12 +1,12 @@
 // The segments that a manifest lists, opened.
-ghost use Rattle.std.specs.Prelude.{◌≡◌, ◌≤◌, ◌⊎◌, List, Some, Err, true, length, set, IfOk, IfErr};
+ghost use Rattle.std.specs.Prelude.{◌≡◌, ◌≤◌, ◌⊎◌, ◌++◌, ◌∷◌, [], List, Some, Err, true, length, set, IfOk, IfErr, OnOk};
 ghost use Rattle.std.specs.List.{AllZip};
 ghost use Rattle.ri_base.specs.Documents.{Document};
 ghost use Rattle.ri_base.specs.Faults.{IsOutside};
 ghost use Rattle.ri_base.specs.Keeps.{Rose};
 ghost use Rattle.store_ends.specs.Files.{Files, IsQuiet};
 ghost use Rattle.disk_index.specs.Opening.{IsOpenFault};
-ghost use Rattle.disk_index.specs.Parts.{OnDisk};
+ghost use Rattle.disk_index.specs.Parts.{OnDisk, source_of};
 ghost use Rattle.repository.specs.Opening.{AreEntriesHeld, IsAcrossFault, IsEntryFault, IsEntryOpened};
 ghost use Rattle.repository.specs.Stands.{AreHeld, Collection, IsListed, marks_from};
 
@@ -40,13 +40,21 @@ fn marks_of(alloc: Global, count: u32, ids: &[u32]) -> Result<DelList, NoMemory>
     Ok(marks)
 }
 
+/// The part on disk.
+fn shared(alloc: Global, index: DiskIndex) -> Result<Part, NoMemory>
+    ensures { IfOk result (λ part. source_of part ≡ OnDisk index) }
+{
+    let index = Rc::new(alloc, index).map_err(AllocError::from)?;
+    Ok(Part::Disk(index))
+}
+
 /// The part on disk with the marks of its entry.
 fn with_marks(alloc: Global, index: DiskIndex, ids: &[u32]) -> Result<MarkedPart, NoMemory>
     ensures { IfOk result (λ part. part ≡ record { source = OnDisk index; marks = marks_from 0 (length index.outlines) ids.now }) }
 {
     let marks = marks_of(alloc, index.docs(), ids)?;
-    let index = Rc::new(alloc, index).map_err(AllocError::from)?;
-    Ok(MarkedPart::new(Part::Disk(index), marks))
+    let part = shared(alloc, index)?;
+    Ok(MarkedPart::new(part, marks))
 }
 
 /// The part of a segment that a manifest lists.
@@ -66,6 +74,14 @@ fn open_entry<T: Store>(
     Ok(with_marks(alloc, index, entry.marks.as_slice())?)
 }
 
+/// Puts a part behind the others.
+fn put_behind(parts: &mut Vec<MarkedPart>, part: MarkedPart) -> Result<(), NoMemory>
+    ensures { OnOk result (parts.new.items ≡ parts.old.items ++ part ∷ []) }
+{
+    parts.push(part)?;
+    Ok(())
+}
+
 /// The parts of the segments that a manifest lists.
 pub fn open_entries<T: Store>(
     alloc: Global,
@@ -81,7 +97,8 @@ pub fn open_entries<T: Store>(
 {
     let mut parts = Vec::with_capacity(alloc, entries.len())?;
     for entry in entries {
-        parts.push(open_entry(alloc, store, entry)?)?;
+        let part = open_entry(alloc, store, entry)?;
+        put_behind(&mut parts, part)?;
     }
     Ok(parts)
 }

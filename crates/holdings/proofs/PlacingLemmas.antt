@@ -4,7 +4,7 @@ use Rattle.std.specs.Prelude.{is_some}
 use Rattle.std.specs.List.{All, IsDistinct}
 use Rattle.std.specs.Map.{lookup}
 use Rattle.std.specs.Str.{bytes_eq}
-use Rattle.std.proofs.lemmas.List.{append-nil, get_or-map, length-map, length-take, map-append, take-append-drop, take_all, take_more}
+use Rattle.std.proofs.lemmas.List.{append-nil, get_or-map, length-map, length-take, take-append-drop, take_all, take_more}
 use Rattle.std.proofs.lemmas.List.Elements.{All-push}
 use Rattle.ri_base.specs.Collection.{document_at, empty_document}
 use Rattle.ri_base.specs.Documents.{Document}
@@ -19,7 +19,7 @@ use Rattle.holdings.specs.Marks.{cells, unmarked}
 use Rattle.holdings.specs.Parts.{all_parts, parts_of}
 use Rattle.holdings.specs.Placing.{PlacesOne, Repeats, front_of, named}
 use Rattle.holdings.specs.declared.spot.Spot.{Spot}
-use Rattle.holdings.proofs.CellLemmas.{map-push, push-last}
+use Rattle.holdings.proofs.CellLemmas.{map-push}
 use Rattle.holdings.proofs.KeptLemmas.{All-front, ArePlaced-add, ArePlaced-close, CanWrite, placed-distinct}
 use Rattle.holdings.proofs.LiveLemmas.{docnos-reads, flat_map-push}
 use Rattle.holdings.proofs.PlacedLemmas.{none_some}

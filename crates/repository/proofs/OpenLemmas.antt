@@ -1,24 +1,22 @@
 -- Parts that were opened over files that stand for a collection read as that collection.
-use Rattle.std.proofs.Common.{◌≡◌, ◌≤◌, ◌<◌, ◌+◌, ℕ, zero, suc, get_or, Bool, true, false, List, [], ◌∷◌, ◌++◌, ◌⊎◌, inl, inr, length, map, Option, Some, None, refl, sym, ap, subst, ◌∙◌, arith}
+use Rattle.std.proofs.Common.{◌≡◌, ◌≤◌, ◌<◌, ℕ, zero, suc, get_or, Bool, true, false, List, [], ◌∷◌, ◌++◌, ◌⊎◌, inl, inr, length, map, Option, Some, None, refl, sym, ap, subst, ◌∙◌, arith}
 use Rattle.std.specs.Prelude.{is_some, sum_by}
 use Rattle.std.specs.List.{All, AllZip, IsDistinct}
 use Rattle.std.specs.Str.{bytes_eq}
-use Rattle.std.proofs.lemmas.List.{append-nil, length-map}
+use Rattle.std.proofs.lemmas.List.{append-nil}
 use Rattle.std.proofs.lemmas.List.Elements.{All-cons, All-nil}
 use Rattle.std.proofs.lemmas.List.Sums.{sum_by-cons}
 use Rattle.ri_base.specs.Collection.{token_count}
 use Rattle.ri_base.specs.Documents.{Document}
 use Rattle.ri_base.specs.Faults.{IsOutside}
 use Rattle.ri_base.specs.declared.seg_fault.SegFault.{SegFault}
-use Rattle.seg_codec.specs.Segment.{entry_of}
-use Rattle.seg_codec.specs.declared.documents.Entry.{Entry}
 use Rattle.store_ends.specs.Files.{Files}
 use Rattle.manifest.specs.Files.{numbers_of}
 use Rattle.manifest.specs.declared.manifest.Manifest.{Manifest}
 use Rattle.manifest.specs.declared.manifest.PriorEntry.{PriorEntry}
 use Rattle.manifest.specs.declared.manifest.SegEntry.{SegEntry}
-use Rattle.disk_index.specs.Kept.{Kept, kept_of}
-use Rattle.disk_index.specs.Parts.{IsPartBacked, OnDisk, Source, reads, size}
+use Rattle.disk_index.specs.Kept.{kept_of}
+use Rattle.disk_index.specs.Parts.{IsPartBacked, reads, size}
 use Rattle.disk_index.specs.Reads.{IsBacked, HasSegment}
 use Rattle.disk_index.proofs.RebuiltLemmas.{reads-backed, reads-length}
 use Rattle.holdings.specs.Contents.{Contents, closed_held}
@@ -32,7 +30,7 @@ use Rattle.holdings.specs.declared.refusals.PartsFault.TheVariants.{TooManyDocs,
 use Rattle.holdings.proofs.LiveLemmas.{docnos-live_of, flat_map-push, tokens-reads}
 use Rattle.holdings.proofs.SumLemmas.{AreCounted-closed}
 use Rattle.repository.specs.Names.{manifest_name}
-use Rattle.repository.specs.Opening.{AreEntriesHeld, IsAcrossFault, IsEntryFault, IsEntryOpened, IsOpeningFault, IsPartOf, IsRepositoryOpened, of_all, of_entry, of_outside}
+use Rattle.repository.specs.Opening.{IsAcrossFault, IsEntryFault, IsEntryOpened, IsOpeningFault, IsPartOf, IsRepositoryOpened, of_all, of_entry, of_outside}
 use Rattle.repository.specs.Stands.{AreHeld, Collection, HasManifest, IsListed, IsPriorListed, Stands, live_listed, marks_from}
 use Rattle.repository.specs.States.{IsBacked as IsRepositoryBacked, ReadsAs, State, numbers_in, part_numbers}
 use Rattle.repository.proofs.ManifestLemmas.{HasManifest-same}

@@ -1,5 +1,5 @@
 -- What a repository holds, and what it reads as together with the files.
-use Rattle.std.specs.Prelude.{◌≡◌, ℕ, Bool, List, [], ◌∷◌, Option, Some}
+use Rattle.std.specs.Prelude.{◌≡◌, ℕ, Bool, List, [], ◌∷◌, Option}
 use Rattle.std.specs.List.{All, AllZip, flat_map}
 use Rattle.store_ends.specs.Files.{Files}
 use Rattle.manifest.specs.Files.{numbers_of}

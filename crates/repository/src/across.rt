@@ -19,6 +19,7 @@ use store_ends::Store;
 
 /// Where a header tells the number of documents, and that of tokens.
 const DOCS_PLACE: u64 = 12;
+
 const TOKENS_PLACE: u64 = 16;
 
 /// Where the documents of a segment begin.
@@ -26,6 +27,7 @@ const DOCUMENTS_PLACE: u64 = 64;
 
 /// How many bytes stand in a segment for a document's length and number of fields, and for a field.
 const LENGTH_BYTES: u64 = 6;
+
 const FIELD_BYTES: u64 = 10;
 
 /// How many bytes a text has with the byte of its length.

@@ -4,14 +4,17 @@ use repository::create;
 use ri_base::SegFault;
 use std::alloc::Global;
 use std::test::Fail;
-use store_ends::{FolderStore, Left, MemStore, Store};
+use store_ends::Left;
 
 #[test]
 fn twice(rt: HostRuntime) -> Result<(), Fail> {
     let mut store = store_of(rt.alloc(), &[], Vec::new(rt.alloc()))?;
     assert!(rt; create(rt.alloc(), &mut store)?);
     assert!(rt; !create(rt.alloc(), &mut store)?);
-    assert_eq!(rt; manifest_bytes(rt.alloc(), &mut store)?.as_slice(), EMPTY.as_slice());
+    assert_eq!(rt;
+        manifest_bytes(rt.alloc(), &mut store)?.as_slice(),
+        EMPTY.as_slice()
+    );
     Ok(())
 }
 
@@ -23,13 +26,16 @@ fn another_is_kept(rt: HostRuntime) -> Result<(), Fail> {
     ];
     let mut store = store_of(rt.alloc(), &files, Vec::new(rt.alloc()))?;
     assert!(rt; !create(rt.alloc(), &mut store)?);
-    assert_eq!(rt; manifest_bytes(rt.alloc(), &mut store)?.as_slice(), ONE.as_slice());
+    assert_eq!(rt;
+        manifest_bytes(rt.alloc(), &mut store)?.as_slice(),
+        ONE.as_slice()
+    );
     Ok(())
 }
 
 /// The manifest after a failure of this call, which leaves the file so.
 fn left_by(alloc: Global, call: u64, left: Left) -> Result<Vec<u8>, Fail> {
-    let mut store: MemStore = store_of(alloc, &[], fails_at(alloc, call, left)?)?;
+    let mut store = store_of(alloc, &[], fails_at(alloc, call, left)?)?;
     match create(alloc, &mut store) {
         Err(SegFault::Store) => manifest_bytes(alloc, &mut store),
         _ => Err(Fail::from("no failure")),
@@ -44,6 +50,9 @@ fn each_call_fails(rt: HostRuntime) -> Result<(), Fail> {
     }
     let torn = Left::Torn(b"indri".to_vec(rt.alloc())?);
     assert!(rt; left_by(rt.alloc(), 2, torn)?.is_empty());
-    assert_eq!(rt; left_by(rt.alloc(), 2, Left::New)?.as_slice(), EMPTY.as_slice());
+    assert_eq!(rt;
+        left_by(rt.alloc(), 2, Left::New)?.as_slice(),
+        EMPTY.as_slice()
+    );
     Ok(())
 }

@@ -8,6 +8,7 @@ use std::test::Fail;
 use store_ends::{Left, MemStore};
 
 const FIRST: &str = "seg-0000000000000001";
+
 const SECOND: &str = "seg-0000000000000002";
 
 /// How many documents are live, or that there is no repository, or why it isn't opened.
@@ -31,9 +32,26 @@ fn live_documents(rt: HostRuntime) -> Result<(), Fail> {
     let limits = Limits::real();
     let segment = (FIRST, SEGMENT.as_slice());
     assert_eq!(rt; opened(rt.alloc(), &[segment], limits)?, Ok(None));
-    assert_eq!(rt; opened(rt.alloc(), &[("manifest", EMPTY.as_slice()), segment], limits)?, Ok(Some(0)));
-    assert_eq!(rt; opened(rt.alloc(), &[("manifest", ONE.as_slice()), segment], limits)?, Ok(Some(2)));
-    assert_eq!(rt; opened(rt.alloc(), &[("manifest", MARKED.as_slice()), segment], limits)?, Ok(Some(1)));
+    assert_eq!(rt;
+        opened(
+            rt.alloc(),
+            &[("manifest", EMPTY.as_slice()), segment],
+            limits
+        )?,
+        Ok(Some(0))
+    );
+    assert_eq!(rt;
+        opened(rt.alloc(), &[("manifest", ONE.as_slice()), segment], limits)?,
+        Ok(Some(2))
+    );
+    assert_eq!(rt;
+        opened(
+            rt.alloc(),
+            &[("manifest", MARKED.as_slice()), segment],
+            limits
+        )?,
+        Ok(Some(1))
+    );
     Ok(())
 }
 
@@ -57,10 +75,16 @@ fn files_are_wrong(rt: HostRuntime) -> Result<(), Fail> {
     let fault = Told::Malformed(FileName::Manifest, PartName::Manifest, 32);
     assert_eq!(rt; opened(rt.alloc(), &[cut], limits)?, Err(fault));
     let fault = Told::Missing(FileName::Segment(1));
-    assert_eq!(rt; opened(rt.alloc(), &[("manifest", ONE.as_slice())], limits)?, Err(fault));
+    assert_eq!(rt;
+        opened(rt.alloc(), &[("manifest", ONE.as_slice())], limits)?,
+        Err(fault)
+    );
     let short = (FIRST, &SEGMENT[..100]);
     let fault = Told::Malformed(FileName::Segment(1), PartName::Header, 56);
-    assert_eq!(rt; opened(rt.alloc(), &[("manifest", ONE.as_slice()), short], limits)?, Err(fault));
+    assert_eq!(rt;
+        opened(rt.alloc(), &[("manifest", ONE.as_slice()), short], limits)?,
+        Err(fault)
+    );
     Ok(())
 }
 
@@ -100,14 +124,23 @@ fn each_call_fails(rt: HostRuntime) -> Result<(), Fail> {
     let files = [("manifest", ONE.as_slice()), (FIRST, SEGMENT.as_slice())];
     for call in 1..=CALLS {
         let mut store = store_of(rt.alloc(), &files, fails_at(rt.alloc(), call, Left::Old)?)?;
-        assert_eq!(rt; opened_in(rt.alloc(), &mut store, Limits::real())?, Err(Told::Store));
-        assert_eq!(rt; opened_in(rt.alloc(), &mut store, Limits::real())?, Ok(Some(2)));
+        assert_eq!(rt;
+            opened_in(rt.alloc(), &mut store, Limits::real())?,
+            Err(Told::Store)
+        );
+        assert_eq!(rt;
+            opened_in(rt.alloc(), &mut store, Limits::real())?,
+            Ok(Some(2))
+        );
     }
     let mut store = store_of(
         rt.alloc(),
         &files,
         fails_at(rt.alloc(), CALLS + 1, Left::Old)?,
     )?;
-    assert_eq!(rt; opened_in(rt.alloc(), &mut store, Limits::real())?, Ok(Some(2)));
+    assert_eq!(rt;
+        opened_in(rt.alloc(), &mut store, Limits::real())?,
+        Ok(Some(2))
+    );
     Ok(())
 }

@@ -1,4 +1,4 @@
-use Rattle.std.proofs.Common.{◌≡◌, ◌∙◌, ◌++◌, ◌∷◌, [], sym, arith, subst, List, take, length, rules}
+use Rattle.std.proofs.Common.{◌≡◌, ◌∙◌, ◌++◌, ◌∷◌, [], sym, arith, subst, List, take, rules}
 use Rattle.std.proofs.lemmas.List.{take_all}
 use Rattle.holdings.specs.Kept.{ArePlaced}
 use Rattle.holdings.specs.MarkedParts.{Marked, filled}
@@ -17,11 +17,12 @@ loop-part-preserved c =
 
 pub returns-in-Some : goal.returns-in-Some
 returns-in-Some c =
-    let inv = c.loop-part.invariant in
-    (omega (arith, inv.counts, c.loop-part-test.true),
-     Repeats-parts c.args.parts.now c.loop-part.part-index c.part-item.result (record { part = c.loop-part.number; id = c.in-Some.id }) c.loop-part-test.true c.part-item.is
-     (λ front long same. (rw c.in-Some.is at c.in_ok-id.ensures.repeats) front (long ∙ sym inv.counts)
-     (subst (λ (ps : List Marked). ArePlaced c.loop-part.places.entries (ps ++ filled [] [] ∷ [])) (sym same) inv.placed)))
+    let inv = c.loop-part.invariant in (
+      omega (arith, inv.counts, c.loop-part-test.true),
+      Repeats-parts c.args.parts.now c.loop-part.part-index c.part-item.result (record { part = c.loop-part.number; id = c.in-Some.id }) c.loop-part-test.true c.part-item.is
+          (λ front long same. (rw c.in-Some.is at c.in_ok-id.ensures.repeats) front (long ∙ sym inv.counts)
+          (subst (λ (ps : List Marked). ArePlaced c.loop-part.places.entries (ps ++ filled [] [] ∷ [])) (sym same) inv.placed)),
+    )
 
 pub returns : goal.returns
 returns c =

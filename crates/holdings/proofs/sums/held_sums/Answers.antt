@@ -1,8 +1,7 @@
-use Rattle.std.proofs.Common.{◌≡◌, ◌+◌, ◌∙◌, sym, ap, arith, List, take, rules}
-use Rattle.std.proofs.lemmas.List.{take_all}
+use Rattle.std.proofs.Common.{ap, arith}
 use Rattle.std.proofs.lemmas.List.Sums.{sum_by_more}
-use Rattle.disk_index.specs.Parts.{Source, size}
-use Rattle.holdings.specs.MarkedParts.{Marked, documents_held, tokens_held, tokens_in}
+use Rattle.disk_index.specs.Parts.{size}
+use Rattle.holdings.specs.MarkedParts.{Marked, tokens_in}
 use Rattle.holdings.proofs.sums.held_sums.Goals as goal
 
 pub loop-marked-preserved : goal.loop-marked-preserved

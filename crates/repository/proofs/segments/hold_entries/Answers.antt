@@ -1,4 +1,3 @@
-use Rattle.std.proofs.Common.{List, sym}
 use Rattle.std.proofs.lemmas.Slice.Zip.{AllZip-long}
 use Rattle.repository.specs.Opening.{IsEntryOpened}
 use Rattle.repository.proofs.OpenLemmas.{docnos-distinct, documents-fit, part-of, tokens-fit, writable-opened}

@@ -1,4 +1,4 @@
-use Rattle.std.proofs.Common.{◌≡◌, ◌<◌, ◌++◌, ◌∷◌, [], List, length, subst}
+use Rattle.std.proofs.Common.{◌<◌, ◌++◌, ◌∷◌, [], List, length, subst}
 use Rattle.holdings.specs.Kept.{ArePlaced}
 use Rattle.holdings.specs.MarkedParts.{Marked, filled}
 use Rattle.holdings.specs.Placing.{Repeats}

@@ -2,3 +2,4 @@ pub mod Names
 pub mod Opening
 pub mod Stands
 pub mod States
+pub mod Steps

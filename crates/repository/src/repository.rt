@@ -1,21 +1,23 @@
 // A repository.
-ghost use Rattle.std.specs.Prelude.{◌≡◌, ◌≤◌, ◌⊎◌, List, Option, Some, Err, length, is_some, IfOk, IfErr, IfSome, IsSomeAnd};
+ghost use Rattle.std.specs.Prelude.{◌≡◌, ◌≤◌, ◌⊎◌, ◌↔◌, List, Option, Some, Err, false, true, length, is_some, IfOk, IfErr, IfSome, IsErr, IsSomeAnd, OnErr, OnOk};
 ghost use Rattle.std.specs.List.{AllZip};
 ghost use Rattle.ri_base.specs.Documents.{Document};
 ghost use Rattle.ri_base.specs.Faults.{IsOutside};
 ghost use Rattle.ri_base.specs.Keeps.{Rose};
 ghost use Rattle.store_ends.specs.Files.{Files, IsQuiet};
-ghost use Rattle.holdings.specs.Parts.{live};
+ghost use Rattle.holdings.specs.Contents.{Answers, added, answer, deleted};
+ghost use Rattle.holdings.specs.Parts.{is_live, live};
 ghost use Rattle.repository.specs.Names.{manifest_name};
 ghost use Rattle.repository.specs.Opening.{IsAcrossFault, IsEntryFault, IsOpeningFault, IsRepositoryOpened};
 ghost use Rattle.repository.specs.Stands.{AreHeld, Collection, HasManifest, IsListed, Stands};
 ghost use Rattle.repository.specs.States.{IsBacked, ReadsAs};
+ghost use Rattle.repository.specs.Steps.{with_document, with_held, without_docno};
 
 use crate::opening::find_manifest;
 use crate::segments::hold_entries;
-use holdings::{Holdings, Limits};
+use holdings::{AddRefusal, Holdings, Limits, NoSuchDoc};
 use manifest::{Manifest, PriorEntry};
-use ri_base::SegFault;
+use ri_base::{Doc, Docno, SegFault};
 use std::alloc::Global;
 use std::marker::Model;
 use store_ends::Store;
@@ -65,6 +67,30 @@ impl Repository {
             None => Ok(None),
             Some(list) => Ok(Some(of_manifest(alloc, store, limits, list)?)),
         }
+    }
+
+    /// Adds a document behind the live ones.
+    pub fn add(&mut self, alloc: Global, doc: &Doc) -> Result<(), AddRefusal>
+        requires { self.old.usable ≡ true }
+        ensures answer { Answers result (answer self.old.held doc.now) }
+        ensures added { OnOk result (self.new ≡ with_held self.old (added self.old.held doc.now)) }
+        ensures reads { OnOk result ((told : Option Files) (c : Collection) → ReadsAs told self.old c → ReadsAs told self.new (with_document c doc.now)) }
+        ensures backed { (told : Option Files) → IsBacked told self.old → IsBacked told self.new }
+        ensures kept { OnErr result (self.new ≡ self.old) }
+    {
+        self.held.add(alloc, doc)
+    }
+
+    /// Takes the document with this docno out of the live ones. The numbers held count it on.
+    pub fn delete(&mut self, docno: &Docno) -> Result<(), NoSuchDoc>
+        requires { self.old.usable ≡ true }
+        ensures refused { IsErr result ↔ (is_live self.old.held.parts docno.now ≡ false) }
+        ensures deleted { OnOk result (self.new ≡ with_held self.old (deleted self.old.held docno.now)) }
+        ensures reads { OnOk result ((told : Option Files) (c : Collection) → ReadsAs told self.old c → ReadsAs told self.new (without_docno c docno.now)) }
+        ensures backed { (told : Option Files) → IsBacked told self.old → IsBacked told self.new }
+        ensures kept { OnErr result (self.new ≡ self.old) }
+    {
+        self.held.delete(docno)
     }
 
     /// How many documents are live.

@@ -76,17 +76,17 @@ pub fn manifest_bytes(alloc: Global, store: &mut MemStore) -> Result<Vec<u8>, Fa
 
 /// The file, the part and the place of a fault, or whether a file is missing.
 #[derive(Clone, Copy, Debug, PartialEq, Eq)]
-pub enum Told {
+pub enum Fault {
     Malformed(FileName, PartName, u64),
     Missing(FileName),
     Store,
 }
 
-pub fn told(fault: SegFault) -> Result<Told, Fail> {
+pub fn shown(fault: SegFault) -> Result<Fault, Fail> {
     match fault {
-        SegFault::Malformed { file, part, place } => Ok(Told::Malformed(file, part, place)),
-        SegFault::Missing { file } => Ok(Told::Missing(file)),
-        SegFault::Store => Ok(Told::Store),
+        SegFault::Malformed { file, part, place } => Ok(Fault::Malformed(file, part, place)),
+        SegFault::Missing { file } => Ok(Fault::Missing(file)),
+        SegFault::Store => Ok(Fault::Store),
         SegFault::Memory => Err(Fail::from("out of memory")),
     }
 }

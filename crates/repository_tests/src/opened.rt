@@ -1,5 +1,5 @@
 // Repositories are opened of the files of a store.
-use crate::files::{EMPTY, File, MARKED, ONE, SEGMENT, TWO, Told, fails_at, store_of, told};
+use crate::files::{EMPTY, File, MARKED, ONE, SEGMENT, TWO, Fault, fails_at, store_of, shown};
 use holdings::Limits;
 use repository::Repository;
 use ri_base::{FileName, PartName};
@@ -12,13 +12,13 @@ const FIRST: &str = "seg-0000000000000001";
 const SECOND: &str = "seg-0000000000000002";
 
 /// How many documents are live, or that there is no repository, or why it isn't opened.
-type Opened = Result<Option<u64>, Told>;
+type Opened = Result<Option<u64>, Fault>;
 
 fn opened_in(alloc: Global, store: &mut MemStore, limits: Limits) -> Result<Opened, Fail> {
     match Repository::open(alloc, store, limits) {
         Ok(Some(repository)) => Ok(Ok(Some(repository.live_count()))),
         Ok(None) => Ok(Ok(None)),
-        Err(fault) => Ok(Err(told(fault)?)),
+        Err(fault) => Ok(Err(shown(fault)?)),
     }
 }
 
@@ -72,15 +72,15 @@ fn just_opened(rt: HostRuntime) -> Result<(), Fail> {
 fn files_are_wrong(rt: HostRuntime) -> Result<(), Fail> {
     let limits = Limits::real();
     let cut = ("manifest", &EMPTY[..32]);
-    let fault = Told::Malformed(FileName::Manifest, PartName::Manifest, 32);
+    let fault = Fault::Malformed(FileName::Manifest, PartName::Manifest, 32);
     assert_eq!(rt; opened(rt.alloc(), &[cut], limits)?, Err(fault));
-    let fault = Told::Missing(FileName::Segment(1));
+    let fault = Fault::Missing(FileName::Segment(1));
     assert_eq!(rt;
         opened(rt.alloc(), &[("manifest", ONE.as_slice())], limits)?,
         Err(fault)
     );
     let short = (FIRST, &SEGMENT[..100]);
-    let fault = Told::Malformed(FileName::Segment(1), PartName::Header, 56);
+    let fault = Fault::Malformed(FileName::Segment(1), PartName::Header, 56);
     assert_eq!(rt;
         opened(rt.alloc(), &[("manifest", ONE.as_slice()), short], limits)?,
         Err(fault)
@@ -110,7 +110,7 @@ fn segments_together(rt: HostRuntime) -> Result<(), Fail> {
             held_docs: (*held_docs).min(9),
             held_tokens: (*held_tokens).min(9),
         };
-        let fault = Told::Malformed(FileName::Segment(2), *part, *place);
+        let fault = Fault::Malformed(FileName::Segment(2), *part, *place);
         assert_eq!(rt; opened(rt.alloc(), &files, limits)?, Err(fault));
     }
     Ok(())
@@ -126,7 +126,7 @@ fn each_call_fails(rt: HostRuntime) -> Result<(), Fail> {
         let mut store = store_of(rt.alloc(), &files, fails_at(rt.alloc(), call, Left::Old)?)?;
         assert_eq!(rt;
             opened_in(rt.alloc(), &mut store, Limits::real())?,
-            Err(Told::Store)
+            Err(Fault::Store)
         );
         assert_eq!(rt;
             opened_in(rt.alloc(), &mut store, Limits::real())?,

@@ -15,7 +15,7 @@ use Rattle.store_ends.specs.Files.{Files}
 use Rattle.disk_index.specs.Parts.{InMemory}
 use Rattle.disk_index.specs.Snapshots as snapshots
 use Rattle.disk_index.specs.Snapshots.{Marked, live_in, unmarked}
-use Rattle.holdings.specs.Kept.{AreKept, cell, marked_at, row}
+use Rattle.holdings.specs.Kept.{AreKept, ArePlaced, cell, marked_at, row}
 use Rattle.holdings.specs.MarkedParts.{IsWhole, IsWritable, docnos_in, docnos_of, filled}
 use Rattle.holdings.specs.Marks.{cells}
 use Rattle.holdings.specs.declared.spot.Spot.{Spot}
@@ -95,12 +95,15 @@ pub last-whole : (parts : List Marked) (docs : List Document) (marks : List Bool
 last-whole parts docs marks whole =
     subst IsWhole (push-last parts (filled docs marks) (filled docs marks)) (whole (length parts) (filled docs marks) (omega (arith, length-append parts (filled docs marks ∷ []))))
 
+pub placed-of : (most : ℕ) (places : List (List ℕ × Spot)) (parts : List Marked) → AreKept most places parts → ArePlaced places parts
+placed-of most places parts kept = record { placed = kept.placed; counted = kept.counted; whole = kept.whole }
+
 -- one document more in the part that is being filled
-pub AreKept-add : (most : ℕ) (places new : List (List ℕ × Spot)) (parts : List Marked) (docs : List Document) (marks : List Bool) (d : Document) (s : Spot)
-    → AreKept most places (parts ++ filled docs marks ∷ []) → lookup (bytes_eq d.docno) places ≡ None
+pub ArePlaced-add : (places new : List (List ℕ × Spot)) (parts : List Marked) (docs : List Document) (marks : List Bool) (d : Document) (s : Spot)
+    → ArePlaced places (parts ++ filled docs marks ∷ []) → lookup (bytes_eq d.docno) places ≡ None
     → ((q : List ℕ) → lookup (bytes_eq q) new ≡ cond (bytes_eq d.docno q) (Some s) (lookup (bytes_eq q) places)) → length new ≡ length places + 1
-    → s.part ≡ length parts → s.id ≡ length docs → IsWritable (InMemory (docs ++ d ∷ [])) → AreKept most new (parts ++ filled (docs ++ d ∷ []) (marks ++ false ∷ []) ∷ [])
-AreKept-add most places new parts docs marks d s kept none put long part id fits =
+    → s.part ≡ length parts → s.id ≡ length docs → ArePlaced new (parts ++ filled (docs ++ d ∷ []) (marks ++ false ∷ []) ∷ [])
+ArePlaced-add places new parts docs marks d s kept none put long part id =
     let g = map row parts in
     let names = map (λ (x : Document). x.docno) docs in
     let r = cells names marks in
@@ -120,7 +123,6 @@ AreKept-add most places new parts docs marks d s kept none put long part id fits
     let docnos : unmarked (map (λ (x : Document). x.docno) (docs ++ d ∷ [])) (marks ++ false ∷ []) ≡ unmarked names marks ++ d.docno ∷ [] =
     ap (λ l. unmarked l (marks ++ false ∷ [])) (map-push (λ (x : Document). x.docno) docs d) ∙ unmarked-push names marks d.docno whole in
     record {
-      small = kept.small;
       placed = IsPlaced-add _ _ _ _ d.docno s kept.placed none put free here
           (λ q j ne. ap (λ x. cell x q j) grid' ∙ cell-added g r d.docno q j (λ a b. ne (a ∙ sym p) (b ∙ sym i)) ∙ sym (ap (λ x. cell x q j) grid));
       counted =
@@ -132,6 +134,19 @@ AreKept-add most places new parts docs marks d s kept none put long part id fits
           let n : length (marks ++ false ∷ []) ≡ length (docs ++ d ∷ []) =
           length-append marks (false ∷ []) ∙ ap (λ n. n + 1) (last-whole parts docs marks kept.whole) ∙ sym (length-append docs (d ∷ [])) in
           All-push IsWhole parts (filled (docs ++ d ∷ []) (marks ++ false ∷ [])) (All-front IsWhole parts (filled docs marks) kept.whole) n;
+    }
+
+pub AreKept-add : (most : ℕ) (places new : List (List ℕ × Spot)) (parts : List Marked) (docs : List Document) (marks : List Bool) (d : Document) (s : Spot)
+    → AreKept most places (parts ++ filled docs marks ∷ []) → lookup (bytes_eq d.docno) places ≡ None
+    → ((q : List ℕ) → lookup (bytes_eq q) new ≡ cond (bytes_eq d.docno q) (Some s) (lookup (bytes_eq q) places)) → length new ≡ length places + 1
+    → s.part ≡ length parts → s.id ≡ length docs → IsWritable (InMemory (docs ++ d ∷ [])) → AreKept most new (parts ++ filled (docs ++ d ∷ []) (marks ++ false ∷ []) ∷ [])
+AreKept-add most places new parts docs marks d s kept none put long part id fits =
+    let now = ArePlaced-add places new parts docs marks d s (placed-of most places (parts ++ filled docs marks ∷ []) kept) none put long part id in
+    record {
+      small = kept.small;
+      placed = now.placed;
+      counted = now.counted;
+      whole = now.whole;
       writable = All-push CanWrite parts (filled (docs ++ d ∷ []) (marks ++ false ∷ [])) (All-front CanWrite parts (filled docs marks) kept.writable) fits;
     }
 
@@ -222,16 +237,25 @@ cell-empty [] (suc p) i = refl
 cell-empty (r ∷ g) zero i = refl
 cell-empty (r ∷ g) (suc p) i = cell-empty g p i
 
-pub AreKept-close : (most : ℕ) (places : List (List ℕ × Spot)) (parts : List Marked) → AreKept most places parts → AreKept most places (parts ++ filled [] [] ∷ [])
-AreKept-close most places parts kept =
+pub ArePlaced-close : (places : List (List ℕ × Spot)) (parts : List Marked) → ArePlaced places parts → ArePlaced places (parts ++ filled [] [] ∷ [])
+ArePlaced-close places parts kept =
     let grid : map row (parts ++ filled [] [] ∷ []) ≡ map row parts ++ [] ∷ [] = map-push row parts (filled [] []) in
     let same : (p i : ℕ) → cell (map row (parts ++ filled [] [] ∷ [])) p i ≡ cell (map row parts) p i = λ p i. ap (λ g. cell g p i) grid ∙ cell-empty (map row parts) p i in
     let docnos : docnos_of (parts ++ filled [] [] ∷ []) ≡ docnos_of parts = flat_map-push (λ m. unmarked (docnos_in m.source) m.marks) parts (filled [] []) ∙ append-nil (docnos_of parts) in
     record {
-      small = kept.small;
       placed = λ q s. ((λ e. same s.part s.id ∙ (kept.placed q s).0 e), (λ e. (kept.placed q s).1 (sym (same s.part s.id) ∙ e)));
       counted = kept.counted ∙ sym (ap length docnos);
       whole = All-push IsWhole parts (filled [] []) kept.whole refl;
+    }
+
+pub AreKept-close : (most : ℕ) (places : List (List ℕ × Spot)) (parts : List Marked) → AreKept most places parts → AreKept most places (parts ++ filled [] [] ∷ [])
+AreKept-close most places parts kept =
+    let now = ArePlaced-close places parts (placed-of most places parts kept) in
+    record {
+      small = kept.small;
+      placed = now.placed;
+      counted = now.counted;
+      whole = now.whole;
       writable = All-push CanWrite parts (filled [] []) kept.writable (omega arith, omega arith);
     }
 
@@ -272,8 +296,8 @@ parts-distinct (m ∷ ms) once =
     (λ i k e any. (let r = cell-from_live k ms any in absurd (omega (arith, (once 0 i (suc r.0.part) r.0.id k e r.1).0)))) (λ i j k a b. (once 0 i 0 j k a b).1)
 
 -- the live docnos are distinct
-pub kept-distinct : (most : ℕ) (places : List (List ℕ × Spot)) (parts : List Marked) → AreKept most places parts → IsDistinct bytes_eq (docnos_of parts)
-kept-distinct most places parts kept =
+pub placed-distinct : (places : List (List ℕ × Spot)) (parts : List Marked) → ArePlaced places parts → IsDistinct bytes_eq (docnos_of parts)
+placed-distinct places parts kept =
     parts-distinct parts (λ p i q j k a b.
     (let s : Spot = record { part = p; id = i } in
     let t : Spot = record { part = q; id = j } in
@@ -290,3 +314,6 @@ front-distinct parts last distinct =
     IsDistinct-from_apart bytes_eq xs (λ i j d less inside.
     ap (bytes_eq (get_or xs i d)) (sym (get_or_append_left xs ys d j inside)) ∙ ap (λ (k : List ℕ). bytes_eq k (get_or (xs ++ ys) j d)) (sym (get_or_append_left xs ys d i (omega (arith, less, inside))))
     ∙ apart_from_distinct bytes_eq (xs ++ ys) i j d all less (omega (arith, inside, size)))
+
+pub kept-distinct : (most : ℕ) (places : List (List ℕ × Spot)) (parts : List Marked) → AreKept most places parts → IsDistinct bytes_eq (docnos_of parts)
+kept-distinct most places parts kept = placed-distinct places parts (placed-of most places parts kept)

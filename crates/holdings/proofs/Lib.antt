@@ -1,7 +1,9 @@
 pub mod CellLemmas
+pub mod DistinctLemmas
 pub mod KeptLemmas
 pub mod LiveLemmas
 pub mod MarkLemmas
 pub mod PlacedLemmas
+pub mod PlacingLemmas
 pub mod RoomLemmas
 pub mod SumLemmas

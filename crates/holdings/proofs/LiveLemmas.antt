@@ -29,13 +29,13 @@ tokens-outlines [] = refl
 tokens-outlines (d ∷ ds) =
     sum_by-cons (λ (x : Document). length x.tokens) d ds ∙ ap (λ n. length d.tokens + n) (tokens-outlines ds) ∙ sym (sum_by-cons (λ (o : Entry). o.tokens) (entry_of d) (map entry_of ds))
 
-docnos-reads : (told : Option Files) (source : Source) → map (λ (d : Document). d.docno) (reads told source) ≡ docnos_in source
+pub docnos-reads : (told : Option Files) (source : Source) → map (λ (d : Document). d.docno) (reads told source) ≡ docnos_in source
 docnos-reads told (InMemory docs) = refl
 docnos-reads told (OnDisk kept) =
     let docs = rebuilt kept (told_file told kept.number) in
     sym (map-map (λ (o : Entry). o.docno) entry_of docs) ∙ ap (λ (os : List Entry). map (λ (o : Entry). o.docno) os) (rebuilt-outlines kept (told_file told kept.number))
 
-tokens-reads : (told : Option Files) (source : Source) → token_count (reads told source) ≡ tokens_in source
+pub tokens-reads : (told : Option Files) (source : Source) → token_count (reads told source) ≡ tokens_in source
 tokens-reads told (InMemory docs) = refl
 tokens-reads told (OnDisk kept) =
     let docs = rebuilt kept (told_file told kept.number) in

@@ -6,7 +6,7 @@ use Rattle.ri_base.specs.Collection.{token_count}
 use Rattle.ri_base.specs.Documents.{Document}
 use Rattle.disk_index.specs.Parts.{Source, InMemory, size}
 use Rattle.disk_index.specs.Snapshots.{IsSnapshot, Marked, documents_held}
-use Rattle.holdings.specs.Contents.{Contents, is_full}
+use Rattle.holdings.specs.Contents.{Contents, closed_held, is_full}
 use Rattle.holdings.specs.Kept.{AreCounted}
 use Rattle.holdings.specs.MarkedParts.{filled, marked_with, tokens_held, tokens_in}
 use Rattle.holdings.specs.Parts.{Parts, all_parts, appended, closed_by, has_room, sealed, with_document, with_room, without_docno}
@@ -156,3 +156,20 @@ module _ (c : Contents) (d : Document) (n t : ℕ) (counted : AreCounted c.parts
   is_full-counted =
       ap (λ m. nat_lt c.limits.held_docs (m + 1) || nat_lt c.limits.held_tokens (t + length d.tokens)) counted.documents_are
       ∙ ap (λ m. nat_lt c.limits.held_docs (documents_held (all_parts c.parts) + 1) || nat_lt c.limits.held_tokens (m + length d.tokens)) counted.tokens_are
+
+-- ---- closed parts, and none that is being filled
+
+pub AreCounted-closed : (l : Limits) (parts : List Marked) (n t : ℕ) → n ≡ documents_held parts → t ≡ tokens_held parts → n ≤ l.held_docs → t ≤ l.held_tokens
+    → AreCounted (closed_held l parts).parts l n t
+AreCounted-closed l parts n t documents tokens fit room =
+    let no_document : size (InMemory []) ≡ 0 = refl in
+    let no_token : tokens_in (InMemory []) ≡ 0 = refl in
+    let all_documents = sum-push size parts (filled [] []) in
+    let all_tokens = sum-push tokens_in parts (filled [] []) in
+    record {
+      documents_are = omega (arith, documents, all_documents, no_document);
+      tokens_are = omega (arith, tokens, all_tokens, no_token);
+      documents_fit = fit;
+      tokens_fit = room;
+      most = refl;
+    }

@@ -1,7 +1,7 @@
 -- What is held, within its limits, and what becomes of a document.
 use Rattle.std.specs.Prelude.{◌≡◌, ◌⊎◌, ◌||◌, ◌+◌, ◌-◌, ◌^◌, ℕ, Bool, List, [], Result, Ok, Err, length, min, nat_lt, if◌then◌else◌}
 use Rattle.ri_base.specs.Documents.{Document}
-use Rattle.disk_index.specs.Snapshots.{documents_held}
+use Rattle.disk_index.specs.Snapshots.{Marked, documents_held}
 use Rattle.holdings.specs.Parts.{Parts, all_parts, is_live, sealed, with_document, without_docno}
 use Rattle.holdings.specs.MarkedParts.{tokens_held}
 use Rattle.holdings.specs.declared.limits.Limits.{Limits}
@@ -14,9 +14,13 @@ pub record Contents : Type 0 where
   pub limits : Limits
   pub generation : ℕ
 
+-- closed parts are held, and none is being filled
+abbrev pub closed_held : Limits → List Marked → Contents
+closed_held limits parts = record { parts = record { most = limits.part_docs; closed = parts; filling = []; marks = [] }; limits = limits; generation = 0 }
+
 -- nothing is held
 abbrev pub none_held : Limits → Contents
-none_held limits = record { parts = record { most = limits.part_docs; closed = []; filling = []; marks = [] }; limits = limits; generation = 0 }
+none_held limits = closed_held limits []
 
 -- with this document more would be held than the limits allow
 abbrev pub is_full : Contents → Document → Bool

@@ -23,7 +23,13 @@ cell grid part id = slice_index_or (slice_index_or grid part []) id None
 abbrev pub IsPlaced : (List ℕ → Option Spot) → (ℕ → ℕ → Option (List ℕ)) → Type 0
 IsPlaced found stands = (q : List ℕ) (s : Spot) → (found q ≡ Some s) ↔ (stands s.part s.id ≡ Some q)
 
--- the places are those of the live documents
+-- the places are those of the live documents, and each part has a mark for each document
+pub record ArePlaced (places : List (List ℕ × Spot)) (parts : List Marked) : Type 0 where
+  pub placed : IsPlaced (λ q. lookup (bytes_eq q) places) (cell (map row parts))
+  pub counted : length places ≡ length (docnos_of parts)
+  pub whole : All IsWhole parts
+
+-- the same of parts that are held, each of which a segment can have
 pub record AreKept (most : ℕ) (places : List (List ℕ × Spot)) (parts : List Marked) : Type 0 where
   pub small : most ≤ MAX_PART_DOCS
   pub placed : IsPlaced (λ q. lookup (bytes_eq q) places) (cell (map row parts))

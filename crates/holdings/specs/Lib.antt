@@ -3,3 +3,4 @@ pub mod Kept
 pub mod MarkedParts
 pub mod Marks
 pub mod Parts
+pub mod Placing

@@ -1,5 +1,5 @@
 // What a repository holds, within its limits.
-ghost use Rattle.std.specs.Prelude.{◌≡◌, ◌≤◌, ◌+◌, ◌++◌, ◌∷◌, ◌↔◌, [], ℕ, Option, false, length, map, IfOk, OnOk, OnErr, IsErr};
+ghost use Rattle.std.specs.Prelude.{◌≡◌, ◌≤◌, ◌+◌, ◌++◌, ◌∷◌, ◌↔◌, [], ℕ, Option, false, length, map, IfOk, IfErr, OnOk, OnErr, IsErr};
 ghost use Rattle.std.specs.List.{All, IsDistinct};
 ghost use Rattle.std.specs.Str.{bytes_eq};
 ghost use Rattle.ri_base.specs.Collection.{token_count};
@@ -7,12 +7,14 @@ ghost use Rattle.ri_base.specs.Documents.{Document};
 ghost use Rattle.store_ends.specs.Files.{Files};
 ghost use Rattle.disk_index.specs.Snapshots as snapshots;
 ghost use Rattle.disk_index.specs.Snapshots.{IsSnapshot, documents_held};
-ghost use Rattle.holdings.specs.Contents.{Answers, Contents, added, all_closed, answer, deleted, is_full, none_held};
+ghost use Rattle.holdings.specs.Contents.{Answers, Contents, added, all_closed, answer, closed_held, deleted, is_full, none_held};
 ghost use Rattle.holdings.specs.MarkedParts.{IsWhole, IsWritable, docnos_of, documents_of, tokens_held};
 ghost use Rattle.holdings.specs.Parts.{all_parts, is_live, live, sealed, without};
+ghost use Rattle.holdings.specs.Placing.{IsPartsFault};
 
 use crate::live_parts::LiveParts;
-use crate::{AddRefusal, Limits, NoSuchDoc};
+use crate::sums::held_sums;
+use crate::{AddRefusal, Limits, NoSuchDoc, PartsFault};
 use disk_index::{MarkedPart, Snapshot};
 use ri_base::{Doc, Docno, NoMemory};
 use std::alloc::Global;
@@ -52,6 +54,35 @@ impl Holdings {
             limits,
             documents: 0,
             tokens: 0,
+            generation: 0,
+        })
+    }
+
+    /// These closed parts, one behind the other, and none that is being filled. Each in memory has no more documents and names of
+    /// fields than a segment can have.
+    pub fn of_parts(
+        alloc: Global,
+        limits: Limits,
+        parts: Vec<MarkedPart>,
+    ) -> Result<Holdings, PartsFault>
+        requires { All (λ m. IsWritable m.source) parts.items }
+        ensures held { IfOk result (λ h. h ≡ closed_held limits parts.items) }
+        ensures documents { OnOk result (documents_held parts.items ≤ limits.held_docs) }
+        ensures tokens { OnOk result (tokens_held parts.items ≤ limits.held_tokens) }
+        ensures distinct { OnOk result (IsDistinct bytes_eq (docnos_of parts.items)) }
+        ensures fault { IfErr result (IsPartsFault limits parts.items) }
+
+        // Parts within the limits whose live docnos are distinct are held, unless memory runs out.
+        ensures honest { documents_held parts.items ≤ limits.held_docs → tokens_held parts.items ≤ limits.held_tokens
+            → IsDistinct bytes_eq (docnos_of parts.items) → IfErr result (λ fault. fault ≡ PartsFault.Memory) }
+    {
+        let (documents, tokens) = held_sums(&parts, limits)?;
+        let parts = LiveParts::of_parts(alloc, limits.part_docs, parts)?;
+        Ok(Holdings {
+            parts,
+            limits,
+            documents,
+            tokens,
             generation: 0,
         })
     }

@@ -6,9 +6,11 @@ mod holdings;
 mod limits;
 mod live_parts;
 mod places;
+mod placing;
 mod refusals;
 mod spot;
+mod sums;
 
 pub use holdings::Holdings;
 pub use limits::Limits;
-pub use refusals::{AddRefusal, NoSuchDoc};
+pub use refusals::{AddRefusal, NoSuchDoc, PartsFault};

@@ -1,5 +1,5 @@
 // Parts with their marks, and where each live document is.
-ghost use Rattle.std.specs.Prelude.{◌≡◌, ◌<◌, ◌≤◌, ◌+◌, ◌&&◌, ◌++◌, ◌∷◌, [], nat_le, nat_lt, ℕ, List, Option, false, length, map, slice_index_or, IsTrue, IfOk, OnOk, OnErr};
+ghost use Rattle.std.specs.Prelude.{◌≡◌, ◌<◌, ◌≤◌, ◌+◌, ◌&&◌, ◌++◌, ◌∷◌, [], nat_le, nat_lt, ℕ, List, Option, false, length, map, slice_index_or, IsTrue, IfOk, IfErr, OnOk, OnErr};
 ghost use Rattle.std.specs.List.{All, IsDistinct};
 ghost use Rattle.std.specs.Str.{bytes_eq};
 ghost use Rattle.ri_base.specs.Collection.{name_count, token_count};
@@ -10,10 +10,14 @@ ghost use Rattle.disk_index.specs.Parts.{InMemory};
 ghost use Rattle.holdings.specs.Kept.{marked_at};
 ghost use Rattle.holdings.specs.MarkedParts.{IsWhole, IsWritable, docnos_of, filled};
 ghost use Rattle.holdings.specs.Parts.{all_parts, is_live, live, parts_of, sealed, with_document, with_room, without_docno};
+ghost use Rattle.holdings.specs.Placing.{IsPartsFault};
+ghost use Rattle.holdings.specs.declared.limits.Limits.{Limits};
 
 use crate::closing::close;
 use crate::places::insert;
+use crate::placing::place_all;
 use crate::spot::Spot;
+use crate::PartsFault;
 use deletion_list::DelList;
 use disk_index::MarkedPart;
 use indexmap::IndexMap;
@@ -56,6 +60,35 @@ impl LiveParts {
             marks: DelList::new(alloc, 0)?,
             places: IndexMap::new(alloc),
         })
+    }
+
+    /// These closed parts, and none that is being filled.
+    pub fn of_parts(
+        alloc: Global,
+        part_docs: u32,
+        parts: Vec<MarkedPart>,
+    ) -> Result<LiveParts, PartsFault>
+        requires some { 1 ≤ part_docs }
+        requires small { part_docs ≤ MAX_PART_DOCS }
+        requires writable { All (λ m. IsWritable m.source) parts.items }
+        ensures held { IfOk result (λ l. l ≡ record { most = part_docs; closed = parts.items; filling = []; marks = [] }) }
+        ensures distinct { OnOk result (IsDistinct bytes_eq (docnos_of parts.items)) }
+        ensures fault { (limits : Limits) → IfErr result (IsPartsFault limits parts.items) }
+    {
+        let filling = MemIndex::new(alloc, part_docs)?;
+        let marks = DelList::new(alloc, 0)?;
+        match place_all(alloc, &parts)? {
+            Ok(places) => Ok(LiveParts {
+                closed: parts,
+                filling,
+                marks,
+                places,
+            }),
+            Err(spot) => Err(PartsFault::Repeated {
+                part: spot.part,
+                id: spot.id,
+            }),
+        }
     }
 
     /// The closed parts.

@@ -1,7 +1,13 @@
-//! Tests of what a repository holds, called as its users call it. The program itself does nothing.
+//! Tests of repositories and of what they hold in memory, called as their users call them. The program itself does nothing.
 #![tactic(auto)]
 
 #[cfg(test)]
+mod begun;
+#[cfg(test)]
+mod files;
+#[cfg(test)]
 mod held;
+#[cfg(test)]
+mod opened;
 
 fn main() {}

@@ -1,0 +1,4 @@
+pub mod ManifestLemmas
+pub mod MarkLemmas
+pub mod OpenLemmas
+pub mod StepLemmas

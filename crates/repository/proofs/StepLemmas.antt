@@ -1,0 +1,98 @@
+-- What a repository reads as where a document is added or deleted, and that it stays backed.
+use Rattle.std.proofs.Common.{◌≡◌, ◌+◌, ◌⊎◌, inl, inr, ℕ, Bool, true, false, List, [], ◌∷◌, ◌++◌, length, map, Option, Result, Ok, Err, cond, refl, sym, ap, subst, ◌∙◌}
+use Rattle.std.specs.List.{All}
+use Rattle.std.specs.Prelude.{OnErr, OnOk}
+use Rattle.std.proofs.lemmas.List.{append-nil}
+use Rattle.std.proofs.lemmas.List.Elements.{All-cons, All-head, All-nil, All-push, All-tail}
+use Rattle.ri_base.specs.Documents.{Document}
+use Rattle.store_ends.specs.Files.{Files}
+use Rattle.disk_index.specs.Parts.{IsPartBacked}
+use Rattle.disk_index.specs.Snapshots.{Marked, documents_held}
+use Rattle.holdings.specs.Contents.{Contents, added, deleted}
+use Rattle.holdings.specs.MarkedParts.{filled, marked_with, tokens_held}
+use Rattle.holdings.specs.Parts as parts
+use Rattle.holdings.specs.Parts.{Parts, all_parts, closed_by, has_room, live, sealed, without}
+use Rattle.holdings.proofs.LiveLemmas.{flat_map-push}
+use Rattle.repository.specs.Stands.{Collection}
+use Rattle.repository.specs.States.{IsBacked, ReadsAs, State, numbers_in, part_numbers}
+use Rattle.repository.specs.Steps.{with_document, with_held, without_docno}
+
+module _ (told : Option Files) (s : State) (h : Contents) (c : Collection) (reads : ReadsAs told s c) where
+  pub reads-added : (d : Document) → ((t : Option Files) → live t h.parts ≡ live t s.held.parts ++ d ∷ []) → documents_held (all_parts h.parts) ≡ documents_held (all_parts s.held.parts) + 1
+      → tokens_held (all_parts h.parts) ≡ tokens_held (all_parts s.held.parts) + length d.tokens → ReadsAs told (with_held s h) (with_document c d)
+  reads-added d more documents tokens = record {
+    live_are = more told ∙ ap (λ l. l ++ d ∷ []) reads.live_are;
+    documents_are = documents ∙ ap (λ n. n + 1) reads.documents_are;
+    tokens_are = tokens ∙ ap (λ n. n + length d.tokens) reads.tokens_are;
+    priors_are = reads.priors_are;
+  }
+
+  pub reads-deleted : (docno : List ℕ) → ((t : Option Files) → live t h.parts ≡ without docno (live t s.held.parts)) → documents_held (all_parts h.parts) ≡ documents_held (all_parts s.held.parts)
+      → tokens_held (all_parts h.parts) ≡ tokens_held (all_parts s.held.parts) → ReadsAs told (with_held s h) (without_docno c docno)
+  reads-deleted docno fewer documents tokens = record {
+    live_are = fewer told ∙ ap (without docno) reads.live_are;
+    documents_are = documents ∙ reads.documents_are;
+    tokens_are = tokens ∙ reads.tokens_are;
+    priors_are = reads.priors_are;
+  }
+
+-- ---- the parts on disk stay
+
+abbrev IsStored : Option Files → Marked → Type 0
+IsStored told m = IsPartBacked told m.source
+
+backed-held : (told : Option Files) (s : State) (h : Contents) → IsBacked told s → part_numbers h.parts.closed ≡ part_numbers s.held.parts.closed → All (IsStored told) h.parts.closed → IsBacked told (with_held s h)
+backed-held told s h backed numbers stored = record {
+  list = backed.list;
+  has = backed.has;
+  next_is = backed.next_is;
+  numbers_are = backed.numbers_are ∙ sym numbers;
+  stale_are = backed.stale_are;
+  priors_are = backed.priors_are;
+  parts = stored;
+  priors = backed.priors;
+}
+
+-- one part in memory more, or none
+abbrev Closes : Parts → List Marked → Type 0
+Closes p closed = (closed ≡ p.closed) ⊎ (closed ≡ p.closed ++ filled p.filling p.marks ∷ [])
+
+closes-by : (p : Parts) (docs : List Document) → Closes p (closed_by p docs).closed
+closes-by p [] = inl refl
+closes-by p (d ∷ docs) = inr refl
+
+closes-with : (p : Parts) (d : Document) → Closes p (parts.with_document p d).closed
+closes-with p d = by (has_room p d)
+  where
+    by : (b : Bool) → Closes p (cond b p (sealed p)).closed
+    by true = inl refl
+    by false = closes-by p p.filling
+
+pub backed-added : (told : Option Files) (s : State) (d : Document) → IsBacked told s → IsBacked told (with_held s (added s.held d))
+backed-added told s d backed =
+    let p = s.held.parts in
+    let h = added s.held d in
+    elim (closes-with p d) [
+      | inl same ↦ backed-held told s h backed (ap part_numbers same) (subst (All (IsStored told)) (sym same) backed.parts)
+      | inr more ↦
+          let none : part_numbers (p.closed ++ filled p.filling p.marks ∷ []) ≡ part_numbers p.closed =
+          flat_map-push (λ (m : Marked). numbers_in m.source) p.closed (filled p.filling p.marks) ∙ append-nil (part_numbers p.closed) in
+          backed-held told s h backed (ap part_numbers more ∙ none) (subst (All (IsStored told)) (sym more) (All-push (IsStored told) p.closed (filled p.filling p.marks) backed.parts tt))
+    ]
+
+numbers-marked : (k : List ℕ) (ms : List Marked) → part_numbers (map (marked_with k) ms) ≡ part_numbers ms
+numbers-marked k [] = refl
+numbers-marked k (m ∷ ms) = ap (λ ns. numbers_in m.source ++ ns) (numbers-marked k ms)
+
+stored-marked : (told : Option Files) (k : List ℕ) (ms : List Marked) → All (IsStored told) ms → All (IsStored told) (map (marked_with k) ms)
+stored-marked told k [] all = All-nil (IsStored told)
+stored-marked told k (m ∷ ms) all = All-cons (IsStored told) (marked_with k m) (map (marked_with k) ms) (All-head (IsStored told) m ms all) (stored-marked told k ms (All-tail (IsStored told) m ms all))
+
+pub backed-deleted : (told : Option Files) (s : State) (k : List ℕ) → IsBacked told s → IsBacked told (with_held s (deleted s.held k))
+backed-deleted told s k backed = backed-held told s (deleted s.held k) backed (numbers-marked k s.held.parts.closed) (stored-marked told k s.held.parts.closed backed.parts)
+
+-- over a call that adds or deletes, whatever it answers
+pub backed-call : {A E : Type 0} (told : Option Files) (s : State) (r : Result A E) (h now : Contents) → OnOk r (h ≡ now) → OnErr r (h ≡ s.held) → (IsBacked told s → IsBacked told (with_held s now)) → IsBacked told s
+    → IsBacked told (with_held s h)
+backed-call told s (Ok a) h now done kept into backed = subst (λ (x : Contents). IsBacked told (with_held s x)) (sym done) (into backed)
+backed-call told s (Err e) h now done kept into backed = subst (λ (x : Contents). IsBacked told (with_held s x)) (sym kept) (backed-held told s s.held backed refl backed.parts)

@@ -1,0 +1,5 @@
+pub mod Names
+pub mod Opening
+pub mod Stands
+pub mod States
+pub mod Steps

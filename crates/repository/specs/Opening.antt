@@ -1,0 +1,101 @@
+-- What the opening of a repository gives, and why it is refused.
+use Rattle.std.specs.Prelude.{◌≡◌, ◌≤◌, ◌<◌, ℕ, true, List, Option, Some, Err, length, slice_index_or}
+use Rattle.std.specs.List.{AllZip, Contains, IsDistinct}
+use Rattle.std.specs.Str.{bytes_eq}
+use Rattle.ri_base.specs.Documents.{Document}
+use Rattle.ri_base.specs.Faults.{IsOutside}
+use Rattle.ri_base.specs.declared.seg_fault.FileName.TheVariants as names
+use Rattle.ri_base.specs.declared.seg_fault.PartName.TheVariants as parts
+use Rattle.ri_base.specs.declared.seg_fault.SegFault.{SegFault}
+use Rattle.ri_base.specs.declared.seg_fault.SegFault.TheVariants.{Malformed, Memory}
+use Rattle.store_ends.specs.Files.{Files}
+use Rattle.file_fields.specs.Answers.{AnswersPart}
+use Rattle.manifest.specs.Files.{manifest}
+use Rattle.manifest.specs.declared.manifest.Manifest.{Manifest}
+use Rattle.manifest.specs.declared.manifest.SegEntry.{SegEntry}
+use Rattle.disk_index.specs.Blocks.{file_of}
+use Rattle.disk_index.specs.Kept.{Kept, kept_of}
+use Rattle.disk_index.specs.Opening.{IsOpenFault, IsOpened}
+use Rattle.disk_index.specs.Parts.{OnDisk}
+use Rattle.disk_index.specs.Reads.{HasSegment}
+use Rattle.disk_index.specs.Snapshots.{Marked, documents_held}
+use Rattle.holdings.specs.Contents.{Contents, closed_held}
+use Rattle.holdings.specs.MarkedParts.{docnos_of, tokens_held}
+use Rattle.holdings.specs.Placing.{IsPartsFault}
+use Rattle.holdings.specs.declared.limits.Limits.{Limits}
+use Rattle.holdings.specs.declared.refusals.PartsFault.{PartsFault}
+use Rattle.holdings.specs.declared.refusals.PartsFault.TheVariants as across
+use Rattle.repository.specs.Names.{manifest_name}
+use Rattle.repository.specs.Stands.{HasManifest, marks_from}
+use Rattle.repository.specs.States.{State}
+
+-- The part of an entry. Header, documents and dictionary of the entry's file were read by the grammar of a segment of as many documents
+-- as the entry says. Where the file is the segment of so many documents, what is kept is that of these. The documents are marked
+-- that the entry names.
+pub record IsEntryOpened (told : Option Files) (e : SegEntry) (m : Marked) : Type 0 where
+  pub kept : Kept
+  pub source : m.source ≡ OnDisk kept
+  pub number : kept.number ≡ e.number
+  pub marks : m.marks ≡ marks_from 0 (length kept.outlines) e.marks
+  pub opened : (files : Files) → told ≡ Some files → IsOpened (file_of files e.number) e.docs kept
+  pub exact : (docs : List Document) → HasSegment told e.number docs → length docs ≡ e.docs → kept ≡ kept_of e.number docs
+
+-- The parts of these entries are held, in their order and within the limits, and no two live documents have one docno.
+pub record AreEntriesHeld (told : Option Files) (limits : Limits) (es : List SegEntry) (held : Contents) : Type 0 where
+  pub parts : List Marked
+  pub opened : AllZip (IsEntryOpened told) es parts
+  pub same : held ≡ closed_held limits parts
+  pub documents_fit : documents_held parts ≤ limits.held_docs
+  pub tokens_fit : tokens_held parts ≤ limits.held_tokens
+  pub distinct : IsDistinct bytes_eq (docnos_of parts)
+
+-- A repository that was opened over files: the parts of the manifest's entries are held, and all else is as the manifest lists it.
+pub record IsRepositoryOpened (told : Option Files) (limits : Limits) (s : State) : Type 0 where
+  pub list : Manifest
+  pub has : HasManifest told list
+  pub held : AreEntriesHeld told limits list.segments s.held
+  pub next_is : s.next ≡ list.next
+  pub stale_are : s.stale ≡ list.stale
+  pub priors_are : s.priors ≡ list.priors
+  pub usable : s.usable ≡ true
+
+-- ---- why it is refused
+
+-- the manifest is there, and its bytes are refused so
+abbrev pub IsManifestFault : Files → SegFault → Type 0
+IsManifestFault files fault =
+    (bytes : List ℕ) × (files manifest_name ≡ Some bytes) × AnswersPart {X = Manifest} (λ m. m) (Err fault) (manifest bytes) names.Manifest parts.Manifest (length bytes)
+
+-- the file of one of these entries isn't there, or isn't the segment of so many documents
+abbrev pub IsEntryFault : Files → List SegEntry → SegFault → Type 0
+IsEntryFault files es fault = (e : SegEntry) × Contains es e × IsOpenFault files e.number e.docs fault
+
+-- The fault that is told of the entry of a part that can't be held: it has too many documents or tokens, at their number in its
+-- header, or a docno that is there already, at some place of its documents.
+abbrev pub TellsAcross : List SegEntry → PartsFault → SegFault → Type 0
+TellsAcross es (across.TooManyDocs part) fault = (e : SegEntry) × (e ≡ slice_index_or es part e) × (fault ≡ Malformed (names.Segment e.number) parts.Header 12)
+TellsAcross es (across.TooManyTokens part) fault = (e : SegEntry) × (e ≡ slice_index_or es part e) × (fault ≡ Malformed (names.Segment e.number) parts.Header 16)
+TellsAcross es (across.Repeated part id) fault = (e : SegEntry) × (e ≡ slice_index_or es part e) × ((place : ℕ) × (fault ≡ Malformed (names.Segment e.number) parts.Documents place))
+TellsAcross es across.Memory fault = fault ≡ Memory
+
+-- the files of all entries are read, but they can't be held together
+pub record IsAcrossFault (told : Option Files) (limits : Limits) (es : List SegEntry) (fault : SegFault) : Type 0 where
+  pub opened : List Marked
+  pub are_opened : AllZip (IsEntryOpened told) es opened
+  pub why : PartsFault
+  pub unfit : IsPartsFault limits opened why
+  pub tells : TellsAcross es why fault
+
+-- The store or the memory is to blame; or the manifest; or what it lists, one file or all together.
+pub data IsOpeningFault (files : Files) (limits : Limits) (fault : SegFault) : Type 0 where
+  of_outside : IsOutside fault → IsOpeningFault files limits fault
+  of_manifest : IsManifestFault files fault → IsOpeningFault files limits fault
+  of_entry : (list : Manifest) → HasManifest (Some files) list → IsEntryFault files list.segments fault → IsOpeningFault files limits fault
+  of_all : (list : Manifest) → HasManifest (Some files) list → IsAcrossFault (Some files) limits list.segments fault → IsOpeningFault files limits fault
+
+-- the part of a fault is one of so many
+abbrev pub IsPartOf : ℕ → PartsFault → Type 0
+IsPartOf n (across.TooManyDocs part) = part < n
+IsPartOf n (across.TooManyTokens part) = part < n
+IsPartOf n (across.Repeated part id) = part < n
+IsPartOf n across.Memory = Unit {0}

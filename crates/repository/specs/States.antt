@@ -1,0 +1,48 @@
+-- What a repository holds, and what it reads as together with the files.
+use Rattle.std.specs.Prelude.{◌≡◌, ℕ, Bool, List, [], ◌∷◌, Option}
+use Rattle.std.specs.List.{All, AllZip, flat_map}
+use Rattle.store_ends.specs.Files.{Files}
+use Rattle.manifest.specs.Files.{numbers_of}
+use Rattle.manifest.specs.declared.manifest.Manifest.{Manifest}
+use Rattle.manifest.specs.declared.manifest.PriorEntry.{PriorEntry}
+use Rattle.disk_index.specs.Parts.{InMemory, IsPartBacked, OnDisk, Source}
+use Rattle.disk_index.specs.Snapshots.{Marked, documents_held}
+use Rattle.holdings.specs.Contents.{Contents}
+use Rattle.holdings.specs.MarkedParts.{tokens_held}
+use Rattle.holdings.specs.Parts.{all_parts, live}
+use Rattle.repository.specs.Stands.{Collection, HasManifest, IsPriorListed, Prior}
+
+-- what is held in memory, the number of the next file, the stale files and the priors; it is usable until a change of its files fails
+pub record State : Type 0 where
+  pub held : Contents
+  pub next : ℕ
+  pub stale : List ℕ
+  pub priors : List PriorEntry
+  pub usable : Bool
+
+-- Together with the files it is this collection.
+pub record ReadsAs (told : Option Files) (s : State) (c : Collection) : Type 0 where
+  pub live_are : live told s.held.parts ≡ c.live
+  pub documents_are : documents_held (all_parts s.held.parts) ≡ c.documents
+  pub tokens_are : tokens_held (all_parts s.held.parts) ≡ c.tokens
+  pub priors_are : AllZip (IsPriorListed told) s.priors c.priors
+
+-- the numbers of the files of parts
+abbrev pub numbers_in : Source → List ℕ
+numbers_in (InMemory docs) = []
+numbers_in (OnDisk kept) = kept.number ∷ []
+
+abbrev pub part_numbers : List Marked → List ℕ
+part_numbers parts = flat_map (λ m. numbers_in m.source) parts
+
+-- The manifest is one of this state: it lists its parts on disk, its stale files and its priors. Each part on disk has its file, and
+-- the file of each prior has its rows.
+pub record IsBacked (told : Option Files) (s : State) : Type 0 where
+  pub list : Manifest
+  pub has : HasManifest told list
+  pub next_is : list.next ≡ s.next
+  pub numbers_are : numbers_of list.segments ≡ part_numbers s.held.parts.closed
+  pub stale_are : list.stale ≡ s.stale
+  pub priors_are : list.priors ≡ s.priors
+  pub parts : All (λ m. IsPartBacked told m.source) s.held.parts.closed
+  pub priors : (ps : List Prior) × AllZip (IsPriorListed told) s.priors ps

@@ -1,0 +1,12 @@
+//! A collection of documents that stays in the files of a store.
+#![tactic(auto)]
+
+mod across;
+mod creation;
+mod files;
+mod opening;
+mod repository;
+mod segments;
+
+pub use creation::create;
+pub use repository::Repository;

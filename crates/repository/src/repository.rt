@@ -1,0 +1,156 @@
+// A repository.
+ghost use Rattle.std.specs.Prelude.{◌≡◌, ◌≤◌, ◌⊎◌, ◌↔◌, List, Option, Some, Err, false, true, length, is_some, IfOk, IfErr, IfSome, IsErr, IsSomeAnd, OnErr, OnOk};
+ghost use Rattle.std.specs.List.{AllZip};
+ghost use Rattle.ri_base.specs.Documents.{Document};
+ghost use Rattle.ri_base.specs.Faults.{IsOutside};
+ghost use Rattle.ri_base.specs.Keeps.{Rose};
+ghost use Rattle.store_ends.specs.Files.{Files, IsQuiet};
+ghost use Rattle.holdings.specs.Contents.{Answers, added, answer, deleted};
+ghost use Rattle.holdings.specs.Parts.{is_live, live};
+ghost use Rattle.repository.specs.Names.{manifest_name};
+ghost use Rattle.repository.specs.Opening.{IsAcrossFault, IsEntryFault, IsOpeningFault, IsRepositoryOpened};
+ghost use Rattle.repository.specs.Stands.{AreHeld, Collection, HasManifest, IsListed, Stands};
+ghost use Rattle.repository.specs.States.{IsBacked, ReadsAs};
+ghost use Rattle.repository.specs.Steps.{with_document, with_held, without_docno};
+
+use crate::opening::find_manifest;
+use crate::segments::hold_entries;
+use holdings::{AddRefusal, Holdings, Limits, NoSuchDoc};
+use manifest::{Manifest, PriorEntry};
+use ri_base::{Doc, Docno, SegFault};
+use std::alloc::Global;
+use std::marker::Model;
+use store_ends::Store;
+
+/// Documents that stay in the files of a store, seen as what is held of them in memory, with the files that the manifest lists.
+#[derive(Drop)]
+pub struct Repository {
+    held: Holdings,
+    next: u64,
+    stale: Vec<u64>,
+    priors: Vec<PriorEntry>,
+    usable: bool,
+}
+
+impl Model for Repository {
+    ghost use Rattle.repository.specs.States.{State};
+
+    ghost Value = { State };
+
+    ghost view = { λ r. record { held = r.held; next = r.next; stale = r.stale.items; priors = r.priors.items; usable = r.usable } };
+}
+
+impl Repository {
+    /// The repository of the files of a store, or `None` where there is no manifest. Of each segment header, documents and dictionary
+    /// are read.
+    pub fn open<T: Store>(
+        alloc: Global,
+        store: &mut T,
+        limits: Limits,
+    ) -> Result<Option<Repository>, SegFault>
+        ensures there { (f : Files) → T.files store.old ≡ Some f → IfOk result (λ found. is_some found ≡ is_some (f manifest_name)) }
+
+        // Files that stand for a collection are opened as that collection, and never refused.
+        ensures reads { (c : Collection) → Stands limits (T.files store.old) c → IfOk result (λ found. IsSomeAnd found (λ r. ReadsAs (T.files store.old) r c)) }
+        ensures backed { (c : Collection) → Stands limits (T.files store.old) c → IfOk result (λ found. IsSomeAnd found (λ r. IsBacked (T.files store.old) r)) }
+        ensures honest { (c : Collection) → Stands limits (T.files store.old) c → IfErr result IsOutside }
+
+        // Whatever the files are: what is opened was read from them by the grammar, and a fault is that of what was read.
+        ensures opened { (f : Files) → T.files store.old ≡ Some f → IfOk result (λ found. IfSome found (IsRepositoryOpened (T.files store.old) limits)) }
+        ensures fault { (f : Files) → T.files store.old ≡ Some f → IfErr result (IsOpeningFault f limits) }
+
+        ensures quiet { IsQuiet T.files T.layers T.clock T.since T.longest T.held store.old store.new }
+        ensures later { T.faults store.old ≤ T.faults store.new }
+        ensures store { result ≡ Err SegFault.Store → Rose (T.faults store.old) (T.faults store.new) }
+    {
+        match find_manifest(alloc, store)? {
+            None => Ok(None),
+            Some(list) => Ok(Some(of_manifest(alloc, store, limits, list)?)),
+        }
+    }
+
+    /// Adds a document behind the live ones.
+    pub fn add(&mut self, alloc: Global, doc: &Doc) -> Result<(), AddRefusal>
+        requires { self.old.usable ≡ true }
+        ensures answer { Answers result (answer self.old.held doc.now) }
+        ensures added { OnOk result (self.new ≡ with_held self.old (added self.old.held doc.now)) }
+        ensures reads { OnOk result ((told : Option Files) (c : Collection) → ReadsAs told self.old c → ReadsAs told self.new (with_document c doc.now)) }
+        ensures backed { (told : Option Files) → IsBacked told self.old → IsBacked told self.new }
+        ensures kept { OnErr result (self.new ≡ self.old) }
+    {
+        self.held.add(alloc, doc)
+    }
+
+    /// Takes the document with this docno out of the live ones. The numbers held count it on.
+    pub fn delete(&mut self, docno: &Docno) -> Result<(), NoSuchDoc>
+        requires { self.old.usable ≡ true }
+        ensures refused { IsErr result ↔ (is_live self.old.held.parts docno.now ≡ false) }
+        ensures deleted { OnOk result (self.new ≡ with_held self.old (deleted self.old.held docno.now)) }
+        ensures reads { OnOk result ((told : Option Files) (c : Collection) → ReadsAs told self.old c → ReadsAs told self.new (without_docno c docno.now)) }
+        ensures backed { (told : Option Files) → IsBacked told self.old → IsBacked told self.new }
+        ensures kept { OnErr result (self.new ≡ self.old) }
+    {
+        self.held.delete(docno)
+    }
+
+    /// How many documents are live.
+    pub fn live_count(&self) -> u64
+        ensures { (told : Option Files) → result ≡ length (live told self.now.held.parts) }
+    {
+        self.held.live_count()
+    }
+
+    /// How many documents were added and deleted since it was opened. At 2^64 - 1 it stays.
+    pub fn generation(&self) -> u64
+        ensures { result ≡ self.now.held.generation }
+    {
+        self.held.generation()
+    }
+
+    /// Its priors, in the order of the manifest.
+    pub fn priors(&self) -> &[PriorEntry]
+        ensures { result.now ≡ self.now.priors }
+    {
+        &self.priors
+    }
+
+    /// Whether it may be used. Where a change of its files failed it must be opened again.
+    pub fn usable(&self) -> bool
+        ensures { result ≡ self.now.usable }
+    {
+        self.usable
+    }
+}
+
+/// The repository of this manifest.
+fn of_manifest<T: Store>(
+    alloc: Global,
+    store: &mut T,
+    limits: Limits,
+    list: Manifest,
+) -> Result<Repository, SegFault>
+    ensures opened { HasManifest (T.files store.old) list → IfOk result (IsRepositoryOpened (T.files store.old) limits) }
+    ensures honest { (segments : List (List Document)) (c : Collection) → AllZip (IsListed (T.files store.old)) list.segments segments → AreHeld limits list.segments segments c
+        → IfErr result IsOutside }
+    ensures fault { (f : Files) → T.files store.old ≡ Some f
+        → IfErr result (λ fault. IsOutside fault ⊎ (IsEntryFault f list.segments fault ⊎ IsAcrossFault (T.files store.old) limits list.segments fault)) }
+    ensures quiet { IsQuiet T.files T.layers T.clock T.since T.longest T.held store.old store.new }
+    ensures later { T.faults store.old ≤ T.faults store.new }
+    ensures store { result ≡ Err SegFault.Store → Rose (T.faults store.old) (T.faults store.new) }
+{
+    let Manifest {
+        version: _,
+        next,
+        segments,
+        stale,
+        priors,
+    } = list;
+    let held = hold_entries(alloc, store, limits, segments.as_slice())?;
+    Ok(Repository {
+        held,
+        next,
+        stale: stale.into_vec(),
+        priors: priors.into_vec(),
+        usable: true,
+    })
+}

@@ -1,0 +1,92 @@
+// The files of repositories, written out by hand.
+use ri_base::{FileName, PartName, SegFault};
+use std::alloc::{AllocError, Global};
+use std::test::Fail;
+use store_ends::{Left, MemStore, Store, StoreFail};
+
+/// The manifest that lists nothing.
+pub static EMPTY: [u8; 33] = [
+    0x69, 0x6e, 0x64, 0x72, 0x69, 0x6d, 0x61, 0x6e, 1, 0, 0, 0, 1, 0, 0, 0, 0, 0, 0, 0, 0, 0, 0, 0,
+    0, 0, 0, 0, 0, 0, 0, 0, 0,
+];
+
+/// Segment 1 of two documents, none of them marked. The next file has number 2.
+pub static ONE: [u8; 49] = [
+    0x69, 0x6e, 0x64, 0x72, 0x69, 0x6d, 0x61, 0x6e, 1, 0, 0, 0, 2, 0, 0, 0, 0, 0, 0, 0, 1, 0, 0, 0,
+    1, 0, 0, 0, 0, 0, 0, 0, 2, 0, 0, 0, 0, 0, 0, 0, 0, 0, 0, 0, 0, 0, 0, 0, 0,
+];
+
+/// The same with a mark for document 0.
+pub static MARKED: [u8; 53] = [
+    0x69, 0x6e, 0x64, 0x72, 0x69, 0x6d, 0x61, 0x6e, 1, 0, 0, 0, 2, 0, 0, 0, 0, 0, 0, 0, 1, 0, 0, 0,
+    1, 0, 0, 0, 0, 0, 0, 0, 2, 0, 0, 0, 1, 0, 0, 0, 0, 0, 0, 0, 0, 0, 0, 0, 0, 0, 0, 0, 0,
+];
+
+/// Segments 1 and 2 of two documents each, none of them marked. The next file has number 3.
+pub static TWO: [u8; 65] = [
+    0x69, 0x6e, 0x64, 0x72, 0x69, 0x6d, 0x61, 0x6e, 1, 0, 0, 0, 3, 0, 0, 0, 0, 0, 0, 0, 2, 0, 0, 0,
+    1, 0, 0, 0, 0, 0, 0, 0, 2, 0, 0, 0, 0, 0, 0, 0, 2, 0, 0, 0, 0, 0, 0, 0, 2, 0, 0, 0, 0, 0, 0, 0,
+    0, 0, 0, 0, 0, 0, 0, 0, 0,
+];
+
+/// `d1` with the tokens `a b`, and `d2` with the token `a`.
+pub static SEGMENT: [u8; 155] = [
+    0x69, 0x6e, 0x64, 0x72, 0x69, 0x73, 0x65, 0x67, 1, 0, 0, 0, 2, 0, 0, 0, 3, 0, 0, 0, 0, 0, 0, 0,
+    2, 0, 0, 0, 0, 0, 0, 0, 0x40, 0, 0, 0, 0, 0, 0, 0, 0x52, 0, 0, 0, 0, 0, 0, 0, 0x7e, 0, 0, 0, 0,
+    0, 0, 0, 0x9b, 0, 0, 0, 0, 0, 0, 0, 2, 0x64, 0x31, 2, 0, 0, 0, 0, 0, 2, 0x64, 0x32, 1, 0, 0, 0,
+    0, 0, 1, 0x61, 1, 0, 0, 0, 0, 0, 0, 0, 0x7e, 0, 0, 0, 0, 0, 0, 0, 0x13, 0, 0, 0, 1, 0x62, 1, 0,
+    0, 0, 0, 0, 0, 0, 0x91, 0, 0, 0, 0, 0, 0, 0, 0x0a, 0, 0, 0, 2, 0, 1, 0, 0, 0, 0, 0, 0, 0, 1, 1,
+    0, 0, 0, 0, 0, 0, 0, 1, 0, 1, 0, 0, 0, 1, 0, 0, 0,
+];
+
+/// A name and a content.
+pub type File = (&'static str, &'static [u8]);
+
+/// A store with these files, in which these calls fail.
+pub fn store_of(
+    alloc: Global,
+    files: &[File],
+    fails: Vec<StoreFail>,
+) -> Result<MemStore, AllocError> {
+    let mut kept = Vec::new(alloc);
+    for (name, bytes) in files {
+        kept.push((name.as_bytes().to_vec(alloc)?, bytes.to_vec(alloc)?))?;
+    }
+    Ok(MemStore::new(alloc, kept, fails))
+}
+
+/// The failure of one call.
+pub fn fails_at(alloc: Global, call: u64, left: Left) -> Result<Vec<StoreFail>, AllocError> {
+    let mut fails = Vec::new(alloc);
+    fails.push(StoreFail { call, left })?;
+    Ok(fails)
+}
+
+/// The first bytes of the manifest, 64 at most; none where there is no manifest.
+pub fn manifest_bytes(alloc: Global, store: &mut MemStore) -> Result<Vec<u8>, Fail> {
+    let mut bytes = vec![in alloc; 0u8; 64]?;
+    match store.read_at("manifest", 0, &mut bytes) {
+        Ok(count) => {
+            bytes.truncate(count);
+            Ok(bytes)
+        }
+        Err(_) => Err(Fail::from("the store failed")),
+    }
+}
+
+/// The file, the part and the place of a fault, or whether a file is missing.
+#[derive(Clone, Copy, Debug, PartialEq, Eq)]
+pub enum Fault {
+    Malformed(FileName, PartName, u64),
+    Missing(FileName),
+    Store,
+}
+
+pub fn shown(fault: SegFault) -> Result<Fault, Fail> {
+    match fault {
+        SegFault::Malformed { file, part, place } => Ok(Fault::Malformed(file, part, place)),
+        SegFault::Missing { file } => Ok(Fault::Missing(file)),
+        SegFault::Store => Ok(Fault::Store),
+        SegFault::Memory => Err(Fail::from("out of memory")),
+    }
+}

@@ -13,11 +13,11 @@ ghost use Rattle.holdings.specs.Parts.{all_parts, is_live, live, parts_of, seale
 ghost use Rattle.holdings.specs.Placing.{IsPartsFault};
 ghost use Rattle.holdings.specs.declared.limits.Limits.{Limits};
 
+use crate::PartsFault;
 use crate::closing::close;
 use crate::places::insert;
 use crate::placing::place_all;
 use crate::spot::Spot;
-use crate::PartsFault;
 use deletion_list::DelList;
 use disk_index::MarkedPart;
 use indexmap::IndexMap;

@@ -28,7 +28,7 @@ use Rattle.holdings.specs.Placing.{IsPartsFault}
 use Rattle.holdings.specs.declared.limits.Limits.{Limits}
 use Rattle.holdings.specs.declared.refusals.PartsFault.{PartsFault}
 use Rattle.holdings.specs.declared.refusals.PartsFault.TheVariants.{TooManyDocs, TooManyTokens, Repeated, Memory}
-use Rattle.holdings.proofs.LiveLemmas.{docnos-snapshots.live, flat_map-push, tokens-reads}
+use Rattle.holdings.proofs.LiveLemmas.{docnos-live, flat_map-push, tokens-reads}
 use Rattle.holdings.proofs.SumLemmas.{AreCounted-closed}
 use Rattle.repository.specs.Names.{manifest_name}
 use Rattle.repository.specs.Opening.{IsAcrossFault, IsEntryFault, IsEntryOpened, IsOpeningFault, IsPartOf, IsRepositoryOpened, of_all, of_entry, of_outside}
@@ -143,7 +143,7 @@ module _ (told : Option Files) where
     pub docnos-distinct : IsDistinct bytes_eq (docnos_of ms)
     docnos-distinct =
         let live_are : snapshots.live told ms ≡ c.live = live-opened es dss ms listed opened ∙ sym held.live_are in
-        subst (IsDistinct bytes_eq) (ap (map (λ (d : Document). d.docno)) (sym live_are) ∙ docnos-snapshots.live told ms) held.distinct
+        subst (IsDistinct bytes_eq) (ap (map (λ (d : Document). d.docno)) (sym live_are) ∙ docnos-live told ms) held.distinct
 
 -- ---- the repository
 

@@ -104,7 +104,7 @@ struct Held {
 }
 
 /// With so many slots for sums and for blocks.
-fn held<T: Store>(alloc: Global, store: &mut T, slots: usize) -> Result<Held, Fail> {
+fn opened<T: Store>(alloc: Global, store: &mut T, slots: usize) -> Result<Held, Fail> {
     let snapshot = snapshot(alloc, store)?;
     let counts = Counts::new(alloc, NonZeroUsize::new(slots).unwrap_or(NonZeroUsize::MIN))?;
     let cache = cache_of(alloc, slots)?;
@@ -154,8 +154,12 @@ fn sums_of<T: Store>(
 }
 
 /// The first of the rows whose sums are others, if one is.
-fn first_wrong<T: Store>(alloc: Global, store: &mut T, slots: usize) -> Result<Option<usize>, Fail> {
-    let mut held = held(alloc, store, slots)?;
+fn first_wrong<T: Store>(
+    alloc: Global,
+    store: &mut T,
+    slots: usize,
+) -> Result<Option<usize>, Fail> {
+    let mut held = opened(alloc, store, slots)?;
     for (i, (word, is_inside, cf, total)) in SUMS.iter().enumerate() {
         let found = sums_of(alloc, &mut held, word, *is_inside, 7, store)?;
         if !matches!(found, Ok(stats) if stats.cf == *cf && stats.total == *total) {
@@ -207,8 +211,12 @@ fn cf(
 }
 
 /// A word, a generation, and how often the word occurs where there is no file any more and no block is kept.
-static LATER: [(&str, u64, Option<u64>); 4] =
-    [("a", 7, Some(3)), ("a", 8, None), ("b", 7, None), ("d", 7, Some(0))];
+static LATER: [(&str, u64, Option<u64>); 4] = [
+    ("a", 7, Some(3)),
+    ("a", 8, None),
+    ("b", 7, None),
+    ("d", 7, Some(0)),
+];
 
 /// The first of these rows that is answered otherwise, if one is.
 fn first_read_again(alloc: Global, held: &mut Held) -> Result<Option<usize>, Fail> {
@@ -226,7 +234,7 @@ fn first_read_again(alloc: Global, held: &mut Held) -> Result<Option<usize>, Fai
 #[test]
 fn what_is_kept_is_not_read_again(rt: HostRuntime) -> Result<(), Fail> {
     let mut store = store_of(rt.alloc(), &BYTES, Vec::new(rt.alloc()))?;
-    let mut held = held(rt.alloc(), &mut store, 2)?;
+    let mut held = opened(rt.alloc(), &mut store, 2)?;
     assert!(rt; cf(rt.alloc(), &mut held, "a", 7, &mut store)? == Some(3));
     held.cache = cache_of(rt.alloc(), 2)?;
     assert_eq!(rt; first_read_again(rt.alloc(), &mut held)?, None);
@@ -246,7 +254,7 @@ fn failing(alloc: Global) -> Result<MemStore, Fail> {
 #[test]
 fn a_sum_that_fails_is_not_kept(rt: HostRuntime) -> Result<(), Fail> {
     let mut store = failing(rt.alloc())?;
-    let mut held = held(rt.alloc(), &mut store, 2)?;
+    let mut held = opened(rt.alloc(), &mut store, 2)?;
     let failed = sums_of(rt.alloc(), &mut held, "b", false, 7, &mut store)?;
     assert!(rt; matches!(failed, Err(SegFault::Store)));
     assert!(rt; cf(rt.alloc(), &mut held, "b", 7, &mut store)? == Some(1));

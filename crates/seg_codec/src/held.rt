@@ -47,10 +47,7 @@ fn terms_alone(alloc: Global, terms: Dictionary) -> Result<Vec<Term>, NoMemory>
 {
     let mut found = Vec::with_capacity(alloc, terms.len())?;
     for entry in terms.into_vec() {
-        let TermBlocks {
-            term,
-            blocks: _,
-        } = entry;
+        let TermBlocks { term, blocks: _ } = entry;
         found.push(term)?;
     }
     Ok(found)

@@ -17,7 +17,11 @@ use std::{env, fs};
 
 fn write_segments(rt: &HostRuntime, documents: u32, spread: u64) -> Result<()> {
     let sealed = sealed_of(rt.alloc(), documents, spread)?;
-    println!(rt; "{} documents, {} tokens", sealed.docs(), sealed.token_count())?;
+    println!(rt;
+        "{} documents, {} tokens",
+        sealed.docs(),
+        sealed.token_count()
+    )?;
     for line in rt.lines(rt.alloc()) {
         let path = line?;
         let bytes = seg_bytes(rt.alloc(), &sealed)?;
@@ -42,7 +46,8 @@ fn token_count(documents: &[Doc]) -> u64 {
 fn shown(alloc: Global, bytes: &[u8]) -> Result<String> {
     let mut text = String::new(alloc);
     match read_segment(alloc, bytes, FileName::Segment(1)) {
-        Ok(found) => write!(text,
+        Ok(found) => write!(
+            text,
             "{} documents, {} tokens",
             found.len(),
             token_count(found.as_slice())

@@ -66,7 +66,12 @@ fn documents_fault(
 
 /// The place of the fault where `d1` has so many tokens.
 fn tokens_fault(alloc: Global, tokens: u32) -> Result<Option<u64>, Fail> {
-    let bytes = with_bytes(alloc, &[2, 0x64, 0x31, 0, 0, 0, 0, 0, 0], 3, &tokens.to_le_bytes())?;
+    let bytes = with_bytes(
+        alloc,
+        &[2, 0x64, 0x31, 0, 0, 0, 0, 0, 0],
+        3,
+        &tokens.to_le_bytes(),
+    )?;
     documents_fault(alloc, u64::from(tokens), 0, &bytes)
 }
 

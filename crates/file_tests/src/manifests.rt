@@ -27,10 +27,10 @@ static ALL: [u8; 84] = [
 
 /// The fields of these begin here.
 static EMPTY_BEGINS: [usize; 6] = [0, 8, 12, 20, 24, 32];
+
 static ONE_BEGINS: [usize; 9] = [0, 8, 12, 20, 24, 32, 36, 40, 48];
-static ALL_BEGINS: [usize; 16] = [
-    0, 8, 12, 20, 24, 32, 36, 40, 44, 48, 56, 64, 72, 73, 74, 76,
-];
+
+static ALL_BEGINS: [usize; 16] = [0, 8, 12, 20, 24, 32, 36, 40, 44, 48, 56, 64, 72, 73, 74, 76];
 
 /// The manifest of these bytes, as bytes again, or the place of the fault.
 fn again(alloc: Global, bytes: &[u8]) -> Result<Result<Vec<u8>, u64>, Fail> {
@@ -141,7 +141,11 @@ fn raised_is_read(alloc: Global, bytes: &[u8], at: usize) -> Result<bool, Fail> 
 #[test]
 fn raised_bytes(rt: HostRuntime) -> Result<(), Fail> {
     for n in 0..33usize {
-        assert_eq!(rt; raised_is_read(rt.alloc(), &EMPTY, n)?, 12 <= n && n < 20, "{n}");
+        assert_eq!(rt;
+            raised_is_read(rt.alloc(), &EMPTY, n)?,
+            12 <= n && n < 20,
+            "{n}"
+        );
     }
     for n in 0..49usize {
         let is_other = (12 <= n && n < 20) || (32 <= n && n < 35);
@@ -158,16 +162,16 @@ static LIMITS: [(usize, &[u8], Option<u64>); 8] = [
     (
         12,
         &[
-            0xff, 0xff, 0xff, 0xff, 0xff, 0xff, 0xff, 0xff, 1, 0, 0, 0, 0xfe, 0xff, 0xff, 0xff, 0xff,
-            0xff, 0xff, 0xff,
+            0xff, 0xff, 0xff, 0xff, 0xff, 0xff, 0xff, 0xff, 1, 0, 0, 0, 0xfe, 0xff, 0xff, 0xff,
+            0xff, 0xff, 0xff, 0xff,
         ],
         None,
     ),
     (
         12,
         &[
-            0xff, 0xff, 0xff, 0xff, 0xff, 0xff, 0xff, 0xff, 1, 0, 0, 0, 0xff, 0xff, 0xff, 0xff, 0xff,
-            0xff, 0xff, 0xff,
+            0xff, 0xff, 0xff, 0xff, 0xff, 0xff, 0xff, 0xff, 1, 0, 0, 0, 0xff, 0xff, 0xff, 0xff,
+            0xff, 0xff, 0xff, 0xff,
         ],
         Some(24),
     ),

@@ -24,12 +24,7 @@ pub fn place_of<T: Drop>(found: Result<T, SegFault>) -> Result<Result<T, u64>, F
 }
 
 /// The bytes with others from a place on.
-pub fn with_bytes(
-    alloc: Global,
-    bytes: &[u8],
-    at: usize,
-    others: &[u8],
-) -> Result<Vec<u8>, Fail> {
+pub fn with_bytes(alloc: Global, bytes: &[u8], at: usize, others: &[u8]) -> Result<Vec<u8>, Fail> {
     if at > bytes.len() || others.len() > bytes.len() - at {
         return Err(Fail::from("no such byte"));
     }

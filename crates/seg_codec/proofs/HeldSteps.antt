@@ -2,12 +2,11 @@
 use Rattle.std.proofs.Common.{◌≡◌, ◌<◌, ℕ, ◌+◌, List, [], ◌∷◌, ◌++◌, length, get_or, take, Option, Some, None, Result, Ok, Err, refl, sym, ap, subst, ◌∙◌, arith}
 use Rattle.std.specs.Prelude.{IfNone, IfOk, IfSome, OnSome}
 use Rattle.std.specs.List.{All}
-use Rattle.std.proofs.lemmas.List.{get_or-map, length-map, length-take-le, map_more, take_more}
+use Rattle.std.proofs.lemmas.List.{get_or-map, get_or_default, length-map, length-take-le, map_more, take_more}
 use Rattle.ri_base.specs.Documents.{Document}
 use Rattle.ri_base.specs.Inversion.{by_number}
 use Rattle.ri_base.specs.declared.places.Place.{Place}
 use Rattle.seg_codec.specs.Held.{AreAgreed, AreOfPostings, AreRanked, Gap, Holds, IsClashing, IsKept, lengths, lengths_of, rebuilt, terms_of}
-use Rattle.seg_codec.specs.declared.dictionary.TermBlocks.{TermBlocks}
 use Rattle.seg_codec.specs.declared.documents.Entry.{Entry}
 use Rattle.seg_codec.specs.declared.whole.Whole.{Whole}
 use Rattle.seg_codec.proofs.HeldLaws.{ranked_holds, ranks_long}
@@ -36,12 +35,12 @@ rebuilt_more terms es ranks i e r tokens d before after lt under e_is r_is token
     put ∙ ap (λ (x : List Document). x ++ d ∷ []) so_far ∙ ap (λ (x : Document). rebuilt terms (take i es) (take i ranks) ++ x ∷ []) (d_is ∙ ap (document_with e) tokens_is) ∙ sym pushed
 
 -- one term more
-pub terms_more : (terms : List TermBlocks) (ranks : List ℕ) (i : ℕ) (t : TermBlocks) (value : List ℕ) (before after : List (List ℕ)) → i < length ranks → get_or ranks i 0 < length terms → t ≡ get_or terms (get_or ranks i 0) t → value ≡ t.term
-    → after ≡ before ++ value ∷ [] → before ≡ by_number (terms_of terms) (take i ranks) → after ≡ by_number (terms_of terms) (take (i + 1) ranks)
-terms_more terms ranks i t value before after lt below t_is value_is put so_far =
+pub terms_more : (terms : List (List ℕ)) (ranks : List ℕ) (i : ℕ) (d value : List ℕ) (before after : List (List ℕ)) → i < length ranks → get_or ranks i 0 < length terms → value ≡ get_or terms (get_or ranks i 0) d
+    → after ≡ before ++ value ∷ [] → before ≡ by_number terms (take i ranks) → after ≡ by_number terms (take (i + 1) ranks)
+terms_more terms ranks i d value before after lt below value_is put so_far =
     let rank : ℕ = get_or ranks i 0 in
-    let term : value ≡ get_or (terms_of terms) rank [] = value_is ∙ ap (λ (x : TermBlocks). x.term) t_is ∙ sym (get_or-map (λ (x : TermBlocks). x.term) terms rank t [] below) in
-    put ∙ ap (λ (x : List (List ℕ)). x ++ value ∷ []) so_far ∙ ap (λ (x : List ℕ). by_number (terms_of terms) (take i ranks) ++ x ∷ []) term ∙ sym (map_more (λ n. get_or (terms_of terms) n []) ranks i 0 lt)
+    let term : value ≡ get_or terms rank [] = value_is ∙ get_or_default terms rank d [] below in
+    put ∙ ap (λ (x : List (List ℕ)). x ++ value ∷ []) so_far ∙ ap (λ (x : List ℕ). by_number terms (take i ranks) ++ x ∷ []) term ∙ sym (map_more (λ n. get_or terms n []) ranks i 0 lt)
 
 -- it has as many tokens as is known of it
 pub tokens_counted : (terms : List (List ℕ)) (es : List Entry) (ranks : List (List ℕ)) (i : ℕ) (e : Entry) (r : List ℕ) (tokens : List (List ℕ)) → lengths ranks ≡ lengths_of es → i < length es → e ≡ get_or es i e → r ≡ get_or ranks i [] → tokens ≡ by_number terms r → length tokens ≡ e.tokens
@@ -80,9 +79,9 @@ none_if_gap w es pss ranks (Some v) es_are pss_are shape each gap = tt
 none_if_gap w es pss ranks None es_are pss_are shape each gap =
     λ docs h. no_gap w docs ranks h (shape ∙ ap lengths_of es_are) (subst (λ (x : List (List Place)). AreAgreed x ranks) pss_are each) (subst (λ (x : List (List Place)). Gap (length x) ranks) pss_are gap)
 
-pub held_if_rebuilt : {E : Type 0} (w : Whole) (ranks : List (List ℕ)) (ts : List TermBlocks) (es : List Entry) (answer : Result (List Document) E) → IsKept w → AreRanked w ranks → ts ≡ w.terms → es ≡ w.documents
-    → IfOk answer (λ docs. docs ≡ rebuilt (terms_of ts) es ranks) → IfOk answer (λ docs. Holds docs w)
+pub held_if_rebuilt : {E : Type 0} (w : Whole) (ranks : List (List ℕ)) (ts : List (List ℕ)) (es : List Entry) (answer : Result (List Document) E) → IsKept w → AreRanked w ranks → ts ≡ terms_of w.terms → es ≡ w.documents
+    → IfOk answer (λ docs. docs ≡ rebuilt ts es ranks) → IfOk answer (λ docs. Holds docs w)
 held_if_rebuilt w ranks ts es (Ok docs) kept ranked ts_are es_are found =
-    let are : docs ≡ rebuilt (terms_of w.terms) w.documents ranks = found ∙ ap (λ (x : List TermBlocks). rebuilt (terms_of x) es ranks) ts_are ∙ ap (λ (x : List Entry). rebuilt (terms_of w.terms) x ranks) es_are in
+    let are : docs ≡ rebuilt (terms_of w.terms) w.documents ranks = found ∙ ap (λ (x : List (List ℕ)). rebuilt x es ranks) ts_are ∙ ap (λ (x : List Entry). rebuilt (terms_of w.terms) x ranks) es_are in
     subst (λ (x : List Document). Holds x w) (sym are) (ranked_holds w ranks kept ranked)
 held_if_rebuilt w ranks ts es (Err e) kept ranked ts_are es_are found = tt

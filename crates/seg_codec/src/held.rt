@@ -6,11 +6,11 @@ ghost use Rattle.ri_base.specs.Inversion.{by_number};
 ghost use Rattle.seg_codec.specs.Held.{AreRanked, Holds, IsKept, lengths, lengths_of, rebuilt, terms_of};
 ghost use Rattle.seg_codec.specs.Whole.{IsSound};
 
-use crate::dictionary::TermBlocks;
+use crate::dictionary::{Dictionary, TermBlocks};
 use crate::documents::Entry;
 use crate::ranks::{Ranks, full_ranks, ranks_at};
 use crate::whole::Whole;
-use ri_base::{Doc, List, NoMemory, Places, Terms};
+use ri_base::{Doc, List, NoMemory, Places, Term, Terms};
 use std::alloc::Global;
 
 /// Whether there are so many postings.
@@ -41,14 +41,26 @@ pub fn ranks_held(alloc: Global, whole: &Whole) -> Result<Option<Vec<Ranks>>, No
     }
 }
 
+/// The terms, whose blocks are given back.
+fn terms_alone(alloc: Global, terms: Dictionary) -> Result<Vec<Term>, NoMemory>
+    ensures { IfOk result (λ v. v.items ≡ terms_of terms) }
+{
+    let mut found = Vec::with_capacity(alloc, terms.len())?;
+    for entry in terms.into_vec() {
+        let TermBlocks { term, blocks: _ } = entry;
+        found.push(term)?;
+    }
+    Ok(found)
+}
+
 /// The terms of these ranks.
-fn terms_at(alloc: Global, terms: &[TermBlocks], ranks: &[u32]) -> Result<Terms, NoMemory>
+fn terms_at(alloc: Global, terms: &[Term], ranks: &[u32]) -> Result<Terms, NoMemory>
     requires { All (λ r. r < length terms.now) ranks.now }
-    ensures { IfOk result (λ ts. ts ≡ by_number (terms_of terms.now) ranks.now) }
+    ensures { IfOk result (λ ts. ts ≡ by_number terms.now ranks.now) }
 {
     let mut found = Vec::with_capacity(alloc, ranks.len())?;
     for rank in ranks {
-        found.push(terms[*rank as usize].term.clone_in(alloc)?)?;
+        found.push(terms[*rank as usize].clone_in(alloc)?)?;
     }
     Ok(List::of(found))
 }
@@ -69,14 +81,14 @@ fn document_of(alloc: Global, entry: Entry, tokens: Terms) -> Result<Doc, NoMemo
 /// The documents with the terms of these ranks.
 fn rebuilt(
     alloc: Global,
-    terms: &[TermBlocks],
+    terms: &[Term],
     documents: Vec<Entry>,
     ranks: &[Ranks],
 ) -> Result<List<Doc>, NoMemory>
     requires shape { lengths ranks.now ≡ lengths_of documents.items }
     requires sound { All IsSound documents.items }
     requires known { All (λ (rs : List ℕ). All (λ r. r < length terms.now) rs) ranks.now }
-    ensures { IfOk result (λ docs. docs ≡ rebuilt (terms_of terms.now) documents.items ranks.now) }
+    ensures { IfOk result (λ docs. docs ≡ rebuilt terms.now documents.items ranks.now) }
 {
     let mut found = Vec::with_capacity(alloc, documents.len())?;
     let mut id = 0usize;
@@ -88,7 +100,7 @@ fn rebuilt(
     Ok(List::of(found))
 }
 
-/// The documents that the parts of a file hold, with the terms of these ranks. The postings are given back first.
+/// The documents that the parts of a file hold, with the terms of these ranks. Postings and blocks are given back first.
 pub fn documents_held(alloc: Global, whole: Whole, ranks: &[Ranks]) -> Result<List<Doc>, NoMemory>
     requires kept { IsKept whole }
     requires ranked { AreRanked whole ranks.now }
@@ -101,5 +113,6 @@ pub fn documents_held(alloc: Global, whole: Whole, ranks: &[Ranks]) -> Result<Li
         postings,
     } = whole;
     drop(postings);
-    rebuilt(alloc, terms.as_slice(), documents.into_entries(), ranks)
+    let terms = terms_alone(alloc, terms)?;
+    rebuilt(alloc, &terms, documents.into_entries(), ranks)
 }

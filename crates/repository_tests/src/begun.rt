@@ -35,7 +35,9 @@ fn another_is_kept(rt: HostRuntime) -> Result<(), Fail> {
 fn is_left_by(alloc: Global, call: u64, left: Left) -> Result<bool, Fail> {
     let mut store = store_of(alloc, &[], fails_at(alloc, call, left)?)?;
     match create(alloc, &mut store) {
-        Err(SegFault::Store) => Ok(manifest_bytes(alloc, &mut store)?.as_slice() == EMPTY.as_slice()),
+        Err(SegFault::Store) => Ok(
+            manifest_bytes(alloc, &mut store)?.as_slice() == EMPTY.as_slice(),
+        ),
         _ => Err(Fail::from("no failure")),
     }
 }

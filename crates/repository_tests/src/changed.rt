@@ -40,7 +40,12 @@ fn add(alloc: Global, repository: &mut Repository, name: &str) -> Result<Answer,
     requires { repository.old.usable ≡ true }
     ensures { repository.new.usable ≡ repository.old.usable }
 {
-    let doc = Doc::new(alloc, docno(alloc, name)?, Terms::new(alloc), Spans::new(alloc))?;
+    let doc = Doc::new(
+        alloc,
+        docno(alloc, name)?,
+        Terms::new(alloc),
+        Spans::new(alloc),
+    )?;
     match repository.add(alloc, &doc) {
         Ok(()) => Ok(Answer::Done),
         Err(AddRefusal::Repeated { docno: _ }) => Ok(Answer::Repeated),

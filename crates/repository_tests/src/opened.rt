@@ -8,6 +8,7 @@ use std::test::Fail;
 use store_ends::Left;
 
 const FIRST: &str = "seg-0000000000000001";
+
 const SECOND: &str = "seg-0000000000000002";
 
 fn open(alloc: Global, files: &[File], limits: Limits) -> Result<Option<Repository>, SegFault> {

@@ -59,6 +59,12 @@ pub record IsRepositoryOpened (told : Option Files) (limits : Limits) (s : State
   pub priors_are : s.priors ≡ list.priors
   pub usable : s.usable ≡ true
 
+-- it may be used, within these limits, and nothing was added or deleted yet
+pub record IsFresh (limits : Limits) (s : State) : Type 0 where
+  pub usable : s.usable ≡ true
+  pub limits_are : s.held.limits ≡ limits
+  pub none_yet : s.held.generation ≡ 0
+
 -- ---- why it is refused
 
 -- the manifest is there, and its bytes are refused so

@@ -8,7 +8,7 @@ ghost use Rattle.store_ends.specs.Files.{Files, IsQuiet};
 ghost use Rattle.holdings.specs.Contents.{Answers, added, answer, deleted};
 ghost use Rattle.holdings.specs.Parts.{is_live, live};
 ghost use Rattle.repository.specs.Names.{manifest_name};
-ghost use Rattle.repository.specs.Opening.{IsAcrossFault, IsEntryFault, IsOpeningFault, IsRepositoryOpened};
+ghost use Rattle.repository.specs.Opening.{IsAcrossFault, IsEntryFault, IsFresh, IsOpeningFault, IsRepositoryOpened};
 ghost use Rattle.repository.specs.Stands.{AreHeld, Collection, HasManifest, IsListed, Stands};
 ghost use Rattle.repository.specs.States.{IsBacked, ReadsAs};
 ghost use Rattle.repository.specs.Steps.{with_document, with_held, without_docno};
@@ -56,6 +56,7 @@ impl Repository {
         ensures honest { (c : Collection) → Stands limits (T.files store.old) c → IfErr result IsOutside }
 
         // Whatever the files are: what is opened was read from them by the grammar, and a fault is that of what was read.
+        ensures fresh { IfOk result (λ found. IfSome found (IsFresh limits)) }
         ensures opened { (f : Files) → T.files store.old ≡ Some f → IfOk result (λ found. IfSome found (IsRepositoryOpened (T.files store.old) limits)) }
         ensures fault { (f : Files) → T.files store.old ≡ Some f → IfErr result (IsOpeningFault f limits) }
 
@@ -77,6 +78,7 @@ impl Repository {
         ensures reads { OnOk result ((told : Option Files) (c : Collection) → ReadsAs told self.old c → ReadsAs told self.new (with_document c doc.now)) }
         ensures backed { (told : Option Files) → IsBacked told self.old → IsBacked told self.new }
         ensures kept { OnErr result (self.new ≡ self.old) }
+        ensures usable { self.new.usable ≡ self.old.usable }
     {
         self.held.add(alloc, doc)
     }
@@ -89,6 +91,7 @@ impl Repository {
         ensures reads { OnOk result ((told : Option Files) (c : Collection) → ReadsAs told self.old c → ReadsAs told self.new (without_docno c docno.now)) }
         ensures backed { (told : Option Files) → IsBacked told self.old → IsBacked told self.new }
         ensures kept { OnErr result (self.new ≡ self.old) }
+        ensures usable { self.new.usable ≡ self.old.usable }
     {
         self.held.delete(docno)
     }
@@ -129,6 +132,7 @@ fn of_manifest<T: Store>(
     limits: Limits,
     list: Manifest,
 ) -> Result<Repository, SegFault>
+    ensures fresh { IfOk result (IsFresh limits) }
     ensures opened { HasManifest (T.files store.old) list → IfOk result (IsRepositoryOpened (T.files store.old) limits) }
     ensures honest { (segments : List (List Document)) (c : Collection) → AllZip (IsListed (T.files store.old)) list.segments segments → AreHeld limits list.segments segments c
         → IfErr result IsOutside }

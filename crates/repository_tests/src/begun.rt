@@ -1,43 +1,43 @@
 // A repository is made where there is none.
-use crate::files::{EMPTY, ONE, SEGMENT, fails_at, manifest_bytes, store_of};
+use crate::files::{EMPTY, File, ONE, fails_at, manifest_bytes, store_of};
 use repository::create;
 use ri_base::SegFault;
 use std::alloc::Global;
 use std::test::Fail;
 use store_ends::Left;
 
+/// Whether one is made of these files, and the manifest behind it.
+fn made_of(alloc: Global, files: &[File]) -> Result<(bool, Vec<u8>), Fail> {
+    let mut store = store_of(alloc, files, Vec::new(alloc))?;
+    match create(alloc, &mut store) {
+        Ok(made) => Ok((made, manifest_bytes(alloc, &mut store)?)),
+        Err(_) => Err(Fail::from("not made")),
+    }
+}
+
 #[test]
-fn twice(rt: HostRuntime) -> Result<(), Fail> {
-    let mut store = store_of(rt.alloc(), &[], Vec::new(rt.alloc()))?;
-    assert!(rt; create(rt.alloc(), &mut store)?);
-    assert!(rt; !create(rt.alloc(), &mut store)?);
-    assert_eq!(rt;
-        manifest_bytes(rt.alloc(), &mut store)?.as_slice(),
-        EMPTY.as_slice()
-    );
+fn of_no_files(rt: HostRuntime) -> Result<(), Fail> {
+    let (made, manifest) = made_of(rt.alloc(), &[])?;
+    assert!(rt; made);
+    assert!(rt; manifest.as_slice() == EMPTY.as_slice());
     Ok(())
 }
 
 #[test]
 fn another_is_kept(rt: HostRuntime) -> Result<(), Fail> {
-    let files = [
-        ("manifest", ONE.as_slice()),
-        ("seg-0000000000000001", SEGMENT.as_slice()),
-    ];
-    let mut store = store_of(rt.alloc(), &files, Vec::new(rt.alloc()))?;
-    assert!(rt; !create(rt.alloc(), &mut store)?);
-    assert_eq!(rt;
-        manifest_bytes(rt.alloc(), &mut store)?.as_slice(),
-        ONE.as_slice()
-    );
+    let (made, manifest) = made_of(rt.alloc(), &[("manifest", ONE.as_slice())])?;
+    assert!(rt; !made);
+    assert!(rt; manifest.as_slice() == ONE.as_slice());
     Ok(())
 }
 
-/// The manifest after a failure of this call, which leaves the file so.
-fn left_by(alloc: Global, call: u64, left: Left) -> Result<Vec<u8>, Fail> {
+/// Whether the manifest is there after a failure of this call, which leaves the file so.
+fn is_left_by(alloc: Global, call: u64, left: Left) -> Result<bool, Fail> {
     let mut store = store_of(alloc, &[], fails_at(alloc, call, left)?)?;
     match create(alloc, &mut store) {
-        Err(SegFault::Store) => manifest_bytes(alloc, &mut store),
+        Err(SegFault::Store) => Ok(
+            manifest_bytes(alloc, &mut store)?.as_slice() == EMPTY.as_slice(),
+        ),
         _ => Err(Fail::from("no failure")),
     }
 }
@@ -45,14 +45,8 @@ fn left_by(alloc: Global, call: u64, left: Left) -> Result<Vec<u8>, Fail> {
 // The calls are the length of the manifest and its replacement.
 #[test]
 fn each_call_fails(rt: HostRuntime) -> Result<(), Fail> {
-    for call in 1..3 {
-        assert!(rt; left_by(rt.alloc(), call, Left::Old)?.is_empty(), "{call}");
-    }
-    let torn = Left::Torn(b"indri".to_vec(rt.alloc())?);
-    assert!(rt; left_by(rt.alloc(), 2, torn)?.is_empty());
-    assert_eq!(rt;
-        left_by(rt.alloc(), 2, Left::New)?.as_slice(),
-        EMPTY.as_slice()
-    );
+    assert!(rt; !is_left_by(rt.alloc(), 1, Left::New)?);
+    assert!(rt; !is_left_by(rt.alloc(), 2, Left::Old)?);
+    assert!(rt; is_left_by(rt.alloc(), 2, Left::New)?);
     Ok(())
 }

@@ -4,6 +4,8 @@
 #[cfg(test)]
 mod begun;
 #[cfg(test)]
+mod changed;
+#[cfg(test)]
 mod files;
 #[cfg(test)]
 mod held;

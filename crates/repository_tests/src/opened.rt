@@ -1,90 +1,74 @@
 // Repositories are opened of the files of a store.
-use crate::files::{EMPTY, File, MARKED, ONE, SEGMENT, TWO, Fault, fails_at, store_of, shown};
+use crate::files::{EMPTY, Fault, File, MARKED, ONE, SEGMENT, TWO, fails_at, shown, store_of};
 use holdings::Limits;
 use repository::Repository;
-use ri_base::{FileName, PartName};
+use ri_base::{FileName, PartName, SegFault};
 use std::alloc::Global;
 use std::test::Fail;
-use store_ends::{Left, MemStore};
+use store_ends::Left;
 
 const FIRST: &str = "seg-0000000000000001";
 
 const SECOND: &str = "seg-0000000000000002";
 
-/// How many documents are live, or that there is no repository, or why it isn't opened.
-type Opened = Result<Option<u64>, Fault>;
-
-fn opened_in(alloc: Global, store: &mut MemStore, limits: Limits) -> Result<Opened, Fail> {
-    match Repository::open(alloc, store, limits) {
-        Ok(Some(repository)) => Ok(Ok(Some(repository.live_count()))),
-        Ok(None) => Ok(Ok(None)),
-        Err(fault) => Ok(Err(shown(fault)?)),
-    }
+fn open(alloc: Global, files: &[File], limits: Limits) -> Result<Option<Repository>, SegFault> {
+    let mut store = store_of(alloc, files, Vec::new(alloc))?;
+    Repository::open(alloc, &mut store, limits)
 }
 
-fn opened(alloc: Global, files: &[File], limits: Limits) -> Result<Opened, Fail> {
-    let mut store = store_of(alloc, files, Vec::new(alloc))?;
-    opened_in(alloc, &mut store, limits)
+/// How many documents are live where this is the manifest.
+fn live_in(alloc: Global, manifest: &'static [u8]) -> Result<u64, Fail> {
+    let files = [("manifest", manifest), (FIRST, SEGMENT.as_slice())];
+    match open(alloc, &files, Limits::real()) {
+        Ok(Some(repository)) => Ok(repository.live_count()),
+        _ => Err(Fail::from("not opened")),
+    }
 }
 
 #[test]
 fn live_documents(rt: HostRuntime) -> Result<(), Fail> {
-    let limits = Limits::real();
-    let segment = (FIRST, SEGMENT.as_slice());
-    assert_eq!(rt; opened(rt.alloc(), &[segment], limits)?, Ok(None));
-    assert_eq!(rt;
-        opened(
-            rt.alloc(),
-            &[("manifest", EMPTY.as_slice()), segment],
-            limits
-        )?,
-        Ok(Some(0))
-    );
-    assert_eq!(rt;
-        opened(rt.alloc(), &[("manifest", ONE.as_slice()), segment], limits)?,
-        Ok(Some(2))
-    );
-    assert_eq!(rt;
-        opened(
-            rt.alloc(),
-            &[("manifest", MARKED.as_slice()), segment],
-            limits
-        )?,
-        Ok(Some(1))
-    );
+    assert!(rt; live_in(rt.alloc(), &EMPTY)? == 0);
+    assert!(rt; live_in(rt.alloc(), &ONE)? == 2);
+    assert!(rt; live_in(rt.alloc(), &MARKED)? == 1);
     Ok(())
 }
 
 #[test]
-fn just_opened(rt: HostRuntime) -> Result<(), Fail> {
-    let files = [("manifest", ONE.as_slice()), (FIRST, SEGMENT.as_slice())];
-    let mut store = store_of(rt.alloc(), &files, Vec::new(rt.alloc()))?;
-    let Some(repository) = Repository::open(rt.alloc(), &mut store, Limits::real())? else {
-        return Err(Fail::from("no repository"));
-    };
-    assert!(rt; repository.usable());
-    assert!(rt; repository.priors().is_empty());
-    assert_eq!(rt; repository.generation(), 0);
+fn no_manifest(rt: HostRuntime) -> Result<(), Fail> {
+    let answer = open(rt.alloc(), &[(FIRST, SEGMENT.as_slice())], Limits::real());
+    assert!(rt; matches!(answer, Ok(None)));
+    Ok(())
+}
+
+/// Why these files aren't opened.
+fn fault_in(alloc: Global, files: &[File], limits: Limits) -> Result<Fault, Fail> {
+    match open(alloc, files, limits) {
+        Ok(_) => Err(Fail::from("no fault")),
+        Err(fault) => shown(fault),
+    }
+}
+
+#[test]
+fn the_manifest_is_cut(rt: HostRuntime) -> Result<(), Fail> {
+    let files = [("manifest", &EMPTY[..32])];
+    let wanted = Fault::Malformed(FileName::Manifest, PartName::Manifest, 32);
+    assert!(rt; fault_in(rt.alloc(), &files, Limits::real())? == wanted);
     Ok(())
 }
 
 #[test]
-fn files_are_wrong(rt: HostRuntime) -> Result<(), Fail> {
-    let limits = Limits::real();
-    let cut = ("manifest", &EMPTY[..32]);
-    let fault = Fault::Malformed(FileName::Manifest, PartName::Manifest, 32);
-    assert_eq!(rt; opened(rt.alloc(), &[cut], limits)?, Err(fault));
-    let fault = Fault::Missing(FileName::Segment(1));
-    assert_eq!(rt;
-        opened(rt.alloc(), &[("manifest", ONE.as_slice())], limits)?,
-        Err(fault)
-    );
-    let short = (FIRST, &SEGMENT[..100]);
-    let fault = Fault::Malformed(FileName::Segment(1), PartName::Header, 56);
-    assert_eq!(rt;
-        opened(rt.alloc(), &[("manifest", ONE.as_slice()), short], limits)?,
-        Err(fault)
-    );
+fn a_segment_is_missing(rt: HostRuntime) -> Result<(), Fail> {
+    let files = [("manifest", ONE.as_slice())];
+    let wanted = Fault::Missing(FileName::Segment(1));
+    assert!(rt; fault_in(rt.alloc(), &files, Limits::real())? == wanted);
+    Ok(())
+}
+
+#[test]
+fn a_segment_is_cut(rt: HostRuntime) -> Result<(), Fail> {
+    let files = [("manifest", ONE.as_slice()), (FIRST, &SEGMENT[..100])];
+    let wanted = Fault::Malformed(FileName::Segment(1), PartName::Header, 56);
+    assert!(rt; fault_in(rt.alloc(), &files, Limits::real())? == wanted);
     Ok(())
 }
 
@@ -96,22 +80,27 @@ static TOGETHER: [(u64, u64, PartName, u64); 4] = [
     (3, 5, PartName::Header, 12),
 ];
 
-// Each segment fits, and both together don't: a docno stands in both, or the limits are passed.
-#[test]
-fn segments_together(rt: HostRuntime) -> Result<(), Fail> {
+/// The fault of two segments with the same documents, of which so many documents and tokens may be held.
+fn fault_of_two(alloc: Global, held_docs: u64, held_tokens: u64) -> Result<Fault, Fail> {
     let files = [
         ("manifest", TWO.as_slice()),
         (FIRST, SEGMENT.as_slice()),
         (SECOND, SEGMENT.as_slice()),
     ];
+    let limits = Limits {
+        part_docs: 2,
+        held_docs: held_docs.min(9),
+        held_tokens: held_tokens.min(9),
+    };
+    fault_in(alloc, &files, limits)
+}
+
+// Each segment fits, and both together don't: a docno stands in both, or the limits are passed.
+#[test]
+fn segments_together(rt: HostRuntime) -> Result<(), Fail> {
     for (held_docs, held_tokens, part, place) in &TOGETHER {
-        let limits = Limits {
-            part_docs: 2,
-            held_docs: (*held_docs).min(9),
-            held_tokens: (*held_tokens).min(9),
-        };
-        let fault = Fault::Malformed(FileName::Segment(2), *part, *place);
-        assert_eq!(rt; opened(rt.alloc(), &files, limits)?, Err(fault));
+        let fault = fault_of_two(rt.alloc(), *held_docs, *held_tokens)?;
+        assert!(rt; fault == Fault::Malformed(FileName::Segment(2), *part, *place));
     }
     Ok(())
 }
@@ -119,28 +108,22 @@ fn segments_together(rt: HostRuntime) -> Result<(), Fail> {
 /// The calls of a store that the opening makes: two for the manifest, and four for the segment.
 const CALLS: u64 = 6;
 
+/// Whether the opening fails where this call does.
+fn fails(alloc: Global, call: u64) -> Result<bool, Fail> {
+    let files = [("manifest", ONE.as_slice()), (FIRST, SEGMENT.as_slice())];
+    let mut store = store_of(alloc, &files, fails_at(alloc, call, Left::Old)?)?;
+    match Repository::open(alloc, &mut store, Limits::real()) {
+        Ok(Some(_)) => Ok(false),
+        Err(SegFault::Store) => Ok(true),
+        _ => Err(Fail::from("another answer")),
+    }
+}
+
 #[test]
 fn each_call_fails(rt: HostRuntime) -> Result<(), Fail> {
-    let files = [("manifest", ONE.as_slice()), (FIRST, SEGMENT.as_slice())];
     for call in 1..=CALLS {
-        let mut store = store_of(rt.alloc(), &files, fails_at(rt.alloc(), call, Left::Old)?)?;
-        assert_eq!(rt;
-            opened_in(rt.alloc(), &mut store, Limits::real())?,
-            Err(Fault::Store)
-        );
-        assert_eq!(rt;
-            opened_in(rt.alloc(), &mut store, Limits::real())?,
-            Ok(Some(2))
-        );
+        assert!(rt; fails(rt.alloc(), call)?, "{call}");
     }
-    let mut store = store_of(
-        rt.alloc(),
-        &files,
-        fails_at(rt.alloc(), CALLS + 1, Left::Old)?,
-    )?;
-    assert_eq!(rt;
-        opened_in(rt.alloc(), &mut store, Limits::real())?,
-        Ok(Some(2))
-    );
+    assert!(rt; !fails(rt.alloc(), CALLS + 1)?);
     Ok(())
 }

@@ -27,9 +27,7 @@ pub fn in_memory(alloc: Global) -> Result<Part, Fail> {
         put(alloc, &mut index, doc)?;
     }
     match index.seal(alloc) {
-        Ok(sealed) => Ok(Part::Memory(
-            Rc::new(alloc, sealed).map_err(AllocError::from)?,
-        )),
+        Ok(sealed) => Ok(Part::Memory(Rc::new(alloc, sealed).map_err(AllocError::from)?)),
         Err(_) => Err(Fail::from("not sealed")),
     }
 }

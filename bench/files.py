@@ -12,9 +12,9 @@ The segments have 20 MB, which --mega changes, and 10 MB:
     even words      32,768 words that are as likely as one another
 
 A row has MB in a second of processor time, the best of the rounds; the exponent, which is the logarithm of how much more
-time the larger segment takes over that of how much larger it is; and the peak of memory for each byte of the file, which is
-the most of the first round over what the program had before it. What a program gave back before and has still from the
-system may be used again, and isn't counted then.
+time the larger segment takes over that of how much larger it is; and the peak of memory beside the file for each byte of it,
+which is the most of the first round over what the program had before it. What a program gave back before and has still from
+the system may be used again, and isn't counted then.
 
 The hostile files have 1 MB and the greatest counts. Each is refused at the place that it was made for. A row has the time and
 the peak.
@@ -40,7 +40,7 @@ MIB = 1 << 20
 COLLECTIONS = {"usual words": (16, 5300), "even words": (1, 8300)}
 WRITTEN, READ = 100, 60
 EXPONENT = 1.1
-WRITE_PEAK, READ_PEAK = 2, {"usual words": 3.5, "even words": 2}
+WRITE_PEAK, READ_PEAK = 2, {"usual words": 3, "even words": 2}
 
 HOSTILE_SIZE = MEGA
 HOSTILE_SECONDS, HOSTILE_PEAK = 0.010, 8 * MIB
@@ -133,7 +133,7 @@ class Table:
             return path, run.begins
 
     def row(self, name, least, most, small, large):
-        """Of two sizes: the size, the time and the peak of each."""
+        """Of two sizes: the size, the time and the peak beside the file of each."""
         speed = large[0] / MEGA / large[1]
         slope = math.log(large[1] / small[1]) / math.log(large[0] / small[0])
         peak = large[2] / large[0]
@@ -141,7 +141,7 @@ class Table:
             f"{large[0] / MEGA:5.1f} MB",
             self.bounded(f"{speed:4.0f} MB/s", speed >= least, f"at least {least}"),
             self.bounded(f"exponent {slope:4.2f}", slope <= EXPONENT, f"at most {EXPONENT}"),
-            self.bounded(f"peak {peak:4.2f} times the file", peak <= most, f"at most {most}"),
+            self.bounded(f"peak {peak:4.2f} times the file beside it", peak <= most, f"at most {most}"),
         )
         print(f"{name:<24}", "   ".join(cells), flush=True)
 
@@ -151,7 +151,8 @@ class Table:
         for documents in (size // 2 // each, size // each):
             path, counts = self.made(documents, spread)
             length = path.stat().st_size
-            writes.append((length, *self.measured(("write", documents, spread), f"{length} bytes")))
+            seconds, peak = self.measured(("write", documents, spread), f"{length} bytes")
+            writes.append((length, seconds, peak - length))
             reads.append((length, *self.measured(("read", path), counts)))
             path.unlink()
         self.row(f"write, {name}", WRITTEN, WRITE_PEAK, *writes)

@@ -8,8 +8,8 @@ use Rattle.ri_base.specs.Pair.{Pair}
 use Rattle.field_extents.specs.Extents.{begin_count}
 use Rattle.field_extents.specs.Fields.{covered_count, lies_in_some}
 use Rattle.extent_lists.specs.Pairs.{pair}
-use Rattle.extent_ops.specs.Counts.{whole}
-use Rattle.extent_ops.specs.Listed.{extent_list}
+use Rattle.extent_evaluation.specs.Counts.{whole}
+use Rattle.extent_evaluation.specs.Listed.{extent_list}
 use Rattle.counts.specs.Sums.{counted_tokens, occurrences}
 
 -- ---- how often an expression occurs

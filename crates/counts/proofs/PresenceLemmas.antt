@@ -16,8 +16,8 @@ use Rattle.field_extents.specs.Fields.{lies_in_some}
 use Rattle.extent_lists.specs.Extents.{Ext, Exts}
 use Rattle.extent_lists.specs.Listing.{IsListing}
 use Rattle.extent_lists.specs.Operators.{HasEach, HasEachInside, IsChain, IsInSome}
-use Rattle.extent_ops.specs.Counts.{counted, whole}
-use Rattle.extent_ops.specs.Listed.{extent_list}
+use Rattle.extent_evaluation.specs.Counts.{counted, whole}
+use Rattle.extent_evaluation.specs.Listed.{extent_list}
 use Rattle.counts.specs.Presence.{may, may_each, may_some}
 use Rattle.counts.specs.Sums.{occurrences}
 

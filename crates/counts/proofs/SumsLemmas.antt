@@ -7,8 +7,8 @@ use Rattle.ri_base.specs.Documents.{Document}
 use Rattle.ri_base.specs.Expression.{ExprTree}
 use Rattle.ri_base.specs.declared.limits.TheConstants.{MAX_HELD_TOKENS}
 use Rattle.store_ends.specs.Files.{Files}
-use Rattle.extent_ops.proofs.CountLaws.{whole-len-le}
-use Rattle.extent_ops.proofs.ListedLemmas.{listing}
+use Rattle.extent_evaluation.proofs.CountLaws.{whole-len-le}
+use Rattle.extent_evaluation.proofs.ListedLemmas.{listing}
 use Rattle.disk_index.specs.Parts.{IsPartBacked, reads, size}
 use Rattle.disk_index.specs.Presence.{may_have}
 use Rattle.disk_index.specs.Snapshots.{IsSnapshot, Marked, live, live_in, tokens_held, unmarked}

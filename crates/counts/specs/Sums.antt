@@ -5,7 +5,7 @@ use Rattle.ri_base.specs.Documents.{Document}
 use Rattle.ri_base.specs.Expression.{ExprTree}
 use Rattle.ri_base.specs.declared.hit.LeafStats.{LeafStats}
 use Rattle.ri_base.specs.declared.limits.TheConstants.{MAX_HELD_TOKENS}
-use Rattle.extent_ops.specs.Counts.{len, tf, whole}
+use Rattle.extent_evaluation.specs.Counts.{len, tf, whole}
 
 -- at how many tokens of a document extents begin that count
 abbrev pub occurrences : ExprTree → Option (List ℕ) → Document → ℕ

@@ -8,7 +8,7 @@ ghost use Rattle.field_extents.specs.Extents.{AreInOrder, begin_count};
 ghost use Rattle.extent_lists.specs.Pairs.{pair};
 ghost use Rattle.counts.specs.Sums.{counted_tokens, occurrences};
 
-use extent_ops::{extents, extents_have_one_list};
+use extent_evaluation::{extents, extents_have_one_list};
 use field_extents::{WindowBegins, inside};
 use ri_base::{Extent, ExtentExpr, Extents, Name, Postings, SegFault};
 use std::alloc::Global;

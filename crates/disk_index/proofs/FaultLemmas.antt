@@ -11,7 +11,7 @@ use Rattle.ri_base.specs.declared.seg_fault.FileName.TheVariants.{Segment}
 use Rattle.ri_base.specs.declared.seg_fault.PartName.TheVariants as parts
 use Rattle.ri_base.specs.declared.seg_fault.SegFault.{SegFault}
 use Rattle.ri_base.specs.declared.seg_fault.SegFault.TheVariants.{Malformed, Missing, Store, Memory}
-use Rattle.file_fields.specs.Reading.{AllFit}
+use Rattle.ri_base.specs.Reading.{AllFit}
 use Rattle.store_ends.specs.Files.{Files}
 use Rattle.seg_codec.specs.Blocks.{tokens_of}
 use Rattle.seg_codec.specs.Fits.{FitBlock, FitsBlockEntry, FitsPlace}

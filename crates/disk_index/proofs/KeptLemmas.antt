@@ -14,8 +14,8 @@ use Rattle.std.proofs.lemmas.Map.Keys.{Less-from_sorted}
 use Rattle.ri_base.specs.Documents.{AreFields, Field, IsBefore}
 use Rattle.ri_base.specs.Vocabulary.{IsTermBefore}
 use Rattle.ri_base.specs.declared.seg_fault.SegFault.{SegFault}
-use Rattle.file_fields.specs.Fields.{is_before}
-use Rattle.file_fields.specs.Reading.{AllFit}
+use Rattle.ri_base.specs.Fields.{is_before}
+use Rattle.ri_base.specs.Reading.{AllFit}
 use Rattle.seg_codec.specs.Dictionary.{Behind, BehindTerm, behind, behind_term, end_of, end_of_all}
 use Rattle.seg_codec.specs.Documents.{first_row, is_behind, named, names_in_order}
 use Rattle.seg_codec.specs.Fits.{FitDictionary, FitDocuments, FitFields, FitsBlockPlace, FitsEntry, FitsHeader, FitsName, FitsRow, FitsTermBlocks}

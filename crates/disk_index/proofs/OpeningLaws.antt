@@ -11,8 +11,8 @@ use Rattle.ri_base.specs.declared.seg_fault.PartName.TheVariants as parts
 use Rattle.ri_base.specs.declared.seg_fault.SegFault.{SegFault}
 use Rattle.ri_base.specs.declared.seg_fault.SegFault.TheVariants.{Malformed, Missing, Store, Memory}
 use Rattle.store_ends.specs.Files.{Files}
-use Rattle.file_fields.specs.Fields.{number}
-use Rattle.file_fields.proofs.Codec.{number_codec, ok_is, wide32}
+use Rattle.ri_base.specs.Fields.{number}
+use Rattle.ri_base.proofs.Codec.{number_codec, ok_is, wide32}
 use Rattle.seg_codec.specs.Dictionary.{dictionary}
 use Rattle.seg_codec.specs.Documents.{documents}
 use Rattle.seg_codec.specs.Headers.{header}

@@ -6,7 +6,7 @@ use Rattle.ri_base.specs.declared.seg_fault.PartName.TheVariants as parts
 use Rattle.ri_base.specs.declared.seg_fault.SegFault.{SegFault}
 use Rattle.ri_base.specs.declared.seg_fault.SegFault.TheVariants.{Malformed, Missing, Store, Memory}
 use Rattle.store_ends.specs.Files.{Files, Fills}
-use Rattle.file_fields.specs.Answers.{AnswersPart}
+use Rattle.ri_base.specs.FieldAnswers.{AnswersPart}
 use Rattle.seg_codec.specs.Blocks.{block}
 use Rattle.seg_codec.specs.Dictionary.{dictionary}
 use Rattle.seg_codec.specs.Documents.{documents}

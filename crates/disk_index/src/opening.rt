@@ -13,7 +13,7 @@ ghost use Rattle.disk_index.specs.Kept.{AreKept, ArePlaces, IsOutline, IsSegment
 ghost use Rattle.disk_index.specs.Opening.{AreInOrder, IsOpenFault, IsOpened, dictionary_in, documents_in, header_in};
 
 use crate::reading::read_bytes;
-use file_fields::u32_at;
+use ri_base::file_fields::u32_at;
 use ri_base::{FileName, NoMemory, SegFault};
 use seg_codec::{Dictionary, Documents, Header, read_dictionary, read_documents, read_header};
 use std::alloc::{AllocError, Global};

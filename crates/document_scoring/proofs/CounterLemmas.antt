@@ -10,7 +10,7 @@ use Rattle.ri_base.specs.declared.limits.TheConstants.{MAX_DOC_TOKENS}
 use Rattle.field_extents.specs.Passed.{BeginBefore, BeginBy, PassedExtents, PassedFields}
 use Rattle.field_extents.proofs.Laws.{begin_count-le, covered_count-le}
 use Rattle.extent_lists.specs.Pairs.{pair}
-use Rattle.extent_ops.proofs.CountLaws.{begin_count_none}
+use Rattle.extent_evaluation.proofs.CountLaws.{begin_count_none}
 use Rattle.query_check.specs.Leaves.{LeafTree}
 use Rattle.windows.specs.Windows.{AreRising, IsEarlier}
 use Rattle.belief_nodes.specs.Leaves.{IsLeafCount}

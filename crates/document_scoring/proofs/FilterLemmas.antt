@@ -10,7 +10,7 @@ use Rattle.ri_base.specs.Documents.{Document}
 use Rattle.ri_base.specs.Pair.{Pair}
 use Rattle.ri_base.specs.Query.{FilterTree, filter_tree}
 use Rattle.ri_base.specs.declared.query.Filter.{Filter}
-use Rattle.extent_ops.specs.Listed.{extent_list}
+use Rattle.extent_evaluation.specs.Listed.{extent_list}
 use Rattle.document_scoring.specs.Candidates.{has_some, passes}
 
 -- a list has a first extent where it has some

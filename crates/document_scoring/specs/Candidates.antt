@@ -7,7 +7,7 @@ use Rattle.ri_base.specs.Query.{FilterTree}
 use Rattle.ri_base.specs.Ratio.{Ratio}
 use Rattle.ri_base.specs.declared.hit.LeafStats.{LeafStats}
 use Rattle.ri_base.specs.declared.query.Range.{Range}
-use Rattle.extent_ops.specs.Listed.{extent_list}
+use Rattle.extent_evaluation.specs.Listed.{extent_list}
 use Rattle.smoothing.specs.declared.rule.RuleKind.{RuleKind}
 use Rattle.query_check.specs.Leaves.{LeafTree}
 use Rattle.belief_nodes.specs.Fractions.{leaf_fraction}

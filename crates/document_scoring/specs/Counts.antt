@@ -3,7 +3,7 @@ use Rattle.std.specs.Prelude.{ℕ, List, sum_by}
 use Rattle.ri_base.specs.Documents.{Document}
 use Rattle.ri_base.specs.Pair.{Pair}
 use Rattle.ri_base.specs.declared.hit.LeafStats.{LeafStats}
-pub use Rattle.extent_ops.specs.Counts.{counted, len, tf, whole}
+pub use Rattle.extent_evaluation.specs.Counts.{counted, len, tf, whole}
 use Rattle.query_check.specs.Leaves.{LeafTree, extents, prior}
 use Rattle.belief_nodes.specs.declared.leaf_count.LeafCount.{LeafCount}
 

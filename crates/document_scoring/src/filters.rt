@@ -7,7 +7,8 @@ ghost use Rattle.ri_base.specs.Keeps.{Keeps, Rose};
 ghost use Rattle.ri_base.specs.Query.{filter_tree};
 ghost use Rattle.document_scoring.specs.Candidates.{passes};
 
-use extent_ops::{ExtentIter, extents_have_one_list};
+use extent_evaluation::extents_have_one_list;
+use extent_walks::ExtentIter;
 use ri_base::{Filter, Postings, SegFault};
 use std::alloc::Global;
 

@@ -10,7 +10,7 @@ ghost use Rattle.query_check.specs.Leaves.{leaf_tree};
 ghost use Rattle.document_scoring.specs.Counters.{IsFewer, IsFound, found_count};
 ghost use Rattle.document_scoring.specs.Counts.{count_in, counted};
 
-use extent_ops::{extents, extents_have_one_list};
+use extent_evaluation::{extents, extents_have_one_list};
 use field_extents::inside;
 use query_check::LeafKind;
 use ri_base::{ExtentExpr, Extents, Name, Postings, SegFault};

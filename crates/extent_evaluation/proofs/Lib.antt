@@ -1,8 +1,10 @@
 pub mod BandLemmas
 pub mod ChainLemmas
+pub mod CountLaws
 pub mod CoverLemmas
 pub mod EvaluationLemmas
 pub mod InsideLemmas
+pub mod ListedLemmas
 pub mod MergeLemmas
 pub mod NearestLemmas
 pub mod SortLemmas

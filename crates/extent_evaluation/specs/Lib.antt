@@ -1,2 +1,4 @@
+pub mod Counts
 pub mod Covers
+pub mod Listed
 pub mod Nearest

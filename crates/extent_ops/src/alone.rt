@@ -2,7 +2,7 @@
 ghost use Rattle.std.specs.Prelude.{◌≡◌, IfOk};
 ghost use Rattle.field_extents.specs.Extents.{AreInOrder};
 ghost use Rattle.ri_base.specs.Expression.{expr_tree};
-ghost use Rattle.extent_ops.specs.Listed.{extent_list};
+ghost use Rattle.extent_evaluation.specs.Listed.{extent_list};
 
 use extent_evaluation::extents;
 use lone_document::LoneDocument;

@@ -2,9 +2,7 @@
 #![tactic(auto)]
 
 mod alone;
-mod laws;
 
 pub use alone::extents_of;
-pub use extent_evaluation::extents;
+pub use extent_evaluation::{extents, extents_have_one_list};
 pub use extent_walks::ExtentIter;
-pub use laws::extents_have_one_list;

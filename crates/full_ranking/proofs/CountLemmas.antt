@@ -4,7 +4,7 @@ use Rattle.std.proofs.lemmas.List.Sums.{sum_by-le-sum_by, sum_by-take-le, sum_by
 use Rattle.std.proofs.lemmas.Option.{slice_get-get_or}
 use Rattle.ri_base.specs.Collection.{document_at, empty_document, token_count}
 use Rattle.ri_base.specs.Documents.{Document}
-use Rattle.extent_ops.proofs.CountLaws.{whole-len-le}
+use Rattle.extent_evaluation.proofs.CountLaws.{whole-len-le}
 use Rattle.query_check.specs.Leaves.{LeafTree, extents, prior}
 use Rattle.belief_nodes.specs.declared.leaf_count.LeafCount.{LeafCount}
 use Rattle.document_scoring.specs.Counts.{count_of, whole_len, whole_tf}

@@ -18,8 +18,8 @@ use Rattle.windows.specs.Windows.{windows}
 use Rattle.field_extents.specs.Extents.{begin_count}
 use Rattle.field_extents.specs.Fields.{lies_in_some}
 use Rattle.extent_lists.specs.Extents.{Ext}
-use Rattle.extent_ops.specs.Listed.{extent_list}
-use Rattle.extent_ops.proofs.ListedLemmas.{listing}
+use Rattle.extent_evaluation.specs.Listed.{extent_list}
+use Rattle.extent_evaluation.proofs.ListedLemmas.{listing}
 use Rattle.range_masks.specs.Masks.{IsMask}
 use Rattle.range_masks.specs.May.{filter_may, filters_may, leaf_may, may, query_may, some_may}
 use Rattle.range_masks.proofs.MaskLemmas.{IsMask-empty}

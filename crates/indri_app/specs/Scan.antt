@@ -5,7 +5,7 @@ use Rattle.std.specs.Fmt.{decimal}
 use Rattle.ri_base.specs.Documents.{Document}
 use Rattle.ri_base.specs.Expression.{ExprTree}
 use Rattle.ri_base.specs.Pair.{Pair}
-use Rattle.extent_ops.specs.Listed.{extent_list}
+use Rattle.extent_evaluation.specs.Listed.{extent_list}
 
 -- DOCNO BEGIN END
 abbrev pub line : List ℕ → Pair → List ℕ

@@ -4,10 +4,10 @@ use Rattle.std.specs.List.{flat_map}
 use Rattle.std.specs.Int.{w32, w64, to_le_bytes}
 use Rattle.ri_base.specs.declared.limits.TheConstants.{MAX_PRIORS}
 use Rattle.ri_base.specs.declared.text.TheConstants.{NAME_BYTES}
-use Rattle.file_fields.specs.Fields.{number, ruled, ruled_byte, text}
-use Rattle.file_fields.specs.Reading.{◌>>=◌, AllFit, repeat}
-use Rattle.file_fields.specs.Spelling.{spelled_text}
-use Rattle.file_fields.proofs.Codec.{IsCodec, codec_then, codec_as, number_codec, ruled_codec, ruled_byte_codec, text_codec, repeat_codec, wide32, wide64}
+use Rattle.ri_base.specs.Fields.{number, ruled, ruled_byte, text}
+use Rattle.ri_base.specs.Reading.{◌>>=◌, AllFit, repeat}
+use Rattle.ri_base.specs.Spelling.{spelled_text}
+use Rattle.ri_base.proofs.Codec.{IsCodec, codec_then, codec_as, number_codec, ruled_codec, ruled_byte_codec, text_codec, repeat_codec, wide32, wide64}
 use Rattle.manifest.specs.Entries.{BehindPrior, behind, behind_prior, file_number, is_docs, is_mark, is_number, is_prior_name, is_stale, mark, marks, prior, priors, segment, segments, stale, stale_number, with_number}
 use Rattle.manifest.specs.Fits.{FitsNumber, FitsMark, FitMarks, FitsDocs, FitsSegment, FitSegments, FitsStale, FitStale, FitsName, FitsPrior, FitPriors}
 use Rattle.manifest.specs.Spelling.{spelled_marks, spelled_prior, spelled_priors, spelled_segment, spelled_segments, spelled_stale}

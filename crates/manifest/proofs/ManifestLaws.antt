@@ -8,10 +8,10 @@ use Rattle.std.proofs.lemmas.Bool.{eqb-true}
 use Rattle.ri_base.specs.declared.seg_fault.FileName.{FileName}
 use Rattle.ri_base.specs.declared.seg_fault.PartName.{PartName}
 use Rattle.ri_base.specs.declared.seg_fault.SegFault.{SegFault}
-use Rattle.file_fields.specs.Answers.{AnswersPart}
-use Rattle.file_fields.specs.Fields.{ruled, ruled_front}
-use Rattle.file_fields.specs.Reading.{◌>>=◌}
-use Rattle.file_fields.proofs.Codec.{IsBytes, IsCodec, codec_then, codec_as, front_codec, ruled_codec, whole_takes, whole_again, wide32, wide64}
+use Rattle.ri_base.specs.FieldAnswers.{AnswersPart}
+use Rattle.ri_base.specs.Fields.{ruled, ruled_front}
+use Rattle.ri_base.specs.Reading.{◌>>=◌}
+use Rattle.ri_base.proofs.Codec.{IsBytes, IsCodec, codec_then, codec_as, front_codec, ruled_codec, whole_takes, whole_again, wide32, wide64}
 use Rattle.manifest.specs.Entries.{priors, segments, stale, with_numbers}
 use Rattle.manifest.specs.Files.{Lists, lists, magic, manifest, manifest_fields, numbers_of, opening}
 use Rattle.manifest.specs.Fits.{FitLists, FitPriors, FitSegments, FitStale, FitsOpening, IsManifest}

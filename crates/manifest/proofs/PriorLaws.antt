@@ -11,10 +11,10 @@ use Rattle.ri_base.specs.Ratio.{Ratio}
 use Rattle.ri_base.specs.Text.{is_docno}
 use Rattle.ri_base.specs.declared.limits.TheConstants.{MAX_PRIOR_ROWS}
 use Rattle.ri_base.specs.declared.text.TheConstants.{DOCNO_BYTES}
-use Rattle.file_fields.specs.Fields.{docno_behind, is_before, ruled, ruled_byte, ruled_front}
-use Rattle.file_fields.specs.Reading.{AllFit, Reading, ◌>>=◌, repeat}
-use Rattle.file_fields.specs.Spelling.{spelled_text}
-use Rattle.file_fields.proofs.Codec.{IsBytes, IsCodec, Takes, codec_then, codec_as, bind_ok, ok_is, front_codec, ruled_codec, ruled_byte_codec, text_codec, repeat_codec, whole_takes, whole_again, wide32, wide64}
+use Rattle.ri_base.specs.Fields.{docno_behind, is_before, ruled, ruled_byte, ruled_front}
+use Rattle.ri_base.specs.Reading.{AllFit, Reading, ◌>>=◌, repeat}
+use Rattle.ri_base.specs.Spelling.{spelled_text}
+use Rattle.ri_base.proofs.Codec.{IsBytes, IsCodec, Takes, codec_then, codec_as, bind_ok, ok_is, front_codec, ruled_codec, ruled_byte_codec, text_codec, repeat_codec, whole_takes, whole_again, wide32, wide64}
 use Rattle.manifest.specs.PriorFits.{FitRows, FitsBelief, FitsRest, FitsRow, IsPrior}
 use Rattle.manifest.specs.Priors.{PriorTable, Row, belief, belief_behind, flag_of, is_p, is_q, prior_fields, prior_file, prior_magic, prior_text, rest, rest_behind, row, rows, spelled_belief, spelled_rest, spelled_row, spelled_rows}
 

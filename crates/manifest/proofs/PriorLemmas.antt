@@ -5,7 +5,7 @@ use Rattle.std.proofs.lemmas.List.Concat.{flat_map-cons}
 use Rattle.std.proofs.lemmas.List.{length-map}
 use Rattle.ri_base.specs.declared.fraction.Fraction.{Fraction}
 use Rattle.manifest.specs.PriorFits.{IsPrior}
-use Rattle.file_fields.proofs.Written.{one_written}
+use Rattle.ri_base.proofs.Written.{one_written}
 use Rattle.manifest.specs.Priors.{PriorTable, row_of, spelled_row}
 
 pub few_rows : (t : PriorTable) (rows : List (List ℕ × Fraction)) → IsPrior t → map row_of rows ≡ t.rows → length rows < 2 ^ 32

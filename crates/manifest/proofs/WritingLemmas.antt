@@ -3,7 +3,7 @@ use Rattle.std.proofs.Common.{◌≡◌, ◌<◌, ◌≤◌, nat_le, ℕ, ◌^�
 use Rattle.std.specs.List.{All, AllByRecursion}
 use Rattle.std.proofs.lemmas.Bool.Decides.{nat_tests}
 use Rattle.std.proofs.lemmas.List.Elements.{All-from_recursion}
-use Rattle.file_fields.specs.Reading.{AllFit}
+use Rattle.ri_base.specs.Reading.{AllFit}
 use Rattle.manifest.specs.Entries.{with_number}
 use Rattle.manifest.specs.Fits.{FitsSegment, IsManifest}
 use Rattle.manifest.specs.declared.manifest.Manifest.{Manifest}

@@ -9,8 +9,8 @@ use Rattle.std.specs.Ordering.{nat_cmp}
 use Rattle.ri_base.specs.Text.{is_name}
 use Rattle.ri_base.specs.declared.limits.TheConstants.{MAX_PART_DOCS, MAX_PRIORS}
 use Rattle.ri_base.specs.declared.text.TheConstants.{NAME_BYTES}
-use Rattle.file_fields.specs.Fields.{number, ruled, ruled_byte, text}
-use Rattle.file_fields.specs.Reading.{Reading, ◌>>=◌, repeat}
+use Rattle.ri_base.specs.Fields.{number, ruled, ruled_byte, text}
+use Rattle.ri_base.specs.Reading.{Reading, ◌>>=◌, repeat}
 use Rattle.manifest.specs.declared.manifest.PriorEntry.{PriorEntry}
 use Rattle.manifest.specs.declared.manifest.SegEntry.{SegEntry}
 

@@ -3,8 +3,8 @@ use Rattle.std.specs.Prelude.{ℕ, true, List, [], ◌∷◌, map, Result, Ok, n
 use Rattle.std.specs.Bool.{nat_eq}
 use Rattle.std.specs.Cmp.Lexicographic.{pointwise}
 use Rattle.std.specs.Int.{w32, w64}
-use Rattle.file_fields.specs.Fields.{ruled, ruled_front}
-use Rattle.file_fields.specs.Reading.{Reading, ◌>>=◌, whole}
+use Rattle.ri_base.specs.Fields.{ruled, ruled_front}
+use Rattle.ri_base.specs.Reading.{Reading, ◌>>=◌, whole}
 use Rattle.manifest.specs.Entries.{segments, stale, priors, with_numbers}
 use Rattle.manifest.specs.declared.manifest.Manifest.{Manifest}
 use Rattle.manifest.specs.declared.manifest.PriorEntry.{PriorEntry}

@@ -2,7 +2,7 @@
 use Rattle.std.specs.Prelude.{◌≡◌, ◌<◌, ℕ, ◌+◌, ◌^◌, true, List, [], length, nat_le, ◌&&◌}
 use Rattle.ri_base.specs.declared.limits.TheConstants.{MAX_PRIORS}
 use Rattle.ri_base.specs.declared.text.TheConstants.{NAME_BYTES}
-use Rattle.file_fields.specs.Reading.{AllFit}
+use Rattle.ri_base.specs.Reading.{AllFit}
 use Rattle.manifest.specs.Entries.{Behind, BehindPrior, behind, behind_prior, is_docs, is_mark, is_number, is_prior_name, is_stale, with_number, with_numbers}
 use Rattle.manifest.specs.Files.{Lists, numbers_of}
 use Rattle.manifest.specs.declared.manifest.Manifest.{Manifest}

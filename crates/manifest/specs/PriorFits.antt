@@ -4,8 +4,8 @@ use Rattle.ri_base.specs.Ratio.{Ratio}
 use Rattle.ri_base.specs.Text.{is_docno}
 use Rattle.ri_base.specs.declared.limits.TheConstants.{MAX_PRIOR_ROWS}
 use Rattle.ri_base.specs.declared.text.TheConstants.{DOCNO_BYTES}
-use Rattle.file_fields.specs.Fields.{is_before}
-use Rattle.file_fields.specs.Reading.{AllFit}
+use Rattle.ri_base.specs.Fields.{is_before}
+use Rattle.ri_base.specs.Reading.{AllFit}
 use Rattle.manifest.specs.Priors.{PriorTable, Row, is_p, is_q}
 
 -- 0 < p, p at most q, and both below the limit

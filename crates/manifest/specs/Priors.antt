@@ -7,9 +7,9 @@ use Rattle.std.specs.List.{flat_map}
 use Rattle.ri_base.specs.Ratio.{Ratio, ratio_of}
 use Rattle.ri_base.specs.declared.fraction.Fraction.{Fraction}
 use Rattle.ri_base.specs.declared.limits.TheConstants.{MAX_PRIOR_ROWS, PRIOR_LIMIT}
-use Rattle.file_fields.specs.Fields.{docno_behind, ruled, ruled_byte, ruled_front}
-use Rattle.file_fields.specs.Reading.{Reading, ◌>>=◌, repeat, whole}
-use Rattle.file_fields.specs.Spelling.{spelled_text}
+use Rattle.ri_base.specs.Fields.{docno_behind, ruled, ruled_byte, ruled_front}
+use Rattle.ri_base.specs.Reading.{Reading, ◌>>=◌, repeat, whole}
+use Rattle.ri_base.specs.Spelling.{spelled_text}
 
 -- a docno with its belief
 pub record Row : Type 0 where

@@ -2,7 +2,7 @@
 use Rattle.std.specs.Prelude.{ℕ, List, ◌∷◌, ◌++◌, length}
 use Rattle.std.specs.Int.{w32, w64, to_le_bytes}
 use Rattle.std.specs.List.{flat_map}
-use Rattle.file_fields.specs.Spelling.{spelled_text}
+use Rattle.ri_base.specs.Spelling.{spelled_text}
 use Rattle.manifest.specs.Files.{magic}
 use Rattle.manifest.specs.declared.manifest.Manifest.{Manifest}
 use Rattle.manifest.specs.declared.manifest.PriorEntry.{PriorEntry}

@@ -4,16 +4,16 @@ ghost use Rattle.std.specs.Bool.{nat_eq};
 ghost use Rattle.std.specs.Int.{w32, w64};
 ghost use Rattle.std.specs.Cmp.Lexicographic.{pointwise};
 ghost use Rattle.std.specs.List.{list_any};
-ghost use Rattle.file_fields.specs.Answers.{Gives};
-ghost use Rattle.file_fields.specs.Fields.{number, ruled, ruled_byte, text};
-ghost use Rattle.file_fields.specs.Reading.{repeat};
+ghost use Rattle.ri_base.specs.FieldAnswers.{Gives};
+ghost use Rattle.ri_base.specs.Fields.{number, ruled, ruled_byte, text};
+ghost use Rattle.ri_base.specs.Reading.{repeat};
 ghost use Rattle.ri_base.specs.declared.limits.TheConstants.{MAX_PRIORS};
 ghost use Rattle.ri_base.specs.declared.text.TheConstants.{NAME_BYTES};
 ghost use Rattle.manifest.specs.Entries.{Behind, BehindPrior, behind, behind_prior, file_number, is_docs, is_number, is_prior_name, length_name, mark, marks, prior, priors, segment, segments, stale, stale_number, with_number, with_numbers};
 ghost use Rattle.manifest.specs.Files.{numbers_of};
 
 use crate::manifest::{PriorEntry, SegEntry};
-use file_fields::{Broken, byte_at, front_at, kept, text_length_at, u32_at, u64_at};
+use ri_base::file_fields::{Broken, byte_at, front_at, kept, text_length_at, u32_at, u64_at};
 use ri_base::limits::{MAX_PART_DOCS, MAX_PRIORS};
 use ri_base::{List, NAME_BYTES, Name};
 use std::alloc::Global;
@@ -27,7 +27,7 @@ fn is_number(next: u64, used: &BTreeSet<u64>, number: u64) -> bool
     1 <= number && number < next && !used.contains(&number)
 }
 
-#[tactic(auto, unfolding(file_fields::specs::Fields::ruled))]
+#[tactic(auto, unfolding(ri_base::specs::Fields::ruled))]
 fn file_number_at<'a>(
     next: u64,
     used: &BTreeSet<u64>,
@@ -39,7 +39,7 @@ fn file_number_at<'a>(
     kept(is_number(next, used, number), number, rest, bytes)
 }
 
-#[tactic(auto, unfolding(file_fields::specs::Fields::ruled))]
+#[tactic(auto, unfolding(ri_base::specs::Fields::ruled))]
 fn mark_at(docs: u32, low: u64, bytes: &[u8]) -> Result<(u32, &[u8]), Broken>
     ensures { Gives (λ x. (x.0, x.1.now)) result (mark docs low bytes.now) }
 {
@@ -75,7 +75,7 @@ fn marks_at(alloc: Global, docs: u32, bytes: &[u8]) -> Result<(Vec<u32>, &[u8]),
     marks_from(alloc, docs, count, rest)
 }
 
-#[tactic(auto, unfolding(file_fields::specs::Fields::ruled))]
+#[tactic(auto, unfolding(ri_base::specs::Fields::ruled))]
 fn docs_at(bytes: &[u8]) -> Result<(u32, &[u8]), Broken>
     ensures { Gives (λ x. (x.0, x.1.now)) result (ruled w32 is_docs bytes.now) }
 {
@@ -146,7 +146,7 @@ pub fn segments_at(
     segments_from(alloc, next, count, rest)
 }
 
-#[tactic(auto, unfolding(file_fields::specs::Fields::ruled))]
+#[tactic(auto, unfolding(ri_base::specs::Fields::ruled))]
 fn stale_number_at<'a>(
     next: u64,
     low: u128,
@@ -213,7 +213,7 @@ fn is_named(priors: &[PriorEntry], name: &[u8]) -> bool
 }
 
 /// The name of a prior, behind these.
-#[tactic(auto, unfolding(file_fields::specs::Fields::text, file_fields::specs::Fields::ruled_front))]
+#[tactic(auto, unfolding(ri_base::specs::Fields::text, ri_base::specs::Fields::ruled_front))]
 fn prior_name_at<'a>(
     alloc: Global,
     priors: &[PriorEntry],
@@ -268,7 +268,7 @@ fn priors_from(
     Ok((priors, rest))
 }
 
-#[tactic(auto, unfolding(file_fields::specs::Fields::ruled_byte))]
+#[tactic(auto, unfolding(ri_base::specs::Fields::ruled_byte))]
 fn prior_count_at(bytes: &[u8]) -> Result<(u8, &[u8]), Broken>
     ensures { Gives (λ x. (x.0, x.1.now)) result (ruled_byte (λ n. nat_le n MAX_PRIORS) bytes.now) }
 {

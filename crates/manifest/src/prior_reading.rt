@@ -3,9 +3,9 @@ ghost use Rattle.std.specs.Prelude.{◌≡◌, ◌<◌, ◌==◌, ◌&&◌, [], 
 ghost use Rattle.std.specs.Bool.{nat_eq};
 ghost use Rattle.std.specs.Cmp.Lexicographic.{pointwise};
 ghost use Rattle.std.specs.Int.{w32, w64};
-ghost use Rattle.file_fields.specs.Answers.{AnswersPart, Gives};
-ghost use Rattle.file_fields.specs.Fields.{ruled, ruled_byte, ruled_front};
-ghost use Rattle.file_fields.specs.Reading.{repeat};
+ghost use Rattle.ri_base.specs.FieldAnswers.{AnswersPart, Gives};
+ghost use Rattle.ri_base.specs.Fields.{ruled, ruled_byte, ruled_front};
+ghost use Rattle.ri_base.specs.Reading.{repeat};
 ghost use Rattle.ri_base.specs.Ratio.{ratio_of};
 ghost use Rattle.ri_base.specs.declared.limits.TheConstants.{MAX_PRIOR_ROWS};
 ghost use Rattle.ri_base.specs.declared.seg_fault.FileName.TheVariants as files;
@@ -14,13 +14,13 @@ ghost use Rattle.manifest.specs.PriorFits.{IsPrior};
 ghost use Rattle.manifest.specs.Priors.{PriorTable, belief, is_p, is_q, prior_fields, prior_file, prior_magic, prior_text, rest, row, row_of, rows};
 
 use crate::prior::PriorRows;
-use file_fields::{Broken, byte_at, docno_behind_at, fault_of, front_at, kept, u32_at, u64_at};
+use ri_base::file_fields::{Broken, byte_at, docno_behind_at, fault_of, front_at, kept, u32_at, u64_at};
 use ri_base::limits::{MAX_PRIOR_ROWS, PRIOR_LIMIT};
 use ri_base::{Docno, FileName, Fraction, PartName, SegFault};
 use std::alloc::Global;
 
 /// A belief: p above 0 and at most q, both below the limit.
-#[tactic(auto, unfolding(crate::specs::Priors::belief, file_fields::specs::Fields::ruled))]
+#[tactic(auto, unfolding(crate::specs::Priors::belief, ri_base::specs::Fields::ruled))]
 fn belief_at(bytes: &[u8]) -> Result<(Fraction, &[u8]), Broken>
     ensures { Gives (λ x. (ratio_of x.0, x.1.now)) result (belief bytes.now) }
 {
@@ -69,7 +69,7 @@ fn rows_from(
     Ok((rows, rest))
 }
 
-#[tactic(auto, unfolding(file_fields::specs::Fields::ruled))]
+#[tactic(auto, unfolding(ri_base::specs::Fields::ruled))]
 fn row_count_at(bytes: &[u8]) -> Result<(u32, &[u8]), Broken>
     ensures { Gives (λ x. (x.0, x.1.now)) result (ruled w32 (λ n. nat_le n MAX_PRIOR_ROWS) bytes.now) }
 {
@@ -85,7 +85,7 @@ fn rows_at(alloc: Global, bytes: &[u8]) -> Result<(Vec<(Docno, Fraction)>, &[u8]
     rows_from(alloc, count, rest)
 }
 
-#[tactic(auto, unfolding(file_fields::specs::Fields::ruled_byte))]
+#[tactic(auto, unfolding(ri_base::specs::Fields::ruled_byte))]
 fn flag_at(bytes: &[u8]) -> Result<(u8, &[u8]), Broken>
     ensures { Gives (λ x. (x.0, x.1.now)) result (ruled_byte (λ n. nat_le n 1) bytes.now) }
 {
@@ -106,7 +106,7 @@ fn rest_at(bytes: &[u8]) -> Result<(Option<Fraction>, &[u8]), Broken>
     Ok((Some(fraction), behind))
 }
 
-#[tactic(auto, unfolding(file_fields::specs::Fields::ruled_front))]
+#[tactic(auto, unfolding(ri_base::specs::Fields::ruled_front))]
 fn magic_at(bytes: &[u8]) -> Result<(&[u8], &[u8]), Broken>
     ensures { Gives (λ x. (x.0.now, x.1.now)) result (ruled_front 8 (λ x. pointwise nat_eq x prior_magic) bytes.now) }
 {
@@ -143,7 +143,7 @@ fn prior_of(alloc: Global, bytes: &[u8]) -> Result<PriorRows, Broken>
     }
 }
 
-#[tactic(auto, using(file_fields::proofs::Faults::fault_answers))]
+#[tactic(auto, using(ri_base::proofs::FieldFaults::fault_answers))]
 fn prior_answer(alloc: Global, bytes: &[u8], number: u64) -> Result<PriorRows, SegFault>
     ensures { AnswersPart (λ p. p) result (prior_file bytes.now) (files.Prior number) parts.Prior (length bytes.now) }
 {

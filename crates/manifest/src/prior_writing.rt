@@ -6,7 +6,7 @@ ghost use Rattle.ri_base.specs.Ratio.{ratio_of};
 ghost use Rattle.manifest.specs.Priors.{prior_file, prior_magic, prior_text, row_of, spelled_belief, spelled_rest, spelled_row, spelled_rows};
 
 use crate::prior::PriorRows;
-use file_fields::{put_docno, put_u32, put_u64};
+use ri_base::file_fields::{put_docno, put_u32, put_u64};
 use ri_base::{Bytes, Docno, Fraction, NoMemory};
 use std::alloc::Global;
 

@@ -3,8 +3,8 @@ ghost use Rattle.std.specs.Prelude.{◌≡◌, ◌==◌, ◌^◌, ◌<◌, [], �
 ghost use Rattle.std.specs.Bool.{nat_eq};
 ghost use Rattle.std.specs.Cmp.Lexicographic.{pointwise};
 ghost use Rattle.std.specs.Int.{w32, w64};
-ghost use Rattle.file_fields.specs.Answers.{AnswersPart, Gives};
-ghost use Rattle.file_fields.specs.Fields.{ruled, ruled_front};
+ghost use Rattle.ri_base.specs.FieldAnswers.{AnswersPart, Gives};
+ghost use Rattle.ri_base.specs.Fields.{ruled, ruled_front};
 ghost use Rattle.ri_base.specs.declared.seg_fault.FileName.TheVariants as files;
 ghost use Rattle.ri_base.specs.declared.seg_fault.PartName.TheVariants as parts;
 ghost use Rattle.manifest.specs.Files.{lists, magic, manifest, manifest_fields, opening};
@@ -14,11 +14,11 @@ ghost use Rattle.manifest.specs.declared.manifest.Manifest.{Manifest};
 
 use crate::entries::{priors_at, segments_at, stale_at};
 use crate::manifest::{Manifest, PriorEntry, SegEntry};
-use file_fields::{Broken, fault_of, front_at, kept, u32_at, u64_at};
+use ri_base::file_fields::{Broken, fault_of, front_at, kept, u32_at, u64_at};
 use ri_base::{FileName, List, PartName, SegFault};
 use std::alloc::Global;
 
-#[tactic(auto, unfolding(file_fields::specs::Fields::ruled_front))]
+#[tactic(auto, unfolding(ri_base::specs::Fields::ruled_front))]
 fn magic_at(bytes: &[u8]) -> Result<(&[u8], &[u8]), Broken>
     ensures { Gives (λ x. (x.0.now, x.1.now)) result (ruled_front 8 (λ x. pointwise nat_eq x magic) bytes.now) }
 {
@@ -30,7 +30,7 @@ fn magic_at(bytes: &[u8]) -> Result<(&[u8], &[u8]), Broken>
     }
 }
 
-#[tactic(auto, unfolding(file_fields::specs::Fields::ruled))]
+#[tactic(auto, unfolding(ri_base::specs::Fields::ruled))]
 fn version_at(bytes: &[u8]) -> Result<(u32, &[u8]), Broken>
     ensures { Gives (λ x. (x.0, x.1.now)) result (ruled w32 (λ n. n == 1) bytes.now) }
 {
@@ -38,7 +38,7 @@ fn version_at(bytes: &[u8]) -> Result<(u32, &[u8]), Broken>
     kept(version == 1, version, rest, bytes)
 }
 
-#[tactic(auto, unfolding(file_fields::specs::Fields::ruled))]
+#[tactic(auto, unfolding(ri_base::specs::Fields::ruled))]
 fn next_at(bytes: &[u8]) -> Result<(u64, &[u8]), Broken>
     ensures { Gives (λ x. (x.0, x.1.now)) result (ruled w64 (λ n. nat_le 1 n) bytes.now) }
 {
@@ -115,7 +115,7 @@ fn manifest_of(alloc: Global, bytes: &[u8]) -> Result<Manifest, Broken>
     }
 }
 
-#[tactic(auto, using(file_fields::proofs::Faults::fault_answers))]
+#[tactic(auto, using(ri_base::proofs::FieldFaults::fault_answers))]
 fn answer(alloc: Global, bytes: &[u8]) -> Result<Manifest, SegFault>
     ensures { AnswersPart (λ m. m) result (manifest bytes.now) files.Manifest parts.Manifest (length bytes.now) }
 {

@@ -7,7 +7,7 @@ ghost use Rattle.manifest.specs.Fits.{IsManifest};
 ghost use Rattle.manifest.specs.Spelling.{manifest_text, spelled_marks, spelled_opening, spelled_prior, spelled_priors, spelled_segment, spelled_segments, spelled_stale};
 
 use crate::manifest::{Manifest, PriorEntry, SegEntry};
-use file_fields::{put_name, put_u32, put_u64};
+use ri_base::file_fields::{put_name, put_u32, put_u64};
 use ri_base::{Bytes, Name, NoMemory};
 use std::alloc::Global;
 

@@ -16,8 +16,8 @@ use Rattle.ri_base.specs.Ratio.{Ratio, ratio_of}
 use Rattle.ri_base.specs.Text.{is_docno}
 use Rattle.ri_base.specs.declared.fraction.Fraction.{Fraction}
 use Rattle.ri_base.specs.declared.limits.TheConstants.{MAX_PRIOR_ROWS, PRIOR_LIMIT}
-use Rattle.file_fields.specs.Fields.{is_before}
-use Rattle.file_fields.specs.Reading.{AllFit}
+use Rattle.ri_base.specs.Fields.{is_before}
+use Rattle.ri_base.specs.Reading.{AllFit}
 use Rattle.manifest.specs.PriorFits.{FitsBelief, FitsRest, FitsRow, IsPrior}
 use Rattle.manifest.specs.Priors.{Row, is_p, is_q, row_of}
 use Rattle.prior_lines.specs.Rows.{IsKept, IsSmall, Kept, prior_row, rows_seen}

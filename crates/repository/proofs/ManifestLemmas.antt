@@ -11,7 +11,7 @@ use Rattle.ri_base.specs.declared.seg_fault.SegFault.{SegFault}
 use Rattle.ri_base.specs.declared.seg_fault.SegFault.TheVariants.{Malformed, Missing, Store, Memory}
 use Rattle.store_ends.specs.Files.{Files, Leaves, LeavesNoMore, OldOrNew, with_file}
 use Rattle.store_ends.proofs.Files.{Leaves-same, Leaves-then, with_file-same}
-use Rattle.file_fields.specs.Answers.{AnswersPart}
+use Rattle.ri_base.specs.FieldAnswers.{AnswersPart}
 use Rattle.manifest.specs.Files.{manifest}
 use Rattle.manifest.specs.Fits.{IsManifest}
 use Rattle.manifest.specs.Spelling.{manifest_text}

@@ -9,7 +9,7 @@ use Rattle.ri_base.specs.declared.seg_fault.PartName.TheVariants as parts
 use Rattle.ri_base.specs.declared.seg_fault.SegFault.{SegFault}
 use Rattle.ri_base.specs.declared.seg_fault.SegFault.TheVariants.{Malformed, Memory}
 use Rattle.store_ends.specs.Files.{Files}
-use Rattle.file_fields.specs.Answers.{AnswersPart}
+use Rattle.ri_base.specs.FieldAnswers.{AnswersPart}
 use Rattle.manifest.specs.Files.{manifest}
 use Rattle.manifest.specs.declared.manifest.Manifest.{Manifest}
 use Rattle.manifest.specs.declared.manifest.SegEntry.{SegEntry}

@@ -1,7 +1,13 @@
+pub mod Codec
 pub mod ExpressionLemmas
+pub mod FieldFaults
+pub mod FieldTextLemmas
 pub mod InversionLemmas
 pub mod ListLemmas
+pub mod Loops
 pub mod NamesLemmas
+pub mod Order
 pub mod PlacesLemmas
 pub mod QueryLemmas
 pub mod VocabularyLemmas
+pub mod Written

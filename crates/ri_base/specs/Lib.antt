@@ -3,6 +3,8 @@ pub mod Collection
 pub mod Documents
 pub mod Expression
 pub mod Faults
+pub mod FieldAnswers
+pub mod Fields
 pub mod Inversion
 pub mod Keeps
 pub mod Names
@@ -11,5 +13,7 @@ pub mod Places
 pub mod Queries
 pub mod Query
 pub mod Ratio
+pub mod Reading
+pub mod Spelling
 pub mod Text
 pub mod Vocabulary

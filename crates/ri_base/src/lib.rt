@@ -1,14 +1,20 @@
-//! The values that every layer of the search engine speaks of: words, names, extents and documents.
+//! The values that every layer of the search engine speaks of: words, names, extents and documents, and the fields of files.
 #![tactic(auto)]
 
 mod arg_list;
 pub mod ascii;
 mod belief;
+mod broken;
 mod bytes;
 mod doc;
 mod expression;
 mod extent;
+mod field_bytes;
+mod field_numbers;
 mod field_span;
+mod field_texts;
+mod field_writing;
+pub mod file_fields;
 mod fraction;
 mod held;
 mod hit;

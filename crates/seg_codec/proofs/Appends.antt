@@ -3,7 +3,7 @@ use Rattle.std.proofs.Common.{◌≡◌, ℕ, suc, ◌+◌, List, [], ◌∷◌,
 use Rattle.std.specs.Int.{w32, w64, to_le_bytes}
 use Rattle.std.specs.List.{flat_map}
 use Rattle.ri_base.specs.declared.places.Place.{Place}
-use Rattle.file_fields.specs.Spelling.{spelled_text}
+use Rattle.ri_base.specs.Spelling.{spelled_text}
 use Rattle.seg_codec.specs.Segment.{cut, placed, range_of, term_blocks_of, block_of}
 use Rattle.seg_codec.specs.Spelling.{spelled_place, spelled_term}
 use Rattle.seg_codec.specs.declared.dictionary.BlockPlace.{BlockPlace}

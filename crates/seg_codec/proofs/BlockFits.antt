@@ -5,7 +5,7 @@ use Rattle.std.specs.List.{flat_map}
 use Rattle.std.proofs.lemmas.Bool.{and_from, and_parts, eqb-true, eqb-false, leb-true, le-leb, lt-ltb, ltb-true}
 use Rattle.std.proofs.lemmas.List.{length-append, length-map}
 use Rattle.std.proofs.lemmas.List.Concat.{flat_map-cons}
-use Rattle.file_fields.specs.Reading.{AllFit}
+use Rattle.ri_base.specs.Reading.{AllFit}
 use Rattle.ri_base.specs.declared.places.Place.{Place}
 use Rattle.seg_codec.specs.Blocks.{tokens_of}
 use Rattle.seg_codec.specs.Fits.{FitBlock, FitPlaces, FitsBlockEntry, FitsId, FitsPlace}

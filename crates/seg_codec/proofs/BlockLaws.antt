@@ -3,13 +3,13 @@ use Rattle.std.proofs.Common.{◌≡◌, ℕ, ◌+◌, ◌-◌, ◌*◌, ◌^◌
 use Rattle.std.specs.List.{flat_map}
 use Rattle.std.specs.Int.{w32, to_le_bytes}
 use Rattle.seg_codec.specs.Fits.{place_rule, FitsPlace, FitPlaces, FitsId, FitsBlockEntry, FitBlock}
-use Rattle.file_fields.specs.Fields.{ruled, ruled_byte}
-use Rattle.file_fields.specs.Reading.{AllFit, ◌>>=◌, repeat}
+use Rattle.ri_base.specs.Fields.{ruled, ruled_byte}
+use Rattle.ri_base.specs.Reading.{AllFit, ◌>>=◌, repeat}
 use Rattle.seg_codec.specs.Blocks.{is_local, tokens_of, place, places, document_id, block_entry, block_entries, block}
 use Rattle.seg_codec.specs.Spelling.{spelled_block_entry, block_bytes}
 use Rattle.seg_codec.specs.declared.documents.Entry.{Entry}
 use Rattle.seg_codec.specs.declared.blocks.BlockEntry.{BlockEntry}
-use Rattle.file_fields.proofs.Codec.{IsCodec, IsBytes, codec_then, codec_as, ruled_codec, ruled_byte_codec, repeat_codec, whole_takes, whole_again, wide32}
+use Rattle.ri_base.proofs.Codec.{IsCodec, IsBytes, codec_then, codec_as, ruled_codec, ruled_byte_codec, repeat_codec, whole_takes, whole_again, wide32}
 
 abbrev pub spelled_places : List ℕ → List ℕ
 spelled_places ps = to_le_bytes w32 (length ps) ++ flat_map (to_le_bytes w32) ps

@@ -14,9 +14,9 @@ use Rattle.std.proofs.lemmas.List.Concat.{flat_map-cons}
 use Rattle.std.proofs.lemmas.List.Elements.{All-contains, All-head, All-tail, All-weaker, recursion_from_All}
 use Rattle.std.proofs.lemmas.List.Sums.{sum_by-cons}
 use Rattle.std.proofs.lemmas.Map.Keys.{sorted_from_all_adjacent}
-use Rattle.file_fields.specs.Fields.{is_before}
-use Rattle.file_fields.specs.Reading.{AllFit}
-use Rattle.file_fields.proofs.Order.{before_from_less, same_itself}
+use Rattle.ri_base.specs.Fields.{is_before}
+use Rattle.ri_base.specs.Reading.{AllFit}
+use Rattle.ri_base.proofs.Order.{before_from_less, same_itself}
 use Rattle.ri_base.specs.Documents.{Document}
 use Rattle.ri_base.specs.Places.{places, places_from, postings_from, postings_of}
 use Rattle.ri_base.specs.Text.{is_term}

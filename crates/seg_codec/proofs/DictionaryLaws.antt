@@ -5,16 +5,16 @@ use Rattle.std.specs.List.{flat_map}
 use Rattle.std.specs.Int.{w32, w64, to_le_bytes}
 use Rattle.ri_base.specs.Text.{is_term}
 use Rattle.ri_base.specs.declared.text.TheConstants.{TERM_BYTES}
-use Rattle.file_fields.specs.Spelling.{spelled_text}
-use Rattle.file_fields.specs.Fields.{term_behind, number, ruled, is_before}
-use Rattle.file_fields.specs.Reading.{AllFit, ◌>>=◌, repeat}
+use Rattle.ri_base.specs.Spelling.{spelled_text}
+use Rattle.ri_base.specs.Fields.{term_behind, number, ruled, is_before}
+use Rattle.ri_base.specs.Reading.{AllFit, ◌>>=◌, repeat}
 use Rattle.seg_codec.specs.Fits.{range_rule, FitsBlockPlace, FitBlockPlaces, length_rule, FitsTermBlocks, FitTerms, FitDictionary}
 use Rattle.seg_codec.specs.Dictionary.{Behind, BehindTerm, behind, behind_term, block_place, block_places, term_blocks, terms, end_of_all, dictionary}
 use Rattle.seg_codec.specs.Spelling.{spelled_place, spelled_term, dictionary_bytes}
 use Rattle.seg_codec.specs.declared.header.Header.{Header}
 use Rattle.seg_codec.specs.declared.dictionary.BlockPlace.{BlockPlace}
 use Rattle.seg_codec.specs.declared.dictionary.TermBlocks.{TermBlocks}
-use Rattle.file_fields.proofs.Codec.{IsCodec, IsBytes, codec_then, codec_as, number_codec, ruled_codec, text_codec, repeat_codec, whole_takes, whole_again, wide32, wide64}
+use Rattle.ri_base.proofs.Codec.{IsCodec, IsBytes, codec_then, codec_as, number_codec, ruled_codec, text_codec, repeat_codec, whole_takes, whole_again, wide32, wide64}
 
 block_place_codec : (docs : ℕ) (s : Behind) → IsCodec (block_place docs s) spelled_place (FitsBlockPlace docs s)
 unfolding block_place

@@ -13,9 +13,9 @@ use Rattle.std.proofs.lemmas.List.{get_or_past, length-map}
 use Rattle.std.proofs.lemmas.List.Elements.{All-contains, All-contains_itself, All-head, All-tail, All-weaker, Contains-append_left, Contains-append_right, Contains-append_cases, recursion_from_All}
 use Rattle.std.proofs.lemmas.List.Sums.{sum_by-cons}
 use Rattle.std.proofs.lemmas.Map.Text.{is_eq-slice_cmp}
-use Rattle.file_fields.specs.Fields.{is_before}
-use Rattle.file_fields.specs.Reading.{AllFit}
-use Rattle.file_fields.proofs.Order.{before_from_less}
+use Rattle.ri_base.specs.Fields.{is_before}
+use Rattle.ri_base.specs.Reading.{AllFit}
+use Rattle.ri_base.proofs.Order.{before_from_less}
 use Rattle.ri_base.specs.Collection.{field_names, names_of, token_count}
 use Rattle.ri_base.specs.Documents.{Document, Field, IsBefore, IsDocument}
 use Rattle.ri_base.specs.Text.{is_docno_byte, is_name, is_name_byte, starts_with_letter}

@@ -17,15 +17,15 @@ use Rattle.seg_codec.specs.declared.header.Header.{Header}
 use Rattle.ri_base.specs.Text.{is_docno, is_name}
 use Rattle.ri_base.specs.declared.limits.TheConstants.{MAX_DOC_TOKENS}
 use Rattle.ri_base.specs.declared.text.TheConstants.{DOCNO_BYTES, NAME_BYTES}
-use Rattle.file_fields.specs.Spelling.{spelled_text}
-use Rattle.file_fields.specs.Fields.{docno, name_behind, number, ruled, is_before}
-use Rattle.file_fields.specs.Reading.{AllFit, ◌>>=◌, repeat}
+use Rattle.ri_base.specs.Spelling.{spelled_text}
+use Rattle.ri_base.specs.Fields.{docno, name_behind, number, ruled, is_before}
+use Rattle.ri_base.specs.Reading.{AllFit, ◌>>=◌, repeat}
 use Rattle.seg_codec.specs.Documents.{row, rows, first_row, fields, named, entry, listed, Listed, are_whole, names_in_order, documents}
 use Rattle.seg_codec.specs.Spelling.{spelled_row, spelled_rows, spelled_entry, numbered, number_of, documents_bytes}
 use Rattle.seg_codec.specs.declared.documents.Entry.{Entry}
 use Rattle.seg_codec.specs.declared.documents.Row.{Row}
-use Rattle.file_fields.proofs.Codec.{IsCodec, codec_then, codec_as, number_codec, ruled_codec, text_codec, repeat_codec, IsBytes, whole_takes, whole_again, wide16, wide32}
-use Rattle.file_fields.proofs.Order.{Rises, less_from_before, same_itself, sorted_from}
+use Rattle.ri_base.proofs.Codec.{IsCodec, codec_then, codec_as, number_codec, ruled_codec, text_codec, repeat_codec, IsBytes, whole_takes, whole_again, wide16, wide32}
+use Rattle.ri_base.proofs.Order.{Rises, less_from_before, same_itself, sorted_from}
 
 pub row_codec : (names tokens : ℕ) (before : Row) → IsCodec (row names tokens before) spelled_row (FitsRow names tokens before)
 unfolding row

@@ -9,8 +9,8 @@ use Rattle.std.proofs.lemmas.Bool.{and_parts, eqb-true, leb-true}
 use Rattle.std.proofs.lemmas.List.{drop-drop, length-drop, length-map, length-take, take_all}
 use Rattle.std.proofs.lemmas.List.Concat.{flat_map-cons}
 use Rattle.std.proofs.lemmas.List.Sums.{sum_by-cons}
-use Rattle.file_fields.specs.Reading.{AllFit}
-use Rattle.file_fields.proofs.Codec.{IsBytes, IsBytes-drop, IsBytes-take}
+use Rattle.ri_base.specs.Reading.{AllFit}
+use Rattle.ri_base.proofs.Codec.{IsBytes, IsBytes-drop, IsBytes-take}
 use Rattle.ri_base.specs.Collection.{token_count}
 use Rattle.ri_base.specs.Documents.{Document}
 use Rattle.ri_base.specs.Places.{postings_of}

@@ -2,7 +2,7 @@
 use Rattle.std.proofs.Common.{◌≡◌, ◌<◌, ◌≤◌, ℕ, ◌+◌, ◌-◌, ◌*◌, ◌/◌, List, [], ◌∷◌, ◌++◌, length, map, true, false, eqb, nat_le, refl, sym, ap, ◌∙◌, arith}
 use Rattle.std.specs.List.{flat_map}
 use Rattle.std.proofs.lemmas.Bool.{and_parts, eq-eqb, ne_eqb}
-use Rattle.file_fields.specs.Reading.{AllFit}
+use Rattle.ri_base.specs.Reading.{AllFit}
 use Rattle.ri_base.specs.declared.places.Place.{Place}
 use Rattle.seg_codec.specs.Fits.{FitBlock, FitsBlockEntry, FitsId}
 use Rattle.seg_codec.specs.Segment.{ahead, block_entry_of, block_of, cut, first, id_of, range_of}

@@ -6,13 +6,13 @@ use Rattle.std.specs.Cmp.Lexicographic.{pointwise, same_text}
 use Rattle.std.specs.Int.{w32, w64, to_le_bytes}
 use Rattle.std.proofs.lemmas.Bool.{eqb-true, and_parts}
 use Rattle.ri_base.specs.declared.limits.TheConstants.{MAX_HELD_TOKENS, MAX_PART_DOCS, MAX_PART_NAMES}
-use Rattle.file_fields.specs.Fields.{number, ruled}
-use Rattle.file_fields.specs.Reading.{◌>>=◌}
+use Rattle.ri_base.specs.Fields.{number, ruled}
+use Rattle.ri_base.specs.Reading.{◌>>=◌}
 use Rattle.seg_codec.specs.Fits.{FitsDocs, Counts, FitCounts, FitsDictionaryPlace, FitsBlocksPlace, FitHeaderPlaces, made, counts_of, places_of, FitsDocsCount, FitsHeader}
 use Rattle.seg_codec.specs.Headers.{magic, marked, docs_count, counts, dictionary_place, blocks_place, places, header_fields, header}
 use Rattle.seg_codec.specs.Spelling.{header_bytes}
 use Rattle.seg_codec.specs.declared.header.Header.{Header}
-use Rattle.file_fields.proofs.Codec.{IsCodec, IsBytes, codec_then, codec_as, number_codec, ruled_codec, front_codec, whole_takes, whole_again, wide32, wide64}
+use Rattle.ri_base.proofs.Codec.{IsCodec, IsBytes, codec_then, codec_as, number_codec, ruled_codec, front_codec, whole_takes, whole_again, wide32, wide64}
 
 docs_codec : (docs : ℕ) → IsCodec (docs_count docs) (λ n. magic ++ (to_le_bytes w32 1 ++ to_le_bytes w32 n)) (λ n. ((length magic ≡ 8) × (pointwise nat_eq magic magic ≡ true)) × (((1 < 2 ^ 32) × (1 == 1 ≡ true)) × FitsDocs docs n))
 unfolding docs_count

@@ -20,7 +20,7 @@ use Rattle.ri_base.specs.Vocabulary.{IsVocabulary, Occurs, vocabulary_of, with_t
 use Rattle.ri_base.proofs.ListLemmas.{Contains-cases, Contains-here, Contains-later, Contains-none}
 use Rattle.ri_base.proofs.PlacesLemmas.{absent}
 use Rattle.ri_base.proofs.VocabularyLemmas.{IsVocabulary-vocabulary_of}
-use Rattle.file_fields.proofs.Order.{same_itself}
+use Rattle.ri_base.proofs.Order.{same_itself}
 use Rattle.seg_codec.specs.Documents.{names_in_order}
 use Rattle.seg_codec.specs.Segment.{entry_of}
 use Rattle.seg_codec.specs.Spelling.{number_of}

@@ -15,7 +15,7 @@ use Rattle.ri_base.specs.declared.places.Place.{Place}
 use Rattle.ri_base.proofs.ListLemmas.{Contains-here, Contains-later}
 use Rattle.ri_base.proofs.PlacesLemmas.{occurs_at}
 use Rattle.ri_base.proofs.VocabularyLemmas.{IsVocabulary-vocabulary_of}
-use Rattle.file_fields.proofs.Order.{same_itself}
+use Rattle.ri_base.proofs.Order.{same_itself}
 use Rattle.seg_codec.specs.Blocks.{tokens_of}
 use Rattle.seg_codec.specs.Held.{AreAgreed, AreFilled, AreOfPostings, Clash, Gap, Holds, IsKept, lengths, rank_at, terms_of}
 use Rattle.seg_codec.specs.Segment.{entry_of}

@@ -11,7 +11,7 @@ use Rattle.ri_base.specs.Places.{places, places_from, postings_from, postings_of
 use Rattle.ri_base.specs.Vocabulary.{Occurs}
 use Rattle.ri_base.specs.declared.places.Place.{Place}
 use Rattle.ri_base.proofs.ListLemmas.{Contains-cases, Contains-here, Contains-later, Contains-none}
-use Rattle.file_fields.proofs.Order.{same_itself}
+use Rattle.ri_base.proofs.Order.{same_itself}
 use Rattle.seg_codec.proofs.SpreadLaws.{AllTold, at_place, word_of}
 
 -- ---- at each posting stands the term

@@ -7,10 +7,10 @@ use Rattle.std.specs.Prelude.{◌==◌, IsTrue, sum_by}
 use Rattle.std.proofs.lemmas.Bool.{and_parts, eqb-true, leb-true}
 use Rattle.std.proofs.lemmas.List.{length-append, length-map}
 use Rattle.std.proofs.lemmas.List.Elements.{All-cons, All-head, All-nil, All-tail}
-use Rattle.file_fields.specs.Fields.{is_before}
-use Rattle.file_fields.specs.Reading.{AllFit}
-use Rattle.file_fields.proofs.Codec.{IsBytes}
-use Rattle.file_fields.proofs.Order.{Rises, less_from_before, sorted_from}
+use Rattle.ri_base.specs.Fields.{is_before}
+use Rattle.ri_base.specs.Reading.{AllFit}
+use Rattle.ri_base.proofs.Codec.{IsBytes}
+use Rattle.ri_base.proofs.Order.{Rises, less_from_before, sorted_from}
 use Rattle.ri_base.specs.Collection.{name_count, token_count}
 use Rattle.ri_base.specs.Documents.{Document}
 use Rattle.ri_base.specs.Places.{postings_of}

@@ -2,8 +2,8 @@
 use Rattle.std.proofs.Common.{◌≡◌, ◌<◌, ◌≤◌, ℕ, ◌+◌, ◌-◌, ◌*◌, List, [], ◌∷◌, ◌++◌, length, map, ◌&&◌, nat_lt, nat_le, Ok, sym, ap, subst, ◌∙◌, append_assoc, arith}
 use Rattle.std.proofs.lemmas.Bool.{and_parts, leb-true, ltb-true}
 use Rattle.std.proofs.lemmas.List.Concat.{flat_map-cons}
-use Rattle.file_fields.specs.Reading.{AllFit}
-use Rattle.file_fields.proofs.Codec.{IsBytes}
+use Rattle.ri_base.specs.Reading.{AllFit}
+use Rattle.ri_base.proofs.Codec.{IsBytes}
 use Rattle.ri_base.specs.declared.places.Place.{Place}
 use Rattle.seg_codec.specs.Blocks.{block, tokens_of}
 use Rattle.seg_codec.specs.Dictionary.{behind}

@@ -1,7 +1,7 @@
 -- what the reading of a whole file answers
 use Rattle.std.proofs.Common.{◌≡◌, ◌<◌, ℕ, ◌+◌, ◌^◌, Option, List, length, Result, Ok, Err, ap, subst, ◌∙◌}
 use Rattle.std.specs.Prelude.{sum_by, unwrap_or}
-use Rattle.file_fields.proofs.Codec.{IsBytes}
+use Rattle.ri_base.proofs.Codec.{IsBytes}
 use Rattle.ri_base.specs.Documents.{Document}
 use Rattle.ri_base.specs.declared.places.Place.{Place}
 use Rattle.ri_base.specs.declared.seg_fault.FileName.{FileName}

@@ -5,11 +5,11 @@ use Rattle.std.specs.List.{All, AllByRecursion}
 use Rattle.std.proofs.lemmas.Bool.{and_parts, ltb-true}
 use Rattle.std.proofs.lemmas.Bool.Decides.{nat_tests}
 use Rattle.std.proofs.lemmas.List.Elements.{All-from_recursion, All-weaker}
-use Rattle.file_fields.specs.Fields.{number, ruled}
-use Rattle.file_fields.specs.Reading.{◌>>=◌, kept, repeat}
+use Rattle.ri_base.specs.Fields.{number, ruled}
+use Rattle.ri_base.specs.Reading.{◌>>=◌, kept, repeat}
 use Rattle.seg_codec.specs.Documents.{row, rows, first_row, is_behind}
 use Rattle.seg_codec.specs.declared.documents.Row.{Row}
-use Rattle.file_fields.proofs.Codec.{bind_ok, kept_ok, ok_is}
+use Rattle.ri_base.proofs.Codec.{bind_ok, kept_ok, ok_is}
 
 pub record IsRow (names tokens : ℕ) (r : Row) : Type 0 where
   pub known : r.name < names

@@ -5,7 +5,7 @@ use Rattle.std.specs.List.{flat_map}
 use Rattle.std.proofs.lemmas.Bool.{eqb-true}
 use Rattle.std.proofs.lemmas.List.{append-nil, drop_at, length-append, take_at}
 use Rattle.std.proofs.lemmas.List.Concat.{flat_map-cons}
-use Rattle.file_fields.proofs.Codec.{number_codec, wide32}
+use Rattle.ri_base.proofs.Codec.{number_codec, wide32}
 use Rattle.ri_base.specs.Documents.{Document}
 use Rattle.ri_base.specs.Places.{postings_of}
 use Rattle.ri_base.specs.Vocabulary.{vocabulary_of}

@@ -9,7 +9,7 @@ use Rattle.ri_base.specs.Documents.{Document}
 use Rattle.ri_base.specs.Places.{places, places_from, postings_from, postings_of}
 use Rattle.ri_base.specs.declared.places.Place.{Place}
 use Rattle.ri_base.proofs.ListLemmas.{Contains-cases, Contains-none}
-use Rattle.file_fields.proofs.Order.{same_itself}
+use Rattle.ri_base.proofs.Order.{same_itself}
 use Rattle.seg_codec.specs.Rising.{Rise}
 
 -- the place of a token

@@ -5,8 +5,8 @@ use Rattle.std.specs.List.{All}
 use Rattle.std.proofs.lemmas.Bool.{and_parts, eqb-true, leb-true}
 use Rattle.std.proofs.lemmas.List.{append-nil, drop_all, drop_more, length-take}
 use Rattle.std.proofs.lemmas.List.Elements.{All-cons, All-nil}
-use Rattle.file_fields.specs.Answers.{AnswersPart}
-use Rattle.file_fields.specs.Reading.{AllFit}
+use Rattle.ri_base.specs.FieldAnswers.{AnswersPart}
+use Rattle.ri_base.specs.Reading.{AllFit}
 use Rattle.ri_base.specs.declared.places.Place.{Place}
 use Rattle.ri_base.specs.declared.seg_fault.FileName.{FileName}
 use Rattle.ri_base.specs.declared.seg_fault.PartName.{PartName}

@@ -1,8 +1,8 @@
 -- A block of a segment: the places of a term in the documents of a range of 64 ids.
 use Rattle.std.specs.Prelude.{ℕ, ◌+◌, ◌*◌, Bool, true, List, length, map, slice_index_or, Result, Ok, nat_lt, nat_le, ◌&&◌}
 use Rattle.std.specs.Int.{w32}
-use Rattle.file_fields.specs.Fields.{ruled, ruled_byte}
-use Rattle.file_fields.specs.Reading.{Reading, ◌>>=◌, repeat, whole}
+use Rattle.ri_base.specs.Fields.{ruled, ruled_byte}
+use Rattle.ri_base.specs.Reading.{Reading, ◌>>=◌, repeat, whole}
 use Rattle.seg_codec.specs.declared.documents.Entry.{Entry}
 use Rattle.seg_codec.specs.declared.blocks.BlockEntry.{BlockEntry}
 

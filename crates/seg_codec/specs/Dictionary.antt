@@ -1,8 +1,8 @@
 -- The dictionary of a segment: each term, with the places of its blocks.
 use Rattle.std.specs.Prelude.{ℕ, ◌+◌, ◌*◌, List, [], ◌∷◌, Result, Ok, nat_lt, nat_le, ◌==◌, ◌&&◌}
 use Rattle.std.specs.Int.{w32, w64}
-use Rattle.file_fields.specs.Fields.{term_behind, number, ruled}
-use Rattle.file_fields.specs.Reading.{Reading, ◌>>=◌, repeat, whole}
+use Rattle.ri_base.specs.Fields.{term_behind, number, ruled}
+use Rattle.ri_base.specs.Reading.{Reading, ◌>>=◌, repeat, whole}
 use Rattle.seg_codec.specs.declared.header.Header.{Header}
 use Rattle.seg_codec.specs.declared.dictionary.BlockPlace.{BlockPlace}
 use Rattle.seg_codec.specs.declared.dictionary.TermBlocks.{TermBlocks}

@@ -7,8 +7,8 @@ use Rattle.ri_base.specs.Collection.{names_of}
 use Rattle.ri_base.specs.Documents.{Field}
 use Rattle.ri_base.specs.Vocabulary.{with_terms}
 use Rattle.ri_base.specs.declared.limits.TheConstants.{MAX_DOC_TOKENS}
-use Rattle.file_fields.specs.Fields.{docno, name_behind, number, ruled}
-use Rattle.file_fields.specs.Reading.{Reading, ◌>>=◌, repeat, whole}
+use Rattle.ri_base.specs.Fields.{docno, name_behind, number, ruled}
+use Rattle.ri_base.specs.Reading.{Reading, ◌>>=◌, repeat, whole}
 use Rattle.seg_codec.specs.declared.header.Header.{Header}
 use Rattle.seg_codec.specs.declared.documents.Entry.{Entry}
 use Rattle.seg_codec.specs.declared.documents.Row.{Row}

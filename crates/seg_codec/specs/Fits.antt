@@ -6,8 +6,8 @@ use Rattle.ri_base.specs.Documents.{Field}
 use Rattle.ri_base.specs.Text.{is_docno, is_name, is_term}
 use Rattle.ri_base.specs.declared.limits.TheConstants.{MAX_DOC_TOKENS, MAX_HELD_TOKENS, MAX_PART_DOCS, MAX_PART_NAMES}
 use Rattle.ri_base.specs.declared.text.TheConstants.{DOCNO_BYTES, NAME_BYTES, TERM_BYTES}
-use Rattle.file_fields.specs.Fields.{is_before}
-use Rattle.file_fields.specs.Reading.{AllFit}
+use Rattle.ri_base.specs.Fields.{is_before}
+use Rattle.ri_base.specs.Reading.{AllFit}
 use Rattle.seg_codec.specs.Blocks.{is_local, tokens_of}
 use Rattle.seg_codec.specs.Dictionary.{Behind, BehindTerm, behind, behind_term, end_of_all}
 use Rattle.seg_codec.specs.Documents.{Listed, are_whole, first_row, is_behind, named, names_in_order}

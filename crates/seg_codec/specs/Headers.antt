@@ -4,8 +4,8 @@ use Rattle.std.specs.Bool.{nat_eq}
 use Rattle.std.specs.Cmp.Lexicographic.{pointwise}
 use Rattle.std.specs.Int.{w32, w64}
 use Rattle.ri_base.specs.declared.limits.TheConstants.{MAX_HELD_TOKENS, MAX_PART_DOCS, MAX_PART_NAMES}
-use Rattle.file_fields.specs.Fields.{number, ruled, ruled_front}
-use Rattle.file_fields.specs.Reading.{Reading, ◌>>=◌, whole}
+use Rattle.ri_base.specs.Fields.{number, ruled, ruled_front}
+use Rattle.ri_base.specs.Reading.{Reading, ◌>>=◌, whole}
 use Rattle.seg_codec.specs.declared.header.Header.{Header}
 
 -- indriseg

@@ -4,7 +4,7 @@ use Rattle.std.specs.Int.{w16, w32, w64, to_le_bytes}
 use Rattle.std.specs.List.{flat_map}
 use Rattle.std.specs.Str.{bytes_eq}
 use Rattle.ri_base.specs.Documents.{Field}
-use Rattle.file_fields.specs.Spelling.{spelled_text}
+use Rattle.ri_base.specs.Spelling.{spelled_text}
 use Rattle.seg_codec.specs.Documents.{names_in_order}
 use Rattle.seg_codec.specs.Headers.{magic}
 use Rattle.seg_codec.specs.declared.blocks.BlockEntry.{BlockEntry}

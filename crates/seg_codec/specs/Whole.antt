@@ -2,8 +2,8 @@
 use Rattle.std.specs.Prelude.{ℕ, ◌≡◌, ◌≤◌, ◌+◌, ◌-◌, List, [], ◌∷◌, ◌++◌, length, map, take, drop, Result, Ok, Err, nat_lt, if◌then◌else◌}
 use Rattle.std.specs.Int.{w32}
 use Rattle.std.specs.List.{flat_map}
-use Rattle.file_fields.specs.Fields.{number}
-use Rattle.file_fields.specs.Reading.{Reading}
+use Rattle.ri_base.specs.Fields.{number}
+use Rattle.ri_base.specs.Reading.{Reading}
 use Rattle.ri_base.specs.Documents.{AreFields}
 use Rattle.ri_base.specs.declared.limits.TheConstants.{MAX_DOC_TOKENS}
 use Rattle.ri_base.specs.declared.places.Place.{Place}

@@ -1,13 +1,13 @@
 // A block of a segment.
 ghost use Rattle.std.specs.Prelude.{◌≡◌, ◌<◌, ◌==◌, ◌+◌, ◌*◌, ◌&&◌, [], ℕ, length, IfOk, nat_lt, nat_le, ◌^◌};
 ghost use Rattle.std.specs.Int.{w32};
-ghost use Rattle.file_fields.specs.Answers.{Gives};
-ghost use Rattle.file_fields.specs.Fields.{number, ruled, ruled_byte};
-ghost use Rattle.file_fields.specs.Reading.{repeat};
+ghost use Rattle.ri_base.specs.FieldAnswers.{Gives};
+ghost use Rattle.ri_base.specs.Fields.{number, ruled, ruled_byte};
+ghost use Rattle.ri_base.specs.Reading.{repeat};
 ghost use Rattle.seg_codec.specs.Blocks.{is_local, tokens_of, place, places, document_id, block_entry, block_entries, block};
 
 use crate::documents::Entry;
-use file_fields::{Broken, byte_at, kept, u32_at};
+use ri_base::file_fields::{Broken, byte_at, kept, u32_at};
 use ri_base::{List, Positions};
 use std::alloc::Global;
 
@@ -24,7 +24,7 @@ pub struct Block {
     pub entries: List<BlockEntry>,
 }
 
-#[tactic(auto, unfolding(file_fields::specs::Fields::ruled))]
+#[tactic(auto, unfolding(ri_base::specs::Fields::ruled))]
 fn place_at(tokens: u32, low: u64, bytes: &[u8]) -> Result<(u32, &[u8]), Broken>
     ensures { Gives (λ x. (x.0, x.1.now)) result (place tokens low bytes.now) }
 {
@@ -57,7 +57,7 @@ fn places_from(
     Ok((places, rest))
 }
 
-#[tactic(auto, unfolding(file_fields::specs::Fields::ruled))]
+#[tactic(auto, unfolding(ri_base::specs::Fields::ruled))]
 fn count_at(bytes: &[u8]) -> Result<(u32, &[u8]), Broken>
     ensures { Gives (λ x. (x.0, x.1.now)) result (ruled w32 (λ n. nat_le 1 n) bytes.now) }
 {
@@ -73,7 +73,7 @@ fn places_at(alloc: Global, tokens: u32, bytes: &[u8]) -> Result<(Vec<u32>, &[u8
     places_from(alloc, tokens, count, rest)
 }
 
-#[tactic(auto, unfolding(file_fields::specs::Fields::ruled_byte, crate::specs::Blocks::document_id))]
+#[tactic(auto, unfolding(ri_base::specs::Fields::ruled_byte, crate::specs::Blocks::document_id))]
 fn id_at(docs: usize, range: u32, low: u64, bytes: &[u8]) -> Result<(u32, &[u8]), Broken>
     requires few { docs < 2 ^ 32 }
     ensures read { Gives (λ x. (x.0, x.1.now)) result (document_id docs range low bytes.now) }
@@ -139,7 +139,7 @@ fn block_entries_from<'a>(
     Ok((entries, rest))
 }
 
-#[tactic(auto, unfolding(file_fields::specs::Fields::ruled_byte))]
+#[tactic(auto, unfolding(ri_base::specs::Fields::ruled_byte))]
 fn entry_count_at(bytes: &[u8]) -> Result<(u8, &[u8]), Broken>
     ensures { Gives (λ x. (x.0, x.1.now)) result (ruled_byte (λ n. nat_le 1 n && nat_le n 64) bytes.now) }
 {

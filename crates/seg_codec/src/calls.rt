@@ -1,6 +1,6 @@
 // The calls that read a part of a segment's file.
 ghost use Rattle.std.specs.Prelude.{◌≡◌, ◌<◌, ◌+◌, ◌^◌, ℕ, List, length, Ok, IfOk};
-ghost use Rattle.file_fields.specs.Answers.{AnswersPart};
+ghost use Rattle.ri_base.specs.FieldAnswers.{AnswersPart};
 ghost use Rattle.ri_base.specs.declared.seg_fault.PartName.TheVariants as parts;
 ghost use Rattle.seg_codec.specs.Blocks.{block};
 ghost use Rattle.seg_codec.specs.Dictionary.{dictionary};
@@ -17,11 +17,11 @@ use crate::blocks::{Block, block_of};
 use crate::dictionary::{Dictionary, dictionary_of};
 use crate::documents::{Documents, documents_of};
 use crate::header::{Header, header_of};
-use file_fields::fault_of;
+use ri_base::file_fields::fault_of;
 use ri_base::{FileName, PartName, SegFault};
 use std::alloc::Global;
 
-#[tactic(auto, using(file_fields::proofs::Faults::fault_answers))]
+#[tactic(auto, using(ri_base::proofs::FieldFaults::fault_answers))]
 fn header_answer(bytes: &[u8], file: FileName, docs: u32, size: u64) -> Result<Header, SegFault>
     ensures { AnswersPart (λ v. v) result (header docs size bytes.now) file parts.Header (length bytes.now) }
 {
@@ -43,7 +43,7 @@ pub fn read_header(bytes: &[u8], file: FileName, docs: u32, size: u64) -> Result
     header_answer(bytes, file, docs, size)
 }
 
-#[tactic(auto, using(file_fields::proofs::Faults::fault_answers))]
+#[tactic(auto, using(ri_base::proofs::FieldFaults::fault_answers))]
 fn documents_answer(
     alloc: Global,
     bytes: &[u8],
@@ -82,7 +82,7 @@ pub fn read_documents(
     documents_answer(alloc, bytes, file, header)
 }
 
-#[tactic(auto, using(file_fields::proofs::Faults::fault_answers))]
+#[tactic(auto, using(ri_base::proofs::FieldFaults::fault_answers))]
 fn dictionary_answer(
     alloc: Global,
     bytes: &[u8],
@@ -121,7 +121,7 @@ pub fn read_dictionary(
     dictionary_answer(alloc, bytes, file, header)
 }
 
-#[tactic(auto, using(file_fields::proofs::Faults::fault_answers))]
+#[tactic(auto, using(ri_base::proofs::FieldFaults::fault_answers))]
 fn block_answer(
     alloc: Global,
     bytes: &[u8],

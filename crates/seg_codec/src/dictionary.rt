@@ -1,13 +1,13 @@
 // The dictionary of a segment.
 ghost use Rattle.std.specs.Prelude.{◌≡◌, ◌<◌, ◌==◌, ◌+◌, ◌*◌, ◌&&◌, [], ℕ, length, IfOk, nat_lt, nat_le};
 ghost use Rattle.std.specs.Int.{w32, w64};
-ghost use Rattle.file_fields.specs.Answers.{Gives};
-ghost use Rattle.file_fields.specs.Fields.{number, ruled};
-ghost use Rattle.file_fields.specs.Reading.{repeat};
+ghost use Rattle.ri_base.specs.FieldAnswers.{Gives};
+ghost use Rattle.ri_base.specs.Fields.{number, ruled};
+ghost use Rattle.ri_base.specs.Reading.{repeat};
 ghost use Rattle.seg_codec.specs.Dictionary.{block_place, block_places, behind, end_of, term_blocks, behind_term, end_of_all, dictionary, terms};
 
 use crate::header::Header;
-use file_fields::{Broken, kept, term_behind_at, u32_at, u64_at};
+use ri_base::file_fields::{Broken, kept, term_behind_at, u32_at, u64_at};
 use ri_base::{List, Term};
 use std::alloc::Global;
 
@@ -32,7 +32,7 @@ pub struct TermBlocks {
 /// The terms of a segment by rising bytes, each with the places of its blocks by rising range, seen as their list.
 pub type Dictionary = List<TermBlocks>;
 
-#[tactic(auto, unfolding(file_fields::specs::Fields::ruled))]
+#[tactic(auto, unfolding(ri_base::specs::Fields::ruled))]
 fn range_at(docs: u32, low: u64, bytes: &[u8]) -> Result<(u32, &[u8]), Broken>
     ensures { Gives (λ x. (x.0, x.1.now)) result (ruled w32 (λ r. nat_le low r && nat_lt (64 * r) docs) bytes.now) }
 {
@@ -45,7 +45,7 @@ fn range_at(docs: u32, low: u64, bytes: &[u8]) -> Result<(u32, &[u8]), Broken>
     )
 }
 
-#[tactic(auto, unfolding(file_fields::specs::Fields::ruled))]
+#[tactic(auto, unfolding(ri_base::specs::Fields::ruled))]
 fn place_at(at: u128, bytes: &[u8]) -> Result<(u64, &[u8]), Broken>
     ensures { Gives (λ x. (x.0, x.1.now)) result (ruled w64 (λ p. p == at) bytes.now) }
 {
@@ -98,7 +98,7 @@ fn block_places_from(
     Ok((places, rest))
 }
 
-#[tactic(auto, unfolding(file_fields::specs::Fields::ruled))]
+#[tactic(auto, unfolding(ri_base::specs::Fields::ruled))]
 fn count_at(bytes: &[u8]) -> Result<(u32, &[u8]), Broken>
     ensures { Gives (λ x. (x.0, x.1.now)) result (ruled w32 (λ n. nat_le 1 n) bytes.now) }
 {

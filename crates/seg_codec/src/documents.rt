@@ -2,15 +2,15 @@
 ghost use Rattle.std.specs.Prelude.{◌≡◌, ◌<◌, ◌^◌, ◌==◌, [], ℕ, length, map, sum_by, IfOk, nat_lt, nat_le, ◌&&◌};
 ghost use Rattle.std.specs.List.{All};
 ghost use Rattle.std.specs.Int.{w16, w32};
-ghost use Rattle.file_fields.specs.Answers.{Gives};
-ghost use Rattle.file_fields.specs.Fields.{name_behind, ruled};
-ghost use Rattle.file_fields.specs.Reading.{repeat};
+ghost use Rattle.ri_base.specs.FieldAnswers.{Gives};
+ghost use Rattle.ri_base.specs.Fields.{name_behind, ruled};
+ghost use Rattle.ri_base.specs.Reading.{repeat};
 ghost use Rattle.ri_base.specs.declared.limits.TheConstants.{MAX_DOC_TOKENS};
 ghost use Rattle.seg_codec.specs.Documents.{are_whole, documents, entry, fields, first_row, is_behind, listed, named, names_in_order, row, rows};
 
 use crate::header::Header;
 use crate::names::names_of;
-use file_fields::{Broken, docno_at, kept, name_behind_at, u16_at, u32_at};
+use ri_base::file_fields::{Broken, docno_at, kept, name_behind_at, u16_at, u32_at};
 use ri_base::limits::MAX_DOC_TOKENS;
 use ri_base::{Docno, FieldSpan, Name, NoMemory, Spans};
 use std::alloc::Global;
@@ -72,7 +72,7 @@ impl Documents {
     }
 }
 
-#[tactic(auto, unfolding(file_fields::specs::Fields::ruled))]
+#[tactic(auto, unfolding(ri_base::specs::Fields::ruled))]
 fn name_number_at(names: usize, bytes: &[u8]) -> Result<(u16, &[u8]), Broken>
     ensures { Gives (λ x. (x.0, x.1.now)) result (ruled w16 (λ n. nat_lt n names) bytes.now) }
 {
@@ -80,7 +80,7 @@ fn name_number_at(names: usize, bytes: &[u8]) -> Result<(u16, &[u8]), Broken>
     kept(usize::from(name) < names, name, rest, bytes)
 }
 
-#[tactic(auto, unfolding(file_fields::specs::Fields::ruled))]
+#[tactic(auto, unfolding(ri_base::specs::Fields::ruled))]
 fn number_from(least: u32, bytes: &[u8]) -> Result<(u32, &[u8]), Broken>
     ensures { Gives (λ x. (x.0, x.1.now)) result (ruled w32 (λ b. nat_le least b) bytes.now) }
 {
@@ -89,7 +89,7 @@ fn number_from(least: u32, bytes: &[u8]) -> Result<(u32, &[u8]), Broken>
 }
 
 /// The number of tokens of a document.
-#[tactic(auto, unfolding(file_fields::specs::Fields::ruled))]
+#[tactic(auto, unfolding(ri_base::specs::Fields::ruled))]
 fn tokens_at(bytes: &[u8]) -> Result<(u32, &[u8]), Broken>
     ensures { Gives (λ x. (x.0, x.1.now)) result (ruled w32 (λ n. nat_le n MAX_DOC_TOKENS) bytes.now) }
 {
@@ -105,7 +105,7 @@ fn is_behind(a: Row, b: Row) -> bool
         || (a.begin == b.begin && (a.end < b.end || (a.end == b.end && a.name < b.name)))
 }
 
-#[tactic(auto, unfolding(file_fields::specs::Fields::ruled))]
+#[tactic(auto, unfolding(ri_base::specs::Fields::ruled))]
 fn end_at(
     tokens: u32,
     before: Row,

@@ -1,12 +1,12 @@
 // The header of a segment.
 ghost use Rattle.std.specs.Prelude.{◌≡◌, ◌<◌, ◌==◌, ◌&&◌, length, IfOk, nat_le};
 ghost use Rattle.std.specs.Int.{w32, w64};
-ghost use Rattle.file_fields.specs.Answers.{Gives};
-ghost use Rattle.file_fields.specs.Fields.{ruled};
+ghost use Rattle.ri_base.specs.FieldAnswers.{Gives};
+ghost use Rattle.ri_base.specs.Fields.{ruled};
 ghost use Rattle.ri_base.specs.declared.limits.TheConstants.{MAX_HELD_TOKENS, MAX_PART_DOCS, MAX_PART_NAMES};
 ghost use Rattle.seg_codec.specs.Headers.{marked, docs_count, counts, dictionary_place, blocks_place, places, header_fields, header, magic};
 
-use file_fields::{Broken, front_at, kept, u32_at, u64_at};
+use ri_base::file_fields::{Broken, front_at, kept, u32_at, u64_at};
 use ri_base::limits::{MAX_HELD_TOKENS, MAX_PART_DOCS, MAX_PART_NAMES};
 
 /// How much a segment has, and where its parts stand.
@@ -22,7 +22,7 @@ pub struct Header {
     pub length: u64,
 }
 
-#[tactic(auto, unfolding(file_fields::specs::Fields::ruled_front))]
+#[tactic(auto, unfolding(ri_base::specs::Fields::ruled_front))]
 fn magic_at(bytes: &[u8]) -> Result<(&[u8], &[u8]), Broken>
     ensures { Gives (λ x. (x.0.now, x.1.now)) result (marked bytes.now) }
 {
@@ -34,7 +34,7 @@ fn magic_at(bytes: &[u8]) -> Result<(&[u8], &[u8]), Broken>
     }
 }
 
-#[tactic(auto, unfolding(file_fields::specs::Fields::ruled))]
+#[tactic(auto, unfolding(ri_base::specs::Fields::ruled))]
 fn version_at(bytes: &[u8]) -> Result<(u32, &[u8]), Broken>
     ensures { Gives (λ x. (x.0, x.1.now)) result (ruled w32 (λ n. n == 1) bytes.now) }
 {
@@ -42,7 +42,7 @@ fn version_at(bytes: &[u8]) -> Result<(u32, &[u8]), Broken>
     kept(number == 1, number, rest, bytes)
 }
 
-#[tactic(auto, unfolding(file_fields::specs::Fields::ruled))]
+#[tactic(auto, unfolding(ri_base::specs::Fields::ruled))]
 fn docs_at(docs: u32, bytes: &[u8]) -> Result<(u32, &[u8]), Broken>
     ensures { Gives (λ x. (x.0, x.1.now)) result (ruled w32 (λ n. nat_le n MAX_PART_DOCS && n == docs) bytes.now) }
 {
@@ -64,7 +64,7 @@ fn docs_count_at(docs: u32, bytes: &[u8]) -> Result<(u32, &[u8]), Broken>
     docs_at(docs, rest)
 }
 
-#[tactic(auto, unfolding(file_fields::specs::Fields::ruled))]
+#[tactic(auto, unfolding(ri_base::specs::Fields::ruled))]
 fn tokens_at(bytes: &[u8]) -> Result<(u64, &[u8]), Broken>
     ensures { Gives (λ x. (x.0, x.1.now)) result (ruled w64 (λ n. nat_le n MAX_HELD_TOKENS) bytes.now) }
 {
@@ -72,7 +72,7 @@ fn tokens_at(bytes: &[u8]) -> Result<(u64, &[u8]), Broken>
     kept(number <= MAX_HELD_TOKENS, number, rest, bytes)
 }
 
-#[tactic(auto, unfolding(file_fields::specs::Fields::ruled))]
+#[tactic(auto, unfolding(ri_base::specs::Fields::ruled))]
 fn names_at(bytes: &[u8]) -> Result<(u32, &[u8]), Broken>
     ensures { Gives (λ x. (x.0, x.1.now)) result (ruled w32 (λ n. nat_le n MAX_PART_NAMES) bytes.now) }
 {
@@ -90,7 +90,7 @@ fn counts_at(bytes: &[u8]) -> Result<((u64, u32, u32), &[u8]), Broken>
     Ok(((tokens, terms, names), rest))
 }
 
-#[tactic(auto, unfolding(file_fields::specs::Fields::ruled))]
+#[tactic(auto, unfolding(ri_base::specs::Fields::ruled))]
 fn just_at(number: u64, bytes: &[u8]) -> Result<(u64, &[u8]), Broken>
     ensures { Gives (λ x. (x.0, x.1.now)) result (ruled w64 (λ n. n == number) bytes.now) }
 {
@@ -98,7 +98,7 @@ fn just_at(number: u64, bytes: &[u8]) -> Result<(u64, &[u8]), Broken>
     kept(found == number, found, rest, bytes)
 }
 
-#[tactic(auto, unfolding(file_fields::specs::Fields::ruled))]
+#[tactic(auto, unfolding(ri_base::specs::Fields::ruled))]
 fn place_from(least: u64, bytes: &[u8]) -> Result<(u64, &[u8]), Broken>
     ensures { Gives (λ x. (x.0, x.1.now)) result (ruled w64 (λ n. nat_le least n) bytes.now) }
 {
@@ -106,7 +106,7 @@ fn place_from(least: u64, bytes: &[u8]) -> Result<(u64, &[u8]), Broken>
     kept(least <= number, number, rest, bytes)
 }
 
-#[tactic(auto, unfolding(file_fields::specs::Fields::ruled))]
+#[tactic(auto, unfolding(ri_base::specs::Fields::ruled))]
 fn length_at(least: u64, size: u64, bytes: &[u8]) -> Result<(u64, &[u8]), Broken>
     ensures { Gives (λ x. (x.0, x.1.now)) result (ruled w64 (λ n. nat_le least n && n == size) bytes.now) }
 {

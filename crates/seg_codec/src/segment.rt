@@ -8,7 +8,7 @@ ghost use Rattle.std.specs.Ordering.{nat_cmp};
 ghost use Rattle.ri_base.specs.Collection.{name_count, token_count};
 ghost use Rattle.ri_base.specs.Text.{is_docno, is_name, is_term};
 ghost use Rattle.ri_base.specs.Vocabulary.{vocabulary_of};
-ghost use Rattle.file_fields.specs.Spelling.{spelled_text};
+ghost use Rattle.ri_base.specs.Spelling.{spelled_text};
 ghost use Rattle.ri_base.specs.declared.limits.TheConstants.{MAX_HELD_TOKENS, MAX_PART_DOCS, MAX_PART_NAMES};
 ghost use Rattle.seg_codec.specs.Documents.{names_in_order};
 ghost use Rattle.seg_codec.specs.Part.{HasDocno, IsPart};
@@ -18,7 +18,7 @@ ghost use Rattle.seg_codec.specs.Spelling.{dictionary_bytes, documents_bytes, he
 use crate::header::Header;
 use crate::names::{add_names, listed};
 use crate::writing::{count_ranges, put_term_blocks};
-use file_fields::{put_docno, put_name, put_u16, put_u32, put_u64};
+use ri_base::file_fields::{put_docno, put_name, put_u16, put_u32, put_u64};
 use ri_base::{Bytes, Docno, FieldSpan, Name, NoMemory, Place, Postings, Sealed};
 use std::alloc::{AllocError, Global};
 use std::collections::BTreeSet;

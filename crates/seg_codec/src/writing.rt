@@ -7,7 +7,7 @@ ghost use Rattle.seg_codec.specs.Segment.{block_entry_of, block_of, blocks_of, c
 ghost use Rattle.seg_codec.specs.Spelling.{spelled_block_entry, spelled_place, spelled_term, block_bytes};
 
 use crate::dictionary::BlockPlace;
-use file_fields::{put_term, put_u32, put_u64};
+use ri_base::file_fields::{put_term, put_u32, put_u64};
 use ri_base::{NoMemory, Place, Term};
 use std::alloc::{AllocError, Global};
 

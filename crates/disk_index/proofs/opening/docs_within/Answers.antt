@@ -1,7 +1,7 @@
 use Rattle.std.proofs.Common.{◌-◌, drop, length, ap, sym, ◌∙◌, ℕ, List, arith, length-drop}
 use Rattle.std.specs.Int.{w32}
 use Rattle.std.proofs.lemmas.List.{take_all}
-use Rattle.file_fields.specs.Fields.{number}
+use Rattle.ri_base.specs.Fields.{number}
 use Rattle.disk_index.proofs.OpeningLaws.{docs-told}
 use Rattle.disk_index.proofs.opening.docs_within.Goals as goal
 

@@ -2,7 +2,7 @@ use Rattle.std.proofs.Common.{List, ap}
 use Rattle.ri_base.specs.Collection.{document_at}
 use Rattle.ri_base.specs.Documents.{Document}
 use Rattle.ri_base.specs.Expression.{expr_tree}
-use Rattle.extent_ops.proofs.ListedLemmas.{listing_is}
+use Rattle.extent_evaluation.proofs.ListedLemmas.{listing_is}
 use Rattle.extent_evaluation.proofs.InsideLemmas.{order_from}
 use Rattle.extent_ops.proofs.alone.extents_of.Goals as goal
 

@@ -1,11 +1,11 @@
 use Rattle.std.proofs.Common.{◌≡◌, ℕ, List, [], ◌∷◌, map, Ok, subst}
 use Rattle.std.proofs.lemmas.List.{map-append}
 use Rattle.std.proofs.lemmas.Result.{err_from_is_err_and}
-use Rattle.file_fields.specs.Answers.{Fails}
-use Rattle.file_fields.specs.Reading.{repeat}
+use Rattle.ri_base.specs.FieldAnswers.{Fails}
+use Rattle.ri_base.specs.Reading.{repeat}
 use Rattle.manifest.specs.Entries.{BehindPrior, behind_prior, prior}
 use Rattle.manifest.specs.declared.manifest.PriorEntry.{PriorEntry}
-use Rattle.file_fields.proofs.Loops.{goes_on, ends, is_done}
+use Rattle.ri_base.proofs.Loops.{goes_on, ends, is_done}
 use Rattle.manifest.proofs.entries.priors_from.Goals as goal
 
 abbrev state : List PriorEntry → List ℕ → BehindPrior

@@ -1,8 +1,8 @@
 use Rattle.std.proofs.Common.{◌≡◌, ◌-◌, [], map}
-use Rattle.file_fields.specs.Reading.{repeat}
+use Rattle.ri_base.specs.Reading.{repeat}
 use Rattle.manifest.specs.Entries.{behind_prior, prior}
 use Rattle.manifest.specs.declared.manifest.PriorEntry.{PriorEntry}
-use Rattle.file_fields.proofs.Loops.{with_front}
+use Rattle.ri_base.proofs.Loops.{with_front}
 use Rattle.manifest.proofs.entries.priors_from.Given as goal
 
 abbrev pub invariant-loop : goal.invariant-loop

@@ -2,10 +2,10 @@ use Rattle.std.proofs.Common.{[], sym}
 use Rattle.std.proofs.lemmas.Result.{err_from_is_err_and}
 use Rattle.std.proofs.lemmas.List.{map-append}
 use Rattle.manifest.proofs.EntryLemmas.{one_number_more}
-use Rattle.file_fields.specs.Reading.{repeat}
+use Rattle.ri_base.specs.Reading.{repeat}
 use Rattle.manifest.specs.Entries.{segment, with_number}
 use Rattle.manifest.specs.Files.{numbers_of}
-use Rattle.file_fields.proofs.Loops.{goes_on, ends, is_done}
+use Rattle.ri_base.proofs.Loops.{goes_on, ends, is_done}
 use Rattle.manifest.proofs.entries.segments_from.Goals as goal
 
 pub returns-in_err-segment-clause-read : goal.returns-in_err-segment-clause-read

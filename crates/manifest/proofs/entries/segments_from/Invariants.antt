@@ -1,8 +1,8 @@
 use Rattle.std.proofs.Common.{◌≡◌, ◌-◌, []}
-use Rattle.file_fields.specs.Reading.{repeat}
+use Rattle.ri_base.specs.Reading.{repeat}
 use Rattle.manifest.specs.Entries.{segment, with_number, with_numbers}
 use Rattle.manifest.specs.Files.{numbers_of}
-use Rattle.file_fields.proofs.Loops.{with_front}
+use Rattle.ri_base.proofs.Loops.{with_front}
 use Rattle.manifest.proofs.entries.segments_from.Given as goal
 
 abbrev pub invariant-loop : goal.invariant-loop

@@ -1,7 +1,7 @@
 use Rattle.std.proofs.Common.{◌≡◌, ◌-◌}
-use Rattle.file_fields.specs.Reading.{repeat}
+use Rattle.ri_base.specs.Reading.{repeat}
 use Rattle.manifest.specs.Entries.{behind, stale_number, with_numbers}
-use Rattle.file_fields.proofs.Loops.{with_front}
+use Rattle.ri_base.proofs.Loops.{with_front}
 use Rattle.manifest.proofs.entries.stale_from.Given as goal
 
 abbrev pub invariant-loop : goal.invariant-loop

@@ -1,9 +1,9 @@
 use Rattle.std.proofs.Common.{[], map}
 use Rattle.std.proofs.lemmas.List.{map-append}
 use Rattle.std.proofs.lemmas.Result.{err_from_is_err_and}
-use Rattle.file_fields.specs.Reading.{repeat}
+use Rattle.ri_base.specs.Reading.{repeat}
 use Rattle.manifest.specs.Priors.{row, row_of}
-use Rattle.file_fields.proofs.Loops.{goes_on, ends, is_done}
+use Rattle.ri_base.proofs.Loops.{goes_on, ends, is_done}
 use Rattle.manifest.proofs.prior_reading.rows_from.Goals as goal
 
 pub returns-in_err-row : goal.returns-in_err-row

@@ -1,7 +1,7 @@
 use Rattle.std.proofs.Common.{◌≡◌, ◌-◌, [], map}
-use Rattle.file_fields.specs.Reading.{repeat}
+use Rattle.ri_base.specs.Reading.{repeat}
 use Rattle.manifest.specs.Priors.{row, row_of}
-use Rattle.file_fields.proofs.Loops.{with_front}
+use Rattle.ri_base.proofs.Loops.{with_front}
 use Rattle.manifest.proofs.prior_reading.rows_from.Given as goal
 
 abbrev pub invariant-loop : goal.invariant-loop

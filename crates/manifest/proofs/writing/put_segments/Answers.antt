@@ -1,4 +1,4 @@
-use Rattle.file_fields.proofs.Written.{one_written}
+use Rattle.ri_base.proofs.Written.{one_written}
 use Rattle.manifest.specs.Spelling.{spelled_segment}
 use Rattle.manifest.proofs.writing.put_segments.Goals as goal
 

@@ -1,5 +1,5 @@
 use Rattle.std.proofs.Common.{◌≡◌, ◌+◌, length, ap, ◌∙◌, arith}
-use Rattle.file_fields.proofs.Faults.{answer_found, answer_only}
+use Rattle.ri_base.proofs.FieldFaults.{answer_found, answer_only}
 use Rattle.ri_base.specs.declared.seg_fault.PartName.TheVariants as parts
 use Rattle.seg_codec.specs.Dictionary.{dictionary}
 use Rattle.seg_codec.specs.Fits.{FitDictionary}

@@ -1,8 +1,8 @@
 use Rattle.std.proofs.Common.{ℕ}
 use Rattle.std.proofs.lemmas.Result.{err_from_is_err_and}
-use Rattle.file_fields.specs.Reading.{repeat}
+use Rattle.ri_base.specs.Reading.{repeat}
 use Rattle.seg_codec.specs.Documents.{entry}
-use Rattle.file_fields.proofs.Loops.{goes_on, ends, is_done}
+use Rattle.ri_base.proofs.Loops.{goes_on, ends, is_done}
 use Rattle.seg_codec.proofs.documents.entries_from.Goals as goal
 
 pub returns-in_err-entry : goal.returns-in_err-entry

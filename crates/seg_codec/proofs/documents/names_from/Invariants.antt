@@ -1,7 +1,7 @@
 use Rattle.std.proofs.Common.{◌≡◌, ◌-◌, []}
-use Rattle.file_fields.specs.Reading.{repeat}
-use Rattle.file_fields.specs.Fields.{name_behind}
-use Rattle.file_fields.proofs.Loops.{with_front}
+use Rattle.ri_base.specs.Reading.{repeat}
+use Rattle.ri_base.specs.Fields.{name_behind}
+use Rattle.ri_base.proofs.Loops.{with_front}
 use Rattle.seg_codec.proofs.documents.names_from.Given as goal
 
 abbrev pub invariant-loop : goal.invariant-loop

@@ -1,7 +1,7 @@
 use Rattle.std.proofs.lemmas.Result.{err_from_is_err_and}
-use Rattle.file_fields.specs.Reading.{repeat}
+use Rattle.ri_base.specs.Reading.{repeat}
 use Rattle.seg_codec.specs.Documents.{row, first_row}
-use Rattle.file_fields.proofs.Loops.{goes_on, ends, is_done}
+use Rattle.ri_base.proofs.Loops.{goes_on, ends, is_done}
 use Rattle.seg_codec.proofs.documents.rows_from.Goals as goal
 
 pub returns-in_err-row : goal.returns-in_err-row

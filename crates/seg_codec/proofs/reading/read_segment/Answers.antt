@@ -1,7 +1,7 @@
 use Rattle.std.proofs.Common.{refl, List, ◌<◌, ◌^◌, length, sym, subst, arith}
 use Rattle.std.proofs.lemmas.Result.{err_from_is_err_and}
 use Rattle.ri_base.specs.Documents.{Document}
-use Rattle.file_fields.proofs.Codec.{IsBytes}
+use Rattle.ri_base.proofs.Codec.{IsBytes}
 use Rattle.seg_codec.specs.Held.{AreRanked, Holds}
 use Rattle.seg_codec.specs.Whole.{grammar}
 use Rattle.seg_codec.proofs.HeldSteps.{none_of, some_of}

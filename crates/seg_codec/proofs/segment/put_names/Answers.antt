@@ -4,8 +4,8 @@ use Rattle.std.specs.List.{All}
 use Rattle.std.proofs.lemmas.List.{get_or_read, take_all}
 use Rattle.std.proofs.lemmas.List.Elements.{All-more}
 use Rattle.ri_base.specs.Text.{is_name}
-use Rattle.file_fields.specs.Spelling.{spelled_text}
-use Rattle.file_fields.proofs.Written.{one_written}
+use Rattle.ri_base.specs.Spelling.{spelled_text}
+use Rattle.ri_base.proofs.Written.{one_written}
 use Rattle.seg_codec.proofs.segment.put_names.Goals as goal
 
 pub loop-name-preserved : goal.loop-name-preserved

@@ -2,7 +2,7 @@ use Rattle.std.proofs.Common.{◌≡◌, ◌++◌, drop, take}
 use Rattle.std.specs.Prelude.{IsTrue}
 use Rattle.std.specs.List.{All, flat_map}
 use Rattle.ri_base.specs.Text.{is_name}
-use Rattle.file_fields.specs.Spelling.{spelled_text}
+use Rattle.ri_base.specs.Spelling.{spelled_text}
 use Rattle.seg_codec.proofs.segment.put_names.Given as goal
 
 abbrev pub invariant-loop-name : goal.invariant-loop-name

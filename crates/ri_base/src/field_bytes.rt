@@ -1,8 +1,8 @@
 // Bytes at the front of others, and rules of fields.
 ghost use Rattle.std.specs.Prelude.{◌≡◌, ℕ, Result, Ok, length};
-ghost use Rattle.file_fields.specs.Answers.{Gives};
-ghost use Rattle.file_fields.specs.Fields.{byte, front};
-ghost use Rattle.file_fields.specs.Reading.{kept};
+ghost use Rattle.ri_base.specs.FieldAnswers.{Gives};
+ghost use Rattle.ri_base.specs.Fields.{byte, front};
+ghost use Rattle.ri_base.specs.Reading.{kept};
 
 use crate::broken::Broken;
 

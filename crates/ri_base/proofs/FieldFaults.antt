@@ -4,9 +4,9 @@ use Rattle.std.specs.Prelude.{IfOk}
 use Rattle.ri_base.specs.declared.seg_fault.FileName.{FileName}
 use Rattle.ri_base.specs.declared.seg_fault.PartName.{PartName}
 use Rattle.ri_base.specs.declared.seg_fault.SegFault.{SegFault}
-use Rattle.file_fields.specs.Answers.{AnswersPart, Fails, IsFault}
-use Rattle.file_fields.specs.declared.broken.Broken.{Broken}
-use Rattle.file_fields.specs.declared.broken.Broken.TheVariants.{At, Memory}
+use Rattle.ri_base.specs.FieldAnswers.{AnswersPart, Fails, IsFault}
+use Rattle.ri_base.specs.declared.broken.Broken.{Broken}
+use Rattle.ri_base.specs.declared.broken.Broken.TheVariants.{At, Memory}
 
 pub fault_answers : {X A : Type 0} (view : X → A) (broken : Broken) (fault : SegFault) (read : Result A ℕ) (file : FileName) (part : PartName) (end : ℕ) → IsFault broken fault file part end → Fails broken read → AnswersPart view (Err fault) read file part end
 fault_answers {X} {A} view (At left) fault read file part end h f = subst (λ x. AnswersPart {X = X} {A = A} view (Err x) read file part end) (sym h) (refl, refl, left, f, refl)

@@ -6,9 +6,9 @@ use Rattle.std.proofs.lemmas.Bool.{cases_lt, eqb-true, ltb-false, le-ltb}
 use Rattle.std.proofs.lemmas.List.{take_at, drop_at, take-append-drop, length-append, length-take, get_or-drop, get_or-take, get_or_past, nil_from_length, append-nil}
 use Rattle.std.proofs.lemmas.List.Concat.{flat_map-cons}
 use Rattle.std.proofs.lemmas.Nat.{le_bytes_2, le_bytes_4, le_bytes_8, from_le_bytes-to_le_bytes_2, from_le_bytes-to_le_bytes_4, from_le_bytes-to_le_bytes_8}
-use Rattle.file_fields.specs.Fields.{byte, number, ruled, ruled_byte, front, ruled_front, text_length, text}
-use Rattle.file_fields.specs.Reading.{Reading, AllFit, ◌>>=◌, kept, repeat, whole}
-use Rattle.file_fields.specs.Spelling.{spelled_text}
+use Rattle.ri_base.specs.Fields.{byte, number, ruled, ruled_byte, front, ruled_front, text_length, text}
+use Rattle.ri_base.specs.Reading.{Reading, AllFit, ◌>>=◌, kept, repeat, whole}
+use Rattle.ri_base.specs.Spelling.{spelled_text}
 
 -- each is a byte
 pub record IsBytes (bytes : List ℕ) : Type 0 where

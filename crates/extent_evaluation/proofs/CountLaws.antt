@@ -8,7 +8,7 @@ use Rattle.ri_base.specs.Pair.{Pair}
 use Rattle.field_extents.specs.Extents.{begin_count, is_inside}
 use Rattle.field_extents.proofs.Laws.{covered_count-le}
 use Rattle.extent_lists.specs.Pairs.{pair}
-use Rattle.extent_ops.specs.Counts.{len, whole}
+use Rattle.extent_evaluation.specs.Counts.{len, whole}
 
 outside : (x : Pair) → x.begin < x.end → is_inside (pair 0 0) x ≡ false
 outside x h = grind (arith, nat_tests)

@@ -4,8 +4,8 @@ use Rattle.ri_base.specs.declared.seg_fault.FileName.{FileName}
 use Rattle.ri_base.specs.declared.seg_fault.PartName.{PartName}
 use Rattle.ri_base.specs.declared.seg_fault.SegFault.{SegFault}
 use Rattle.ri_base.specs.declared.seg_fault.SegFault.TheVariants as faults
-use Rattle.file_fields.specs.declared.broken.Broken.{Broken}
-use Rattle.file_fields.specs.declared.broken.Broken.TheVariants.{At, Memory}
+use Rattle.ri_base.specs.declared.broken.Broken.{Broken}
+use Rattle.ri_base.specs.declared.broken.Broken.TheVariants.{At, Memory}
 
 abbrev pub Fails : {A : Type 0} → Broken → Result A ℕ → Type 0
 Fails (At left) read = read ≡ Err left

@@ -1,9 +1,9 @@
 // Why a part of a file can't be read.
 ghost use Rattle.std.specs.Prelude.{◌≡◌};
-ghost use Rattle.file_fields.specs.Answers.{IsFault};
-ghost use Rattle.file_fields.specs.declared.broken.Broken.TheVariants.{Memory};
+ghost use Rattle.ri_base.specs.FieldAnswers.{IsFault};
+ghost use Rattle.ri_base.specs.declared.broken.Broken.TheVariants.{Memory};
 
-use ri_base::{FileName, PartName, SegFault};
+use crate::{FileName, PartName, SegFault};
 use std::alloc::{AllocError, AllocFailed};
 
 /// Why a part can't be read: how many bytes stand from the begin of its first bad field on to its end, or want of memory.

@@ -1,11 +1,11 @@
 // Texts behind their lengths: docnos, terms and names.
 ghost use Rattle.std.specs.Prelude.{◌≡◌, IfOk};
-ghost use Rattle.file_fields.specs.Answers.{Gives};
-ghost use Rattle.file_fields.specs.Fields.{docno, docno_behind, is_before, name_behind, term_behind, text_length};
+ghost use Rattle.ri_base.specs.FieldAnswers.{Gives};
+ghost use Rattle.ri_base.specs.Fields.{docno, docno_behind, is_before, name_behind, term_behind, text_length};
 
 use crate::broken::Broken;
-use crate::fields::{byte_at, front_at};
-use ri_base::{DOCNO_BYTES, Docno, NAME_BYTES, Name, TERM_BYTES, Term};
+use crate::field_bytes::{byte_at, front_at};
+use crate::{DOCNO_BYTES, Docno, NAME_BYTES, Name, TERM_BYTES, Term};
 use std::alloc::Global;
 use std::cmp::Ordering;
 

@@ -2,10 +2,10 @@
 ghost use Rattle.std.specs.Prelude.{◌≡◌, ◌<◌, ◌++◌, length, IsTrue, OnOk};
 ghost use Rattle.std.specs.Int.{w16, w32, w64, to_le_bytes};
 ghost use Rattle.ri_base.specs.Text.{is_docno, is_name, is_term};
-ghost use Rattle.file_fields.specs.Spelling.{spelled_text};
+ghost use Rattle.ri_base.specs.Spelling.{spelled_text};
 
 use byteorder::{ByteOrder, LittleEndian};
-use ri_base::{Docno, Name, NoMemory, Term};
+use crate::{Docno, Name, NoMemory, Term};
 
 pub fn put_u16(out: &mut Vec<u8>, number: u16) -> Result<(), NoMemory>
     ensures { OnOk result (out.new.items ≡ out.old.items ++ to_le_bytes w16 number) }
@@ -44,7 +44,7 @@ fn put_text(out: &mut Vec<u8>, text: &[u8]) -> Result<(), NoMemory>
     Ok(())
 }
 
-#[tactic(auto, using(crate::proofs::TextLemmas::short_docno))]
+#[tactic(auto, using(crate::proofs::FieldTextLemmas::short_docno))]
 pub fn put_docno(out: &mut Vec<u8>, docno: &Docno) -> Result<(), NoMemory>
     ensures written { OnOk result (out.new.items ≡ out.old.items ++ spelled_text docno.now) }
     ensures form { IsTrue (is_docno docno.now) }
@@ -52,7 +52,7 @@ pub fn put_docno(out: &mut Vec<u8>, docno: &Docno) -> Result<(), NoMemory>
     put_text(out, docno.as_bytes())
 }
 
-#[tactic(auto, using(crate::proofs::TextLemmas::short_term))]
+#[tactic(auto, using(crate::proofs::FieldTextLemmas::short_term))]
 pub fn put_term(out: &mut Vec<u8>, term: &Term) -> Result<(), NoMemory>
     ensures written { OnOk result (out.new.items ≡ out.old.items ++ spelled_text term.now) }
     ensures form { IsTrue (is_term term.now) }
@@ -60,7 +60,7 @@ pub fn put_term(out: &mut Vec<u8>, term: &Term) -> Result<(), NoMemory>
     put_text(out, term.as_bytes())
 }
 
-#[tactic(auto, using(crate::proofs::TextLemmas::short_name))]
+#[tactic(auto, using(crate::proofs::FieldTextLemmas::short_name))]
 pub fn put_name(out: &mut Vec<u8>, name: &Name) -> Result<(), NoMemory>
     ensures written { OnOk result (out.new.items ≡ out.old.items ++ spelled_text name.now) }
     ensures form { IsTrue (is_name name.now) }

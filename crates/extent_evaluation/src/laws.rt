@@ -6,7 +6,7 @@ ghost use Rattle.ri_base.specs.Expression.{ExprTree};
 ghost use Rattle.ri_base.specs.Pair.{Pair};
 ghost use Rattle.extent_lists.specs.Extents.{Ext};
 ghost use Rattle.extent_lists.specs.Listing.{IsListing};
-ghost use Rattle.extent_ops.specs.Listed.{extent_list};
+ghost use Rattle.extent_evaluation.specs.Listed.{extent_list};
 
 /// For each expression and document there is a list that has just the extents, each once, by begin and then end, and
 /// there is no other such list.

@@ -1,10 +1,10 @@
 -- Reading one thing after the other, as a loop does.
 use Rattle.std.proofs.Common.{◌≡◌, ℕ, suc, ◌-◌, ◌+◌, ◌≤◌, ◌<◌, List, [], ◌∷◌, ◌++◌, Ok, Err, refl, sym, ap, ◌∙◌, append_assoc, arith}
 use Rattle.std.proofs.lemmas.List.{append-nil}
-use Rattle.file_fields.specs.declared.broken.Broken.{Broken}
-use Rattle.file_fields.specs.declared.broken.Broken.TheVariants.{At, Memory}
-use Rattle.file_fields.specs.Answers.{Fails}
-use Rattle.file_fields.specs.Reading.{Reading, ◌>>=◌, repeat}
+use Rattle.ri_base.specs.declared.broken.Broken.{Broken}
+use Rattle.ri_base.specs.declared.broken.Broken.TheVariants.{At, Memory}
+use Rattle.ri_base.specs.FieldAnswers.{Fails}
+use Rattle.ri_base.specs.Reading.{Reading, ◌>>=◌, repeat}
 
 -- what was read before, and what is still read
 abbrev pub with_front : {A : Type 0} → List A → Reading (List A) → Reading (List A)

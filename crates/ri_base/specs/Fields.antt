@@ -5,7 +5,7 @@ use Rattle.std.specs.Int.{Width, byte_len, from_le_bytes}
 use Rattle.std.specs.Ordering.{match_ordering, nat_cmp}
 use Rattle.ri_base.specs.Text.{is_docno, is_term, is_name}
 use Rattle.ri_base.specs.declared.text.TheConstants.{DOCNO_BYTES, NAME_BYTES, TERM_BYTES}
-use Rattle.file_fields.specs.Reading.{Reading, ◌>>=◌, kept}
+use Rattle.ri_base.specs.Reading.{Reading, ◌>>=◌, kept}
 
 abbrev pub byte : List ℕ → Reading ℕ
 byte [] = Err 0

@@ -1,7 +1,7 @@
 // Numbers, the least byte first.
 ghost use Rattle.std.specs.Int.{w16, w32, w64};
-ghost use Rattle.file_fields.specs.Answers.{Gives};
-ghost use Rattle.file_fields.specs.Fields.{number};
+ghost use Rattle.ri_base.specs.FieldAnswers.{Gives};
+ghost use Rattle.ri_base.specs.Fields.{number};
 
 use crate::broken::Broken;
 

@@ -1,5 +1,5 @@
-use Rattle.extent_ops.proofs.ListedLemmas.{listing, listing_is}
-use Rattle.extent_ops.proofs.laws.extents_have_one_list.Goals as goal
+use Rattle.extent_evaluation.proofs.ListedLemmas.{listing, listing_is}
+use Rattle.extent_evaluation.proofs.laws.extents_have_one_list.Goals as goal
 
 pub returns-clause-listing : goal.returns-clause-listing
 returns-clause-listing c = listing

@@ -10,7 +10,7 @@ use Rattle.extent_lists.specs.Rows.{Lists}
 use Rattle.extent_lists.proofs.ListLemmas.{Lists-listing, Lists-tested, same_list}
 use Rattle.extent_lists.proofs.ListingLemmas.{IsListing-lists}
 use Rattle.extent_lists.proofs.Tested.{ext_tested, has_extent}
-use Rattle.extent_ops.specs.Listed.{extent_list}
+use Rattle.extent_evaluation.specs.Listed.{extent_list}
 
 lists : (x : ExprTree) (d : Document) → Lists (Ext x d) (extent_list x d)
 unfolding extent_list has_extent

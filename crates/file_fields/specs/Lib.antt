@@ -1,4 +1,0 @@
-pub mod Reading
-pub mod Fields
-pub mod Spelling
-pub mod Answers

@@ -13,13 +13,14 @@ use Rattle.std.proofs.lemmas.List.Elements.{All-cons, All-from_recursion, All-ma
 use Rattle.std.proofs.lemmas.Map.Keys.{Less-from_sorted}
 use Rattle.ri_base.specs.Documents.{AreFields, Field, IsBefore}
 use Rattle.ri_base.specs.Vocabulary.{IsTermBefore}
+use Rattle.ri_base.specs.declared.limits.TheConstants.{MAX_PART_DOCS}
 use Rattle.ri_base.specs.declared.seg_fault.SegFault.{SegFault}
 use Rattle.ri_base.specs.Fields.{is_before}
 use Rattle.ri_base.specs.Reading.{AllFit}
 use Rattle.seg_codec.specs.Dictionary.{Behind, BehindTerm, behind, behind_term, end_of, end_of_all}
 use Rattle.seg_codec.specs.Documents.{first_row, is_behind, named, names_in_order}
 use Rattle.seg_codec.specs.Fits.{FitDictionary, FitDocuments, FitFields, FitsBlockPlace, FitsEntry, FitsHeader, FitsName, FitsRow, FitsTermBlocks}
-use Rattle.seg_codec.specs.Spelling.{dictionary_bytes, documents_bytes, numbered}
+use Rattle.seg_codec.specs.Spelling.{dictionary_bytes, documents_bytes, header_bytes, numbered}
 use Rattle.seg_codec.specs.declared.dictionary.BlockPlace.{BlockPlace}
 use Rattle.seg_codec.specs.declared.dictionary.TermBlocks.{TermBlocks}
 use Rattle.seg_codec.specs.declared.documents.Entry.{Entry}
@@ -232,7 +233,19 @@ in_order docs size h fit =
     let small : size < 2 ^ 64 = places.1.0.1.0.0 in
     record { documents = omega (arith, d, first); dictionary = b; blocks = omega (arith, f, last); file = omega (arith, small, last); terms = fit.1.0.1.0 }
 
+-- the header tells as many documents as are asked for
+pub docs_asked : (docs size : ℕ) (h : Header) → FitsHeader docs size h → h.docs ≡ docs
+docs_asked docs size h fit = eqb-true h.docs docs (and_parts (leb h.docs MAX_PART_DOCS) _ fit.0.1.1.1).1
+
 -- ---- what was read
+
+pub read-docs : (docs size : ℕ) (bytes : List ℕ) (r : Result Header SegFault) → IfOk r (λ v. (bytes ≡ header_bytes v) × FitsHeader docs size v) → IfOk r (λ h. h.docs ≡ docs)
+read-docs docs size bytes (Ok h) p = docs_asked docs size h p.1
+read-docs docs size bytes (Err e) p = tt
+
+pub read-count : (h : Header) (bytes : List ℕ) (r : Result (List Entry) SegFault) → IfOk r (λ v. (bytes ≡ documents_bytes v) × FitDocuments h v) → IfOk r (λ es. length es ≡ h.docs)
+read-count h bytes (Ok es) p = p.1.0.1.0.0
+read-count h bytes (Err e) p = tt
 
 pub read-outlines : (h : Header) (bytes : List ℕ) (r : Result (List Entry) SegFault) → IfOk r (λ v. (bytes ≡ documents_bytes v) × FitDocuments h v) → IfOk r (All IsOutline)
 read-outlines h bytes (Ok es) p = are_outlines h es p.1

@@ -1,3 +1,4 @@
+pub mod AlikeLemmas
 pub mod CacheLemmas
 pub mod CutLaws
 pub mod EntryLemmas

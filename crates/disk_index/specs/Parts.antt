@@ -1,9 +1,11 @@
 -- What a part reads as, together with the files, and when it is backed.
-use Rattle.std.specs.Prelude.{◌≡◌, ◌≤◌, ℕ, List, length, Option}
+use Rattle.std.specs.Prelude.{◌≡◌, ◌≤◌, ℕ, List, length, map, Option}
 use Rattle.ri_base.specs.Documents.{Document}
 use Rattle.ri_base.specs.Faults.{IsOutside}
 use Rattle.ri_base.specs.declared.seg_fault.SegFault.{SegFault}
 use Rattle.store_ends.specs.Files.{Files, IsQuiet}
+use Rattle.seg_codec.specs.Segment.{entry_of}
+use Rattle.seg_codec.specs.declared.documents.Entry.{Entry}
 use Rattle.disk_index.specs.Blocks.{told_file}
 use Rattle.disk_index.specs.Cache.{CacheKeeps, KeptBlock}
 use Rattle.disk_index.specs.Faults.{IsRangeFault, IsTermFault}
@@ -30,6 +32,11 @@ reads told (OnDisk kept) = rebuilt kept (told_file told kept.number)
 abbrev pub size : Source → ℕ
 size (InMemory docs) = length docs
 size (OnDisk kept) = length kept.outlines
+
+-- its documents without their tokens, whatever the files are
+abbrev pub outlines_of : Source → List Entry
+outlines_of (InMemory docs) = map entry_of docs
+outlines_of (OnDisk kept) = kept.outlines
 
 -- the part has the file of this number
 abbrev pub IsFileOf : Source → ℕ → Type 0

@@ -65,6 +65,7 @@ impl DiskIndex {
         docs: u32,
     ) -> Result<DiskIndex, SegFault>
         ensures number { IfOk result (λ x. x.number ≡ number) }
+        ensures docs { IfOk result (λ x. length x.outlines ≡ docs) }
         ensures found { (f : Files) → T.files store.old ≡ Some f → IfOk result (IsOpened (file_of f number) docs) }
         ensures fault { (f : Files) → T.files store.old ≡ Some f → IfErr result (IsOpenFault f number docs) }
 
@@ -170,7 +171,7 @@ impl DiskIndex {
     }
 
     /// The number of its file.
-    pub(crate) fn number(&self) -> u64
+    pub fn number(&self) -> u64
         ensures { result ≡ self.now.number }
     {
         self.number

@@ -2,7 +2,7 @@
 ghost use Rattle.std.specs.Prelude.{◌≡◌, ◌<◌, ◌≤◌, Option, length, set, true, false, not, slice_index_or, if◌then◌else◌, IfOk};
 ghost use Rattle.ri_base.specs.Collection.{token_count};
 ghost use Rattle.store_ends.specs.Files.{Files};
-ghost use Rattle.disk_index.specs.Parts.{reads, size, source_of};
+ghost use Rattle.disk_index.specs.Parts.{outlines_of, reads, size, source_of};
 ghost use Rattle.disk_index.specs.Snapshots.{Marked, live_in};
 
 use crate::Part;
@@ -99,6 +99,14 @@ impl MarkedPart {
         let was_live = self.marks.mark(id);
         self.live_tokens -= unless(!was_live, length);
         was_live
+    }
+
+    /// Has its documents in another part, which has each of them under its id with docno, length and fields. Their marks stay.
+    pub fn set_part(&mut self, part: Part)
+        requires { outlines_of (source_of part) ≡ outlines_of self.old.source }
+        ensures { self.new ≡ record { source = source_of part; marks = self.old.marks } }
+    {
+        self.part = part;
     }
 
     /// How many documents are live.

@@ -15,7 +15,7 @@ fn digit(value: u8) -> u8
 }
 
 /// Fills the places with the digits of a number, the lowest in the last place.
-fn write_hex(places: &mut [u8], number: u64)
+pub fn write_hex(places: &mut [u8], number: u64)
     ensures { places.new ≡ hex (length places.old) number }
 {
     let count = places.len();
@@ -35,7 +35,7 @@ pub fn segment_name(number: u64) -> [u8; 20]
 }
 
 /// A name as text.
-pub(crate) fn as_text(name: &[u8]) -> &str
+pub fn as_text(name: &[u8]) -> &str
     requires { IsAscii name.now }
     ensures { result.now ≡ name.now }
 {

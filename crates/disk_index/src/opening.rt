@@ -41,6 +41,7 @@ fn header_of<T: Store>(
     size: u64,
 ) -> Result<Header, SegFault>
     ensures in_order { IfOk result AreInOrder }
+    ensures docs { IfOk result (λ h. h.docs ≡ docs) }
     ensures found { (f : Files) → T.files store.old ≡ Some f → size ≡ length (file_of f number) → IfOk result (λ h. header_in (file_of f number) docs ≡ Ok h) }
     ensures fault { (f : Files) → T.files store.old ≡ Some f → size ≡ length (file_of f number) → IfErr result (IsOpenFault f number docs) }
     ensures quiet { IsQuiet T.files T.layers T.clock T.since T.longest T.held store.old store.new }
@@ -60,6 +61,7 @@ fn documents_of<T: Store>(
 ) -> Result<Documents, SegFault>
     requires { AreInOrder header.now }
     ensures kept { IfOk result (All IsOutline) }
+    ensures docs { IfOk result (λ es. length es ≡ header.now.docs) }
     ensures found { (f : Files) → T.files store.old ≡ Some f → IfOk result (λ es. documents header.now (documents_in (file_of f number) header.now) ≡ Ok es) }
     ensures fault { (f : Files) (docs : ℕ) → T.files store.old ≡ Some f → header_in (file_of f number) docs ≡ Ok header.now → IfErr result (IsOpenFault f number docs) }
     ensures quiet { IsQuiet T.files T.layers T.clock T.since T.longest T.held store.old store.new }
@@ -104,6 +106,7 @@ pub(crate) fn read_kept<T: Store>(
     size: u64,
 ) -> Result<KeptParts, SegFault>
     ensures kept { IfOk result (λ x. AreKept x.documents x.dictionary) }
+    ensures docs { IfOk result (λ x. length x.documents ≡ docs) }
     ensures found { (f : Files) → T.files store.old ≡ Some f → size ≡ length (file_of f number)
         → IfOk result (λ x. IsOpened (file_of f number) docs (record { number = number; outlines = x.documents; dictionary = x.dictionary })) }
     ensures fault { (f : Files) → T.files store.old ≡ Some f → size ≡ length (file_of f number) → IfErr result (IsOpenFault f number docs) }

@@ -14,8 +14,8 @@ use seg_codec::Documents;
 use std::alloc::Global;
 use store_ends::Store;
 
-/// The fault of a call of a store, as that of a part.
-fn of_store(fault: OutFault) -> SegFault
+/// The fault of a call of a store, as that of a part of the collection.
+pub fn store_fault(fault: OutFault) -> SegFault
     ensures outside { IsOutside result }
     ensures failed { result ≡ SegFault.Store → fault ≡ OutFault.Failed }
 {
@@ -39,7 +39,7 @@ pub(crate) fn file_length<T: Store>(store: &mut T, number: u64) -> Result<u64, S
         Ok(None) => Err(SegFault::Missing {
             file: FileName::Segment(number),
         }),
-        Err(fault) => Err(of_store(fault)),
+        Err(fault) => Err(store_fault(fault)),
     }
 }
 
@@ -55,7 +55,7 @@ fn fill<T: Store>(store: &mut T, number: u64, at: u64, buf: &mut [u8]) -> Result
     let name = segment_name(number);
     match store.read_at(as_text(&name), at, buf) {
         Ok(count) => Ok(count),
-        Err(fault) => Err(of_store(fault)),
+        Err(fault) => Err(store_fault(fault)),
     }
 }
 

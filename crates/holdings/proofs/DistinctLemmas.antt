@@ -1,5 +1,5 @@
 -- Where the live docnos are distinct, none stands at two places.
-use Rattle.std.proofs.Common.{◌≡◌, ◌≤◌, ◌+◌, ℕ, zero, suc, Bool, true, false, List, [], ◌∷◌, ◌++◌, ◌||◌, map, get_or, refl, ap, sym, subst, ◌∙◌, arith, Some, None}
+use Rattle.std.proofs.Common.{◌≡◌, ◌≤◌, ◌+◌, ◌⊎◌, inl, inr, ℕ, zero, suc, Bool, true, false, List, [], ◌∷◌, ◌++◌, ◌||◌, map, get_or, refl, ap, sym, subst, ◌∙◌, arith, Some, None}
 use Rattle.std.specs.List.{AllByRecursion, IsDistinct, list_any}
 use Rattle.std.specs.Str.{bytes_eq}
 use Rattle.std.proofs.lemmas.List.Folds.{list_any-append}
@@ -67,7 +67,12 @@ parts-once (m ∷ ms) (suc p) i (suc q) j k d a b =
     (ap suc o.0, o.1)
 
 pub repeats-not : (parts : List Marked) (s : Spot) → IsDistinct bytes_eq (docnos_of parts) → Repeats parts s → ⊥
-repeats-not parts s d r = (let o = parts-once parts r.first.part r.first.id s.part s.id r.docno d r.at_first r.at_second in r.apart o.0 o.1)
+repeats-not parts s d r =
+    let once = parts-once parts r.first.part r.first.id s.part s.id r.docno d r.at_first r.at_second in
+    elim r.earlier [
+      | inl before ↦ omega (arith, before, once.0)
+      | inr inside ↦ omega (arith, inside.1, once.1)
+    ]
 
 -- parts within the limits whose live docnos are distinct can be held
 pub honest-fault : (limits : Limits) (parts : List Marked) (fault : PartsFault) → IsPartsFault limits parts fault → documents_held parts ≤ limits.held_docs → tokens_held parts ≤ limits.held_tokens

@@ -3,6 +3,7 @@ pub mod DistinctLemmas
 pub mod KeptLemmas
 pub mod LiveLemmas
 pub mod MarkLemmas
+pub mod MovedLemmas
 pub mod PlacedLemmas
 pub mod PlacingLemmas
 pub mod RoomLemmas

@@ -16,6 +16,7 @@ use Rattle.disk_index.specs.Parts.{Source, InMemory, OnDisk, reads, size}
 use Rattle.disk_index.specs.Reads.{rebuilt}
 use Rattle.disk_index.specs.Snapshots as snapshots
 use Rattle.disk_index.specs.Snapshots.{Marked, documents_held, live_in, unmarked}
+use Rattle.disk_index.proofs.AlikeLemmas.{map-unmarked, tokens-outlines}
 use Rattle.disk_index.proofs.RebuiltLemmas.{reads-length, rebuilt-outlines}
 use Rattle.holdings.specs.MarkedParts.{docnos_in, docnos_of, documents_of, marked_with, tokens_held, tokens_in}
 use Rattle.holdings.specs.Marks.{marks_with}
@@ -23,11 +24,6 @@ use Rattle.holdings.specs.Parts.{without}
 use Rattle.holdings.proofs.MarkLemmas.{unmarked-marks_with}
 
 -- ---- what is known of a part without its file
-
-tokens-outlines : (docs : List Document) → token_count docs ≡ sum_by (λ (o : Entry). o.tokens) (map entry_of docs)
-tokens-outlines [] = refl
-tokens-outlines (d ∷ ds) =
-    sum_by-cons (λ (x : Document). length x.tokens) d ds ∙ ap (λ n. length d.tokens + n) (tokens-outlines ds) ∙ sym (sum_by-cons (λ (o : Entry). o.tokens) (entry_of d) (map entry_of ds))
 
 pub docnos-reads : (told : Option Files) (source : Source) → map (λ (d : Document). d.docno) (reads told source) ≡ docnos_in source
 docnos-reads told (InMemory docs) = refl
@@ -67,12 +63,6 @@ token_count-documents_of told (m ∷ ms) =
     let rest = token_count-documents_of told ms in
     let both = sum_by-append (λ (d : Document). length d.tokens) (reads told m.source) (documents_of told ms) in
     omega (arith, here, rest, both, sum_by-cons (λ (x : Marked). tokens_in x.source) m ms)
-
-map-unmarked : {A B : Type 0} (f : A → B) (xs : List A) (ms : List Bool) → map f (unmarked xs ms) ≡ unmarked (map f xs) ms
-map-unmarked f [] ms = refl
-map-unmarked f (x ∷ xs) [] = refl
-map-unmarked f (x ∷ xs) (true ∷ ms) = map-unmarked f xs ms
-map-unmarked f (x ∷ xs) (false ∷ ms) = ap (λ l. f x ∷ l) (map-unmarked f xs ms)
 
 -- the live docnos need no file
 pub docnos-live : (told : Option Files) (parts : List Marked) → map (λ (d : Document). d.docno) (snapshots.live told parts) ≡ docnos_of parts

@@ -1,11 +1,12 @@
 -- Places that are found one after the other.
-use Rattle.std.proofs.Common.{◌≡◌, ◌<◌, ◌≤◌, ◌+◌, ℕ, zero, suc, Bool, true, false, List, [], ◌∷◌, ◌++◌, length, map, get_or, take, drop, refl, ap, sym, subst, ◌∙◌, arith, Option, Some, None, length-append}
+use Rattle.std.proofs.Common.{◌≡◌, ◌<◌, ◌≤◌, ◌+◌, ◌⊎◌, inl, inr, ℕ, zero, suc, Bool, true, false, List, [], ◌∷◌, ◌++◌, length, map, get_or, take, drop, refl, ap, sym, subst, ◌∙◌, arith, Option, Some, None, length-append}
 use Rattle.std.specs.Prelude.{is_some}
-use Rattle.std.specs.List.{All, IsDistinct}
+use Rattle.std.specs.List.{All, AllByRecursion, IsDistinct}
 use Rattle.std.specs.Map.{lookup}
 use Rattle.std.specs.Str.{bytes_eq}
 use Rattle.std.proofs.lemmas.List.{append-nil, get_or-map, length-map, length-take, take-append-drop, take_all, take_more}
 use Rattle.std.proofs.lemmas.List.Elements.{All-push}
+use Rattle.std.proofs.Math.Seq.{take-append_seam}
 use Rattle.ri_base.specs.Collection.{document_at, empty_document}
 use Rattle.ri_base.specs.Documents.{Document}
 use Rattle.ri_base.specs.declared.limits.TheConstants.{MAX_PART_DOCS}
@@ -23,7 +24,6 @@ use Rattle.holdings.specs.declared.spot.Spot.{Spot}
 use Rattle.holdings.proofs.CellLemmas.{map-push}
 use Rattle.holdings.proofs.KeptLemmas.{All-front, ArePlaced-add, ArePlaced-close, CanWrite, placed-distinct}
 use Rattle.holdings.proofs.LiveLemmas.{docnos-reads, flat_map-push}
-use Rattle.holdings.proofs.PlacedLemmas.{none_some}
 
 -- the docno of a document, for which no file is needed
 pub docno-in : (source : Source) (id : ℕ) → id < size source → (document_at (reads None source) id).docno ≡ get_or (docnos_in source) id []
@@ -145,13 +145,6 @@ cells-front (x ∷ ks) (false ∷ ms) (suc n) zero k e = e
 cells-front (x ∷ ks) (true ∷ ms) (suc n) (suc i) k e = cells-front ks ms n i k e
 cells-front (x ∷ ks) (false ∷ ms) (suc n) (suc i) k e = cells-front ks ms n i k e
 
-cells-behind : (ks : List (List ℕ)) (ms : List Bool) (n : ℕ) → get_or (cells (take n ks) (take n ms)) n None ≡ None
-cells-behind ks ms zero = refl
-cells-behind [] ms (suc n) = refl
-cells-behind (x ∷ ks) [] (suc n) = refl
-cells-behind (x ∷ ks) (true ∷ ms) (suc n) = cells-behind ks ms n
-cells-behind (x ∷ ks) (false ∷ ms) (suc n) = cells-behind ks ms n
-
 cells-next : (ks : List (List ℕ)) (ms : List Bool) (n : ℕ) → n < length ms → length ms ≡ length ks → get_or ms n false ≡ false → get_or (cells ks ms) n None ≡ Some (get_or ks n [])
 cells-next [] [] n within long free = absurd (omega (arith, within))
 cells-next [] (m ∷ ms) n within long free = absurd (omega (arith, long))
@@ -176,6 +169,43 @@ found : (o : Option Spot) → is_some o ≡ true → (s : Spot) × (o ≡ Some s
 found None e = cc
 found (Some s) e = (s, refl)
 
+-- ---- which of two places is the earlier one
+
+inside : (r : List (Option (List ℕ))) (i : ℕ) (k : List ℕ) → get_or r i None ≡ Some k → i < length r
+inside [] i k e = cc
+inside (x ∷ r) zero k e = omega arith
+inside (x ∷ r) (suc i) k e = (let rest = inside r i k e in omega (arith, rest))
+
+length-cells : (ks : List (List ℕ)) (ms : List Bool) → length (cells ks ms) ≤ length ks
+length-cells [] ms = omega arith
+length-cells (k ∷ ks) [] = omega arith
+length-cells (k ∷ ks) (true ∷ ms) = (let rest = length-cells ks ms in omega (arith, rest))
+length-cells (k ∷ ks) (false ∷ ms) = (let rest = length-cells ks ms in omega (arith, rest))
+
+-- a place in the last of some parts or in one before it
+before-last : (front : List Marked) (m : Marked) (p i : ℕ) (k : List ℕ) → cell (map row (front ++ m ∷ [])) p i ≡ Some k → (p < length front) ⊎ ((p ≡ length front) × (i < length (row m)))
+before-last [] m zero i k e = inr (refl, inside (row m) i k e)
+before-last [] m (suc p) i k e = cc
+before-last (x ∷ front) m zero i k e = inl (omega arith)
+before-last (x ∷ front) m (suc p) i k e = elim (before-last front m p i k e) [
+  | inl less ↦ inl (omega (arith, less))
+  | inr last ↦ inr (ap suc last.0, last.1)
+]
+
+within-parts : (parts : List Marked) (p i : ℕ) (k : List ℕ) → cell (map row parts) p i ≡ Some k → p < length parts
+within-parts [] p i k e = cc
+within-parts (m ∷ ms) zero i k e = omega arith
+within-parts (m ∷ ms) (suc p) i k e = (let rest = within-parts ms p i k e in omega (arith, rest))
+
+all-left : (P : List ℕ → Type 0) (xs ys : List (List ℕ)) → AllByRecursion P (xs ++ ys) → AllByRecursion P xs
+all-left P [] ys all = tt
+all-left P (x ∷ xs) ys all = (all.0, all-left P xs ys all.1)
+
+distinct-left : (xs ys : List (List ℕ)) → IsDistinct bytes_eq (xs ++ ys) → IsDistinct bytes_eq xs
+unfolding IsDistinct
+distinct-left [] ys d = tt
+distinct-left (x ∷ xs) ys d = (all-left (λ y. bytes_eq x y ≡ false) xs ys d.0, distinct-left xs ys d.1)
+
 -- a document whose docno is there already
 pub Repeats-next : (places : List (List ℕ × Spot)) (front : List Marked) (m : Marked) (n : ℕ) → length m.marks ≡ length (docnos_in m.source) → n < length m.marks → get_or m.marks n false ≡ false
     → is_some (lookup (bytes_eq (get_or (docnos_in m.source) n [])) places) ≡ true → ArePlaced places (front ++ front_of (take n (docnos_in m.source)) (take n m.marks) ∷ [])
@@ -187,15 +217,17 @@ Repeats-next places front m n long within free there kept =
     let r = found _ there in
     let rows : row prefix ≡ cells (take n ks) (take n m.marks) = ap (λ l. cells l (take n m.marks)) (names (take n ks)) in
     let stands : cell (map row (front ++ prefix ∷ [])) r.0.part r.0.id ≡ Some k = (kept.placed k r.0).0 r.1 in
+    let few : length (row prefix) ≤ n = (let a = ap length rows in let b = length-cells (take n ks) (take n m.marks) in let c = length-take n ks in omega (arith, a, b, c)) in
+    let all : docnos_of (front ++ prefix ∷ []) ≡ docnos_of front ++ unmarked (docnos_in prefix.source) prefix.marks = flat_map-push (λ (x : Marked). unmarked (docnos_in x.source) x.marks) front prefix in
+    let distinct : IsDistinct bytes_eq (docnos_of front) =
+    distinct-left (docnos_of front) (unmarked (docnos_in prefix.source) prefix.marks) (subst (IsDistinct bytes_eq) all (placed-distinct places (front ++ prefix ∷ []) kept)) in
     record {
       docno = k;
       first = r.0;
       at_first = last-front front m prefix r.0.part r.0.id k (λ j e. cells-front ks m.marks n j k (ap (λ l. get_or l j None) (sym rows) ∙ e)) stands;
       at_second = last-cell front m n ∙ cells-next ks m.marks n within long free;
-      apart = λ p i.
-          (let none : cell (map row (front ++ prefix ∷ [])) r.0.part r.0.id ≡ None =
-          ap (λ q. cell (map row (front ++ prefix ∷ [])) q r.0.id) p ∙ ap (λ j. cell (map row (front ++ prefix ∷ [])) (length front) j) i ∙ last-cell front prefix n ∙ ap (λ l. get_or l n None) rows ∙ cells-behind ks m.marks n in
-          none_some k _ none stands);
+      earlier = elim (before-last front prefix r.0.part r.0.id k stands) [ inl less ↦ inl less | inr last ↦ inr (last.0, omega (arith, last.1, few)) ];
+      before = subst (λ (ps : List Marked). IsDistinct bytes_eq (docnos_of ps)) (sym (take-append_seam front (m ∷ []))) distinct;
     }
 
 cell-more : (xs ys : List Marked) (p i : ℕ) (k : List ℕ) → cell (map row xs) p i ≡ Some k → cell (map row (xs ++ ys)) p i ≡ Some k
@@ -203,14 +235,22 @@ cell-more [] ys p i k e = cc
 cell-more (x ∷ xs) ys zero i k e = e
 cell-more (x ∷ xs) ys (suc p) i k e = cell-more xs ys p i k e
 
+take-front : (n : ℕ) (xs ys : List Marked) → n ≤ length xs → take n (xs ++ ys) ≡ take n xs
+take-front zero xs ys le = refl
+take-front (suc n) [] ys le = absurd (omega (arith, le))
+take-front (suc n) (x ∷ xs) ys le = ap (λ l. x ∷ l) (take-front n xs ys (omega (arith, le)))
+
 Repeats-more : (xs ys : List Marked) (s : Spot) → Repeats xs s → Repeats (xs ++ ys) s
-Repeats-more xs ys s r = record {
-  docno = r.docno;
-  first = r.first;
-  at_first = cell-more xs ys _ _ _ r.at_first;
-  at_second = cell-more xs ys _ _ _ r.at_second;
-  apart = r.apart;
-}
+Repeats-more xs ys s r =
+    let within : s.part ≤ length xs = (let below = within-parts xs s.part s.id r.docno r.at_second in omega (arith, below)) in
+    record {
+      docno = r.docno;
+      first = r.first;
+      at_first = cell-more xs ys _ _ _ r.at_first;
+      at_second = cell-more xs ys _ _ _ r.at_second;
+      earlier = r.earlier;
+      before = subst (λ (ps : List Marked). IsDistinct bytes_eq (docnos_of ps)) (sym (take-front s.part xs ys within)) r.before;
+    }
 
 pub Repeats-parts : (parts : List Marked) (i : ℕ) (x : Marked) (s : Spot) → i < length parts → x ≡ get_or parts i x
     → ((front : List Marked) → length front ≡ i → front ≡ take i parts → Repeats (front ++ x ∷ []) s) → Repeats parts s

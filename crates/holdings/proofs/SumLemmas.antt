@@ -15,7 +15,7 @@ use Rattle.holdings.proofs.LiveLemmas.{tokens-held}
 use Rattle.holdings.proofs.RoomLemmas.{all_parts-without_docno}
 
 module _ (f : Source → ℕ) where
-  sum-push : (parts : List Marked) (m : Marked) → sum_by (λ (x : Marked). f x.source) (parts ++ m ∷ []) ≡ sum_by (λ (x : Marked). f x.source) parts + f m.source
+  pub sum-push : (parts : List Marked) (m : Marked) → sum_by (λ (x : Marked). f x.source) (parts ++ m ∷ []) ≡ sum_by (λ (x : Marked). f x.source) parts + f m.source
   sum-push parts m = let more = sum_by-append (λ (x : Marked). f x.source) parts (m ∷ []) in omega (arith, more)
 
   sum-closed_by : (p : Parts) (docs : List Document) → f (InMemory []) ≡ 0 → sum_by (λ (x : Marked). f x.source) (all_parts (closed_by p docs)) ≡ sum_by (λ (x : Marked). f x.source) (all_parts p)
@@ -128,6 +128,13 @@ module _ (p : Parts) (l : Limits) (n t : ℕ) (counted : AreCounted p l n t) whe
         few = omega (arith, docs, counted.documents_are, counted.documents_fit, l.docs_fit);
         short = λ told. let same = tokens-held told p.closed in omega (arith, same, tokens, counted.tokens_are, counted.tokens_fit, l.tokens_fit);
       }
+
+  -- and they are within the limits
+  pub closed-documents : documents_held p.closed ≤ l.held_docs
+  closed-documents = let docs = sum-push size p.closed (filled p.filling p.marks) in omega (arith, docs, counted.documents_are, counted.documents_fit)
+
+  pub closed-tokens : tokens_held p.closed ≤ l.held_tokens
+  closed-tokens = let tokens = sum-push tokens_in p.closed (filled p.filling p.marks) in omega (arith, tokens, counted.tokens_are, counted.tokens_fit)
 
 -- ---- room within the limits
 

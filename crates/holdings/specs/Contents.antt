@@ -1,8 +1,9 @@
 -- What is held, within its limits, and what becomes of a document.
 use Rattle.std.specs.Prelude.{◌≡◌, ◌⊎◌, ◌||◌, ◌+◌, ◌-◌, ◌^◌, ℕ, Bool, List, [], Result, Ok, Err, length, min, nat_lt, if◌then◌else◌}
 use Rattle.ri_base.specs.Documents.{Document}
+use Rattle.disk_index.specs.Parts.{Source}
 use Rattle.disk_index.specs.Snapshots.{Marked, documents_held}
-use Rattle.holdings.specs.Parts.{Parts, all_parts, is_live, sealed, with_document, without_docno}
+use Rattle.holdings.specs.Parts.{Parts, all_parts, is_live, moved, sealed, with_document, without_docno}
 use Rattle.holdings.specs.MarkedParts.{tokens_held}
 use Rattle.holdings.specs.declared.limits.Limits.{Limits}
 use Rattle.holdings.specs.declared.refusals.AddRefusal.{AddRefusal}
@@ -53,3 +54,7 @@ deleted c docno = record { parts = without_docno c.parts docno; limits = c.limit
 -- the part that is being filled was closed
 abbrev pub all_closed : Contents → Contents
 all_closed c = record { parts = sealed c.parts; limits = c.limits; generation = c.generation }
+
+-- a closed part has its documents elsewhere, as those of one in memory are put into a file
+abbrev pub part_moved : Contents → ℕ → Source → Contents
+part_moved c number source = record { parts = moved c.parts number source; limits = c.limits; generation = c.generation }

@@ -1,5 +1,5 @@
 -- The parts of a collection, the last of them being filled.
-use Rattle.std.specs.Prelude.{ℕ, Bool, false, not, ◌&&◌, List, [], ◌∷◌, ◌++◌, Option, length, map, nat_le, nat_lt, if◌then◌else◌}
+use Rattle.std.specs.Prelude.{ℕ, zero, suc, Bool, false, not, ◌&&◌, List, [], ◌∷◌, ◌++◌, Option, length, map, nat_le, nat_lt, if◌then◌else◌}
 use Rattle.std.specs.List.{filter}
 use Rattle.std.specs.Set.{is_member}
 use Rattle.std.specs.Str.{bytes_eq}
@@ -7,7 +7,7 @@ use Rattle.ri_base.specs.Collection.{name_count}
 use Rattle.ri_base.specs.Documents.{Document}
 use Rattle.ri_base.specs.declared.limits.TheConstants.{MAX_PART_NAMES}
 use Rattle.store_ends.specs.Files.{Files}
-use Rattle.disk_index.specs.Parts.{InMemory}
+use Rattle.disk_index.specs.Parts.{InMemory, Source}
 use Rattle.disk_index.specs.Snapshots as snapshots
 use Rattle.disk_index.specs.Snapshots.{Marked}
 use Rattle.memory_index.specs.Kept.{Index}
@@ -74,3 +74,13 @@ without_docno p docno = record {
   filling = p.filling;
   marks = marks_with docno (docnos_in (InMemory p.filling)) p.marks;
 }
+
+-- parts of which one has its documents elsewhere; its marks stay
+abbrev pub with_source : List Marked → ℕ → Source → List Marked
+with_source [] number source = []
+with_source (m ∷ ms) zero source = record { source = source; marks = m.marks } ∷ ms
+with_source (m ∷ ms) (suc number) source = m ∷ with_source ms number source
+
+-- a closed part has its documents elsewhere
+abbrev pub moved : Parts → ℕ → Source → Parts
+moved p number source = record { most = p.most; closed = with_source p.closed number source; filling = p.filling; marks = p.marks }

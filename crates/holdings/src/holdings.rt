@@ -1,24 +1,26 @@
 // What a repository holds, within its limits.
-ghost use Rattle.std.specs.Prelude.{◌≡◌, ◌≤◌, ◌+◌, ◌++◌, ◌∷◌, ◌↔◌, [], ℕ, Option, false, length, map, IfOk, IfErr, OnOk, OnErr, IsErr};
+ghost use Rattle.std.specs.Prelude.{◌≡◌, ◌≤◌, ◌<◌, ◌+◌, ◌++◌, ◌∷◌, ◌↔◌, ◌⊎◌, [], ℕ, Option, false, length, map, nat_lt, slice_index_or, IfOk, IfErr, OnOk, OnErr, IsErr};
 ghost use Rattle.std.specs.List.{All, IsDistinct};
 ghost use Rattle.std.specs.Str.{bytes_eq};
 ghost use Rattle.ri_base.specs.Collection.{token_count};
 ghost use Rattle.ri_base.specs.Documents.{Document};
 ghost use Rattle.store_ends.specs.Files.{Files};
+ghost use Rattle.disk_index.specs.Parts.{OnDisk, outlines_of};
 ghost use Rattle.disk_index.specs.Snapshots as snapshots;
 ghost use Rattle.disk_index.specs.Snapshots.{IsSnapshot, documents_held};
-ghost use Rattle.holdings.specs.Contents.{Answers, Contents, added, all_closed, answer, closed_held, deleted, is_full, none_held};
-ghost use Rattle.holdings.specs.MarkedParts.{IsWhole, IsWritable, docnos_of, documents_of, tokens_held};
+ghost use Rattle.holdings.specs.Contents.{Answers, Contents, added, all_closed, answer, closed_held, deleted, is_full, none_held, part_moved};
+ghost use Rattle.holdings.specs.MarkedParts.{IsWhole, IsWritable, docnos_of, documents_of, filled, tokens_held};
 ghost use Rattle.holdings.specs.Parts.{all_parts, is_live, live, sealed, without};
 ghost use Rattle.holdings.specs.Placing.{IsPartsFault};
 
 use crate::live_parts::LiveParts;
 use crate::sums::held_sums;
 use crate::{AddRefusal, Limits, NoSuchDoc, PartsFault};
-use disk_index::{MarkedPart, Snapshot};
+use disk_index::{DiskIndex, MarkedPart, Snapshot};
 use ri_base::{Doc, Docno, NoMemory};
 use std::alloc::Global;
 use std::marker::Model;
+use std::rc::Rc;
 
 /// Parts with their marks and the part that is being filled, within limits. It reads, together with the files of the parts on
 /// disk, as the list of its live documents.
@@ -143,8 +145,17 @@ impl Holdings {
         ensures docnos { (told : Option Files) → map (λ (d : Document). d.docno) (snapshots.live told self.now.parts.closed) ≡ docnos_of self.now.parts.closed }
         ensures distinct { IsDistinct bytes_eq (docnos_of self.now.parts.closed) }
         ensures fits { IsSnapshot self.now.parts.closed }
+        ensures documents { documents_held self.now.parts.closed ≤ self.now.limits.held_docs }
+        ensures tokens { tokens_held self.now.parts.closed ≤ self.now.limits.held_tokens }
     {
         self.parts.closed()
+    }
+
+    /// Whether a part is being filled, so that some document is in no closed one.
+    pub fn is_filling(&self) -> bool
+        ensures { result ≡ nat_lt 0 (length self.now.parts.filling) }
+    {
+        self.parts.is_filling()
     }
 
     /// Adds a document behind the live ones. The part that is being filled is closed first where it is full.
@@ -209,6 +220,19 @@ impl Holdings {
         Ok(())
     }
 
+    /// Has the documents of a closed part in a file, which keeps docno, length and fields of each. All else stays: their marks, the
+    /// sums, and what is live.
+    pub fn store_part(&mut self, number: usize, index: Rc<DiskIndex>)
+        requires inside { number < length self.old.parts.closed }
+        requires same { index.value.outlines ≡ outlines_of (slice_index_or self.old.parts.closed number (filled [] [])).source }
+        ensures moved { self.new ≡ part_moved self.old number (OnDisk index.value) }
+        ensures docnos { docnos_of (all_parts self.new.parts) ≡ docnos_of (all_parts self.old.parts) }
+        ensures documents { documents_held (all_parts self.new.parts) ≡ documents_held (all_parts self.old.parts) }
+        ensures tokens { tokens_held (all_parts self.new.parts) ≡ tokens_held (all_parts self.old.parts) }
+    {
+        self.parts.store_part(number, index);
+    }
+
     /// The live documents as they are now, of which no two have one docno. The part that is being filled is closed first, where
     /// it has documents.
     pub fn snapshot(&mut self, alloc: Global) -> Result<Snapshot, NoMemory>
@@ -216,6 +240,7 @@ impl Holdings {
         ensures documents { (told : Option Files) → IfOk result (λ s. snapshots.live told s ≡ live told self.old.parts) }
         ensures distinct { IfOk result (λ s. IsDistinct bytes_eq (docnos_of s)) }
         ensures closed { OnOk result (self.new ≡ all_closed self.old) }
+        ensures left { OnErr result ((self.new ≡ self.old) ⊎ (self.new ≡ all_closed self.old)) }
         ensures live { (told : Option Files) → live told self.new.parts ≡ live told self.old.parts }
     {
         self.seal(alloc)?;

@@ -6,11 +6,11 @@ ghost use Rattle.ri_base.specs.Collection.{name_count, token_count};
 ghost use Rattle.ri_base.specs.Documents.{Document};
 ghost use Rattle.ri_base.specs.declared.limits.TheConstants.{MAX_HELD_TOKENS, MAX_PART_DOCS, MAX_PART_NAMES};
 ghost use Rattle.store_ends.specs.Files.{Files};
-ghost use Rattle.disk_index.specs.Parts.{InMemory};
+ghost use Rattle.disk_index.specs.Parts.{InMemory, OnDisk, outlines_of, source_of};
 ghost use Rattle.holdings.specs.Kept.{marked_at};
 ghost use Rattle.holdings.specs.MarkedParts.{IsWhole, IsWritable, docnos_of, filled};
-ghost use Rattle.holdings.specs.Parts.{all_parts, is_live, live, parts_of, sealed, with_document, with_room, without_docno};
-ghost use Rattle.holdings.specs.Placing.{IsPartsFault};
+ghost use Rattle.holdings.specs.Parts.{all_parts, is_live, live, moved, parts_of, sealed, with_document, with_room, with_source, without_docno};
+ghost use Rattle.holdings.specs.Placing.{AreWithin, IsPartsFault};
 ghost use Rattle.holdings.specs.declared.limits.Limits.{Limits};
 
 use crate::PartsFault;
@@ -19,13 +19,14 @@ use crate::places::insert;
 use crate::placing::place_all;
 use crate::spot::Spot;
 use deletion_list::DelList;
-use disk_index::MarkedPart;
+use disk_index::{DiskIndex, MarkedPart, Part};
 use indexmap::IndexMap;
 use memory_index::{MemIndex, MemRefusal};
 use ri_base::limits::MAX_PART_NAMES;
 use ri_base::{Doc, Docno, NoMemory};
 use std::alloc::{AllocError, Global};
 use std::marker::Model;
+use std::rc::Rc;
 
 /// The closed parts, the part that is being filled, and the place of each live document by its docno.
 #[derive(Drop)]
@@ -73,7 +74,7 @@ impl LiveParts {
         requires writable { All (λ m. IsWritable m.source) parts.items }
         ensures held { IfOk result (λ l. l ≡ record { most = part_docs; closed = parts.items; filling = []; marks = [] }) }
         ensures distinct { OnOk result (IsDistinct bytes_eq (docnos_of parts.items)) }
-        ensures fault { (limits : Limits) → IfErr result (IsPartsFault limits parts.items) }
+        ensures fault { (limits : Limits) → AreWithin limits parts.items → IfErr result (IsPartsFault limits parts.items) }
     {
         let filling = MemIndex::new(alloc, part_docs)?;
         let marks = DelList::new(alloc, 0)?;
@@ -155,6 +156,13 @@ impl LiveParts {
         }
     }
 
+    /// Whether a part is being filled.
+    pub fn is_filling(&self) -> bool
+        ensures { result ≡ nat_lt 0 (length self.now.filling) }
+    {
+        self.filling.len() > 0
+    }
+
     /// Closes the part that is being filled, where it has documents.
     pub fn seal(&mut self, alloc: Global, part_docs: u32) -> Result<(), NoMemory>
         requires most { part_docs ≡ self.old.most }
@@ -177,6 +185,25 @@ impl LiveParts {
         )?;
         Ok(())
     }
+
+    /// Has the documents of a closed part in a file, which keeps them. Their marks and places stay.
+    pub fn store_part(&mut self, number: usize, index: Rc<DiskIndex>)
+        requires inside { number < length self.old.closed }
+        requires same { index.value.outlines ≡ outlines_of (slice_index_or self.old.closed number (filled [] [])).source }
+        ensures { self.new ≡ moved self.old number (OnDisk index.value) }
+    {
+        move_part(&mut self.closed, number, Part::Disk(index));
+    }
+}
+
+/// Has the documents of one of these parts elsewhere.
+fn move_part(parts: &mut Vec<MarkedPart>, number: usize, part: Part)
+    requires inside { number < length parts.old.items }
+    requires same { outlines_of (source_of part) ≡ outlines_of (slice_index_or parts.old.items number (filled [] [])).source }
+    ensures { parts.new.items ≡ with_source parts.old.items number (source_of part) }
+{
+    let marked = &mut parts[number];
+    marked.set_part(part);
 }
 
 /// Keeps a document behind the others, where need be in a part of its own, and answers its place.

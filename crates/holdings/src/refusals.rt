@@ -32,7 +32,7 @@ impl From<AllocError> for AddRefusal {
 #[error("there is no such document")]
 pub struct NoSuchDoc;
 
-/// Why parts can't be held together. Parts are counted from 0.
+/// Why parts can't be held together, told of the first part that can't. Parts are counted from 0.
 #[derive(Debug, Drop, Error)]
 pub enum PartsFault {
     /// With this part more documents would be held than the limits allow.

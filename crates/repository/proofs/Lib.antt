@@ -1,4 +1,7 @@
+pub mod FirstLemmas
 pub mod ManifestLemmas
 pub mod MarkLemmas
+pub mod NameLemmas
 pub mod OpenLemmas
+pub mod PriorLemmas
 pub mod StepLemmas

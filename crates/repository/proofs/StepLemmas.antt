@@ -8,11 +8,13 @@ use Rattle.ri_base.specs.Documents.{Document}
 use Rattle.store_ends.specs.Files.{Files}
 use Rattle.disk_index.specs.Parts.{IsPartBacked}
 use Rattle.disk_index.specs.Snapshots.{Marked, documents_held}
-use Rattle.holdings.specs.Contents.{Contents, added, deleted}
+use Rattle.holdings.specs.Contents.{Contents, added, all_closed, deleted}
 use Rattle.holdings.specs.MarkedParts.{filled, marked_with, tokens_held}
 use Rattle.holdings.specs.Parts as parts
 use Rattle.holdings.specs.Parts.{Parts, all_parts, closed_by, has_room, live, sealed, without}
 use Rattle.holdings.proofs.LiveLemmas.{flat_map-push}
+use Rattle.holdings.proofs.RoomLemmas.{live-sealed}
+use Rattle.holdings.proofs.SumLemmas.{documents-sealed, tokens-sealed}
 use Rattle.repository.specs.Stands.{Collection}
 use Rattle.repository.specs.States.{IsBacked, ReadsAs, State, numbers_in, part_numbers}
 use Rattle.repository.specs.Steps.{with_document, with_held, without_docno}
@@ -68,17 +70,25 @@ closes-with p d = by (has_room p d)
     by true = inl refl
     by false = closes-by p p.filling
 
-pub backed-added : (told : Option Files) (s : State) (d : Document) → IsBacked told s → IsBacked told (with_held s (added s.held d))
-backed-added told s d backed =
-    let p = s.held.parts in
-    let h = added s.held d in
-    elim (closes-with p d) [
-      | inl same ↦ backed-held told s h backed (ap part_numbers same) (subst (All (IsStored told)) (sym same) backed.parts)
-      | inr more ↦
-          let none : part_numbers (p.closed ++ filled p.filling p.marks ∷ []) ≡ part_numbers p.closed =
-          flat_map-push (λ (m : Marked). numbers_in m.source) p.closed (filled p.filling p.marks) ∙ append-nil (part_numbers p.closed) in
-          backed-held told s h backed (ap part_numbers more ∙ none) (subst (All (IsStored told)) (sym more) (All-push (IsStored told) p.closed (filled p.filling p.marks) backed.parts tt))
+numbers-closes : (p : Parts) (closed : List Marked) → Closes p closed → part_numbers closed ≡ part_numbers p.closed
+numbers-closes p closed closes =
+    elim closes [
+      | inl same ↦ ap part_numbers same
+      | inr more ↦ ap part_numbers more ∙ flat_map-push (λ (m : Marked). numbers_in m.source) p.closed (filled p.filling p.marks) ∙ append-nil (part_numbers p.closed)
     ]
+
+stored-closes : (told : Option Files) (p : Parts) (closed : List Marked) → Closes p closed → All (IsStored told) p.closed → All (IsStored told) closed
+stored-closes told p closed closes all =
+    elim closes [
+      | inl same ↦ subst (All (IsStored told)) (sym same) all
+      | inr more ↦ subst (All (IsStored told)) (sym more) (All-push (IsStored told) p.closed (filled p.filling p.marks) all tt)
+    ]
+
+backed-closes : (told : Option Files) (s : State) (h : Contents) → Closes s.held.parts h.parts.closed → IsBacked told s → IsBacked told (with_held s h)
+backed-closes told s h closes backed = backed-held told s h backed (numbers-closes s.held.parts h.parts.closed closes) (stored-closes told s.held.parts h.parts.closed closes backed.parts)
+
+pub backed-added : (told : Option Files) (s : State) (d : Document) → IsBacked told s → IsBacked told (with_held s (added s.held d))
+backed-added told s d backed = backed-closes told s (added s.held d) (closes-with s.held.parts d) backed
 
 numbers-marked : (k : List ℕ) (ms : List Marked) → part_numbers (map (marked_with k) ms) ≡ part_numbers ms
 numbers-marked k [] = refl
@@ -96,3 +106,29 @@ pub backed-call : {A E : Type 0} (told : Option Files) (s : State) (r : Result A
     → IsBacked told (with_held s h)
 backed-call told s (Ok a) h now done kept into backed = subst (λ (x : Contents). IsBacked told (with_held s x)) (sym done) (into backed)
 backed-call told s (Err e) h now done kept into backed = subst (λ (x : Contents). IsBacked told (with_held s x)) (sym kept) (backed-held told s s.held backed refl backed.parts)
+
+-- ---- the part that is being filled is closed
+
+pub numbers-sealed : (p : Parts) → part_numbers (sealed p).closed ≡ part_numbers p.closed
+numbers-sealed p = numbers-closes p (sealed p).closed (closes-by p p.filling)
+
+pub backed-closed : (told : Option Files) (s : State) → IsBacked told s → IsBacked told (with_held s (all_closed s.held))
+backed-closed told s backed = backed-closes told s (all_closed s.held) (closes-by s.held.parts s.held.parts.filling) backed
+
+pub reads-closed : (told : Option Files) (s : State) (c : Collection) → ReadsAs told s c → ReadsAs told (with_held s (all_closed s.held)) c
+reads-closed told s c reads = record {
+  live_are = live-sealed told s.held.parts ∙ reads.live_are;
+  documents_are = documents-sealed s.held.parts ∙ reads.documents_are;
+  tokens_are = tokens-sealed s.held.parts ∙ reads.tokens_are;
+  priors_are = reads.priors_are;
+}
+
+-- over a call that closes it or leaves all as it was, whatever it answers
+pub closed-call : {A E : Type 0} (P : State → Type 0) (s : State) (r : Result A E) (h : Contents) → OnOk r (h ≡ all_closed s.held) → OnErr r ((h ≡ s.held) ⊎ (h ≡ all_closed s.held)) → P s → P (with_held s (all_closed s.held))
+    → P (with_held s h)
+closed-call P s (Ok a) h done left was closed = subst (λ (x : Contents). P (with_held s x)) (sym done) closed
+closed-call P s (Err e) h done left was closed =
+    elim left [
+      | inl same ↦ subst (λ (x : Contents). P (with_held s x)) (sym same) was
+      | inr sealed ↦ subst (λ (x : Contents). P (with_held s x)) (sym sealed) closed
+    ]

@@ -1,5 +1,6 @@
 pub mod Names
 pub mod Opening
+pub mod Priors
 pub mod Stands
 pub mod States
 pub mod Steps

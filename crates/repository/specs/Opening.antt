@@ -1,6 +1,6 @@
 -- What the opening of a repository gives, and why it is refused.
-use Rattle.std.specs.Prelude.{◌≡◌, ◌≤◌, ◌<◌, ℕ, true, List, Option, Some, Err, length, slice_index_or}
-use Rattle.std.specs.List.{AllZip, Contains, IsDistinct}
+use Rattle.std.specs.Prelude.{◌≡◌, ◌≤◌, ◌<◌, ℕ, true, List, ◌∷◌, ◌++◌, Option, Some, Err, length, slice_index_or}
+use Rattle.std.specs.List.{AllZip, IsDistinct}
 use Rattle.std.specs.Str.{bytes_eq}
 use Rattle.ri_base.specs.Documents.{Document}
 use Rattle.ri_base.specs.Faults.{IsOutside}
@@ -72,9 +72,16 @@ abbrev pub IsManifestFault : Files → SegFault → Type 0
 IsManifestFault files fault =
     (bytes : List ℕ) × (files manifest_name ≡ Some bytes) × AnswersPart {X = Manifest} (λ m. m) (Err fault) (manifest bytes) names.Manifest parts.Manifest (length bytes)
 
--- the file of one of these entries isn't there, or isn't the segment of so many documents
-abbrev pub IsEntryFault : Files → List SegEntry → SegFault → Type 0
-IsEntryFault files es fault = (e : SegEntry) × Contains es e × IsOpenFault files e.number e.docs fault
+-- The file of one of these entries isn't there, or isn't the segment of so many documents. It is the first: those of the entries
+-- before it are opened.
+pub record IsEntryFault (files : Files) (es : List SegEntry) (fault : SegFault) : Type 0 where
+  pub before : List SegEntry
+  pub entry : SegEntry
+  pub behind : List SegEntry
+  pub are : es ≡ before ++ entry ∷ behind
+  pub parts : List Marked
+  pub opened : AllZip (IsEntryOpened (Some files)) before parts
+  pub refused : IsOpenFault files entry.number entry.docs fault
 
 -- The fault that is told of the entry of a part that can't be held: it has too many documents or tokens, at their number in its
 -- header, or a docno that is there already, at some place of its documents.

@@ -1,5 +1,6 @@
 // The faults of parts that can't be held together, told of the segments that they were opened of.
-ghost use Rattle.std.specs.Prelude.{◌≡◌, ◌≤◌, ◌<◌, ◌⊎◌, ℕ, Some, Err, IfErr, length};
+ghost use Rattle.std.specs.Prelude.{◌≡◌, ◌≤◌, ◌<◌, ◌⊎◌, ℕ, List, Some, Err, IfErr, length};
+ghost use Rattle.std.specs.List.{AllZip};
 ghost use Rattle.ri_base.specs.Faults.{IsOutside};
 ghost use Rattle.ri_base.specs.Keeps.{Rose};
 ghost use Rattle.ri_base.specs.declared.seg_fault.FileName.TheVariants as names;
@@ -7,7 +8,8 @@ ghost use Rattle.ri_base.specs.declared.seg_fault.PartName.TheVariants as parts;
 ghost use Rattle.ri_base.specs.declared.seg_fault.SegFault.TheVariants as faults;
 ghost use Rattle.store_ends.specs.Files.{Files, IsQuiet};
 ghost use Rattle.disk_index.specs.Opening.{IsOpenFault};
-ghost use Rattle.repository.specs.Opening.{IsEntryFault, IsPartOf, TellsAcross};
+ghost use Rattle.disk_index.specs.Snapshots.{Marked};
+ghost use Rattle.repository.specs.Opening.{IsEntryOpened, IsPartOf, TellsAcross};
 
 use disk_index::DiskIndex;
 use holdings::PartsFault;
@@ -96,10 +98,10 @@ fn header_fault(entry: &SegEntry, place: u64) -> SegFault
     }
 }
 
-/// The docno of a document of this entry is there already.
+/// The docno of a document of this entry is there already. An entry that was opened is opened again.
 fn docno_fault<T: Store>(alloc: Global, store: &mut T, entry: &SegEntry, id: u32) -> SegFault
-    ensures tells { (f : Files) → T.files store.old ≡ Some f
-        → ((place : ℕ) × (result ≡ faults.Malformed (names.Segment entry.now.number) parts.Documents place)) ⊎ IsOpenFault f entry.now.number entry.now.docs result }
+    ensures tells { (f : Files) (m : Marked) → T.files store.old ≡ Some f → IsEntryOpened (Some f) entry.now m
+        → ((place : ℕ) × (result ≡ faults.Malformed (names.Segment entry.now.number) parts.Documents place)) ⊎ IsOutside result }
     ensures quiet { IsQuiet T.files T.layers T.clock T.since T.longest T.held store.old store.new }
     ensures later { T.faults store.old ≤ T.faults store.new }
     ensures store { result ≡ SegFault.Store → Rose (T.faults store.old) (T.faults store.new) }
@@ -114,7 +116,7 @@ fn docno_fault<T: Store>(alloc: Global, store: &mut T, entry: &SegEntry, id: u32
     }
 }
 
-/// Why the parts of these entries can't be held together, told of the entry of the part.
+/// Why the parts of these entries, which were opened, can't be held together, told of the entry of the part.
 pub fn across<T: Store>(
     alloc: Global,
     store: &mut T,
@@ -122,7 +124,7 @@ pub fn across<T: Store>(
     fault: PartsFault,
 ) -> SegFault
     requires { IsPartOf (length entries.now) fault }
-    ensures tells { (f : Files) → T.files store.old ≡ Some f → TellsAcross entries.now fault result ⊎ IsEntryFault f entries.now result }
+    ensures tells { (f : Files) (ms : List Marked) → T.files store.old ≡ Some f → AllZip (IsEntryOpened (Some f)) entries.now ms → TellsAcross entries.now fault result ⊎ IsOutside result }
     ensures memory { fault ≡ PartsFault.Memory → IsOutside result }
     ensures quiet { IsQuiet T.files T.layers T.clock T.since T.longest T.held store.old store.new }
     ensures later { T.faults store.old ≤ T.faults store.new }

@@ -1,27 +1,18 @@
-// Reading and replacing the manifest's file.
+// Reading files, and replacing the manifest's.
 ghost use Rattle.std.specs.Prelude.{◌≡◌, ◌≤◌, Err, Some, length, is_some, IfOk, IfErr, IfSome, OnOk};
 ghost use Rattle.std.specs.Option.{option_map};
 ghost use Rattle.ri_base.specs.Faults.{IsOutside};
 ghost use Rattle.ri_base.specs.Keeps.{Rose};
 ghost use Rattle.store_ends.specs.Causes.{HasOutCause};
 ghost use Rattle.store_ends.specs.Files.{Files, IsQuiet, Leaves, OldOrNew, with_file};
-ghost use Rattle.repository.specs.Names.{manifest_name};
+ghost use Rattle.repository.specs.Names.{manifest_name, prior_name};
 
+use crate::names::prior_name;
+use disk_index::{as_text, store_fault};
 use ri_base::SegFault;
 use ri_ends::OutFault;
 use std::alloc::Global;
 use store_ends::Store;
-
-/// The fault of a call of a store, as that of a part.
-fn of_store(fault: OutFault) -> SegFault
-    ensures outside { IsOutside result }
-    ensures failed { result ≡ SegFault.Store → fault ≡ OutFault.Failed }
-{
-    match fault {
-        OutFault::Failed => SegFault::Store,
-        OutFault::Memory => SegFault::Memory,
-    }
-}
 
 /// Whether there is a manifest.
 pub fn has_manifest<T: Store>(store: &mut T) -> Result<bool, SegFault>
@@ -33,7 +24,7 @@ pub fn has_manifest<T: Store>(store: &mut T) -> Result<bool, SegFault>
 {
     match store.len("manifest") {
         Ok(length) => Ok(length.is_some()),
-        Err(fault) => Err(of_store(fault)),
+        Err(fault) => Err(store_fault(fault)),
     }
 }
 
@@ -67,7 +58,26 @@ pub fn manifest_file<T: Store>(alloc: Global, store: &mut T) -> Result<Option<Ve
 {
     match read_file(alloc, store, "manifest") {
         Ok(found) => Ok(found),
-        Err(fault) => Err(of_store(fault)),
+        Err(fault) => Err(store_fault(fault)),
+    }
+}
+
+/// The bytes of the file of the prior with this number, or `None` where there is none.
+pub fn prior_file<T: Store>(
+    alloc: Global,
+    store: &mut T,
+    number: u64,
+) -> Result<Option<Vec<u8>>, SegFault>
+    ensures bytes { (f : Files) → T.files store.old ≡ Some f → IfOk result (λ found. option_map (λ bytes. bytes.items) found ≡ f (prior_name number)) }
+    ensures outside { IfErr result IsOutside }
+    ensures quiet { IsQuiet T.files T.layers T.clock T.since T.longest T.held store.old store.new }
+    ensures later { T.faults store.old ≤ T.faults store.new }
+    ensures store { result ≡ Err SegFault.Store → Rose (T.faults store.old) (T.faults store.new) }
+{
+    let name = prior_name(number);
+    match read_file(alloc, store, as_text(&name)) {
+        Ok(found) => Ok(found),
+        Err(fault) => Err(store_fault(fault)),
     }
 }
 
@@ -82,6 +92,6 @@ pub fn replace_manifest<T: Store>(store: &mut T, manifest: &[u8]) -> Result<(), 
 {
     match store.replace("manifest", manifest) {
         Ok(()) => Ok(()),
-        Err(fault) => Err(of_store(fault)),
+        Err(fault) => Err(store_fault(fault)),
     }
 }

@@ -4,7 +4,9 @@
 mod across;
 mod creation;
 mod files;
+mod names;
 mod opening;
+mod priors;
 mod repository;
 mod segments;
 

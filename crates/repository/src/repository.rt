@@ -1,23 +1,31 @@
 // A repository.
-ghost use Rattle.std.specs.Prelude.{◌≡◌, ◌≤◌, ◌⊎◌, ◌↔◌, List, Option, Some, Err, false, true, length, is_some, IfOk, IfErr, IfSome, IsErr, IsSomeAnd, OnErr, OnOk};
-ghost use Rattle.std.specs.List.{AllZip};
+ghost use Rattle.std.specs.Prelude.{◌≡◌, ◌≤◌, ◌<◌, ◌⊎◌, ◌↔◌, List, Option, Some, Err, false, true, length, slice_index_or, is_some, IfOk, IfErr, IfSome, IsErr, IsSomeAnd, OnErr, OnOk};
+ghost use Rattle.std.specs.List.{AllZip, IsDistinct};
+ghost use Rattle.std.specs.Str.{bytes_eq};
 ghost use Rattle.ri_base.specs.Documents.{Document};
 ghost use Rattle.ri_base.specs.Faults.{IsOutside};
 ghost use Rattle.ri_base.specs.Keeps.{Rose};
 ghost use Rattle.store_ends.specs.Files.{Files, IsQuiet};
-ghost use Rattle.holdings.specs.Contents.{Answers, added, answer, deleted};
-ghost use Rattle.holdings.specs.Parts.{is_live, live};
+ghost use Rattle.manifest.specs.declared.manifest.PriorEntry.{PriorEntry};
+ghost use Rattle.disk_index.specs.Snapshots as snapshots;
+ghost use Rattle.disk_index.specs.Snapshots.{AreBacked};
+ghost use Rattle.holdings.specs.Contents.{Answers, added, all_closed, answer, deleted};
+ghost use Rattle.holdings.specs.MarkedParts.{docnos_of};
+ghost use Rattle.holdings.specs.Parts.{is_live, live, sealed};
 ghost use Rattle.repository.specs.Names.{manifest_name};
 ghost use Rattle.repository.specs.Opening.{IsAcrossFault, IsEntryFault, IsFresh, IsOpeningFault, IsRepositoryOpened};
-ghost use Rattle.repository.specs.Stands.{AreHeld, Collection, HasManifest, IsListed, Stands};
-ghost use Rattle.repository.specs.States.{IsBacked, ReadsAs};
+ghost use Rattle.repository.specs.Priors.{IsPriorFault};
+ghost use Rattle.repository.specs.Stands.{AreHeld, Collection, HasManifest, IsListed, IsPriorListed, Prior, Stands};
+ghost use Rattle.repository.specs.States.{IsBacked, ReadsAs, part_numbers};
 ghost use Rattle.repository.specs.Steps.{with_document, with_held, without_docno};
 
 use crate::opening::find_manifest;
+use crate::priors::read_rows;
 use crate::segments::hold_entries;
+use disk_index::Snapshot;
 use holdings::{AddRefusal, Holdings, Limits, NoSuchDoc};
-use manifest::{Manifest, PriorEntry};
-use ri_base::{Doc, Docno, SegFault};
+use manifest::{Manifest, PriorEntry, PriorRows};
+use ri_base::{Doc, Docno, NoMemory, SegFault};
 use std::alloc::Global;
 use std::marker::Model;
 use store_ends::Store;
@@ -96,6 +104,27 @@ impl Repository {
         self.held.delete(docno)
     }
 
+    /// The live documents as they are now, of which no two have one docno. The part that is being filled is closed first, where it
+    /// has documents.
+    pub fn snapshot(&mut self, alloc: Global) -> Result<Snapshot, NoMemory>
+        requires { self.old.usable ≡ true }
+        ensures parts { IfOk result (λ s. s ≡ (sealed self.old.held.parts).closed) }
+        ensures documents { (told : Option Files) → IfOk result (λ s. snapshots.live told s ≡ live told self.old.held.parts) }
+        ensures distinct { IfOk result (λ s. IsDistinct bytes_eq (docnos_of s)) }
+
+        // Its files are those of the repository, so it is backed where the repository is, by files that the manifest lists.
+        ensures numbers { IfOk result (λ s. part_numbers s ≡ part_numbers self.old.held.parts.closed) }
+        ensures stored { (told : Option Files) → IsBacked told self.old → IfOk result (λ s. AreBacked told s) }
+
+        ensures closed { OnOk result (self.new ≡ with_held self.old (all_closed self.old.held)) }
+        ensures left { OnErr result ((self.new ≡ self.old) ⊎ (self.new ≡ with_held self.old (all_closed self.old.held))) }
+        ensures reads { (told : Option Files) (c : Collection) → ReadsAs told self.old c → ReadsAs told self.new c }
+        ensures backed { (told : Option Files) → IsBacked told self.old → IsBacked told self.new }
+        ensures usable { self.new.usable ≡ self.old.usable }
+    {
+        self.held.snapshot(alloc)
+    }
+
     /// How many documents are live.
     pub fn live_count(&self) -> u64
         ensures { (told : Option Files) → result ≡ length (live told self.now.held.parts) }
@@ -115,6 +144,37 @@ impl Repository {
         ensures { result.now ≡ self.now.priors }
     {
         &self.priors
+    }
+
+    /// The rows of a prior, counted from 0, read from its file.
+    pub fn prior_rows<T: Store>(
+        &self,
+        alloc: Global,
+        store: &mut T,
+        i: u32,
+    ) -> Result<PriorRows, SegFault>
+        requires usable { self.now.usable ≡ true }
+        requires there { i < length self.now.priors }
+        // They are those of the prior at this place, of what the repository reads as and whatever it reads as.
+        ensures reads { (c : Collection) (p : Prior) → ReadsAs (T.files store.old) self.now c → p ≡ slice_index_or c.priors i p → IfOk result (λ rows. rows ≡ p.table) }
+        ensures rows { (f : Files) (e : PriorEntry) → T.files store.old ≡ Some f → e ≡ slice_index_or self.now.priors i e
+            → IfOk result (λ rows. IsPriorListed (T.files store.old) e (record { name = e.name; table = rows })) }
+        ensures honest { IsBacked (T.files store.old) self.now → IfErr result IsOutside }
+        ensures fault { (f : Files) (e : PriorEntry) → T.files store.old ≡ Some f → e ≡ slice_index_or self.now.priors i e → IfErr result (IsPriorFault f e.number) }
+        ensures quiet { IsQuiet T.files T.layers T.clock T.since T.longest T.held store.old store.new }
+        ensures later { T.faults store.old ≤ T.faults store.new }
+        ensures store { result ≡ Err SegFault.Store → Rose (T.faults store.old) (T.faults store.new) }
+    {
+        let rows = read_rows(alloc, store, self.prior(i))?;
+        Ok(rows)
+    }
+
+    /// The entry of a prior, counted from 0.
+    fn prior(&self, i: u32) -> &PriorEntry
+        requires { i < length self.now.priors }
+        ensures { result.now ≡ slice_index_or self.now.priors i result.now }
+    {
+        &self.priors[i as usize]
     }
 
     /// Whether it may be used. Where a change of its files failed it must be opened again.

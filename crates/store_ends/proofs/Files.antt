@@ -1,10 +1,11 @@
 -- Files of which one is changed, and what a stop leaves over several calls.
-use Rattle.std.proofs.Common.{◌≡◌, ◌⊎◌, inl, inr, ℕ, ◌≤◌, List, refl, sym, ap, Bool, true, false, Option, Some}
+use Rattle.std.proofs.Common.{◌≡◌, ◌⊎◌, inl, inr, ℕ, ◌≤◌, List, refl, sym, ap, subst, ◌∙◌, Bool, true, false, Option, Some, None}
 use Rattle.std.specs.Prelude.{bytes_eq, if◌then◌else◌}
+use Rattle.std.specs.Option.{option_map}
 use Rattle.std.proofs.Math.Path.{fun_ext}
 use Rattle.std.proofs.lemmas.Bool.{false_from_ne_true}
 use Rattle.std.proofs.lemmas.Slice.Eq.{bytes_eq-Decides}
-use Rattle.store_ends.specs.Files.{Files, with_file, Leaves, LeavesNoMore}
+use Rattle.store_ends.specs.Files.{AnyState, Files, Leaves, LeavesNoMore, OldOrNew, SameWhere, with_file}
 
 -- a file under another name is as it was
 pub with_file-other : (name other : List ℕ) (state : Option (List ℕ)) (f : Files) → (other ≡ name → ⊥) → with_file name state f other ≡ f other
@@ -48,3 +49,56 @@ Leaves-now files clock since old new P f honest still later leaves now =
 pub Leaves-entry : {S : Type 0} (files : S → Option Files) (clock : S → ℕ) (since : S → ℕ → Files → Type 0) (old new : S) (P : Option Files → Type 0) (f : Files)
     → ((g : Files) → since old (clock old) g → files old ≡ Some g) → Leaves (since old) (since new) P → since new (clock old) f → (files old ≡ Some f) ⊎ P (Some f)
 Leaves-entry files clock since old new P f still leaves left = elim (leaves.each (clock old) f left) [ inl before ↦ inl (still f before) | inr p ↦ inr p ]
+
+-- ---- files that stay the same
+
+pub SameWhere-same : (P : List ℕ → Type 0) (a : Option Files) → SameWhere P a a
+SameWhere-same P None = tt
+SameWhere-same P (Some f) = λ name p. refl
+
+pub SameWhere-equal : (P : List ℕ → Type 0) (a b : Option Files) → b ≡ a → SameWhere P a b
+SameWhere-equal P a b e = subst (SameWhere P a) (sym e) (SameWhere-same P a)
+
+pub SameWhere-then : (P : List ℕ → Type 0) (a b c : Option Files) → SameWhere P a b → SameWhere P b c → SameWhere P a c
+SameWhere-then P None None None ab bc = tt
+SameWhere-then P None None (Some h) ab bc = bc
+SameWhere-then P None (Some g) c ab bc = absurd ab
+SameWhere-then P (Some f) None c ab bc = absurd ab
+SameWhere-then P (Some f) (Some g) None ab bc = absurd bc
+SameWhere-then P (Some f) (Some g) (Some h) ab bc = λ name p. bc name p ∙ ab name p
+
+-- so it is where fewer names are looked at
+pub SameWhere-fewer : (P Q : List ℕ → Type 0) (a b : Option Files) → ((name : List ℕ) → Q name → P name) → SameWhere P a b → SameWhere Q a b
+SameWhere-fewer P Q None None into same = tt
+SameWhere-fewer P Q None (Some g) into same = same
+SameWhere-fewer P Q (Some f) None into same = same
+SameWhere-fewer P Q (Some f) (Some g) into same = λ name q. same name (into name q)
+
+-- where one file changes of whose name P doesn't hold
+pub SameWhere-changed : (P : List ℕ → Type 0) (name : List ℕ) (state : Option (List ℕ)) (a b c : Option Files) → (P name → ⊥) → SameWhere P a b → c ≡ option_map (with_file name state) b → SameWhere P a c
+SameWhere-changed P name state None None c not ab e = subst (SameWhere P None) (sym e) tt
+SameWhere-changed P name state None (Some g) c not ab e = absurd ab
+SameWhere-changed P name state (Some f) None c not ab e = absurd ab
+SameWhere-changed P name state (Some f) (Some g) c not ab e =
+    subst (SameWhere P (Some f)) (sym e) (λ other p. with_file-other name other state g (λ eq. not (subst P eq p)) ∙ ab other p)
+
+pub SameWhere-any : (P : List ℕ → Type 0) (name : List ℕ) (a b c : Option Files) → (P name → ⊥) → SameWhere P a b → AnyState name b c → SameWhere P a c
+SameWhere-any P name a b c not ab any = SameWhere-changed P name any.0 a b c not ab any.1
+
+pub SameWhere-step : (P : List ℕ → Type 0) (name : List ℕ) (state : Option (List ℕ)) (a b c : Option Files) → (P name → ⊥) → SameWhere P a b → OldOrNew name state b c → SameWhere P a c
+SameWhere-step P name state a b c not ab step = elim step [
+  | inl old ↦ subst (SameWhere P a) (sym old) ab
+  | inr new ↦ SameWhere-changed P name state a b c not ab new
+]
+
+-- The file under a name of which P holds.
+pub SameWhere-at : (P : List ℕ → Type 0) (a b : Option Files) (f g : Files) (name : List ℕ) → SameWhere P a b → a ≡ Some f → b ≡ Some g → P name → g name ≡ f name
+SameWhere-at P a b f g name same ea eb p =
+    let s : SameWhere P (Some f) (Some g) = subst (λ (x : Option Files). SameWhere P x (Some g)) ea (subst (λ (x : Option Files). SameWhere P a x) eb same) in
+    s name p
+
+-- Where files were told they are told.
+pub SameWhere-told : (P : List ℕ → Type 0) (a b : Option Files) (f : Files) → SameWhere P a b → a ≡ Some f → (g : Files) × (b ≡ Some g)
+SameWhere-told P None b f same is = absurd cc
+SameWhere-told P (Some h) None f same is = absurd same
+SameWhere-told P (Some h) (Some g) f same is = (g, refl)

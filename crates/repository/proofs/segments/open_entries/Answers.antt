@@ -1,4 +1,4 @@
-use Rattle.std.proofs.Common.{◌≡◌, ◌+◌, ◌∙◌, ◌++◌, ◌∷◌, [], List, Option, ap, arith, subst, sym, take}
+use Rattle.std.proofs.Common.{◌≡◌, ◌+◌, ◌∙◌, ◌++◌, ◌∷◌, [], List, Option, ap, arith, inr, subst, sym, take}
 use Rattle.std.specs.List.{AllZip}
 use Rattle.std.proofs.lemmas.List.{take_more}
 use Rattle.std.proofs.lemmas.Result.{err_from_is_err_and}
@@ -9,6 +9,7 @@ use Rattle.disk_index.specs.QuietLaws.{IsQuiet-then}
 use Rattle.disk_index.specs.Snapshots.{Marked}
 use Rattle.repository.specs.Opening.{IsEntryOpened}
 use Rattle.repository.specs.Stands.{IsListed}
+use Rattle.repository.proofs.FirstLemmas.{first-refused}
 use Rattle.repository.proofs.OpenLemmas.{listed-at}
 use Rattle.repository.proofs.segments.open_entries.Goals as goal
 
@@ -18,6 +19,14 @@ returns-in_err-part-clause-honest g c = λ segments listed.
     let here = listed-at (g.T.Store.files c.args.store.now) c.args.entries.now segments c.loop-entry.entry-index c.entry-item.result listed c.loop-entry-test.true c.entry-item.is in
     let now = subst (λ (o : Option Files). IsListed o c.entry-item.result here.0) (sym c.loop-entry.invariant.quiet.same_files) here.1 in
     rw (p.1, p.2) (c.in_err-part.ensures.honest here.0 now)
+
+pub returns-in_err-part-clause-fault : goal.returns-in_err-part-clause-fault
+returns-in_err-part-clause-fault g c = λ f told.
+    let inv = c.loop-entry.invariant in
+    let p = err_from_is_err_and c.from_residual-in_err-part.result c.from_residual-in_err-part.ensures.1 in
+    let refused = c.in_err-part.ensures.fault f (inv.quiet.same_files ∙ told) in
+    rw (p.1, p.2)
+    (inr (first-refused (g.T.Store.files c.args.store.now) f c.args.entries.now c.loop-entry.parts.items c.loop-entry.entry-index c.entry-item.result _ told inv.opened c.loop-entry-test.true c.entry-item.is refused))
 
 pub loop-entry-preserved : goal.loop-entry-preserved
 loop-entry-preserved g c =

@@ -19,5 +19,6 @@ returns-in-Ok-clause-distinct c =
     closed-distinct c.in-Ok.places.entries c.args.parts.items placed
 
 pub returns-in-Err-clause-fault : goal.returns-in-Err-clause-fault
-returns-in-Err-clause-fault c = λ _.
-    subst (λ (ps : List Marked). (c.in-Err.spot.part < length ps) × Repeats ps (record { part = c.in-Err.spot.part; id = c.in-Err.spot.id })) c.deref.ensures.value (rw c.in-Err.is at c.in_ok-places.ensures)
+returns-in-Err-clause-fault c = λ limits within.
+    let repeats = subst (λ (ps : List Marked). (c.in-Err.spot.part < length ps) × Repeats ps (record { part = c.in-Err.spot.part; id = c.in-Err.spot.id })) c.deref.ensures.value (rw c.in-Err.is at c.in_ok-places.ensures) in
+    (repeats.0, repeats.1, within)

@@ -1,0 +1,18 @@
+use Rattle.std.proofs.Common.{subst, sym}
+use Rattle.repository.specs.States.{IsBacked, ReadsAs, State}
+use Rattle.repository.proofs.StepLemmas.{backed-closed, closed-call, reads-closed}
+use Rattle.repository.proofs.repository.Repository.snapshot.Goals as goal
+
+pub returns-clause-reads : goal.returns-clause-reads
+returns-clause-reads c = λ told col reads.
+    let s = c.self.inside in
+    let view : State = record { held = s.held; next = s.next; stale = s.stale.items; priors = s.priors.items; usable = s.usable } in
+    let inside : ReadsAs told view col = subst (λ (x : State). ReadsAs told x col) (sym c.self.view_is) reads in
+    closed-call (λ (x : State). ReadsAs told x col) view c.snapshot.result c.snapshot.new.self c.snapshot.ensures.closed c.snapshot.ensures.left inside (reads-closed told view col inside)
+
+pub returns-clause-backed : goal.returns-clause-backed
+returns-clause-backed c = λ told backed.
+    let s = c.self.inside in
+    let view : State = record { held = s.held; next = s.next; stale = s.stale.items; priors = s.priors.items; usable = s.usable } in
+    let inside : IsBacked told view = subst (λ (x : State). IsBacked told x) (sym c.self.view_is) backed in
+    closed-call (IsBacked told) view c.snapshot.result c.snapshot.new.self c.snapshot.ensures.closed c.snapshot.ensures.left inside (backed-closed told view inside)

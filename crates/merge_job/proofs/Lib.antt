@@ -1,0 +1,7 @@
+pub mod ClosedLemmas
+pub mod CopyLemmas
+pub mod CutLemmas
+pub mod JobLemmas
+pub mod LawLemmas
+pub mod MarkLemmas
+pub mod WalkLemmas

@@ -4,8 +4,8 @@ ghost use Rattle.std.specs.Int.{w16, w32, w64, to_le_bytes};
 ghost use Rattle.ri_base.specs.Text.{is_docno, is_name, is_term};
 ghost use Rattle.ri_base.specs.Spelling.{spelled_text};
 
-use byteorder::{ByteOrder, LittleEndian};
 use crate::{Docno, Name, NoMemory, Term};
+use byteorder::{ByteOrder, LittleEndian};
 
 pub fn put_u16(out: &mut Vec<u8>, number: u16) -> Result<(), NoMemory>
     ensures { OnOk result (out.new.items ≡ out.old.items ++ to_le_bytes w16 number) }

@@ -10,7 +10,7 @@ use Rattle.document_scoring.specs.Candidates.{candidates}
 use Rattle.document_scoring.specs.Rows.{IsKeyed, row_candidate, row_hit}
 use Rattle.document_scoring.specs.declared.scoring.Row.{Row}
 use Rattle.first_few.specs.First.{AreFirst, Few}
-use Rattle.full_ranking.specs.Ranking.{hit_order}
+use Rattle.ranker.specs.Ranking.{hit_order}
 
 -- rows stand in the order of their hits
 abbrev pub row_order : Row → Row → Ordering

@@ -1,0 +1,2 @@
+pub mod RankingLemmas
+pub mod SkippingLemmas

@@ -1,5 +1,5 @@
 -- The first candidates of documents, held as rows with their keys.
-use Rattle.std.specs.Prelude.{◌≡◌, ℕ, List, map, All}
+use Rattle.std.specs.Prelude.{◌≡◌, ◌++◌, ℕ, List, map, All}
 use Rattle.std.specs.declared.cmp.Ordering.{Ordering}
 use Rattle.ri_base.specs.Documents.{Document}
 use Rattle.ri_base.specs.Query.{FilterTree}
@@ -23,3 +23,8 @@ pub record HoldsFirst (kind : RuleKind) (priors : List Prior) (filters : List Fi
   pub keys : All (IsKeyed network.tree) rows
   pub room : few.most ≡ most
   pub first : AreFirst row_order most rows few.held
+
+-- Behind any documents: where the first candidates of these and the old ones were held, those of these and the new ones are held now.
+pub record Advances (kind : RuleKind) (priors : List Prior) (filters : List FilterTree) (network : NetworkTree) (old new : List Document) (few next : Few Row) : Type 0 where
+  pub step : (before : List Document) (most : ℕ)
+      → HoldsFirst kind priors filters network (before ++ old) most few → HoldsFirst kind priors filters network (before ++ new) most next

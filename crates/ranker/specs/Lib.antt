@@ -1,2 +1,4 @@
 pub mod First
+pub mod Held
+pub mod Passed
 pub mod Ranking

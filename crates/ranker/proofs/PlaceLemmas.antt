@@ -176,17 +176,23 @@ credit-few parts at fits place =
     let most = fits.few in
     omega (arith, here, front, long, few, most)
 
+credit_of : Place → ℕ
+credit_of p = p.credit
+
+part_of : Place → ℕ
+part_of p = p.part
+
 pub credit-behind : (at : Place) (to : Passed) (most : ℕ) → (behind at to most).credit ≡ at.credit + to.docs
 credit-behind at to most = by (nat_lt to.docs most)
   where
-    by : (b : Bool) → (if b then record { part = at.part + 1; id = 0; credit = at.credit + to.docs } else record { part = at.part; id = to.id; credit = at.credit + to.docs }).credit ≡ at.credit + to.docs
+    by : (b : Bool) → credit_of (if b then record { part = at.part + 1; id = 0; credit = at.credit + to.docs } else record { part = at.part; id = to.id; credit = at.credit + to.docs }) ≡ at.credit + to.docs
     by true = refl
     by false = refl
 
 pub part-behind : (at : Place) (to : Passed) (most : ℕ) → (behind at to most).part ≡ (if nat_lt to.docs most then at.part + 1 else at.part)
 part-behind at to most = by (nat_lt to.docs most)
   where
-    by : (b : Bool) → (if b then record { part = at.part + 1; id = 0; credit = at.credit + to.docs } else record { part = at.part; id = to.id; credit = at.credit + to.docs }).part ≡ (if b then at.part + 1 else at.part)
+    by : (b : Bool) → part_of (if b then record { part = at.part + 1; id = 0; credit = at.credit + to.docs } else record { part = at.part; id = to.id; credit = at.credit + to.docs }) ≡ (if b then at.part + 1 else at.part)
     by true = refl
     by false = refl
 

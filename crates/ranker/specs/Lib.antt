@@ -2,3 +2,4 @@ pub mod First
 pub mod Held
 pub mod Passed
 pub mod Ranking
+pub mod Searches

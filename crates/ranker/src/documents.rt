@@ -1,5 +1,5 @@
 // Documents of a part, one by one.
-ghost use Rattle.std.specs.Prelude.{◌≡◌, ◌<◌, ◌+◌, ◌++◌, ◌∷◌, [], ℕ, true, false, List, cond, length, map, take, All, Err, IfErr, IfOk, OnOk};
+ghost use Rattle.std.specs.Prelude.{◌≡◌, ◌<◌, ◌≤◌, ◌+◌, ◌++◌, ◌∷◌, [], ℕ, true, false, List, length, map, take, All, Err, IfErr, IfOk, OnOk};
 ghost use Rattle.ri_base.specs.Collection.{document_at};
 ghost use Rattle.ri_base.specs.Documents.{Document};
 ghost use Rattle.ri_base.specs.Faults.{IsOutside};
@@ -50,8 +50,8 @@ fn offer_document<P: Postings, F: Fn(u32, u32, u64, u64) -> Fraction>(
     Ok(())
 }
 
-/// Passes a document of a part with these marks, and answers whether it is live. It is looked at where it is live and may have
-/// candidates.
+/// Passes a document of a part with these marks, and answers how many live ones it is: one or none. It is looked at where it is live
+/// and may have candidates.
 pub fn pass_document<P: Postings, F: Fn(u32, u32, u64, u64) -> Fraction>(
     alloc: Global,
     filters: &[Filter],
@@ -63,7 +63,7 @@ pub fn pass_document<P: Postings, F: Fn(u32, u32, u64, u64) -> Fraction>(
     may_have: bool,
     id: u32,
     first: &mut FirstFew<Row>,
-) -> Result<bool, SegFault>
+) -> Result<u64, SegFault>
     requires rule { Computes F.pre F.post rule.now.kind rule.now.f }
     requires id { id < length (P.documents part.old) }
     requires marks { length marks.now ≡ length (P.documents part.old) }
@@ -73,17 +73,18 @@ pub fn pass_document<P: Postings, F: Fn(u32, u32, u64, u64) -> Fraction>(
     ensures first { P.sound part.old
         → (may_have ≡ false → query_may (map filter_tree filters.now) (network_tree network.now).leaves (document_at (P.documents part.old) id) ≡ false)
         → OnOk result (Advances rule.now.kind (map (λ plug. meaning plug) plugs.old) (map filter_tree filters.now) (network_tree network.now) (unmarked (take id (P.documents part.old)) marks.now) (unmarked (take (id + 1) (P.documents part.old)) marks.now) first.old first.new) }
-    ensures live { IfOk result (λ live. live_ids marks.now (id + 1) ≡ live_ids marks.now id + cond live 1 0) }
+    ensures docs { IfOk result (λ docs. live_ids marks.now (id + 1) ≡ live_ids marks.now id + docs) }
+    ensures one { IfOk result (λ docs. docs ≤ 1) }
     ensures stay { map (λ plug. meaning plug) plugs.new ≡ map (λ plug. meaning plug) plugs.old }
     ensures honest { P.sound part.old → IfErr result IsOutside }
     ensures store { result ≡ Err SegFault.Store → Rose (P.faults part.old) (P.faults part.new) }
 {
     if marks.is_marked(id) {
-        return Ok(false);
+        return Ok(0);
     }
     if !may_have {
-        return Ok(true);
+        return Ok(1);
     }
     offer_document(alloc, filters, network, rule, plugs, part, id, first)?;
-    Ok(true)
+    Ok(1)
 }

@@ -56,7 +56,7 @@ fn pass_range<P: TermMasks, F: Fn(u32, u32, u64, u64) -> Fraction>(
     let mut at = id;
     let mut docs = 0;
     while at < end && docs < most {
-        let is_live = pass_document(
+        let passed = pass_document(
             alloc,
             filters,
             network,
@@ -68,7 +68,7 @@ fn pass_range<P: TermMasks, F: Fn(u32, u32, u64, u64) -> Fraction>(
             at,
             first,
         )?;
-        docs += u64::from(is_live);
+        docs += passed;
         at += 1;
     }
     Ok(Passed { id: at, docs })

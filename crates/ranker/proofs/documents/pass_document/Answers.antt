@@ -11,8 +11,8 @@ returns-then-is_marked-clause-first g c = λ sound none.
     Advances-dead c.args.rule.now.kind (map (λ b. (goal.BeliefNode-dyn g (b.vtable, b.value)).meaning b.value) c.args.plugs.now) (map filter_tree c.args.filters.now) (network_tree c.args.network.now) (g.P.Postings.documents c.args.part.now) c.args.marks.now c.args.id c.args.first.now
     c.requires.id c.requires.marks (sym c.is_marked.ensures ∙ c.if-is_marked.true)
 
-pub returns-then-is_marked-clause-live : goal.returns-then-is_marked-clause-live
-returns-then-is_marked-clause-live g c = ids-dead c.args.marks.now c.args.id (omega (arith, c.requires.id, c.requires.marks)) (sym c.is_marked.ensures ∙ c.if-is_marked.true)
+pub returns-then-is_marked-clause-docs : goal.returns-then-is_marked-clause-docs
+returns-then-is_marked-clause-docs g c = ids-dead c.args.marks.now c.args.id (omega (arith, c.requires.id, c.requires.marks)) (sym c.is_marked.ensures ∙ c.if-is_marked.true)
 
 -- ---- it has nothing to show
 
@@ -21,8 +21,8 @@ returns-then-not-may_have-clause-first g c = λ sound none.
     Advances-unseen c.args.rule.now.kind (map (λ b. (goal.BeliefNode-dyn g (b.vtable, b.value)).meaning b.value) c.args.plugs.now) (map filter_tree c.args.filters.now) (network_tree c.args.network.now) (g.P.Postings.documents c.args.part.now) c.args.marks.now c.args.id c.args.first.now
     c.requires.id c.requires.marks (sym c.is_marked.ensures ∙ c.if-is_marked.false) (none c.if-not-may_have.true)
 
-pub returns-then-not-may_have-clause-live : goal.returns-then-not-may_have-clause-live
-returns-then-not-may_have-clause-live g c = ids-live c.args.marks.now c.args.id (omega (arith, c.requires.id, c.requires.marks)) (sym c.is_marked.ensures ∙ c.if-is_marked.false)
+pub returns-then-not-may_have-clause-docs : goal.returns-then-not-may_have-clause-docs
+returns-then-not-may_have-clause-docs g c = ids-live c.args.marks.now c.args.id (omega (arith, c.requires.id, c.requires.marks)) (sym c.is_marked.ensures ∙ c.if-is_marked.false)
 
 -- ---- its candidates are offered
 
@@ -31,5 +31,5 @@ returns-clause-first g c = λ sound none.
     Advances-live c.args.rule.now.kind (map (λ b. (goal.BeliefNode-dyn g (b.vtable, b.value)).meaning b.value) c.args.plugs.now) (map filter_tree c.args.filters.now) (network_tree c.args.network.now) (g.P.Postings.documents c.args.part.now) c.args.marks.now c.args.id c.args.first.now c.offer_document.new.first
     c.requires.id c.requires.marks (sym c.is_marked.ensures ∙ c.if-is_marked.false) (c.in_ok-offer_document.ensures.first sound)
 
-pub returns-clause-live : goal.returns-clause-live
-returns-clause-live g c = ids-live c.args.marks.now c.args.id (omega (arith, c.requires.id, c.requires.marks)) (sym c.is_marked.ensures ∙ c.if-is_marked.false)
+pub returns-clause-docs : goal.returns-clause-docs
+returns-clause-docs g c = ids-live c.args.marks.now c.args.id (omega (arith, c.requires.id, c.requires.marks)) (sym c.is_marked.ensures ∙ c.if-is_marked.false)

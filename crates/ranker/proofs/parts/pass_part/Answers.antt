@@ -43,8 +43,15 @@ loop-at-preserved g c =
       few = omega (arith, c.loop-at.invariant.few, passed.few);
     }
 
-pub returns-clause-passed : goal.returns-clause-passed
-returns-clause-passed g c = record {
+pub returns-after-loop-at-clause-passed : goal.returns-after-loop-at-clause-passed
+returns-after-loop-at-clause-passed g c = record {
+  inside = omega (arith, c.loop-at.invariant.inside, c.docs-size.ensures, c.requires.marks);
+  docs = c.loop-at.invariant.ids;
+  few = c.loop-at.invariant.few;
+}
+
+pub returns-else-docs-most-clause-passed : goal.returns-else-docs-most-clause-passed
+returns-else-docs-most-clause-passed g c = record {
   inside = omega (arith, c.loop-at.invariant.inside, c.docs-size.ensures, c.requires.marks);
   docs = c.loop-at.invariant.ids;
   few = c.loop-at.invariant.few;

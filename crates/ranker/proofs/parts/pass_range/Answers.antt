@@ -52,15 +52,22 @@ loop-at-preserved g c =
           λ clear. subst (λ (ds : List Document). query_may filters network.leaves (document_at ds at) ≡ false) (sym keeps.documents_stay) (tells ∙ clear) in
           Advances-then kind priors filters network (unmarked (take c.args.id docs) marks) (unmarked (take at docs) marks) (unmarked (take (at + 1) docs) marks) c.args.first.now c.loop-at.first c.pass_document.new.first
           (c.loop-at.invariant.so_far sound)
-          (Advances-read kind _ priors filters network read docs marks at (at + 1) c.loop-at.first c.pass_document.new.first c.loop-at.invariant.stay keeps.documents_stay (c.in_ok-is_live.ensures.first (keeps.sound_stays sound) none));
-      ids = omega (arith, c.loop-at.invariant.ids, c.in_ok-is_live.ensures.live, c.from-docs.ensures);
-      from = omega (arith, c.loop-at.invariant.from, c.from-docs.ensures);
+          (Advances-read kind _ priors filters network read docs marks at (at + 1) c.loop-at.first c.pass_document.new.first c.loop-at.invariant.stay keeps.documents_stay (c.in_ok-passed.ensures.first (keeps.sound_stays sound) none));
+      ids = omega (arith, c.loop-at.invariant.ids, c.in_ok-passed.ensures.docs);
+      from = omega (arith, c.loop-at.invariant.from, c.in_ok-passed.ensures.one);
       inside = omega (arith, c.loop-at-test.true);
-      few = omega (arith, c.loop-at.invariant.few, c.loop-at-test.true, c.from-docs.ensures);
+      few = omega (arith, c.loop-at.invariant.few, c.loop-at-test.true, c.in_ok-passed.ensures.one);
     }
 
-pub returns-clause-passed : goal.returns-clause-passed
-returns-clause-passed g c = record {
+pub returns-after-loop-at-clause-passed : goal.returns-after-loop-at-clause-passed
+returns-after-loop-at-clause-passed g c = record {
+  inside = omega (arith, c.loop-at.invariant.inside, c.end_of-end.ensures, c.docs.ensures, ap length c.query_mask.ensures.keeps.documents_stay, c.requires.marks, c.requires.id);
+  docs = c.loop-at.invariant.ids;
+  few = c.loop-at.invariant.few;
+}
+
+pub returns-else-docs-most-clause-passed : goal.returns-else-docs-most-clause-passed
+returns-else-docs-most-clause-passed g c = record {
   inside = omega (arith, c.loop-at.invariant.inside, c.end_of-end.ensures, c.docs.ensures, ap length c.query_mask.ensures.keeps.documents_stay, c.requires.marks, c.requires.id);
   docs = c.loop-at.invariant.ids;
   few = c.loop-at.invariant.few;

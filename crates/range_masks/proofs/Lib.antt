@@ -1,3 +1,4 @@
+pub mod BlockLemmas
 pub mod MaskLemmas
 pub mod MayLemmas
 pub mod PostingLemmas

@@ -1,5 +1,5 @@
 -- The postings of a term, and which documents have it.
-use Rattle.std.proofs.Common.{◌≡◌, ◌<◌, ◌≤◌, ℕ, ◌+◌, ◌*◌, ◌/◌, ◌%◌, ◌^◌, ◌==◌, Bool, true, false, ◌||◌, ◌⊎◌, inl, inr, ⊎_elim, cond, leb, ltb, List, [], ◌∷◌, ◌++◌, length, take, drop, get_or, unwrap_or, bit_or, refl, sym, ap, subst, ◌∙◌, arith}
+use Rattle.std.proofs.Common.{◌≡◌, ◌<◌, ◌≤◌, ℕ, ◌+◌, ◌*◌, ◌/◌, ◌%◌, ◌==◌, Bool, true, false, ◌||◌, ◌⊎◌, inl, inr, ⊎_elim, cond, leb, ltb, List, [], ◌∷◌, ◌++◌, length, take, drop, get_or, unwrap_or, refl, sym, ap, subst, ◌∙◌, arith}
 use Rattle.std.specs.Int.{bit_at}
 use Rattle.std.specs.List.{All, list_any}
 use Rattle.std.specs.List.Sorted.{IsNonDecreasingBy, IsPartitionPoint}
@@ -20,11 +20,11 @@ use Rattle.ri_base.proofs.ListLemmas.{All-drop_within, All-take_within}
 use Rattle.ri_base.proofs.PlacesLemmas.{made_other, places-absent, places_at-append, places_at-postings}
 use Rattle.range_masks.specs.Masks.{IsBlock, IsMask}
 use Rattle.range_masks.specs.May.{has_term}
-use Rattle.range_masks.proofs.MaskLemmas.{bit_more, or_false}
+use Rattle.range_masks.proofs.MaskLemmas.{or_false}
 
 -- ---- a term has a place where the document has it
 
-abbrev some : List ℕ → Bool
+abbrev pub some : List ℕ → Bool
 some [] = false
 some (p ∷ ps) = true
 
@@ -37,11 +37,11 @@ some_from i t (x ∷ xs) = by (bytes_eq x t) (some_from (i + 1) t xs)
     by true e = refl
     by false e = e
 
-some_place : (t : List ℕ) (d : Document) → some (places t d) ≡ has_term t d
+pub some_place : (t : List ℕ) (d : Document) → some (places t d) ≡ has_term t d
 unfolding places
 some_place t d = some_from 0 t d.tokens
 
-no_place : (t : List ℕ) → places t empty_document ≡ []
+pub no_place : (t : List ℕ) → places t empty_document ≡ []
 unfolding places
 no_place t = refl
 
@@ -55,7 +55,7 @@ some_at id (p ∷ ps) = by (p.id == id) (some_at id ps)
 
 -- ---- postings of a term, past the last document too
 
-past : (docs : List Document) (id : ℕ) → length docs ≤ id → document_at docs id ≡ empty_document
+pub past : (docs : List Document) (id : ℕ) → length docs ≤ id → document_at docs id ≡ empty_document
 past docs id h = ap (λ o. unwrap_or o empty_document) (slice_get_past docs id h)
 
 past_from : (i id : ℕ) (t : List ℕ) (docs : List Document) → i + length docs ≤ id → places_at id (postings_from i t docs) ≡ []
@@ -78,7 +78,7 @@ absent_at id t docs none =
 
 -- ---- the postings of a range
 
-same_test : (id range i : ℕ) → i < 64 → id / 64 ≡ range → (id % 64 == i) ≡ (id == 64 * range + i)
+pub same_test : (id range i : ℕ) → i < 64 → id / 64 ≡ range → (id % 64 == i) ≡ (id == 64 * range + i)
 same_test id range i small is = go (eqb_tells (id % 64) i) (eqb_tells id (64 * range + i))
   where
     go : (((id % 64 == i) ≡ true) × (id % 64 ≡ i)) ⊎ (((id % 64 == i) ≡ false) × (id % 64 ≡ i → ⊥))
@@ -151,13 +151,21 @@ rising_ranges ps up i j d le inside = let h = up i j d le inside in omega (arith
 
 -- ---- the mask of a term
 
--- one posting more
-pub bits_more : (block : List Place) (k mask : ℕ) (d : Place) → k < length block → ((i : ℕ) → i < 64 → bit_at mask i ≡ cond (list_any (λ p. p.id % 64 == i) (take k block)) 1 0)
-    → (i : ℕ) → i < 64 → bit_at (bit_or mask (1 * 2 ^ ((get_or block k d).id % 64) % 2 ^ 64)) i ≡ cond (list_any (λ p. p.id % 64 == i) (take (k + 1) block)) 1 0
-bits_more block k mask d inside so_far i small =
-    let test : Place → Bool = λ p. p.id % 64 == i in
-    bit_more mask ((get_or block k d).id % 64) i (list_any test (take k block)) (omega arith) small (so_far i small)
-    ∙ sym (ap (λ b. cond b 1 0) (list_any_more test block k d inside))
+module _ {A : Type 0} (id_of : A → ℕ) (block : List A) (k mask new : ℕ) where
+  -- the bit of one id is set now too
+  abbrev IsSet : ℕ → Type 0
+  IsSet id = (i : ℕ) (b : Bool) → i < 64 → bit_at mask i ≡ cond b 1 0 → bit_at new i ≡ cond (b || (id % 64 == i)) 1 0
+
+  -- one more of a list of postings, or of entries
+  pub bits_more : (d : A) → k < length block → IsSet (id_of (get_or block k d)) → ((i : ℕ) → i < 64 → bit_at mask i ≡ cond (list_any (λ x. id_of x % 64 == i) (take k block)) 1 0)
+      → (i : ℕ) → i < 64 → bit_at new i ≡ cond (list_any (λ x. id_of x % 64 == i) (take (k + 1) block)) 1 0
+  bits_more d inside set so_far i small =
+      let test : A → Bool = λ x. id_of x % 64 == i in
+      set i (list_any test (take k block)) small (so_far i small) ∙ sym (ap (λ b. cond b 1 0) (list_any_more test block k d inside))
+
+  pub bits_more_at : (x : A) → k < length block → x ≡ get_or block k x → IsSet (id_of x) → ((i : ℕ) → i < 64 → bit_at mask i ≡ cond (list_any (λ y. id_of y % 64 == i) (take k block)) 1 0)
+      → (i : ℕ) → i < 64 → bit_at new i ≡ cond (list_any (λ y. id_of y % 64 == i) (take (k + 1) block)) 1 0
+  bits_more_at x inside is set so_far i small = bits_more x inside (subst (λ (y : A). IsSet (id_of y)) is set) so_far i small
 
 pub IsMask-block : (t : List ℕ) (range : ℕ) (docs : List Document) (all block : List Place) (mask : ℕ) → all ≡ postings_of t docs → IsBlock range all block
     → ((i : ℕ) → i < 64 → bit_at mask i ≡ cond (list_any (λ p. p.id % 64 == i) block) 1 0) → IsMask (has_term t) range docs mask

@@ -4,6 +4,7 @@
 mod bits;
 mod expression;
 mod laws;
+mod part;
 mod query;
 mod sealed;
 mod term_masks;

@@ -7,6 +7,7 @@ ghost use Rattle.range_masks.specs.Masks.{IsBlock, IsMask};
 ghost use Rattle.range_masks.specs.May.{has_term};
 
 use crate::TermMasks;
+use crate::bits::with_id;
 use ri_base::{Place, Sealed, SegFault, Term};
 use std::alloc::Global;
 
@@ -17,7 +18,7 @@ impl TermMasks for Sealed {
 }
 
 /// Which documents of the range have the term.
-fn mask_in(index: &Sealed, term: &Term, range: u32) -> u64
+pub(crate) fn mask_in(index: &Sealed, term: &Term, range: u32) -> u64
     ensures { IsMask (has_term term.now) range index.now result }
 {
     match index.vocabulary().as_slice().binary_search(term) {
@@ -43,7 +44,7 @@ fn mask_of_ids(block: &[Place]) -> u64
 {
     let mut mask = 0;
     for place in block {
-        mask |= 1 << (place.id % 64);
+        mask = with_id(mask, place.id);
     }
     mask
 }

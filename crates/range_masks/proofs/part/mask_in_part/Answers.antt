@@ -1,0 +1,39 @@
+use Rattle.std.proofs.Common.{◌≡◌, List, IfOk, ap, sym, subst, ◌∙◌}
+use Rattle.ri_base.specs.Documents.{Document}
+use Rattle.disk_index.specs.Cache.{CacheKeeps}
+use Rattle.disk_index.specs.Kept.{Kept}
+use Rattle.disk_index.specs.Parts.{IsFileOf, IsPartBacked, reads, source_of}
+use Rattle.disk_index.specs.Reads.{IsBacked}
+use Rattle.disk_index.specs.declared.part.Part.{Part}
+use Rattle.disk_index.proofs.RebuiltLemmas.{reads-backed}
+use Rattle.range_masks.specs.Masks.{IsMask}
+use Rattle.range_masks.specs.May.{has_term}
+use Rattle.range_masks.proofs.part.mask_in_part.Goals as goal
+
+pub returns-in-Memory-clause-exact : goal.returns-in-Memory-clause-exact
+returns-in-Memory-clause-exact g c = λ part backed.
+    let told = g.T.Store.files c.args.store.now in
+    let docs = c.deref.ensures ∙ sym (ap (λ (p : Part). reads told (source_of p)) c.in-Memory.is) in
+    subst (λ (ds : List Document). IsMask (has_term c.args.term.now) c.args.range ds c.mask_in.result) docs c.mask_in.ensures
+
+pub returns-in-Disk-clause-cache : goal.returns-in-Disk-clause-cache
+returns-in-Disk-clause-cache g c =
+    let told = g.T.Store.files c.args.store.now in
+    subst (λ (p : Part). CacheKeeps told (IsFileOf (source_of p)) c.args.cache.now c.mask_on_disk.new.cache) (sym c.in-Disk.is)
+    (subst (λ (k : Kept). CacheKeeps told (λ n. n ≡ k.number) c.args.cache.now c.mask_on_disk.new.cache) c.deref-in-Disk.ensures c.mask_on_disk.ensures.cache)
+
+pub returns-in-Disk-clause-exact : goal.returns-in-Disk-clause-exact
+returns-in-Disk-clause-exact g c = λ part backed.
+    let told = g.T.Store.files c.args.store.now in
+    let r = c.mask_on_disk.result in
+    let b = subst (λ (p : Part). IsPartBacked told (source_of p)) c.in-Disk.is part in
+    let own : IsBacked told c.deref-in-Disk.result.now b.0 = subst (λ (k : Kept). IsBacked told k b.0) (sym c.deref-in-Disk.ensures) b.1 in
+    let docs : b.0 ≡ reads told (source_of c.args.part.now) = sym (ap (λ (p : Part). reads told (source_of p)) c.in-Disk.is ∙ reads-backed told c.in-Disk.index.value b.0 b.1) in
+    subst (λ (ds : List Document). IfOk r (IsMask (has_term c.args.term.now) c.args.range ds)) docs (c.mask_on_disk.ensures.exact b.0 own backed)
+
+pub returns-in-Disk-clause-honest : goal.returns-in-Disk-clause-honest
+returns-in-Disk-clause-honest g c = λ part.
+    let told = g.T.Store.files c.args.store.now in
+    let b = subst (λ (p : Part). IsPartBacked told (source_of p)) c.in-Disk.is part in
+    let own : IsBacked told c.deref-in-Disk.result.now b.0 = subst (λ (k : Kept). IsBacked told k b.0) (sym c.deref-in-Disk.ensures) b.1 in
+    c.mask_on_disk.ensures.honest b.0 own

@@ -1,5 +1,6 @@
 -- What a search holds: before the first document, while it goes on, and at its end.
-use Rattle.std.proofs.Common.{◌≡◌, ℕ, List, [], map, sym, subst, arith}
+use Rattle.std.proofs.Common.{◌≡◌, ◌≤◌, ℕ, nat_lt, false, List, [], map, sym, ap, subst, ◌∙◌, arith}
+use Rattle.std.proofs.lemmas.Bool.Decides.{nat_tests}
 use Rattle.std.proofs.lemmas.List.{take_all}
 use Rattle.std.proofs.lemmas.List.Elements.{All-nil}
 use Rattle.std.proofs.lemmas.List.Sorted.{IsPermutation-refl}
@@ -16,7 +17,7 @@ use Rattle.document_scoring.specs.Rows.{row_hit}
 use Rattle.document_scoring.specs.declared.scoring.Row.{Row}
 use Rattle.first_few.specs.First.{AreFirst, Few, IsFront}
 use Rattle.ranker.specs.First.{Advances, HoldsFirst, row_order}
-use Rattle.ranker.specs.Held.{IsHeld}
+use Rattle.ranker.specs.Held.{IsHeld, is_open}
 use Rattle.ranker.specs.Ranking.{IsAnswerBy}
 use Rattle.ranker.specs.declared.held.Held.{Held}
 use Rattle.ranker.specs.declared.held.Held.TheVariants.{Open, Ended}
@@ -42,3 +43,15 @@ module _ (kind : RuleKind) (priors : List Prior) (filters : List FilterTree) (ne
   pub IsHeld-on : (old new : List Document) (most : ℕ) (was : Held) (few next : Few Row) → was ≡ Open few → Advances kind priors filters network old new few next
       → IsHeld kind priors filters network old most was → IsHeld kind priors filters network new most (Open next)
   IsHeld-on old new most was few next is on h = on.step [] most (subst (λ (x : Held). IsHeld kind priors filters network old most x) is h)
+
+  -- where all documents are passed, what is held are the results
+  pub IsHeld-answer : (docs all : List Document) (most : ℕ) (held : Held) (hits : List Hit) → held ≡ Ended hits → docs ≡ all → IsHeld kind priors filters network docs most held → IsAnswerBy kind priors filters network all most hits
+  IsHeld-answer docs all most held hits is same h =
+      subst (λ (ds : List Document). IsAnswerBy kind priors filters network ds most hits) same (subst (λ (x : Held). IsHeld kind priors filters network docs most x) is h)
+
+-- it has ended where as many documents are passed as there are
+pub ended-credit : (held : Held) (hits : List Hit) (credit live : ℕ) → held ≡ Ended hits → is_open held ≡ nat_lt credit live → credit ≤ live → credit ≡ live
+ended-credit held hits credit live is open_where few =
+    let shut : nat_lt credit live ≡ false = sym open_where ∙ ap is_open is in
+    let past : live ≤ credit = grind (arith, nat_tests) in
+    omega (arith, past, few)

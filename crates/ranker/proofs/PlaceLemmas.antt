@@ -166,6 +166,10 @@ Advances-later kind was priors filters network here told parts a b few next stay
 
 -- ---- numbers
 
+-- no more documents are passed than there are
+pub credit-le : (told : Option Files) (parts : List Marked) (at : Place) → IsPlace parts at → at.credit ≤ length (live told parts)
+credit-le told parts at place = let here = place.credit told in let front = passed-le told parts at in omega (arith, here, front)
+
 -- no more documents are passed than a snapshot may hold
 pub credit-few : (parts : List Marked) (at : Place) → IsSnapshot parts → IsPlace parts at → at.credit ≤ 4194304
 credit-few parts at fits place =
@@ -176,10 +180,10 @@ credit-few parts at fits place =
     let most = fits.few in
     omega (arith, here, front, long, few, most)
 
-credit_of : Place → ℕ
+abbrev credit_of : Place → ℕ
 credit_of p = p.credit
 
-part_of : Place → ℕ
+abbrev part_of : Place → ℕ
 part_of p = p.part
 
 pub credit-behind : (at : Place) (to : Passed) (most : ℕ) → (behind at to most).credit ≡ at.credit + to.docs

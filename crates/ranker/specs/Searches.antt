@@ -1,10 +1,11 @@
 -- What a search keeps between its steps.
-use Rattle.std.specs.Prelude.{◌≡◌, Bool, ℕ, List, Option, map}
+use Rattle.std.specs.Prelude.{◌≡◌, ℕ, List, Option, map}
 use Rattle.ri_base.specs.Documents.{Document}
 use Rattle.ri_base.specs.Query.{FilterTree, filter_tree}
 use Rattle.ri_base.specs.declared.hit.Hit.{Hit}
 use Rattle.store_ends.specs.Files.{Files}
 use Rattle.smoothing.specs.declared.rule.RuleKind.{RuleKind}
+use Rattle.query_check.specs.Answers.{whole_checked}
 use Rattle.belief_nodes.specs.Network.{NetworkTree, network_tree}
 use Rattle.belief_nodes.specs.Priors.{Prior}
 use Rattle.disk_index.specs.Snapshots.{live}
@@ -31,6 +32,6 @@ IsAnswerOf kind priors s docs hits = IsAnswerBy kind priors (filters_of s) (netw
 -- a step changes nothing of what is searched for
 pub record IsSameSearch (old new : Search) : Type 0 where
   pub snapshot : new.snapshot ≡ old.snapshot
-  pub checked : new.checked ≡ old.checked
-  pub network : new.network ≡ old.network
+  pub checked : whole_checked new.checked ≡ whole_checked old.checked
+  pub network : network_tree new.network ≡ network_tree old.network
   pub most : new.most ≡ old.most

@@ -1,11 +1,13 @@
-use Rattle.std.proofs.Common.{◌≡◌, ◌<◌, ◌≤◌, ◌+◌, Contains, List, length, map, ap, refl, sym, subst, ◌∙◌, arith}
+use Rattle.std.proofs.Common.{Contains, map, ap, sym, subst, ◌∙◌, arith}
 use Rattle.std.proofs.lemmas.List.Elements.{All-contains, Contains-get_or}
 use Rattle.std.proofs.lemmas.Result.{err_from_is_err_and}
 use Rattle.ri_base.specs.Query.{filter_tree}
 use Rattle.belief_nodes.specs.Network.{network_tree}
 use Rattle.disk_index.specs.Parts.{IsPartBacked, size}
-use Rattle.disk_index.specs.Snapshots.{AreBacked, Marked}
-use Rattle.ranker.specs.Passed.{IsPlace, behind, part_at}
+use Rattle.disk_index.specs.Snapshots.{Marked}
+use Rattle.ranker.specs.First.{Advances}
+use Rattle.ranker.specs.Passed.{IsPlace, behind, passed}
+use Rattle.ranker.specs.declared.place.Place.{Place}
 use Rattle.ranker.proofs.PlaceLemmas.{Advances-place, IsPlace-behind, blocks-among, credit-behind, credit-few, part-behind, part-is}
 use Rattle.ranker.proofs.snapshots.pass_next.Goals as goal
 
@@ -36,21 +38,38 @@ returns-clause-first g c = λ backed cached.
     let is = part-is parts at.part m c.requires.some c.index-parts-at.is in
     let there : Contains parts m = subst (Contains parts) (sym c.index-parts-at.is) (Contains-get_or parts at.part m c.requires.some) in
     let own : IsPartBacked told m.source = All-contains (λ (p : Marked). IsPartBacked told p.source) parts m backed there in
-    Advances-place parts at to c.args.most c.args.rule.now.kind priors (map filter_tree c.args.filters.now) (network_tree c.args.network.now) told c.args.first.now c.pass_marked.new.first m is c.requires.some c.in_ok-to.ensures.end
-    (c.in_ok-to.ensures.first own cached)
+    let kind = c.args.rule.now.kind in
+    let filters = map filter_tree c.args.filters.now in
+    let network = network_tree c.args.network.now in
+    subst (λ (p : Place). Advances kind priors filters network (passed told parts at) (passed told parts p) c.args.first.now c.pass_marked.new.first) (sym c.place_behind.ensures)
+    (Advances-place parts at to c.args.most kind priors filters network told c.args.first.now c.pass_marked.new.first m is c.requires.some c.in_ok-to.ensures.end (c.in_ok-to.ensures.first own cached))
 
 pub returns-clause-place : goal.returns-clause-place
 returns-clause-place g c =
     let parts = c.args.parts.now in
     let at = c.args.at.now in
     let is = part-is parts at.part c.index-parts-at.result c.requires.some c.index-parts-at.is in
-    IsPlace-behind parts at c.in_ok-to.to c.args.most c.index-parts-at.result is c.requires.some c.pass_marked.ensures.whole c.in_ok-to.ensures.passed c.in_ok-to.ensures.end c.requires.place
+    subst (λ (p : Place). IsPlace parts p) (sym c.place_behind.ensures)
+    (IsPlace-behind parts at c.in_ok-to.to c.args.most c.index-parts-at.result is c.requires.some c.pass_marked.ensures.whole c.in_ok-to.ensures.passed c.in_ok-to.ensures.end c.requires.place)
 
 pub returns-clause-docs : goal.returns-clause-docs
-returns-clause-docs g c = let few = c.in_ok-to.ensures.passed.few in (credit-behind c.args.at.now c.in_ok-to.to c.args.most, omega (arith, few))
+returns-clause-docs g c = let few = c.in_ok-to.ensures.passed.few in (ap (λ (p : Place). p.credit) c.place_behind.ensures ∙ credit-behind c.args.at.now c.in_ok-to.to c.args.most, omega (arith, few))
 
 pub returns-clause-next : goal.returns-clause-next
-returns-clause-next g c = part-behind c.args.at.now c.in_ok-to.to c.args.most
+returns-clause-next g c = ap (λ (p : Place). p.part) c.place_behind.ensures ∙ part-behind c.args.at.now c.in_ok-to.to c.args.most
 
 pub returns-clause-cache : goal.returns-clause-cache
 returns-clause-cache g c = blocks-among (g.T.Store.files c.args.store.now) c.args.parts.now c.args.at.now.part c.index-parts-at.result c.args.cache.now c.pass_marked.new.cache c.requires.some c.index-parts-at.is c.pass_marked.ensures.cache
+
+pub returns-in_err-to-clause-cache : goal.returns-in_err-to-clause-cache
+returns-in_err-to-clause-cache g c = blocks-among (g.T.Store.files c.args.store.now) c.args.parts.now c.args.at.now.part c.index-parts-at.result c.args.cache.now c.pass_marked.new.cache c.requires.some c.index-parts-at.is c.pass_marked.ensures.cache
+
+pub returns-in_err-to-clause-honest : goal.returns-in_err-to-clause-honest
+returns-in_err-to-clause-honest g c = λ backed cached.
+    let told = g.T.Store.files c.args.store.now in
+    let parts = c.args.parts.now in
+    let m = c.index-parts-at.result in
+    let there : Contains parts m = subst (Contains parts) (sym c.index-parts-at.is) (Contains-get_or parts c.args.at.now.part m c.requires.some) in
+    let own : IsPartBacked told m.source = All-contains (λ (p : Marked). IsPartBacked told p.source) parts m backed there in
+    let p = err_from_is_err_and c.from_residual.result c.from_residual.ensures.1 in
+    rw (p.1, p.2) (c.in_err-to.ensures.honest own cached)

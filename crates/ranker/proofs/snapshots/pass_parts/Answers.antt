@@ -50,3 +50,24 @@ loop-left-preserved g c =
       quiet = IsQuiet-then g.T.Store.files g.T.Store.layers g.T.Store.clock g.T.Store.since g.T.Store.longest g.T.Store.held g.T.Store.faults c.args.store.now c.loop-left.store c.pass_next.new.store inv.quiet c.pass_next.ensures.quiet;
       later = omega (arith, inv.later, c.pass_next.ensures.later);
     }
+
+pub returns-in_err-passed-clause-honest : goal.returns-in_err-passed-clause-honest
+returns-in_err-passed-clause-honest g c = λ backed cached.
+    let told = g.T.Store.files c.args.store.now in
+    let here = g.T.Store.files c.loop-left.store in
+    let parts = c.args.parts.now in
+    let inv = c.loop-left.invariant in
+    let same : here ≡ told = inv.quiet.same_files in
+    let there : AreBacked here parts = subst (λ (f : Option Files). AreBacked f parts) (sym same) backed in
+    let blocks : IsCacheBacked here c.loop-left.cache =
+    subst (λ (f : Option Files). IsCacheBacked f c.loop-left.cache) (sym same) (IsCacheBacked-kept told (IsFileAmong parts) c.args.cache.now c.loop-left.cache inv.cache cached) in
+    let p = err_from_is_err_and c.from_residual.result c.from_residual.ensures.1 in
+    rw (p.1, p.2) (c.in_err-passed.ensures.honest there blocks)
+
+pub returns-in_err-passed-clause-cache : goal.returns-in_err-passed-clause-cache
+returns-in_err-passed-clause-cache g c =
+    CacheKeeps-after (g.T.Store.files c.args.store.now) (g.T.Store.files c.loop-left.store) (IsFileAmong c.args.parts.now) c.args.cache.now c.loop-left.cache c.pass_next.new.cache c.loop-left.invariant.quiet.same_files c.loop-left.invariant.cache c.pass_next.ensures.cache
+
+pub returns-after-loop-left-clause-credit : goal.returns-after-loop-left-clause-credit
+returns-after-loop-left-clause-credit g c = λ told.
+    credit-min told c.args.parts.now c.loop-left.at c.args.at.now.credit c.args.docs c.loop-left.left c.loop-left.invariant.place c.loop-left.invariant.credit (λ some inside. omega (arith, c.loop-left-test.false, some))

@@ -1,16 +1,10 @@
--- What a search holds: before the first document, while it goes on, and at its end.
+-- What a search holds: while it goes on, and at its end.
 use Rattle.std.proofs.Common.{◌≡◌, ◌≤◌, ℕ, nat_lt, false, List, [], map, sym, ap, subst, ◌∙◌, arith}
 use Rattle.std.proofs.lemmas.Bool.Decides.{nat_tests}
-use Rattle.std.proofs.lemmas.List.{take_all}
-use Rattle.std.proofs.lemmas.List.Elements.{All-nil}
-use Rattle.std.proofs.lemmas.List.Sorted.{IsPermutation-refl}
-use Rattle.log_chain.specs.declared.chain.TheConstants.{LAST}
 use Rattle.ri_base.specs.Documents.{Document}
 use Rattle.ri_base.specs.Query.{FilterTree}
-use Rattle.ri_base.specs.Ratio.{ratio_of}
 use Rattle.ri_base.specs.declared.hit.Hit.{Hit}
 use Rattle.smoothing.specs.declared.rule.RuleKind.{RuleKind}
-use Rattle.belief_nodes.specs.Keys.{key_at}
 use Rattle.belief_nodes.specs.Network.{NetworkTree}
 use Rattle.belief_nodes.specs.Priors.{Prior}
 use Rattle.document_scoring.specs.Rows.{row_hit}
@@ -24,14 +18,6 @@ use Rattle.ranker.specs.declared.held.Held.TheVariants.{Open, Ended}
 use Rattle.ranker.proofs.RankingLemmas.{IsAnswerBy-front}
 
 module _ (kind : RuleKind) (priors : List Prior) (filters : List FilterTree) (network : NetworkTree) where
-  -- of no documents there are no results
-  pub IsAnswerBy-none : (most : ℕ) → IsAnswerBy kind priors filters network [] most []
-  IsAnswerBy-none most = ([], record {
-    all = IsPermutation-refl [];
-    keys = All-nil (λ (hit : Hit). hit.key ≡ key_at LAST (map ratio_of hit.fractions) network.tree);
-    sorted = λ k d low high. absurd (omega (arith, high));
-  }, sym (take_all most [] (omega arith)))
-
   -- the first candidates in order are the results
   pub IsHeld-ended : (docs : List Document) (most : ℕ) (was : Held) (few : Few Row) (front : List Row) (hits : List Hit) → was ≡ Open few → hits ≡ map row_hit front
       → ((all : List Row) → AreFirst row_order few.most all few.held → IsFront row_order few.most all front) → IsHeld kind priors filters network docs most was → IsHeld kind priors filters network docs most (Ended hits)

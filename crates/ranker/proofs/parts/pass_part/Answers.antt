@@ -1,7 +1,5 @@
-use Rattle.std.proofs.Common.{◌≡◌, ◌<◌, ◌≤◌, ◌+◌, List, length, map, take, refl, ap, sym, subst, ◌∙◌, arith}
-use Rattle.std.specs.List.{All}
+use Rattle.std.proofs.Common.{map, take, refl, ◌∙◌, arith}
 use Rattle.ri_base.specs.Query.{filter_tree}
-use Rattle.belief_nodes.specs.Leaves.{HasPrior}
 use Rattle.belief_nodes.specs.Network.{network_tree}
 use Rattle.disk_index.specs.Snapshots.{unmarked}
 use Rattle.extent_lists.proofs.KeepsLemmas.{Keeps-then}

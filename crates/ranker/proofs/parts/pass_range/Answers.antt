@@ -1,10 +1,8 @@
 use Rattle.std.proofs.Common.{◌≡◌, ◌<◌, ◌≤◌, ◌+◌, ◌*◌, ◌/◌, false, List, length, map, take, refl, ap, sym, subst, ◌∙◌, arith}
-use Rattle.std.specs.List.{All}
 use Rattle.ri_base.specs.Collection.{document_at}
 use Rattle.ri_base.specs.Documents.{Document}
 use Rattle.ri_base.specs.Query.{filter_tree}
 use Rattle.query_check.specs.Leaves.{LeafTree}
-use Rattle.belief_nodes.specs.Leaves.{HasPrior}
 use Rattle.belief_nodes.specs.Network.{network_tree}
 use Rattle.disk_index.specs.Snapshots.{unmarked}
 use Rattle.extent_lists.proofs.KeepsLemmas.{Keeps-then}

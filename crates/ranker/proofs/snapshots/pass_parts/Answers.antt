@@ -1,16 +1,14 @@
-use Rattle.std.proofs.Common.{◌≡◌, ◌≤◌, ◌+◌, List, Option, length, map, refl, ap, subst, sym, ◌∙◌, arith}
-use Rattle.std.specs.List.{All}
+use Rattle.std.proofs.Common.{◌≡◌, Option, map, refl, subst, sym, ◌∙◌, arith}
 use Rattle.std.proofs.lemmas.Result.{err_from_is_err_and}
 use Rattle.ri_base.specs.Query.{filter_tree}
 use Rattle.store_ends.specs.Files.{Files}
-use Rattle.belief_nodes.specs.Leaves.{HasPrior}
 use Rattle.belief_nodes.specs.Network.{network_tree}
 use Rattle.disk_index.specs.Cache.{IsCacheBacked}
 use Rattle.disk_index.specs.QuietLaws.{CacheKeeps-after, CacheKeeps-same, IsCacheBacked-kept, IsQuiet-same, IsQuiet-then}
 use Rattle.disk_index.specs.Snapshots.{AreBacked, IsFileAmong}
 use Rattle.ranker.specs.Passed.{passed}
 use Rattle.ranker.proofs.PassedLemmas.{Advances-same, Advances-then}
-use Rattle.ranker.proofs.PlaceLemmas.{Advances-later, credit-min, left-falls}
+use Rattle.ranker.proofs.PlaceLemmas.{Advances-later, credit-min}
 use Rattle.ranker.proofs.snapshots.pass_parts.Goals as goal
 
 pub loop-left-init : goal.loop-left-init

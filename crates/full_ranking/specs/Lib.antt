@@ -1,4 +1,3 @@
-pub mod First
 pub mod Lengths
 pub mod Occurrences
 pub mod Ranking

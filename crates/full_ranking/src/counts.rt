@@ -8,9 +8,9 @@ ghost use Rattle.full_ranking.specs.Occurrences.{AreOccurrences};
 
 use crate::lengths::length_of_all;
 use crate::memory::{count_in_index, leaf_mask_in_index};
-use crate::ranges::end_of;
 use query_check::LeafKind;
 use range_masks::has_id;
+use ranker::end_of;
 use ri_base::limits::MAX_HELD_TOKENS;
 use ri_base::{LeafStats, NoMemory, Postings, Sealed};
 use std::alloc::Global;

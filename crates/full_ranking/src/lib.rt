@@ -5,7 +5,6 @@ mod counts;
 mod laws;
 mod lengths;
 mod memory;
-mod ranges;
 mod ranking;
 
 pub use counts::all_stats;

@@ -5,18 +5,17 @@ ghost use Rattle.smoothing.specs.Fractions.{Computes};
 ghost use Rattle.query_check.specs.Answers.{whole_checked};
 ghost use Rattle.belief_nodes.specs.Leaves.{HasPrior};
 ghost use Rattle.belief_nodes.specs.Network.{network_tree};
-ghost use Rattle.document_scoring.specs.Rows.{row_hit};
-ghost use Rattle.full_ranking.specs.First.{HoldsFirst};
+ghost use Rattle.ranker.specs.First.{HoldsFirst};
 ghost use Rattle.full_ranking.specs.Ranking.{IsAnswer};
 
 use crate::counts::all_stats;
 use crate::memory::{query_mask_in_index, score_in_index};
-use crate::ranges::end_of;
 use belief_nodes::{BeliefNode, Network};
 use document_scoring::Row;
 use first_few::FirstFew;
 use query_check::Checked;
 use range_masks::has_id;
+use ranker::{end_of, hits_of};
 use ri_base::{Filter, Fraction, Hits, NoMemory, Postings, Sealed};
 use smoothing::Rule;
 use std::alloc::Global;
@@ -84,17 +83,6 @@ fn first_rows<F: Fn(u32, u32, u64, u64) -> Fraction>(
         )?;
     }
     Ok(first)
-}
-
-/// The hits of rows.
-fn hits_of(alloc: Global, rows: Vec<Row>) -> Result<Hits, NoMemory>
-    ensures { IfOk result (λ hits. hits ≡ map row_hit rows.items) }
-{
-    let mut hits = Vec::with_capacity(alloc, rows.len())?;
-    for row in rows {
-        hits.push(row.into_hit())?;
-    }
-    Ok(Hits::of(hits))
 }
 
 /// The first hits of the ranking of an index's documents, at most so many, for a checked query: documents, fields of a

@@ -5,15 +5,16 @@ use Rattle.ri_base.specs.Query.{filter_tree}
 use Rattle.belief_nodes.specs.Leaves.{HasPrior}
 use Rattle.belief_nodes.specs.Network.{network_tree}
 use Rattle.belief_nodes.specs.Priors.{Prior}
-use Rattle.full_ranking.specs.First.{HoldsFirst}
-use Rattle.full_ranking.proofs.RankingLemmas.{HoldsFirst-all, HoldsFirst-none}
+use Rattle.ranker.specs.First.{HoldsFirst}
+use Rattle.ranker.proofs.RankingLemmas.{HoldsFirst-none}
+use Rattle.full_ranking.proofs.RankingLemmas.{HoldsFirst-all}
 use Rattle.full_ranking.proofs.ranking.first_rows.Goals as goal
 
 pub loop-range-init : goal.loop-range-init
 loop-range-init g c = record {
   stay = refl;
   same = refl;
-  so_far = HoldsFirst-none _ _ _ _ c.args.index.now c.args.most _ c.new-first.ensures.most c.new-first.ensures.first;
+  so_far = HoldsFirst-none _ _ _ _ c.args.most _ c.new-first.ensures.most c.new-first.ensures.first;
 }
 
 pub offer_range-requires-clause-plugs : goal.offer_range-requires-clause-plugs

@@ -1,7 +1,7 @@
 use Rattle.std.proofs.Common.{◌≡◌, ◌*◌, ℕ, [], map, take}
 use Rattle.ri_base.specs.Query.{filter_tree}
 use Rattle.belief_nodes.specs.Network.{network_tree}
-use Rattle.full_ranking.specs.First.{HoldsFirst}
+use Rattle.ranker.specs.First.{HoldsFirst}
 use Rattle.full_ranking.proofs.ranking.offer_range.Given as goal
 
 abbrev pub invariant-loop-id : goal.invariant-loop-id

@@ -40,7 +40,7 @@ returns-clause-ranking g c =
 pub returns-clause-few : goal.returns-clause-few
 returns-clause-few g c =
     IfOk-weaker c.hits_of.result (λ hits. hits ≡ map row_hit c.into_sorted.result.items) (λ hits. length hits ≤ c.args.most)
-    (λ hits is. subst (λ (hs : List Hit). length hs ≤ c.args.most) (sym is) (answer_few _ _ _ _ _ c.args.most (answer g c))) c.hits_of.ensures
+    (λ hits is. subst (λ (hs : List Hit). length hs ≤ c.args.most) (sym is) (answer_few c.args.rule.now.kind (map (λ b. (goal.BeliefNode-dyn g (b.vtable, b.value)).meaning b.value) c.args.plugs.now) (whole_checked c.args.checked.now) c.args.index.now (map row_hit c.into_sorted.result.items) c.args.most (answer g c))) c.hits_of.ensures
 
 pub returns-clause-leaves : goal.returns-clause-leaves
 returns-clause-leaves g c =
@@ -48,6 +48,6 @@ returns-clause-leaves g c =
     let long : length (map leaf_tree leaves) ≡ length leaves = length-map leaves leaf_tree in
     let Q : Hit → Type 0 = λ hit. length hit.fractions ≡ length (map leaf_tree leaves) in
     let P : Hit → Type 0 = λ hit. length hit.fractions ≡ length leaves in
-    let each : All P (map row_hit c.into_sorted.result.items) = All-weaker Q P (λ hit h. h ∙ long) _ (answer_each _ _ _ _ _ c.args.most (answer g c)) in
+    let each : All P (map row_hit c.into_sorted.result.items) = All-weaker Q P (λ hit h. h ∙ long) _ (answer_each c.args.rule.now.kind (map (λ b. (goal.BeliefNode-dyn g (b.vtable, b.value)).meaning b.value) c.args.plugs.now) (whole_checked c.args.checked.now) c.args.index.now (map row_hit c.into_sorted.result.items) c.args.most (answer g c)) in
     IfOk-weaker c.hits_of.result (λ hits. hits ≡ map row_hit c.into_sorted.result.items) (λ hits. All P hits)
     (λ hits is. subst (All P) (sym is) each) c.hits_of.ensures

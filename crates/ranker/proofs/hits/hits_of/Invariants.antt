@@ -1,6 +1,6 @@
 use Rattle.std.proofs.Common.{◌≡◌, map}
 use Rattle.document_scoring.specs.Rows.{row_hit}
-use Rattle.full_ranking.proofs.ranking.hits_of.Given as goal
+use Rattle.ranker.proofs.hits.hits_of.Given as goal
 
 abbrev pub invariant-loop-row : goal.invariant-loop-row
 invariant-loop-row l = l.hits.items ≡ map row_hit l.yielded

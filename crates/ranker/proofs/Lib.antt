@@ -1,0 +1,6 @@
+pub mod HeldLemmas
+pub mod PassedLemmas
+pub mod PlaceLemmas
+pub mod RankingLemmas
+pub mod ReadingLemmas
+pub mod SkippingLemmas

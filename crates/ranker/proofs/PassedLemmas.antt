@@ -1,0 +1,107 @@
+-- Live documents that are passed one by one.
+use Rattle.std.proofs.Common.{◌≡◌, ◌<◌, ℕ, zero, suc, ◌+◌, Bool, true, false, List, [], ◌∷◌, ◌++◌, cond, length, take, get_or, refl, sym, ap, subst, ◌∙◌, arith, append_assoc, append-nil}
+use Rattle.ri_base.specs.Collection.{document_at}
+use Rattle.ri_base.specs.Documents.{Document}
+use Rattle.ri_base.specs.Query.{FilterTree}
+use Rattle.smoothing.specs.declared.rule.RuleKind.{RuleKind}
+use Rattle.belief_nodes.specs.Network.{NetworkTree}
+use Rattle.belief_nodes.specs.Priors.{Prior}
+use Rattle.disk_index.specs.Snapshots.{unmarked}
+use Rattle.range_masks.specs.May.{query_may}
+use Rattle.document_scoring.specs.declared.scoring.Row.{Row}
+use Rattle.first_few.specs.First.{Few}
+use Rattle.ranker.specs.First.{Advances, HoldsFirst}
+use Rattle.ranker.specs.Passed.{live_ids}
+use Rattle.ranker.proofs.SkippingLemmas.{HoldsFirst-skipped}
+
+-- ---- ids
+
+ids-suc : (marks : List Bool) (i : ℕ) → i < length marks → live_ids marks (suc i) ≡ live_ids marks i + cond (get_or marks i false) 0 1
+ids-suc [] i lt = absurd (omega (arith, lt))
+ids-suc (true ∷ marks) zero lt = refl
+ids-suc (false ∷ marks) zero lt = refl
+ids-suc (true ∷ marks) (suc i) lt = ids-suc marks i (omega (arith, lt))
+ids-suc (false ∷ marks) (suc i) lt = let rest = ids-suc marks i (omega (arith, lt)) in omega (arith, rest)
+
+-- one id more
+ids-more : (marks : List Bool) (i : ℕ) → i < length marks → live_ids marks (i + 1) ≡ live_ids marks i + cond (get_or marks i false) 0 1
+ids-more marks i lt = let next : i + 1 ≡ suc i = omega arith in ap (live_ids marks) next ∙ ids-suc marks i lt
+
+pub ids-dead : (marks : List Bool) (i : ℕ) → i < length marks → get_or marks i false ≡ true → live_ids marks (i + 1) ≡ live_ids marks i + 0
+ids-dead marks i lt dead = ids-more marks i lt ∙ ap (λ (b : Bool). live_ids marks i + cond b 0 1) dead
+
+pub ids-live : (marks : List Bool) (i : ℕ) → i < length marks → get_or marks i false ≡ false → live_ids marks (i + 1) ≡ live_ids marks i + 1
+ids-live marks i lt live = ids-more marks i lt ∙ ap (λ (b : Bool). live_ids marks i + cond b 0 1) live
+
+-- ---- documents
+
+-- one document more
+more : (docs : List Document) (marks : List Bool) (i : ℕ) → i < length docs → length marks ≡ length docs
+    → unmarked (take (suc i) docs) marks ≡ unmarked (take i docs) marks ++ cond (get_or marks i false) [] (document_at docs i ∷ [])
+more [] marks i lt h = absurd (omega (arith, lt))
+more (d ∷ docs) [] i lt h = absurd (omega (arith, h))
+more (d ∷ docs) (true ∷ marks) zero lt h = refl
+more (d ∷ docs) (false ∷ marks) zero lt h = refl
+more (d ∷ docs) (true ∷ marks) (suc i) lt h = more docs marks i (omega (arith, lt)) (omega (arith, h))
+more (d ∷ docs) (false ∷ marks) (suc i) lt h = ap (λ (ds : List Document). d ∷ ds) (more docs marks i (omega (arith, lt)) (omega (arith, h)))
+
+unmarked-more : (docs : List Document) (marks : List Bool) (i : ℕ) → i < length docs → length marks ≡ length docs
+    → unmarked (take (i + 1) docs) marks ≡ unmarked (take i docs) marks ++ cond (get_or marks i false) [] (document_at docs i ∷ [])
+unmarked-more docs marks i lt h =
+    let next : i + 1 ≡ suc i = omega arith in
+    ap (λ n. unmarked (take n docs) marks) next ∙ more docs marks i lt h
+
+-- as many as there are ids
+pub unmarked-ids : {A : Type 0} (xs : List A) (marks : List Bool) (i : ℕ) → length marks ≡ length xs → length (unmarked (take i xs) marks) ≡ live_ids marks i
+unmarked-ids xs marks zero h = refl
+unmarked-ids [] [] (suc i) h = refl
+unmarked-ids [] (m ∷ marks) (suc i) h = absurd (omega (arith, h))
+unmarked-ids (x ∷ xs) [] (suc i) h = absurd (omega (arith, h))
+unmarked-ids (x ∷ xs) (true ∷ marks) (suc i) h = unmarked-ids xs marks i (omega (arith, h))
+unmarked-ids (x ∷ xs) (false ∷ marks) (suc i) h = ap suc (unmarked-ids xs marks i (omega (arith, h)))
+
+module _ (kind : RuleKind) (priors : List Prior) (filters : List FilterTree) (network : NetworkTree) where
+  -- ---- documents behind others
+
+  pub Advances-same : (old : List Document) (few : Few Row) → Advances kind priors filters network old old few few
+  Advances-same old few = record { step = λ before most h. h }
+
+  pub Advances-then : (old mid new : List Document) (few then next : Few Row) → Advances kind priors filters network old mid few then → Advances kind priors filters network mid new then next
+      → Advances kind priors filters network old new few next
+  Advances-then old mid new few held next first second = record { step = λ before most h. second.step before most (first.step before most h) }
+
+  module _ (docs : List Document) (marks : List Bool) (i : ℕ) (few : Few Row) where
+    -- a dead document
+    pub Advances-dead : i < length docs → length marks ≡ length docs → get_or marks i false ≡ true
+        → Advances kind priors filters network (unmarked (take i docs) marks) (unmarked (take (i + 1) docs) marks) few few
+    Advances-dead lt whole dead =
+        let same : unmarked (take (i + 1) docs) marks ≡ unmarked (take i docs) marks =
+        unmarked-more docs marks i lt whole ∙ ap (λ (b : Bool). unmarked (take i docs) marks ++ cond b [] (document_at docs i ∷ [])) dead ∙ append-nil (unmarked (take i docs) marks) in
+        record { step = λ before most h. subst (λ (ds : List Document). HoldsFirst kind priors filters network (before ++ ds) most few) (sym same) h }
+
+    -- a live document whose candidates are held with those of any documents before it
+    pub Advances-live : (next : Few Row) → i < length docs → length marks ≡ length docs → get_or marks i false ≡ false
+        → ((before : List Document) (most : ℕ) → HoldsFirst kind priors filters network before most few → HoldsFirst kind priors filters network (before ++ document_at docs i ∷ []) most next)
+        → Advances kind priors filters network (unmarked (take i docs) marks) (unmarked (take (i + 1) docs) marks) few next
+    Advances-live next lt whole live one =
+        let d : List Document = document_at docs i ∷ [] in
+        let seen : List Document = unmarked (take i docs) marks in
+        let same : unmarked (take (i + 1) docs) marks ≡ seen ++ d = unmarked-more docs marks i lt whole ∙ ap (λ (b : Bool). seen ++ cond b [] d) live in
+        record {
+          step = λ before most h.
+              let here : (before ++ seen) ++ d ≡ before ++ unmarked (take (i + 1) docs) marks = append_assoc before seen d ∙ ap (λ (ds : List Document). before ++ ds) (sym same) in
+              subst (λ (ds : List Document). HoldsFirst kind priors filters network ds most next) here (one (before ++ seen) most h);
+        }
+
+    -- a live document that has nothing to show
+    pub Advances-unseen : i < length docs → length marks ≡ length docs → get_or marks i false ≡ false → query_may filters network.leaves (document_at docs i) ≡ false
+        → Advances kind priors filters network (unmarked (take i docs) marks) (unmarked (take (i + 1) docs) marks) few few
+    Advances-unseen lt whole live none =
+        Advances-live few lt whole live (λ before most h. HoldsFirst-skipped kind priors filters network before (document_at docs i) most few none h)
+
+-- by what was read, and what the priors told, before
+pub Advances-read : (kind : RuleKind) (told priors : List Prior) (filters : List FilterTree) (network : NetworkTree) (read docs : List Document) (marks : List Bool) (i j : ℕ) (few next : Few Row) → told ≡ priors → read ≡ docs
+    → Advances kind told filters network (unmarked (take i read) marks) (unmarked (take j read) marks) few next → Advances kind priors filters network (unmarked (take i docs) marks) (unmarked (take j docs) marks) few next
+Advances-read kind told priors filters network read docs marks i j few next stay same h =
+    subst (λ (ds : List Document). Advances kind priors filters network (unmarked (take i ds) marks) (unmarked (take j ds) marks) few next) same
+    (subst (λ (ps : List Prior). Advances kind ps filters network (unmarked (take i read) marks) (unmarked (take j read) marks) few next) stay h)

@@ -1,0 +1,42 @@
+use Rattle.std.proofs.Common.{◌≡◌, ◌≤◌, ◌+◌, None, length, map, min, sym, ap, ◌∙◌, arith}
+use Rattle.ri_base.specs.Query.{filter_tree}
+use Rattle.belief_nodes.specs.Network.{network_tree}
+use Rattle.disk_index.specs.Snapshots.{live}
+use Rattle.ranker.specs.Passed.{passed}
+use Rattle.ranker.proofs.HeldLemmas.{IsHeld-on, ended-credit}
+use Rattle.ranker.proofs.PlaceLemmas.{credit-le}
+use Rattle.ranker.proofs.advance.advance.Goals as goal
+
+pub returns-in_default-clause-credit : goal.returns-in_default-clause-credit
+returns-in_default-clause-credit g c =
+    let at = c.args.at.now in
+    let whole : c.args.count ≡ length (live None c.args.parts.now) = c.requires.count None in
+    let below : at.credit ≤ length (live None c.args.parts.now) = credit-le None c.args.parts.now at c.requires.place in
+    let few : at.credit ≤ c.args.count = omega (arith, whole, below) in
+    let all : at.credit ≡ c.args.count = ended-credit c.args.held.now c.in_default.field-0 at.credit c.args.count c.in_default.is c.requires.open few in
+    omega (arith, all)
+
+pub returns-then-at-count-clause-credit : goal.returns-then-at-count-clause-credit
+returns-then-at-count-clause-credit g c = c.in_ok-pass_parts.ensures.credit None ∙ ap (min (c.args.at.now.credit + c.args.docs)) (sym (c.requires.count None))
+
+pub returns-clause-credit : goal.returns-clause-credit
+returns-clause-credit g c = c.in_ok-pass_parts.ensures.credit None ∙ ap (min (c.args.at.now.credit + c.args.docs)) (sym (c.requires.count None))
+
+pub returns-then-at-count-clause-taken : goal.returns-then-at-count-clause-taken
+returns-then-at-count-clause-taken g c = λ backed cached most h.
+    let told = g.T.Store.files c.args.store.now in
+    let parts = c.args.parts.now in
+    IsHeld-on c.args.rule.now.kind (map (λ b. (goal.BeliefNode-dyn g (b.vtable, b.value)).meaning b.value) c.args.plugs.now) (map filter_tree c.args.filters.now) (network_tree c.args.network.now) (passed told parts c.args.at.now) (passed told parts c.pass_parts.new.at) most
+    c.args.held.now c.in-Open.first c.pass_parts.new.first c.in-Open.is (c.in_ok-pass_parts.ensures.first backed cached) h
+
+pub returns-clause-taken : goal.returns-clause-taken
+returns-clause-taken g c = λ backed cached most h.
+    let told = g.T.Store.files c.args.store.now in
+    let parts = c.args.parts.now in
+    let kind = c.args.rule.now.kind in
+    let priors = map (λ b. (goal.BeliefNode-dyn g (b.vtable, b.value)).meaning b.value) c.args.plugs.now in
+    let filters = map filter_tree c.args.filters.now in
+    let network = network_tree c.args.network.now in
+    c.in_ok-end.ensures.held kind priors filters network (passed told parts c.pass_parts.new.at) most
+    (IsHeld-on kind priors filters network (passed told parts c.args.at.now) (passed told parts c.pass_parts.new.at) most
+    c.args.held.now c.in-Open.first c.pass_parts.new.first c.in-Open.is (c.in_ok-pass_parts.ensures.first backed cached) h)

@@ -1,0 +1,56 @@
+use Rattle.std.proofs.Common.{map, take, refl, ◌∙◌, arith}
+use Rattle.ri_base.specs.Query.{filter_tree}
+use Rattle.belief_nodes.specs.Network.{network_tree}
+use Rattle.disk_index.specs.Snapshots.{unmarked}
+use Rattle.extent_lists.proofs.KeepsLemmas.{Keeps-then}
+use Rattle.ranker.proofs.PassedLemmas.{Advances-read, Advances-same, Advances-then}
+use Rattle.ranker.proofs.parts.pass_part.Goals as goal
+
+pub loop-at-init : goal.loop-at-init
+loop-at-init g c = record {
+  keeps = record { documents_stay = refl; no_fault_lost = omega arith; sound_stays = λ u. u; stays_quiet = g.met.P.Postings.quiet_same _ };
+  stay = refl;
+  so_far = λ sound. Advances-same _ _ _ _ _ _;
+  ids = omega arith;
+  inside = omega (arith, c.requires.id, c.docs-size.ensures);
+  few = omega arith;
+}
+
+pub loop-at-preserved : goal.loop-at-preserved
+loop-at-preserved g c =
+    let kind = c.args.rule.now.kind in
+    let priors = map (λ b. (goal.BeliefNode-dyn g (b.vtable, b.value)).meaning b.value) c.args.plugs.now in
+    let filters = map filter_tree c.args.filters.now in
+    let network = network_tree c.args.network.now in
+    let docs = g.P.Postings.documents c.args.part.now in
+    let read = g.P.Postings.documents c.loop-at.part in
+    let marks = c.args.marks.now in
+    let at = c.loop-at.at in
+    let to = c.in_ok-to.to in
+    let keeps = c.loop-at.invariant.keeps in
+    let passed = c.in_ok-to.ensures.passed in
+    record {
+      keeps = Keeps-then _ _ _ _ g.met.P.Postings.quiet_then _ _ _ keeps c.pass_range.ensures.keeps;
+      stay = c.pass_range.ensures.stay ∙ c.loop-at.invariant.stay;
+      so_far = λ sound.
+          Advances-then kind priors filters network (unmarked (take c.args.id docs) marks) (unmarked (take at docs) marks) (unmarked (take to.id docs) marks) c.args.first.now c.loop-at.first c.pass_range.new.first
+          (c.loop-at.invariant.so_far sound)
+          (Advances-read kind _ priors filters network read docs marks at to.id c.loop-at.first c.pass_range.new.first c.loop-at.invariant.stay keeps.documents_stay (c.in_ok-to.ensures.first (keeps.sound_stays sound)));
+      ids = omega (arith, c.loop-at.invariant.ids, passed.docs);
+      inside = omega (arith, passed.inside, c.requires.marks, c.docs-size.ensures);
+      few = omega (arith, c.loop-at.invariant.few, passed.few);
+    }
+
+pub returns-after-loop-at-clause-passed : goal.returns-after-loop-at-clause-passed
+returns-after-loop-at-clause-passed g c = record {
+  inside = omega (arith, c.loop-at.invariant.inside, c.docs-size.ensures, c.requires.marks);
+  docs = c.loop-at.invariant.ids;
+  few = c.loop-at.invariant.few;
+}
+
+pub returns-else-docs-most-clause-passed : goal.returns-else-docs-most-clause-passed
+returns-else-docs-most-clause-passed g c = record {
+  inside = omega (arith, c.loop-at.invariant.inside, c.docs-size.ensures, c.requires.marks);
+  docs = c.loop-at.invariant.ids;
+  few = c.loop-at.invariant.few;
+}

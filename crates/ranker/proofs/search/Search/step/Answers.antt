@@ -1,0 +1,14 @@
+use Rattle.std.proofs.Common.{None, nat_lt, ap, refl, sym, ◌∙◌}
+use Rattle.ranker.proofs.search.Search.step.Goals as goal
+
+pub advance-requires-clause-open : goal.advance-requires-clause-open
+advance-requires-clause-open g c = c.args.self.now.open c.requires.usable None ∙ ap (nat_lt c.args.self.now.at.credit) (sym (c.from-live.ensures ∙ c.live_count.ensures None))
+
+pub returns-in_err-advance-clause-same : goal.returns-in_err-advance-clause-same
+returns-in_err-advance-clause-same g c = record { snapshot = refl; checked = refl; network = refl; most = refl }
+
+pub returns-clause-same : goal.returns-clause-same
+returns-clause-same g c = record { snapshot = refl; checked = refl; network = refl; most = refl }
+
+pub returns-clause-taken : goal.returns-clause-taken
+returns-clause-taken g c = λ backed cached h. (rw c.deref.ensures.value at (rw c.parts.ensures.parts at c.in_ok-advance.ensures.taken)) backed cached c.args.self.now.most h

@@ -1,0 +1,75 @@
+use Rattle.std.proofs.Common.{Contains, map, ap, sym, subst, ◌∙◌, arith}
+use Rattle.std.proofs.lemmas.List.Elements.{All-contains, Contains-get_or}
+use Rattle.std.proofs.lemmas.Result.{err_from_is_err_and}
+use Rattle.ri_base.specs.Query.{filter_tree}
+use Rattle.belief_nodes.specs.Network.{network_tree}
+use Rattle.disk_index.specs.Parts.{IsPartBacked, size}
+use Rattle.disk_index.specs.Snapshots.{Marked}
+use Rattle.ranker.specs.First.{Advances}
+use Rattle.ranker.specs.Passed.{IsPlace, behind, passed}
+use Rattle.ranker.specs.declared.place.Place.{Place}
+use Rattle.ranker.proofs.PlaceLemmas.{Advances-place, IsPlace-behind, blocks-among, credit-behind, credit-few, part-behind, part-is}
+use Rattle.ranker.proofs.snapshots.pass_next.Goals as goal
+
+pub pass_marked-requires-clause-id : goal.pass_marked-requires-clause-id
+pass_marked-requires-clause-id g c =
+    let is = part-is c.args.parts.now c.args.at.now.part c.index-parts-at.result c.requires.some c.index-parts-at.is in
+    let inside = c.requires.place.id in
+    omega (arith, inside, ap (λ (m : Marked). size m.source) is)
+
+pub place_behind-requires-clause-credit : goal.place_behind-requires-clause-credit
+place_behind-requires-clause-credit g c =
+    let parts = c.args.parts.now in
+    let at = c.args.at.now in
+    let to = c.in_ok-to.to in
+    let is = part-is parts at.part c.index-parts-at.result c.requires.some c.index-parts-at.is in
+    let next = IsPlace-behind parts at to c.args.most c.index-parts-at.result is c.requires.some c.pass_marked.ensures.whole c.in_ok-to.ensures.passed c.in_ok-to.ensures.end c.requires.place in
+    let few = credit-few parts (behind at to c.args.most) c.requires.few next in
+    omega (arith, few, credit-behind at to c.args.most)
+
+pub returns-clause-first : goal.returns-clause-first
+returns-clause-first g c = λ backed cached.
+    let told = g.T.Store.files c.args.store.now in
+    let parts = c.args.parts.now in
+    let at = c.args.at.now in
+    let to = c.in_ok-to.to in
+    let m = c.index-parts-at.result in
+    let priors = map (λ b. (goal.BeliefNode-dyn g (b.vtable, b.value)).meaning b.value) c.args.plugs.now in
+    let is = part-is parts at.part m c.requires.some c.index-parts-at.is in
+    let there : Contains parts m = subst (Contains parts) (sym c.index-parts-at.is) (Contains-get_or parts at.part m c.requires.some) in
+    let own : IsPartBacked told m.source = All-contains (λ (p : Marked). IsPartBacked told p.source) parts m backed there in
+    let kind = c.args.rule.now.kind in
+    let filters = map filter_tree c.args.filters.now in
+    let network = network_tree c.args.network.now in
+    subst (λ (p : Place). Advances kind priors filters network (passed told parts at) (passed told parts p) c.args.first.now c.pass_marked.new.first) (sym c.place_behind.ensures)
+    (Advances-place parts at to c.args.most kind priors filters network told c.args.first.now c.pass_marked.new.first m is c.requires.some c.in_ok-to.ensures.end (c.in_ok-to.ensures.first own cached))
+
+pub returns-clause-place : goal.returns-clause-place
+returns-clause-place g c =
+    let parts = c.args.parts.now in
+    let at = c.args.at.now in
+    let is = part-is parts at.part c.index-parts-at.result c.requires.some c.index-parts-at.is in
+    subst (λ (p : Place). IsPlace parts p) (sym c.place_behind.ensures)
+    (IsPlace-behind parts at c.in_ok-to.to c.args.most c.index-parts-at.result is c.requires.some c.pass_marked.ensures.whole c.in_ok-to.ensures.passed c.in_ok-to.ensures.end c.requires.place)
+
+pub returns-clause-docs : goal.returns-clause-docs
+returns-clause-docs g c = let few = c.in_ok-to.ensures.passed.few in (ap (λ (p : Place). p.credit) c.place_behind.ensures ∙ credit-behind c.args.at.now c.in_ok-to.to c.args.most, omega (arith, few))
+
+pub returns-clause-next : goal.returns-clause-next
+returns-clause-next g c = ap (λ (p : Place). p.part) c.place_behind.ensures ∙ part-behind c.args.at.now c.in_ok-to.to c.args.most
+
+pub returns-clause-cache : goal.returns-clause-cache
+returns-clause-cache g c = blocks-among (g.T.Store.files c.args.store.now) c.args.parts.now c.args.at.now.part c.index-parts-at.result c.args.cache.now c.pass_marked.new.cache c.requires.some c.index-parts-at.is c.pass_marked.ensures.cache
+
+pub returns-in_err-to-clause-cache : goal.returns-in_err-to-clause-cache
+returns-in_err-to-clause-cache g c = blocks-among (g.T.Store.files c.args.store.now) c.args.parts.now c.args.at.now.part c.index-parts-at.result c.args.cache.now c.pass_marked.new.cache c.requires.some c.index-parts-at.is c.pass_marked.ensures.cache
+
+pub returns-in_err-to-clause-honest : goal.returns-in_err-to-clause-honest
+returns-in_err-to-clause-honest g c = λ backed cached.
+    let told = g.T.Store.files c.args.store.now in
+    let parts = c.args.parts.now in
+    let m = c.index-parts-at.result in
+    let there : Contains parts m = subst (Contains parts) (sym c.index-parts-at.is) (Contains-get_or parts c.args.at.now.part m c.requires.some) in
+    let own : IsPartBacked told m.source = All-contains (λ (p : Marked). IsPartBacked told p.source) parts m backed there in
+    let p = err_from_is_err_and c.from_residual.result c.from_residual.ensures.1 in
+    rw (p.1, p.2) (c.in_err-to.ensures.honest own cached)

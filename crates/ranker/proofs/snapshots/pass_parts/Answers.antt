@@ -1,0 +1,71 @@
+use Rattle.std.proofs.Common.{◌≡◌, Option, map, refl, subst, sym, ◌∙◌, arith}
+use Rattle.std.proofs.lemmas.Result.{err_from_is_err_and}
+use Rattle.ri_base.specs.Query.{filter_tree}
+use Rattle.store_ends.specs.Files.{Files}
+use Rattle.belief_nodes.specs.Network.{network_tree}
+use Rattle.disk_index.specs.Cache.{IsCacheBacked}
+use Rattle.disk_index.specs.QuietLaws.{CacheKeeps-after, CacheKeeps-same, IsCacheBacked-kept, IsQuiet-same, IsQuiet-then}
+use Rattle.disk_index.specs.Snapshots.{AreBacked, IsFileAmong}
+use Rattle.ranker.specs.Passed.{passed}
+use Rattle.ranker.proofs.PassedLemmas.{Advances-same, Advances-then}
+use Rattle.ranker.proofs.PlaceLemmas.{Advances-later, credit-min}
+use Rattle.ranker.proofs.snapshots.pass_parts.Goals as goal
+
+pub loop-left-init : goal.loop-left-init
+loop-left-init g c = record {
+  stay = refl;
+  so_far = λ backed cached. Advances-same _ _ _ _ _ _;
+  place = c.requires.place;
+  credit = refl;
+  cache = CacheKeeps-same (g.T.Store.files c.args.store.now) (IsFileAmong c.args.parts.now) c.args.cache.now;
+  quiet = IsQuiet-same g.T.Store.files g.T.Store.layers g.T.Store.clock g.T.Store.since g.T.Store.longest g.T.Store.held g.T.Store.faults c.args.store.now;
+  later = omega arith;
+}
+
+pub loop-left-preserved : goal.loop-left-preserved
+loop-left-preserved g c =
+    let told = g.T.Store.files c.args.store.now in
+    let here = g.T.Store.files c.loop-left.store in
+    let kind = c.args.rule.now.kind in
+    let priors = map (λ b. (goal.BeliefNode-dyn g (b.vtable, b.value)).meaning b.value) c.args.plugs.now in
+    let filters = map filter_tree c.args.filters.now in
+    let network = network_tree c.args.network.now in
+    let parts = c.args.parts.now in
+    let inv = c.loop-left.invariant in
+    let same : here ≡ told = inv.quiet.same_files in
+    let docs = c.in_ok-passed.ensures.docs in
+    record {
+      stay = c.pass_next.ensures.stay ∙ inv.stay;
+      so_far = λ backed cached.
+          let there : AreBacked here parts = subst (λ (f : Option Files). AreBacked f parts) (sym same) backed in
+          let blocks : IsCacheBacked here c.loop-left.cache =
+          subst (λ (f : Option Files). IsCacheBacked f c.loop-left.cache) (sym same) (IsCacheBacked-kept told (IsFileAmong parts) c.args.cache.now c.loop-left.cache inv.cache cached) in
+          Advances-then kind priors filters network (passed told parts c.args.at.now) (passed told parts c.loop-left.at) (passed told parts c.pass_next.new.at) c.args.first.now c.loop-left.first c.pass_next.new.first (inv.so_far backed cached)
+          (Advances-later kind _ priors filters network here told parts c.loop-left.at c.pass_next.new.at c.loop-left.first c.pass_next.new.first inv.stay same (c.in_ok-passed.ensures.first there blocks));
+      place = c.pass_next.ensures.place;
+      credit = omega (arith, docs, inv.credit);
+      cache = CacheKeeps-after told here (IsFileAmong parts) c.args.cache.now c.loop-left.cache c.pass_next.new.cache same inv.cache c.pass_next.ensures.cache;
+      quiet = IsQuiet-then g.T.Store.files g.T.Store.layers g.T.Store.clock g.T.Store.since g.T.Store.longest g.T.Store.held g.T.Store.faults c.args.store.now c.loop-left.store c.pass_next.new.store inv.quiet c.pass_next.ensures.quiet;
+      later = omega (arith, inv.later, c.pass_next.ensures.later);
+    }
+
+pub returns-in_err-passed-clause-honest : goal.returns-in_err-passed-clause-honest
+returns-in_err-passed-clause-honest g c = λ backed cached.
+    let told = g.T.Store.files c.args.store.now in
+    let here = g.T.Store.files c.loop-left.store in
+    let parts = c.args.parts.now in
+    let inv = c.loop-left.invariant in
+    let same : here ≡ told = inv.quiet.same_files in
+    let there : AreBacked here parts = subst (λ (f : Option Files). AreBacked f parts) (sym same) backed in
+    let blocks : IsCacheBacked here c.loop-left.cache =
+    subst (λ (f : Option Files). IsCacheBacked f c.loop-left.cache) (sym same) (IsCacheBacked-kept told (IsFileAmong parts) c.args.cache.now c.loop-left.cache inv.cache cached) in
+    let p = err_from_is_err_and c.from_residual.result c.from_residual.ensures.1 in
+    rw (p.1, p.2) (c.in_err-passed.ensures.honest there blocks)
+
+pub returns-in_err-passed-clause-cache : goal.returns-in_err-passed-clause-cache
+returns-in_err-passed-clause-cache g c =
+    CacheKeeps-after (g.T.Store.files c.args.store.now) (g.T.Store.files c.loop-left.store) (IsFileAmong c.args.parts.now) c.args.cache.now c.loop-left.cache c.pass_next.new.cache c.loop-left.invariant.quiet.same_files c.loop-left.invariant.cache c.pass_next.ensures.cache
+
+pub returns-after-loop-left-clause-credit : goal.returns-after-loop-left-clause-credit
+returns-after-loop-left-clause-credit g c = λ told.
+    credit-min told c.args.parts.now c.loop-left.at c.args.at.now.credit c.args.docs c.loop-left.left c.loop-left.invariant.place c.loop-left.invariant.credit (λ some inside. omega (arith, c.loop-left-test.false, some))

@@ -1,0 +1,24 @@
+use Rattle.std.proofs.Common.{◌≡◌, ◌≤◌, ◌+◌, ◌-◌, length, map, min}
+use Rattle.ri_base.specs.Query.{filter_tree}
+use Rattle.store_ends.specs.Files.{IsQuiet}
+use Rattle.belief_nodes.specs.Network.{network_tree}
+use Rattle.disk_index.specs.Cache.{CacheKeeps, IsCacheBacked}
+use Rattle.disk_index.specs.Snapshots.{AreBacked, IsFileAmong}
+use Rattle.ranker.specs.First.{Advances}
+use Rattle.ranker.specs.Passed.{IsPlace, passed}
+use Rattle.ranker.proofs.snapshots.pass_parts.Given as goal
+
+abbrev pub invariant-loop-left : goal.invariant-loop-left
+invariant-loop-left g l = record {
+  stay : map (λ b. (goal.BeliefNode-dyn g (b.vtable, b.value)).meaning b.value) l.plugs ≡ map (λ b. (goal.BeliefNode-dyn g (b.vtable, b.value)).meaning b.value) l.fn.plugs;
+  so_far : AreBacked (g.T.Store.files l.fn.store) l.parts → IsCacheBacked (g.T.Store.files l.fn.store) l.fn.cache
+      → Advances l.rule.kind (map (λ b. (goal.BeliefNode-dyn g (b.vtable, b.value)).meaning b.value) l.fn.plugs) (map filter_tree l.filters) (network_tree l.network) (passed (g.T.Store.files l.fn.store) l.parts l.fn.at) (passed (g.T.Store.files l.fn.store) l.parts l.at) l.fn.first l.first;
+  place : IsPlace l.parts l.at;
+  credit : l.at.credit + l.left ≡ l.fn.at.credit + l.docs;
+  cache : CacheKeeps (g.T.Store.files l.fn.store) (IsFileAmong l.parts) l.fn.cache l.cache;
+  quiet : IsQuiet g.T.Store.files g.T.Store.layers g.T.Store.clock g.T.Store.since g.T.Store.longest g.T.Store.held l.fn.store l.store;
+  later : g.T.Store.faults l.fn.store ≤ g.T.Store.faults l.store;
+}
+
+abbrev pub decreases-loop-left : goal.decreases-loop-left
+decreases-loop-left g l = length l.parts - l.at.part + min l.left 1

@@ -1,0 +1,5 @@
+pub mod First
+pub mod Held
+pub mod Passed
+pub mod Ranking
+pub mod Searches

@@ -1,0 +1,43 @@
+-- How far a search has come.
+use Rattle.std.specs.Prelude.{◌≡◌, ◌≤◌, ◌+◌, if◌then◌else◌, nat_lt, ℕ, zero, suc, Bool, true, false, List, [], ◌∷◌, ◌++◌, Option, length, take, slice_index_or}
+use Rattle.ri_base.specs.Documents.{Document}
+use Rattle.store_ends.specs.Files.{Files}
+use Rattle.disk_index.specs.Parts.{InMemory, reads, size}
+use Rattle.disk_index.specs.Snapshots.{Marked, live, unmarked}
+use Rattle.ranker.specs.declared.place.Passed.{Passed}
+use Rattle.ranker.specs.declared.place.Place.{Place}
+
+-- how many of the ids before this one aren't marked
+abbrev pub live_ids : List Bool → ℕ → ℕ
+live_ids marks zero = 0
+live_ids [] (suc i) = 0
+live_ids (true ∷ marks) (suc i) = live_ids marks i
+live_ids (false ∷ marks) (suc i) = suc (live_ids marks i)
+
+-- from an id on at most so many live documents of a part were passed, and all dead ones among them
+pub record IsPassed (marks : List Bool) (id most : ℕ) (to : Passed) : Type 0 where
+  pub inside : to.id ≤ length marks
+  pub docs : live_ids marks to.id ≡ live_ids marks id + to.docs
+  pub few : to.docs ≤ most
+
+-- the live documents of a part before an id
+abbrev pub live_before : Option Files → Marked → ℕ → List Document
+live_before told m id = unmarked (take id (reads told m.source)) m.marks
+
+-- the part of a number; behind the last one stands one without documents
+abbrev pub part_at : List Marked → ℕ → Marked
+part_at parts part = slice_index_or parts part (record { source = InMemory []; marks = [] })
+
+-- the live documents before a place: those of the parts before its part, and in this part those before its id
+abbrev pub passed : Option Files → List Marked → Place → List Document
+passed told parts at = live told (take at.part parts) ++ live_before told (part_at parts at.part) at.id
+
+-- a place in these parts, and how many live documents stand before it
+pub record IsPlace (parts : List Marked) (at : Place) : Type 0 where
+  pub part : at.part ≤ length parts
+  pub id : at.id ≤ size (part_at parts at.part).source
+  pub credit : (told : Option Files) → at.credit ≡ length (passed told parts at)
+
+-- the place behind documents of its part: the next part begins where they are fewer than were asked for
+abbrev pub behind : Place → Passed → ℕ → Place
+behind at to most = if nat_lt to.docs most then record { part = at.part + 1; id = 0; credit = at.credit + to.docs } else record { part = at.part; id = to.id; credit = at.credit + to.docs }

@@ -1,0 +1,37 @@
+-- What a search keeps between its steps.
+use Rattle.std.specs.Prelude.{◌≡◌, List, Option, map}
+use Rattle.ri_base.specs.Documents.{Document}
+use Rattle.ri_base.specs.Query.{FilterTree, filter_tree}
+use Rattle.ri_base.specs.declared.hit.Hit.{Hit}
+use Rattle.store_ends.specs.Files.{Files}
+use Rattle.smoothing.specs.declared.rule.RuleKind.{RuleKind}
+use Rattle.query_check.specs.Answers.{whole_checked}
+use Rattle.belief_nodes.specs.Network.{network_tree}
+use Rattle.belief_nodes.specs.Priors.{Prior}
+use Rattle.disk_index.specs.Snapshots.{live}
+use Rattle.ranker.specs.Held.{IsHeld}
+use Rattle.ranker.specs.Passed.{passed}
+use Rattle.ranker.specs.Ranking.{IsAnswerBy}
+use Rattle.ranker.specs.declared.search.Search.{Search}
+
+-- the documents of its snapshot, as they read by these files
+abbrev pub searched : Option Files → Search → List Document
+searched told s = live told s.snapshot
+
+abbrev pub filters_of : Search → List FilterTree
+filters_of s = map filter_tree s.checked.filters.items
+
+-- What it has taken so far is that of the documents that it passed, as they read by these files.
+abbrev pub IsTaken : RuleKind → List Prior → Option Files → Search → Type 0
+IsTaken kind priors told s = IsHeld kind priors (filters_of s) (network_tree s.network) (passed told s.snapshot s.at) s.most s.held
+
+-- the answer of the search over these documents
+abbrev pub IsAnswerOf : RuleKind → List Prior → Search → List Document → List Hit → Type 0
+IsAnswerOf kind priors s docs hits = IsAnswerBy kind priors (filters_of s) (network_tree s.network) docs s.most hits
+
+-- a step changes nothing of what is searched for
+pub record IsSameSearch (old new : Search) : Type 0 where
+  pub snapshot : new.snapshot ≡ old.snapshot
+  pub checked : whole_checked new.checked ≡ whole_checked old.checked
+  pub network : network_tree new.network ≡ network_tree old.network
+  pub most : new.most ≡ old.most

@@ -1,0 +1,87 @@
+// A step of what a search holds.
+ghost use Rattle.std.specs.Prelude.{◌≡◌, ◌<◌, ◌≤◌, ◌+◌, Option, true, length, map, min, nat_lt, All, Err, IfErr, OnOk, ℕ, List, []};
+ghost use Rattle.ri_base.specs.Faults.{IsOutside};
+ghost use Rattle.ri_base.specs.Keeps.{Rose};
+ghost use Rattle.ri_base.specs.Query.{FilterTree, filter_tree, is_range};
+ghost use Rattle.store_ends.specs.Files.{Files, IsQuiet};
+ghost use Rattle.smoothing.specs.Fractions.{Computes};
+ghost use Rattle.smoothing.specs.declared.rule.RuleKind.{RuleKind};
+ghost use Rattle.belief_nodes.specs.Leaves.{HasPrior};
+ghost use Rattle.belief_nodes.specs.Network.{NetworkTree, network_tree};
+ghost use Rattle.belief_nodes.specs.Priors.{Prior};
+ghost use Rattle.disk_index.specs.Cache.{CacheKeeps, IsCacheBacked};
+ghost use Rattle.disk_index.specs.Snapshots.{AreBacked, IsFileAmong, IsSnapshot, live};
+ghost use Rattle.ranker.specs.Held.{IsHeld, is_open};
+ghost use Rattle.ranker.specs.Passed.{IsPlace, passed};
+
+use crate::held::Held;
+use crate::place::Place;
+use crate::snapshots::pass_parts;
+use belief_nodes::{BeliefNode, Network};
+use disk_index::{BlockCache, MarkedPart};
+use document_scoring::Row;
+use first_few::FirstFew;
+use ri_base::{Filter, Fraction, Hits, SegFault};
+use smoothing::Rule;
+use std::alloc::Global;
+use store_ends::Store;
+
+/// Passes so many live documents of the parts, which have so many, or all that are left where these are fewer. Where none is left the
+/// first of the candidates become the results.
+pub fn advance<T: Store, F: Fn(u32, u32, u64, u64) -> Fraction>(
+    alloc: Global,
+    docs: u64,
+    count: u64,
+    filters: &[Filter],
+    network: &Network,
+    rule: &Rule<F>,
+    plugs: &mut [Box<dyn BeliefNode>],
+    parts: &[MarkedPart],
+    store: &mut T,
+    cache: &mut BlockCache,
+    at: &mut Place,
+    held: &mut Held,
+) -> Result<(), SegFault>
+    requires rule { Computes F.pre F.post rule.now.kind rule.now.f }
+    requires shown { is_range (network_tree network.now).range ≡ true }
+    requires plugs { All (HasPrior (length plugs.old)) (network_tree network.now).leaves }
+    requires few { IsSnapshot parts.now }
+    requires place { IsPlace parts.now at.old }
+    requires count { (told : Option Files) → count ≡ length (live told parts.now) }
+    requires open { is_open held.old ≡ nat_lt at.old.credit count }
+    ensures taken { AreBacked (T.files store.old) parts.now → IsCacheBacked (T.files store.old) cache.old → OnOk result ((most : ℕ)
+        → IsHeld rule.now.kind (map (λ plug. meaning plug) plugs.old) (map filter_tree filters.now) (network_tree network.now) (passed (T.files store.old) parts.now at.old) most held.old
+        → IsHeld rule.now.kind (map (λ plug. meaning plug) plugs.old) (map filter_tree filters.now) (network_tree network.now) (passed (T.files store.old) parts.now at.new) most held.new) }
+    ensures open { OnOk result (is_open held.new ≡ nat_lt at.new.credit count) }
+    ensures place { IsPlace parts.now at.new }
+    ensures credit { OnOk result (at.new.credit ≡ min (at.old.credit + docs) count) }
+    ensures stay { map (λ plug. meaning plug) plugs.new ≡ map (λ plug. meaning plug) plugs.old }
+    ensures honest { AreBacked (T.files store.old) parts.now → IsCacheBacked (T.files store.old) cache.old → IfErr result IsOutside }
+    ensures cache { CacheKeeps (T.files store.old) (IsFileAmong parts.now) cache.old cache.new }
+    ensures quiet { IsQuiet T.files T.layers T.clock T.since T.longest T.held store.old store.new }
+    ensures later { T.faults store.old ≤ T.faults store.new }
+    ensures store { result ≡ Err SegFault.Store → Rose (T.faults store.old) (T.faults store.new) }
+{
+    let Held::Open(first) = held else {
+        return Ok(());
+    };
+    pass_parts(
+        alloc, filters, network, rule, plugs, parts, store, cache, at, docs, first,
+    )?;
+    if at.credit < count {
+        return Ok(());
+    }
+    held.end(alloc)?;
+    Ok(())
+}
+
+/// What is held before the first of so many live documents.
+pub fn first_held(alloc: Global, most: usize, count: u32) -> Held
+    ensures open { is_open result ≡ nat_lt 0 count }
+    ensures held { (kind : RuleKind) (priors : List Prior) (filters : List FilterTree) (network : NetworkTree) → IsHeld kind priors filters network [] most result }
+{
+    if count == 0 {
+        return Held::Ended(Hits::of(Vec::new(alloc)));
+    }
+    Held::Open(FirstFew::new(alloc, most))
+}

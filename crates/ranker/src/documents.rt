@@ -1,0 +1,90 @@
+// Documents of a part, one by one.
+ghost use Rattle.std.specs.Prelude.{◌≡◌, ◌<◌, ◌≤◌, ◌+◌, ◌++◌, ◌∷◌, [], ℕ, true, false, List, length, map, take, All, Err, IfErr, IfOk, OnOk};
+ghost use Rattle.ri_base.specs.Collection.{document_at};
+ghost use Rattle.ri_base.specs.Documents.{Document};
+ghost use Rattle.ri_base.specs.Faults.{IsOutside};
+ghost use Rattle.ri_base.specs.Keeps.{Keeps, Rose};
+ghost use Rattle.ri_base.specs.Query.{filter_tree, is_range};
+ghost use Rattle.smoothing.specs.Fractions.{Computes};
+ghost use Rattle.belief_nodes.specs.Leaves.{HasPrior};
+ghost use Rattle.belief_nodes.specs.Network.{network_tree};
+ghost use Rattle.disk_index.specs.Snapshots.{unmarked};
+ghost use Rattle.range_masks.specs.May.{query_may};
+ghost use Rattle.ranker.specs.First.{Advances, HoldsFirst};
+ghost use Rattle.ranker.specs.Passed.{live_ids};
+
+use belief_nodes::{BeliefNode, Network};
+use deletion_list::DelList;
+use document_scoring::{Row, score_document};
+use first_few::FirstFew;
+use ri_base::{Filter, Fraction, Postings, SegFault};
+use smoothing::Rule;
+use std::alloc::Global;
+
+/// Offers the candidates of a document.
+fn offer_document<P: Postings, F: Fn(u32, u32, u64, u64) -> Fraction>(
+    alloc: Global,
+    filters: &[Filter],
+    network: &Network,
+    rule: &Rule<F>,
+    plugs: &mut [Box<dyn BeliefNode>],
+    part: &mut P,
+    id: u32,
+    first: &mut FirstFew<Row>,
+) -> Result<(), SegFault>
+    requires rule { Computes F.pre F.post rule.now.kind rule.now.f }
+    requires id { id < length (P.documents part.old) }
+    requires shown { is_range (network_tree network.now).range ≡ true }
+    requires plugs { All (HasPrior (length plugs.old)) (network_tree network.now).leaves }
+    ensures keeps { Keeps P.documents P.faults P.sound P.quiet part.old part.new }
+    ensures first { P.sound part.old → OnOk result ((docs : List Document) (most : ℕ)
+        → HoldsFirst rule.now.kind (map (λ plug. meaning plug) plugs.old) (map filter_tree filters.now) (network_tree network.now) docs most first.old
+        → HoldsFirst rule.now.kind (map (λ plug. meaning plug) plugs.old) (map filter_tree filters.now) (network_tree network.now) (docs ++ document_at (P.documents part.old) id ∷ []) most first.new) }
+    ensures stay { map (λ plug. meaning plug) plugs.new ≡ map (λ plug. meaning plug) plugs.old }
+    ensures honest { P.sound part.old → IfErr result IsOutside }
+    ensures store { result ≡ Err SegFault.Store → Rose (P.faults part.old) (P.faults part.new) }
+{
+    let mut rows = Vec::new(alloc);
+    score_document(alloc, filters, network, rule, plugs, part, id, &mut rows)?;
+    first.offer_all(&mut rows)?;
+    Ok(())
+}
+
+/// Passes a document of a part with these marks, and answers how many live ones it is: one or none. It is looked at where it is live
+/// and may have candidates.
+pub fn pass_document<P: Postings, F: Fn(u32, u32, u64, u64) -> Fraction>(
+    alloc: Global,
+    filters: &[Filter],
+    network: &Network,
+    rule: &Rule<F>,
+    plugs: &mut [Box<dyn BeliefNode>],
+    part: &mut P,
+    marks: &DelList,
+    may_have: bool,
+    id: u32,
+    first: &mut FirstFew<Row>,
+) -> Result<u64, SegFault>
+    requires rule { Computes F.pre F.post rule.now.kind rule.now.f }
+    requires id { id < length (P.documents part.old) }
+    requires marks { length marks.now ≡ length (P.documents part.old) }
+    requires shown { is_range (network_tree network.now).range ≡ true }
+    requires plugs { All (HasPrior (length plugs.old)) (network_tree network.now).leaves }
+    ensures keeps { Keeps P.documents P.faults P.sound P.quiet part.old part.new }
+    ensures first { P.sound part.old
+        → (may_have ≡ false → query_may (map filter_tree filters.now) (network_tree network.now).leaves (document_at (P.documents part.old) id) ≡ false)
+        → OnOk result (Advances rule.now.kind (map (λ plug. meaning plug) plugs.old) (map filter_tree filters.now) (network_tree network.now) (unmarked (take id (P.documents part.old)) marks.now) (unmarked (take (id + 1) (P.documents part.old)) marks.now) first.old first.new) }
+    ensures docs { IfOk result (λ docs. live_ids marks.now (id + 1) ≡ live_ids marks.now id + docs) }
+    ensures one { IfOk result (λ docs. docs ≤ 1) }
+    ensures stay { map (λ plug. meaning plug) plugs.new ≡ map (λ plug. meaning plug) plugs.old }
+    ensures honest { P.sound part.old → IfErr result IsOutside }
+    ensures store { result ≡ Err SegFault.Store → Rose (P.faults part.old) (P.faults part.new) }
+{
+    if marks.is_marked(id) {
+        return Ok(0);
+    }
+    if !may_have {
+        return Ok(1);
+    }
+    offer_document(alloc, filters, network, rule, plugs, part, id, first)?;
+    Ok(1)
+}

@@ -1,0 +1,18 @@
+//! The ranking of documents: the first of all candidates, and their hits. A search over the documents of a snapshot, in steps.
+#![tactic(auto)]
+
+mod advance;
+mod documents;
+mod held;
+mod hits;
+mod parts;
+mod place;
+mod ranges;
+mod search;
+mod snapshots;
+
+pub use held::Held;
+pub use hits::hits_of;
+pub use place::{Passed, Place};
+pub use ranges::end_of;
+pub use search::Search;

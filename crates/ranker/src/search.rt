@@ -1,0 +1,182 @@
+// A search in steps.
+ghost use Rattle.std.specs.Prelude.{◌≡◌, Option, true, length, nat_lt};
+ghost use Rattle.ri_base.specs.Query.{is_range};
+ghost use Rattle.store_ends.specs.Files.{Files};
+ghost use Rattle.belief_nodes.specs.Network.{network_tree};
+ghost use Rattle.disk_index.specs.Snapshots.{live};
+ghost use Rattle.ranker.specs.Held.{is_open};
+ghost use Rattle.ranker.specs.Passed.{IsPlace};
+
+use crate::advance::{advance, first_held};
+use crate::held::Held;
+use crate::place::Place;
+use belief_nodes::{BeliefNode, Network};
+use disk_index::{BlockCache, Snapshot};
+use query_check::Checked;
+use ri_base::{Fraction, Hits, LeafStats, NoMemory, SegFault};
+use smoothing::Rule;
+use std::alloc::Global;
+use store_ends::Store;
+
+/// A search for the first candidates of the documents of a snapshot. It advances by so many documents as it is asked for. Its credit
+/// is how many live documents it has passed.
+#[derive(Drop)]
+pub struct Search {
+    snapshot: Snapshot,
+    checked: Checked,
+    network: Network,
+    most: usize,
+    at: Place,
+    held: Held,
+    usable: bool,
+    ghost shown: { is_range (network_tree network).range ≡ true },
+    ghost place: { IsPlace snapshot at },
+    ghost open: { usable ≡ true → (told : Option Files) → is_open held ≡ nat_lt at.credit (length (live told snapshot)) },
+}
+
+impl Search {
+    ghost use Rattle.std.specs.Prelude.{◌≤◌, ◌+◌, ◌==◌, map, min, is_ok, is_some, All, Err, IfErr, IfOk, IfSome, OnOk, ℕ, List};
+    ghost use Rattle.ri_base.specs.Faults.{IsOutside};
+    ghost use Rattle.ri_base.specs.Keeps.{Rose};
+    ghost use Rattle.store_ends.specs.Files.{IsQuiet};
+    ghost use Rattle.smoothing.specs.Fractions.{Computes};
+    ghost use Rattle.smoothing.specs.declared.rule.RuleKind.{RuleKind};
+    ghost use Rattle.belief_nodes.specs.Leaves.{AreLeafStats, HasPrior};
+    ghost use Rattle.belief_nodes.specs.Network.{network_of};
+    ghost use Rattle.belief_nodes.specs.Priors.{Prior};
+    ghost use Rattle.disk_index.specs.Cache.{CacheKeeps, IsCacheBacked};
+    ghost use Rattle.disk_index.specs.Snapshots.{AreBacked, IsFileAmong};
+    ghost use Rattle.ranker.specs.Searches.{IsAnswerOf, IsSameSearch, IsTaken, searched};
+
+    /// A search over the documents of a snapshot that has passed none yet, for at most so many results. The statistics are those of
+    /// the query's leaves, in order of their numbers.
+    pub fn new(
+        alloc: Global,
+        snapshot: Snapshot,
+        checked: Checked,
+        stats: &[LeafStats],
+        most: u32,
+    ) -> Result<Search, NoMemory>
+        requires each { length stats.now ≡ length checked.leaves.items }
+        requires counted { All (λ s. AreLeafStats s) stats.now }
+        ensures snapshot { IfOk result (λ s. s.snapshot ≡ snapshot) }
+        ensures checked { IfOk result (λ s. s.checked ≡ checked) }
+        ensures network { IfOk result (λ s. network_tree s.network ≡ network_of checked stats.now) }
+        ensures most { IfOk result (λ s. s.most ≡ most) }
+        ensures credit { IfOk result (λ s. s.at.credit ≡ 0) }
+        ensures usable { IfOk result (λ s. s.usable ≡ true) }
+        ensures taken { IfOk result (λ s. (kind : RuleKind) (priors : List Prior) (told : Option Files) → IsTaken kind priors told s) }
+    {
+        let network = Network::new(alloc, &checked, stats)?;
+        let held = first_held(alloc, most as usize, snapshot.live_count());
+        Ok(Search {
+            snapshot,
+            checked,
+            network,
+            most: most as usize,
+            at: Place {
+                part: 0,
+                id: 0,
+                credit: 0,
+            },
+            held,
+            usable: true,
+        })
+    }
+
+    /// Passes so many live documents, or all that are left where these are fewer, and answers whether all are passed. After an `Err`
+    /// the search isn't usable.
+    pub fn step<T: Store, F: Fn(u32, u32, u64, u64) -> Fraction>(
+        &mut self,
+        alloc: Global,
+        docs: u64,
+        rule: &Rule<F>,
+        plugs: &mut [Box<dyn BeliefNode>],
+        store: &mut T,
+        cache: &mut BlockCache,
+    ) -> Result<bool, SegFault>
+        requires usable { self.old.usable ≡ true }
+        requires rule { Computes F.pre F.post rule.now.kind rule.now.f }
+        requires plugs { All (HasPrior (length plugs.old)) (network_tree self.old.network).leaves }
+        ensures taken { AreBacked (T.files store.old) self.old.snapshot → IsCacheBacked (T.files store.old) cache.old → OnOk result
+            (IsTaken rule.now.kind (map (λ plug. meaning plug) plugs.old) (T.files store.old) self.old
+            → IsTaken rule.now.kind (map (λ plug. meaning plug) plugs.old) (T.files store.old) self.new) }
+        ensures credit { OnOk result ((told : Option Files) → self.new.at.credit ≡ min (self.old.at.credit + docs) (length (searched told self.old))) }
+        ensures done { IfOk result (λ done. (told : Option Files) → done ≡ (self.new.at.credit == length (searched told self.old))) }
+        ensures same { IsSameSearch self.old self.new }
+        ensures usable { self.new.usable ≡ is_ok result }
+        ensures stay { map (λ plug. meaning plug) plugs.new ≡ map (λ plug. meaning plug) plugs.old }
+        ensures honest { AreBacked (T.files store.old) self.old.snapshot → IsCacheBacked (T.files store.old) cache.old → IfErr result IsOutside }
+        ensures cache { CacheKeeps (T.files store.old) (IsFileAmong self.old.snapshot) cache.old cache.new }
+        ensures quiet { IsQuiet T.files T.layers T.clock T.since T.longest T.held store.old store.new }
+        ensures later { T.faults store.old ≤ T.faults store.new }
+        ensures store { result ≡ Err SegFault.Store → Rose (T.faults store.old) (T.faults store.new) }
+    {
+        self.usable = false;
+        let live = u64::from(self.snapshot.live_count());
+        advance(
+            alloc,
+            docs,
+            live,
+            &self.checked.filters,
+            &self.network,
+            rule,
+            plugs,
+            self.snapshot.parts(),
+            store,
+            cache,
+            &mut self.at,
+            &mut self.held,
+        )?;
+        self.usable = true;
+        Ok(self.at.credit == live)
+    }
+
+    /// The first candidates of all documents in their order, once all are passed.
+    pub fn results(&self) -> Option<&Hits>
+        requires usable { self.now.usable ≡ true }
+        ensures some { (told : Option Files) → is_some result ≡ (self.now.at.credit == length (searched told self.now)) }
+        ensures answer { (kind : RuleKind) (priors : List Prior) (told : Option Files) → IsTaken kind priors told self.now
+            → IfSome result (λ hits. IsAnswerOf kind priors self.now (searched told self.now) hits.now) }
+    {
+        match &self.held {
+            Held::Open(_) => None,
+            Held::Ended(hits) => Some(hits),
+        }
+    }
+
+    /// Whether it may be used: not after an `Err` of a step.
+    pub fn usable(&self) -> bool
+        ensures { result ≡ self.now.usable }
+    {
+        self.usable
+    }
+
+    /// How many live documents it has passed.
+    pub fn credit(&self) -> u64
+        ensures { result ≡ self.now.at.credit }
+    {
+        self.at.credit
+    }
+
+    /// The snapshot that is searched.
+    pub fn snapshot(&self) -> &Snapshot
+        ensures { result.now ≡ self.now.snapshot }
+    {
+        &self.snapshot
+    }
+
+    /// The query that is searched for.
+    pub fn checked(&self) -> &Checked
+        ensures { result.now ≡ self.now.checked }
+    {
+        &self.checked
+    }
+
+    /// The statistics of its leaves.
+    pub fn stats(&self) -> &[LeafStats]
+        ensures { result.now ≡ (network_tree self.now.network).stats }
+    {
+        self.network.stats()
+    }
+}

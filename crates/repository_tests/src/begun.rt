@@ -32,7 +32,15 @@ fn of_no_files(rt: HostRuntime) {
 #[test]
 fn another_is_kept(rt: HostRuntime) {
     let fails = Vec::new(rt.alloc());
-    assert!(rt; is_answered(rt.alloc(), &[("manifest", ONE.as_slice())], fails, Some(false), &ONE));
+    assert!(rt;
+        is_answered(
+            rt.alloc(),
+            &[("manifest", ONE.as_slice())],
+            fails,
+            Some(false),
+            &ONE
+        )
+    );
 }
 
 /// Whether the manifest has these bytes behind a failure of this call, which leaves the file so.

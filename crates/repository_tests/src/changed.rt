@@ -41,12 +41,7 @@ fn delete(alloc: Global, repository: &mut Repository, name: &str) -> Answer
 }
 
 /// What a call answers; nothing where the repository can't be used.
-fn answer_of(
-    alloc: Global,
-    repository: &mut Repository,
-    name: &str,
-    call: Call,
-) -> Option<Answer> {
+fn answer_of(alloc: Global, repository: &mut Repository, name: &str, call: Call) -> Option<Answer> {
     if !repository.usable() {
         return None;
     }

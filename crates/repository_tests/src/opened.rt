@@ -49,7 +49,11 @@ fn answer_for(alloc: Global, files: &[File], limits: Limits) -> Answer {
 
 /// The answer for a manifest and the file of segment 1.
 fn answer_for_two(alloc: Global, manifest: &'static [u8], segment: &'static [u8]) -> Answer {
-    answer_for(alloc, &[("manifest", manifest), (FIRST, segment)], Limits::real())
+    answer_for(
+        alloc,
+        &[("manifest", manifest), (FIRST, segment)],
+        Limits::real(),
+    )
 }
 
 #[test]

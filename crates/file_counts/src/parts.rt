@@ -82,7 +82,10 @@ impl Counted {
     ) -> Result<LeafStats> {
         let snapshot = &self.snapshot;
         let blocks = &mut self.blocks;
-        Ok(self.sums.leaf(alloc, word, None, snapshot, 0, store, blocks)?)
+        Ok(
+            self.sums
+                .leaf(alloc, word, None, snapshot, 0, store, blocks)?,
+        )
     }
 
     /// How often a word occurs, and in how many words.

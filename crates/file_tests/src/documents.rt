@@ -18,7 +18,11 @@ fn terms(alloc: Global, words: &str) -> Option<Terms>
         let term = Term::new(alloc, word.as_bytes()).ok()??;
         terms.push(term).ok()?;
     }
-    if terms.len() <= 100 { Some(terms) } else { None }
+    if terms.len() <= 100 {
+        Some(terms)
+    } else {
+        None
+    }
 }
 
 pub fn docno(alloc: Global, text: &str) -> Option<Docno> {

@@ -1,7 +1,8 @@
 // Manifests that were written out by hand.
 use crate::places::{OTHER, place_of, with_bytes};
-use manifest::{Manifest, manifest_bytes, read_manifest};
-use std::alloc::Global;
+use manifest::{manifest_bytes, read_manifest};
+use ri_base::Bytes;
+use std::alloc::{AllocError, Global};
 
 /// No file, and the next number is 1.
 static EMPTY: [u8; 33] = [
@@ -35,8 +36,9 @@ fn fault_in(alloc: Global, bytes: &[u8]) -> Option<u64> {
     place_of(read_manifest(alloc, bytes))
 }
 
-fn is_written(alloc: Global, manifest: &Manifest, bytes: &[u8]) -> bool {
-    match manifest_bytes(alloc, manifest) {
+/// Whether these bytes are written.
+fn are_written(written: Result<Bytes, AllocError>, bytes: &[u8]) -> bool {
+    match written {
         Ok(written) => written.as_slice() == bytes,
         Err(_) => false,
     }
@@ -45,7 +47,7 @@ fn is_written(alloc: Global, manifest: &Manifest, bytes: &[u8]) -> bool {
 /// Whether the bytes are those of the manifest that is read of them.
 fn is_read(alloc: Global, bytes: &[u8]) -> bool {
     match read_manifest(alloc, bytes) {
-        Ok(manifest) => is_written(alloc, &manifest, bytes),
+        Ok(manifest) => are_written(manifest_bytes(alloc, &manifest), bytes),
         Err(_) => false,
     }
 }
@@ -119,7 +121,10 @@ static CHANGED: [(usize, u8, Option<u64>); 16] = [
 #[test]
 fn changed_bytes(rt: HostRuntime) {
     for (at, byte, place) in &CHANGED {
-        assert!(rt; fault_with(rt.alloc(), &ALL, *at, &[*byte]) == *place, "{at} {byte}");
+        assert!(rt;
+            fault_with(rt.alloc(), &ALL, *at, &[*byte]) == *place,
+            "{at} {byte}"
+        );
     }
 }
 

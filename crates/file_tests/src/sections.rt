@@ -23,7 +23,9 @@ fn long_word(alloc: Global, number: u32) -> Option<Term> {
 fn words(alloc: Global, number: u32) -> Option<Terms> {
     let mut words = Terms::new(alloc);
     for i in 0..20u32 {
-        words.push(word(alloc, number.saturating_mul(i) % 97)?).ok()?;
+        words
+            .push(word(alloc, number.saturating_mul(i) % 97)?)
+            .ok()?;
     }
     words.push(long_word(alloc, number % 10)?).ok()?;
     Some(words)

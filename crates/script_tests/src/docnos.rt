@@ -125,7 +125,10 @@ fn long_docnos(rt: HostRuntime) {
     for (white, count, end, wanted) in &LENGTHS {
         for piece in [1, 2, 3, 7, 100, 1000] {
             let found = long_length(rt.alloc(), *white, *count, end, piece);
-            assert!(rt; found == Some(*wanted), "{white} and {count} in pieces of {piece}");
+            assert!(rt;
+                found == Some(*wanted),
+                "{white} and {count} in pieces of {piece}"
+            );
         }
     }
 }

@@ -42,7 +42,7 @@ pub fn named<'a>(word: &'static str, name: &'a [u8], number: Option<u64>) -> Tol
     }
 }
 
-fn told(event: &Event) -> Told<'_> {
+fn of_event(event: &Event) -> Told<'_> {
     match event {
         Event::Document(doc) => named("doc", doc.docno().as_bytes(), Some(u64::from(doc.len()))),
         Event::Delete(docno) => named("delete", docno.as_bytes(), None),
@@ -132,7 +132,7 @@ fn refusal_name(refusal: &TokenRefusal) -> &'static str {
 /// Puts an item behind a text.
 fn put_item(out: &mut String, item: &Item) -> Option<()> {
     match item {
-        Item::Event(event) => put_told(out, told(event)),
+        Item::Event(event) => put_told(out, of_event(event)),
         Item::Unread { kind, place } => put_told(out, numbered(kind_name(*kind), *place)),
         Item::Trec(refusal) => write!(out, "{refusal:?}").ok(),
         Item::Token(refusal) => put_told(out, alone(refusal_name(refusal))),

@@ -1,19 +1,24 @@
-//! Writes or reads a segment again and again, so that this can be measured. It does so once for each line of standard
-//! input, and says in a line what came of it.
+//! Writes, reads or opens a segment again and again, or counts words over it, so that this can be measured. It does so once for
+//! each line of standard input, and says in a line what came of it.
 //!
 //! - `write N SPREAD`: the segment of N documents, whose words are told by SPREAD. A line that isn't empty is the name of a
 //!   file, to which the bytes go.
 //! - `read FILE`: the segment in this file.
+//! - `open FOLDER N`: the segment 1 of N documents in this folder.
+//! - `count FOLDER N`: that segment, which is opened once. Each line is a word that is counted.
 #![tactic(auto)]
 
 mod documents;
+mod parts;
 
 use anyhow::{Context, Result, bail};
 use documents::sealed_of;
+use parts::{Counted, docs_once_open};
 use ri_base::{Doc, FileName, Postings, SegFault};
 use seg_codec::{read_segment, seg_bytes};
 use std::alloc::Global;
 use std::{env, fs};
+use store_ends::FolderStore;
 
 fn write_segments(rt: &HostRuntime, documents: u32, spread: u64) -> Result<()> {
     let sealed = sealed_of(rt.alloc(), documents, spread)?;
@@ -75,16 +80,41 @@ fn read_segments(rt: &HostRuntime, path: &str) -> Result<()> {
     Ok(())
 }
 
+fn open_segments(rt: &HostRuntime, folder: &str, docs: u32) -> Result<()> {
+    let mut store = FolderStore::new(rt, folder)?;
+    println!(rt; "{folder}")?;
+    for line in rt.lines(rt.alloc()) {
+        let _line = line?;
+        let found = docs_once_open(rt.alloc(), &mut store, docs)?;
+        println!(rt; "{found} documents")?;
+    }
+    Ok(())
+}
+
+fn count_words(rt: &HostRuntime, folder: &str, docs: u32) -> Result<()> {
+    let mut store = FolderStore::new(rt, folder)?;
+    let mut counted = Counted::new(rt.alloc(), &mut store, docs)?;
+    println!(rt; "{folder}")?;
+    for line in rt.lines(rt.alloc()) {
+        let word = line?;
+        let found = counted.count(rt.alloc(), &mut store, word.as_str())?;
+        println!(rt; "{} of {}", found.cf, found.total)?;
+    }
+    Ok(())
+}
+
 fn main(rt: HostRuntime) -> Result<()> {
     let mut words = env::args(&rt)?.skip(1);
     let command = words.next().context("no command")?;
     let word = words.next().context("no word behind the command")?;
+    if command.as_str() == "read" {
+        return read_segments(&rt, &word);
+    }
+    let number = words.next().context("no number")?;
     match command.as_str() {
-        "write" => {
-            let spread = words.next().context("no spread")?;
-            write_segments(&rt, word.parse::<u32>()?, spread.parse::<u64>()?)
-        }
-        "read" => read_segments(&rt, &word),
+        "write" => write_segments(&rt, word.parse::<u32>()?, number.parse::<u64>()?),
+        "open" => open_segments(&rt, &word, number.parse::<u32>()?),
+        "count" => count_words(&rt, &word, number.parse::<u32>()?),
         _ => bail!("no such command"),
     }
 }

@@ -1,9 +1,10 @@
 // Documents between the lines of a script.
-use crate::shown::{assert_items, items_of};
+ghost use Rattle.std.specs.Prelude.{◌≡◌, true, IfSome};
+
+use crate::shown::{first_wrong, is_read_as};
 use ri_ends::MemSource;
 use script_reader::{ScriptFault, ScriptReader};
-use std::alloc::Global;
-use std::test::Fail;
+use std::alloc::{AllocError, Global};
 
 /// Scripts with the bytes of an `add`, and their items. The bytes are cut by a refusal, by the end of the input, or not.
 static ROWS: [(&[u8], &str); 27] = [
@@ -94,43 +95,62 @@ static ROWS: [(&[u8], &str); 27] = [
 ];
 
 #[test]
-fn documents_of_adds(rt: HostRuntime) -> Result<(), Fail> {
-    for (script, wanted) in &ROWS {
-        assert_items(&rt, rt.alloc(), script, wanted)?;
-    }
-    Ok(())
+fn documents_of_adds(rt: HostRuntime) {
+    assert_eq!(rt; first_wrong(rt.alloc(), &ROWS), None);
 }
 
-/// How many items are read before a fault, where the read of this number fails.
-fn items_before(rt: &HostRuntime, failing: u64) -> Result<(usize, Option<ScriptFault>), Fail> {
-    let alloc = rt.alloc();
+/// A source in pieces of ten bytes, whose read of this number fails.
+fn failing(alloc: Global, read: u64) -> Result<MemSource, AllocError> {
     let mut fails = Vec::new(alloc);
-    fails.push(failing)?;
+    fails.push(read)?;
     let script = b"flush\nadd 31\n<DOC><DOCNO>d1</DOCNO>a b</DOC>merge\n".to_vec(alloc)?;
-    let mut reader = ScriptReader::new(alloc, MemSource::new(script, 10, fails))?;
+    Ok(MemSource::new(script, 10, fails))
+}
+
+fn reader_of(alloc: Global, source: MemSource) -> Option<ScriptReader<MemSource>>
+    ensures { IfSome result (λ r. r.is_usable ≡ true) }
+{
+    ScriptReader::new(alloc, source).ok()
+}
+
+/// How many items are read before the end or a fault, ten at most, and the fault.
+fn read_items(reader: &mut ScriptReader<MemSource>) -> (usize, Option<ScriptFault>)
+    requires { reader.old.is_usable ≡ true }
+{
     'items: for count in 0..10 {
         match reader.next_item() {
             Ok(Some(_)) => {}
-            Ok(None) => return Ok((count, None)),
-            Err(fault) => return Ok((count, Some(fault))),
+            Ok(None) => return (count, None),
+            Err(fault) => return (count, Some(fault)),
         }
     }
-    Err(Fail::from("too many items"))
+    (10, None)
+}
+
+/// The same where the read of this number fails.
+fn items_before(alloc: Global, read: u64) -> Option<(usize, Option<ScriptFault>)> {
+    let mut reader = reader_of(alloc, failing(alloc, read).ok()?)?;
+    Some(read_items(&mut reader))
 }
 
 /// A read that fails, and how many items stand before it: seven reads, of which the last finds the end.
+static READS: [(u64, usize, Option<ScriptFault>); 8] = [
+    (1, 0, Some(ScriptFault::Read)),
+    (2, 1, Some(ScriptFault::Read)),
+    (3, 1, Some(ScriptFault::Read)),
+    (4, 1, Some(ScriptFault::Read)),
+    (5, 1, Some(ScriptFault::Read)),
+    (6, 2, Some(ScriptFault::Read)),
+    (7, 3, Some(ScriptFault::Read)),
+    (8, 4, None),
+];
+
 #[test]
-fn reads_that_fail(rt: HostRuntime) -> Result<(), Fail> {
-    for (failing, count) in [(1, 0), (2, 1), (3, 1), (4, 1), (5, 1), (6, 2), (7, 3)] {
-        let found = items_before(&rt, failing)?;
-        assert_eq!(rt;
-            found,
-            (count, Some(ScriptFault::Read)),
-            "at read {failing}"
-        );
+fn reads_that_fail(rt: HostRuntime) {
+    for (read, count, fault) in &READS {
+        let found = items_before(rt.alloc(), *read);
+        assert!(rt; found == Some((*count, *fault)), "at read {read}");
     }
-    assert_eq!(rt; items_before(&rt, 8)?, (4, None));
-    Ok(())
 }
 
 /// An `add` line, a document of so many of these words, and what stands behind it.
@@ -140,7 +160,7 @@ fn add_of(
     word: &[u8],
     count: usize,
     behind: &[u8],
-) -> Result<Vec<u8>, Fail> {
+) -> Result<Vec<u8>, AllocError> {
     let mut script = line.to_vec(alloc)?;
     script.extend_from_slice(b"<DOC><DOCNO>d1</DOCNO>")?;
     for _ in 0..count {
@@ -151,9 +171,17 @@ fn add_of(
     Ok(script)
 }
 
-/// Documents of a word or a field more than a document may have: their `add` line, such a word, how many there are, what
-/// stands behind the document, and the items.
-static REFUSED: [(&[u8], &[u8], usize, &[u8], &str); 5] = [
+/// The `add` line of a document, a word, how often it stands there, what stands behind the document, and the items.
+type Refused = (
+    &'static [u8],
+    &'static [u8],
+    usize,
+    &'static [u8],
+    &'static str,
+);
+
+/// Documents of a word or a field more than a document may have.
+static REFUSED: [Refused; 5] = [
     (
         b"add 2097182\n",
         b"a ",
@@ -191,14 +219,19 @@ static REFUSED: [(&[u8], &[u8], usize, &[u8], &str); 5] = [
     ),
 ];
 
+fn is_refused(alloc: Global, row: &Refused, piece: usize) -> bool {
+    let (line, word, count, behind, wanted) = row;
+    match add_of(alloc, line, word, *count, behind) {
+        Ok(script) => is_read_as(alloc, script, piece, wanted),
+        Err(_) => false,
+    }
+}
+
 #[test]
-fn documents_with_too_much(rt: HostRuntime) -> Result<(), Fail> {
-    for (line, word, count, behind, wanted) in &REFUSED {
+fn documents_with_too_much(rt: HostRuntime) {
+    for row in &REFUSED {
         for piece in [1, 2, 3, 7, 100] {
-            let script = add_of(rt.alloc(), line, word, *count, behind)?;
-            let found = items_of(rt.alloc(), script, piece)?;
-            assert_eq!(rt; found.as_str(), *wanted, "{count} in pieces of {piece}");
+            assert!(rt; is_refused(rt.alloc(), row, piece), "in pieces of {piece}");
         }
     }
-    Ok(())
 }

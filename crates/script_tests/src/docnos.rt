@@ -1,40 +1,52 @@
 // Docnos, one on each line.
-use crate::shown::put;
+use crate::shown::{numbered, put, put_told};
 use docno_lines::{DocnoLine, next_docno};
 use line_reader::LineReader;
 use ri_ends::{MemSource, Source};
-use std::alloc::Global;
-use std::test::Fail;
+use std::alloc::{AllocError, Global};
 
-fn put_line(out: &mut String, line: &DocnoLine) -> Result<(), Fail> {
+fn put_read(out: &mut String, line: &DocnoLine) -> Option<()> {
     match line {
-        DocnoLine::Docno(docno) => put(out, docno.as_bytes())?,
-        DocnoLine::BadEvent { place } => write!(out, "BadEvent {place}")?,
-        DocnoLine::LineTooLong { place } => write!(out, "LineTooLong {place}")?,
+        DocnoLine::Docno(docno) => put(out, docno.as_bytes()),
+        DocnoLine::BadEvent { place } => put_told(out, numbered("BadEvent", *place)),
+        DocnoLine::LineTooLong { place } => put_told(out, numbered("LineTooLong", *place)),
     }
-    out.push_str("; ")?;
-    Ok(())
+}
+
+fn put_line(out: &mut String, line: DocnoLine) -> Option<()> {
+    put_read(out, &line)?;
+    out.push_str("; ").ok()
 }
 
 /// Puts what the lines of a source are read as behind a text.
-fn put_lines<S: Source>(out: &mut String, alloc: Global, source: &mut S) -> Result<(), Fail> {
-    let mut lines = LineReader::new(alloc)?;
+fn put_lines<S: Source>(out: &mut String, alloc: Global, source: &mut S) -> Option<()> {
+    let mut lines = LineReader::new(alloc).ok()?;
     'lines: for _ in 0..u64::MAX {
         match next_docno(alloc, &mut lines, source) {
-            Ok(Some(line)) => put_line(out, &line)?,
-            Ok(None) => return Ok(()),
-            Err(_) => return Err(Fail::from("a fault")),
+            Ok(Some(line)) => put_line(out, line)?,
+            Ok(None) => return Some(()),
+            Err(_) => return None,
         }
     }
-    Ok(())
+    None
 }
 
 /// What the lines of a text are read as that comes in pieces of so many bytes.
-fn docnos_of(alloc: Global, text: Vec<u8>, piece: usize) -> Result<String, Fail> {
+fn docnos_of(alloc: Global, text: Vec<u8>, piece: usize) -> Option<String> {
     let mut source = MemSource::new(text, piece.max(1), Vec::new(alloc));
     let mut out = String::new(alloc);
     put_lines(&mut out, alloc, &mut source)?;
-    Ok(out)
+    Some(out)
+}
+
+fn is_read_as(alloc: Global, text: &[u8], piece: usize, wanted: &str) -> bool {
+    let Ok(text) = text.to_vec(alloc) else {
+        return false;
+    };
+    match docnos_of(alloc, text, piece) {
+        Some(found) => found.as_str() == wanted,
+        None => false,
+    }
 }
 
 static ROWS: [(&[u8], &str); 7] = [
@@ -51,23 +63,25 @@ static ROWS: [(&[u8], &str); 7] = [
 ];
 
 #[test]
-fn docnos_of_lines(rt: HostRuntime) -> Result<(), Fail> {
-    for (text, wanted) in &ROWS {
+fn docnos_of_lines(rt: HostRuntime) {
+    for (i, (text, wanted)) in ROWS.iter().enumerate() {
         for piece in [1, 2, 3, 7, 100] {
-            let found = docnos_of(rt.alloc(), text.to_vec(rt.alloc())?, piece)?;
-            assert_eq!(rt; found.as_str(), *wanted, "{text:?} in pieces of {piece}");
+            let is_right = is_read_as(rt.alloc(), text, piece, wanted);
+            assert!(rt; is_right, "row {i} in pieces of {piece}");
         }
     }
-    Ok(())
 }
 
 /// So many white bytes, a docno of so many bytes, the end of its line, and `d` on the next.
-fn long_docno(alloc: Global, white: usize, count: usize, end: &[u8]) -> Result<Vec<u8>, Fail> {
+fn long_docno(
+    alloc: Global,
+    white: usize,
+    count: usize,
+    end: &[u8],
+) -> Result<Vec<u8>, AllocError> {
     let mut text = Vec::new(alloc);
     text.resize(white, b' ')?;
-    for _ in 0..count {
-        text.push(b'x')?;
-    }
+    text.resize(white.saturating_add(count), b'x')?;
     text.extend_from_slice(end)?;
     text.push(b'd')?;
     Ok(text)
@@ -83,19 +97,38 @@ static LENGTHS: [(usize, usize, &[u8], usize); 6] = [
     (65282, 255, b"\r\n", 18),
 ];
 
+/// How long the text is that tells what is read, where it ends with the docno of the last line.
+fn length_of(alloc: Global, text: Vec<u8>, piece: usize) -> Option<usize> {
+    let found = docnos_of(alloc, text, piece)?;
+    if found.as_str().ends_with("; d; ") {
+        Some(found.len())
+    } else {
+        None
+    }
+}
+
+fn long_length(
+    alloc: Global,
+    white: usize,
+    count: usize,
+    end: &[u8],
+    piece: usize,
+) -> Option<usize> {
+    match long_docno(alloc, white, count, end) {
+        Ok(text) => length_of(alloc, text, piece),
+        Err(_) => None,
+    }
+}
+
 #[test]
-fn long_docnos(rt: HostRuntime) -> Result<(), Fail> {
+fn long_docnos(rt: HostRuntime) {
     for (white, count, end, wanted) in &LENGTHS {
         for piece in [1, 2, 3, 7, 100, 1000] {
-            let text = long_docno(rt.alloc(), *white, *count, end)?;
-            let found = docnos_of(rt.alloc(), text, piece)?;
-            assert_eq!(rt;
-                found.len(),
-                *wanted,
+            let found = long_length(rt.alloc(), *white, *count, end, piece);
+            assert!(rt;
+                found == Some(*wanted),
                 "{white} and {count} in pieces of {piece}"
             );
-            assert!(rt; found.as_str().ends_with("; d; "));
         }
     }
-    Ok(())
 }

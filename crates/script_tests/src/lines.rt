@@ -1,10 +1,9 @@
 // Long lines.
-use crate::shown::items_of;
-use std::alloc::Global;
-use std::test::Fail;
+use crate::shown::is_read_as;
+use std::alloc::{AllocError, Global};
 
 /// A line `flush`, then a line `scan ..` of so many bytes, and what stands behind it.
-fn long_line(alloc: Global, count: usize, behind: &[u8]) -> Result<Vec<u8>, Fail> {
+fn long_line(alloc: Global, count: usize, behind: &[u8]) -> Result<Vec<u8>, AllocError> {
     let mut script = b"flush\nscan ".to_vec(alloc)?;
     script.resize(count.saturating_add(6), b'a')?;
     script.extend_from_slice(behind)?;
@@ -39,18 +38,19 @@ static ROWS: [(usize, &[u8], &str); 16] = [
     ),
 ];
 
+fn is_right(alloc: Global, count: usize, behind: &[u8], wanted: &str, piece: usize) -> bool {
+    match long_line(alloc, count, behind) {
+        Ok(script) => is_read_as(alloc, script, piece, wanted),
+        Err(_) => false,
+    }
+}
+
 #[test]
-fn long_lines(rt: HostRuntime) -> Result<(), Fail> {
+fn long_lines(rt: HostRuntime) {
     for (count, behind, wanted) in &ROWS {
         for piece in [1, 2, 3, 7, 100, 65536, 1_000_000] {
-            let script = long_line(rt.alloc(), *count, behind)?;
-            let found = items_of(rt.alloc(), script, piece)?;
-            assert_eq!(rt;
-                found.as_str(),
-                *wanted,
-                "{count} and {behind:?} in pieces of {piece}"
-            );
+            let is_right = is_right(rt.alloc(), *count, behind, wanted, piece);
+            assert!(rt; is_right, "{count} in pieces of {piece}");
         }
     }
-    Ok(())
 }

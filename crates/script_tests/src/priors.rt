@@ -1,64 +1,79 @@
 // The rows of a prior, one on each line.
-use crate::shown::put;
+use crate::shown::{named, numbered, put, put_told};
 use prior_lines::{KeptRows, RowLine, read_rows};
 use ri_base::Fraction;
 use ri_base::limits::MAX_PRIOR_ROWS;
 use ri_ends::MemSource;
-use std::alloc::Global;
-use std::process::Abort;
-use std::test::Fail;
+use std::alloc::{AllocError, Global};
 
-fn put_refusal(out: &mut String, line: &RowLine) -> Result<(), Fail> {
+fn put_read(out: &mut String, line: &RowLine) -> Option<()> {
     match line {
-        RowLine::Accepted => out.push_str("accepted")?,
-        RowLine::BadRow { place } => write!(out, "BadRow {place}")?,
-        RowLine::LineTooLong { place } => write!(out, "LineTooLong {place}")?,
-        RowLine::RepeatedRow(docno) => {
-            out.push_str("RepeatedRow ")?;
-            put(out, docno.as_bytes())?;
-        }
-        RowLine::RepeatedRest => out.push_str("RepeatedRow *")?,
-        RowLine::TooManyRows { place } => write!(out, "TooManyRows {place}")?,
+        RowLine::Accepted => out.push_str("accepted").ok(),
+        RowLine::BadRow { place } => put_told(out, numbered("BadRow", *place)),
+        RowLine::LineTooLong { place } => put_told(out, numbered("LineTooLong", *place)),
+        RowLine::RepeatedRow(docno) => put_told(out, named("RepeatedRow", docno.as_bytes(), None)),
+        RowLine::RepeatedRest => out.push_str("RepeatedRow *").ok(),
+        RowLine::TooManyRows { place } => put_told(out, numbered("TooManyRows", *place)),
     }
-    out.push_str("; ")?;
-    Ok(())
 }
 
-fn put_row(out: &mut String, docno: &[u8], fraction: Fraction) -> Result<(), Fail> {
+fn put_refusals(out: &mut String, refused: &[RowLine]) -> Option<()> {
+    for line in refused {
+        put_read(out, line)?;
+        out.push_str("; ").ok()?;
+    }
+    Some(())
+}
+
+fn put_row(out: &mut String, docno: &[u8], fraction: Fraction) -> Option<()> {
     put(out, docno)?;
-    write!(out, " {}/{}; ", fraction.p, fraction.q)?;
-    Ok(())
+    write!(out, " {}/{}; ", fraction.p, fraction.q).ok()
+}
+
+fn put_rest(out: &mut String, rest: Option<Fraction>) -> Option<()> {
+    match rest {
+        Some(rest) => put_row(out, b"*", rest),
+        None => Some(()),
+    }
 }
 
 /// Puts the rows of a prior behind a text.
-fn put_rows(out: &mut String, alloc: Global, kept: KeptRows) -> Result<(), Fail> {
-    let prior = kept.into_rows(alloc)?;
-    if let Some(rest) = prior.rest() {
-        put_row(out, b"*", rest)?;
-    }
+fn put_rows(out: &mut String, alloc: Global, kept: KeptRows) -> Option<()> {
+    let prior = kept.into_rows(alloc).ok()?;
+    put_rest(out, prior.rest())?;
     for (docno, fraction) in prior.rows() {
         put_row(out, docno.as_bytes(), *fraction)?;
     }
-    Ok(())
+    Some(())
 }
 
-fn put_refusals(out: &mut String, refused: &[RowLine]) -> Result<(), Fail> {
-    for line in refused {
-        put_refusal(out, line)?;
-    }
-    Ok(())
-}
-
-/// The refusals of some rows, and the rows that are kept.
-fn rows_of(alloc: Global, text: Vec<u8>, piece: usize) -> Result<String, Fail> {
+/// The rows of a text that comes in pieces of so many bytes, and the lines that are refused.
+fn read(alloc: Global, text: Vec<u8>, piece: usize) -> Option<(KeptRows, Vec<RowLine>)> {
     let mut source = MemSource::new(text, piece.max(1), Vec::new(alloc));
-    let Ok((kept, refused)) = read_rows(alloc, &mut source) else {
-        return Err(Fail::from("a fault"));
-    };
+    read_rows(alloc, &mut source).ok()
+}
+
+/// The refusals and the rows that are kept.
+fn shown(alloc: Global, kept: KeptRows, refused: &[RowLine]) -> Option<String> {
     let mut out = String::new(alloc);
-    put_refusals(&mut out, &refused)?;
+    put_refusals(&mut out, refused)?;
     put_rows(&mut out, alloc, kept)?;
-    Ok(out)
+    Some(out)
+}
+
+fn rows_of(alloc: Global, text: Vec<u8>, piece: usize) -> Option<String> {
+    let (kept, refused) = read(alloc, text, piece)?;
+    shown(alloc, kept, &refused)
+}
+
+fn is_read_as(alloc: Global, text: &[u8], piece: usize, wanted: &str) -> bool {
+    let Ok(text) = text.to_vec(alloc) else {
+        return false;
+    };
+    match rows_of(alloc, text, piece) {
+        Some(found) => found.as_str() == wanted,
+        None => false,
+    }
 }
 
 static ROWS: [(&[u8], &str); 14] = [
@@ -109,23 +124,21 @@ static ROWS: [(&[u8], &str); 14] = [
 ];
 
 #[test]
-fn rows_of_lines(rt: HostRuntime) -> Result<(), Fail> {
-    for (text, wanted) in &ROWS {
+fn rows_of_lines(rt: HostRuntime) {
+    for (i, (text, wanted)) in ROWS.iter().enumerate() {
         for piece in [1, 2, 3, 7, 100] {
-            let found = rows_of(rt.alloc(), text.to_vec(rt.alloc())?, piece)?;
-            assert_eq!(rt; found.as_str(), *wanted, "{text:?} in pieces of {piece}");
+            let is_right = is_read_as(rt.alloc(), text, piece, wanted);
+            assert!(rt; is_right, "row {i} in pieces of {piece}");
         }
     }
-    Ok(())
 }
 
 /// A row of a docno of so many bytes, with white space before it so that the line has so many, and a second row.
-fn long_row(alloc: Global, docno: usize, line: usize) -> Result<Vec<u8>, Fail> {
+fn long_row(alloc: Global, docno: usize, line: usize) -> Result<Vec<u8>, AllocError> {
+    let white = line.saturating_sub(docno).saturating_sub(4);
     let mut text = Vec::new(alloc);
-    text.resize(line.saturating_sub(docno).saturating_sub(4), b' ')?;
-    for _ in 0..docno {
-        text.push(b'x')?;
-    }
+    text.resize(white, b' ')?;
+    text.resize(white.saturating_add(docno), b'x')?;
     text.extend_from_slice(b" 1/2\r\nd 1/2")?;
     Ok(text)
 }
@@ -139,50 +152,59 @@ static LENGTHS: [(usize, usize, usize, bool); 4] = [
     (255, 65537, 22, true),
 ];
 
+/// How long the text is that tells what is read, and whether the line is too long.
+fn outline(alloc: Global, text: Vec<u8>, piece: usize) -> Option<(usize, bool)> {
+    let found = rows_of(alloc, text, piece)?;
+    Some((found.len(), found.as_str().starts_with("LineTooLong 0; ")))
+}
+
+fn long_outline(alloc: Global, docno: usize, line: usize, piece: usize) -> Option<(usize, bool)> {
+    match long_row(alloc, docno, line) {
+        Ok(text) => outline(alloc, text, piece),
+        Err(_) => None,
+    }
+}
+
 #[test]
-fn long_rows(rt: HostRuntime) -> Result<(), Fail> {
+fn long_rows(rt: HostRuntime) {
     for (docno, line, length, is_too_long) in &LENGTHS {
         for piece in [1, 2, 3, 7, 100, 1000] {
-            let found = rows_of(rt.alloc(), long_row(rt.alloc(), *docno, *line)?, piece)?;
-            assert_eq!(rt;
-                (found.len(), found.as_str().starts_with("LineTooLong 0; ")),
-                (*length, *is_too_long),
+            let found = long_outline(rt.alloc(), *docno, *line, piece);
+            assert!(rt;
+                found == Some((*length, *is_too_long)),
                 "{docno} and {line} in pieces of {piece}"
             );
         }
     }
-    Ok(())
 }
 
 /// Rows of as many docnos as a prior may have, and then of a further docno, of one that has a row, and of the others.
-fn many_rows(alloc: Global) -> Result<String, Fail> {
+fn many_rows(alloc: Global) -> Option<Vec<u8>> {
     let mut text = String::new(alloc);
     for i in 0..MAX_PRIOR_ROWS {
-        writeln!(text, "{i} 1/2")?;
+        writeln!(text, "{i} 1/2").ok()?;
     }
-    text.push_str("x 1/2\n7 1/2\nx y\n* 1/3\n")?;
-    Ok(text)
+    text.push_str("x 1/2\n7 1/2\nx y\n* 1/3\n").ok()?;
+    Some(text.into_bytes())
 }
 
-/// The refusals of many rows. As many are kept as there may be, and the one of all other docnos.
-fn refusals_of_many(rt: &impl Abort, alloc: Global) -> Result<String, Fail> {
-    let mut source = MemSource::new(many_rows(alloc)?.into_bytes(), 65536, Vec::new(alloc));
-    let Ok((kept, refused)) = read_rows(alloc, &mut source) else {
-        return Err(Fail::from("a fault"));
-    };
-    assert_eq!(rt; (kept.len(), kept.is_full()), (MAX_PRIOR_ROWS, true));
-    assert!(rt; kept.has_rest());
+fn are_refused_as(alloc: Global, refused: &[RowLine], wanted: &str) -> bool {
     let mut out = String::new(alloc);
-    put_refusals(&mut out, &refused)?;
-    Ok(out)
+    put_refusals(&mut out, refused).is_some() && out.as_str() == wanted
+}
+
+/// How many rows are kept of those, whether no further docno may have one, and whether there is one of all others; nothing where
+/// other lines are refused.
+fn many_kept(alloc: Global, wanted: &str) -> Option<(usize, bool, bool)> {
+    let (kept, refused) = read(alloc, many_rows(alloc)?, 65536)?;
+    if !are_refused_as(alloc, &refused, wanted) {
+        return None;
+    }
+    Some((kept.len(), kept.is_full(), kept.has_rest()))
 }
 
 #[test]
-fn as_many_rows_as_there_may_be(rt: HostRuntime) -> Result<(), Fail> {
-    let found = refusals_of_many(&rt, rt.alloc())?;
-    assert_eq!(rt;
-        found.as_str(),
-        "TooManyRows 11471802; RepeatedRow 7; BadRow 11471814; "
-    );
-    Ok(())
+fn as_many_rows_as_there_may_be(rt: HostRuntime) {
+    let refused = "TooManyRows 11471802; RepeatedRow 7; BadRow 11471814; ";
+    assert!(rt; many_kept(rt.alloc(), refused) == Some((MAX_PRIOR_ROWS, true, true)));
 }

@@ -1,75 +1,117 @@
 // Items as text.
-use ri_base::Name;
 use ri_ends::MemSource;
 use script_reader::{Item, Unread, read_items};
 use session_events::Event;
 use std::alloc::Global;
-use std::process::Abort;
-use std::test::Fail;
 use tokens::TokenRefusal;
 
-/// Puts bytes behind a text, as the text that they are.
-pub fn put(out: &mut String, bytes: &[u8]) -> Result<(), Fail> {
-    match std::str::from_utf8(bytes) {
-        Ok(text) => out.push_str(text)?,
-        Err(_) => out.push('?')?,
+/// What is told of an item: a word, and a name, a number and a text where it has them.
+#[derive(Clone, Copy)]
+pub struct Told<'a> {
+    word: &'static str,
+    name: Option<&'a [u8]>,
+    number: Option<u64>,
+    text: Option<&'a [u8]>,
+}
+
+/// A word alone.
+fn alone<'a>(word: &'static str) -> Told<'a> {
+    Told {
+        word,
+        name: None,
+        number: None,
+        text: None,
     }
-    Ok(())
 }
 
-fn put_named(out: &mut String, word: &str, name: &Name) -> Result<(), Fail> {
-    out.push_str(word)?;
-    put(out, name.as_bytes())
-}
-
-/// Puts a text behind the others. Of a long one only its length is told.
-fn put_text(out: &mut String, text: &[u8]) -> Result<(), Fail> {
-    if text.len() > 1000 {
-        write!(out, "[{} bytes]", text.len())?;
-        return Ok(());
+pub fn numbered<'a>(word: &'static str, number: u64) -> Told<'a> {
+    Told {
+        word,
+        name: None,
+        number: Some(number),
+        text: None,
     }
-    out.push('[')?;
-    put(out, text)?;
-    out.push(']')?;
-    Ok(())
 }
 
-fn put_event(out: &mut String, event: &Event) -> Result<(), Fail> {
+pub fn named<'a>(word: &'static str, name: &'a [u8], number: Option<u64>) -> Told<'a> {
+    Told {
+        word,
+        name: Some(name),
+        number,
+        text: None,
+    }
+}
+
+fn of_event(event: &Event) -> Told<'_> {
     match event {
-        Event::Document(doc) => {
-            out.push_str("doc ")?;
-            put(out, doc.docno().as_bytes())?;
-            write!(out, " {}", doc.len())?;
-        }
-        Event::Delete(docno) => {
-            out.push_str("delete ")?;
-            put(out, docno.as_bytes())?;
-        }
-        Event::Flush => out.push_str("flush")?,
-        Event::Merge => out.push_str("merge")?,
-        Event::Turn(docs) => write!(out, "turn {docs}")?,
-        Event::Open { name, k, text } => {
-            put_named(out, "open ", name)?;
-            write!(out, " {k} ")?;
-            put_text(out, text.as_slice())?;
-        }
-        Event::Step { name, docs } => {
-            put_named(out, "step ", name)?;
-            write!(out, " {docs}")?;
-        }
-        Event::Show(name) => put_named(out, "show ", name)?,
-        Event::Explain { name, rank } => {
-            put_named(out, "explain ", name)?;
-            write!(out, " {rank}")?;
-        }
-        Event::Scan(text) => {
-            out.push_str("scan ")?;
-            put_text(out, text.as_slice())?;
-        }
-        Event::Close(name) => put_named(out, "close ", name)?,
-        Event::End => out.push_str("end")?,
+        Event::Document(doc) => named("doc", doc.docno().as_bytes(), Some(u64::from(doc.len()))),
+        Event::Delete(docno) => named("delete", docno.as_bytes(), None),
+        Event::Flush => alone("flush"),
+        Event::Merge => alone("merge"),
+        Event::Turn(docs) => numbered("turn", *docs),
+        Event::Open { name, k, text } => Told {
+            word: "open",
+            name: Some(name.as_bytes()),
+            number: Some(u64::from(*k)),
+            text: Some(text.as_slice()),
+        },
+        Event::Step { name, docs } => named("step", name.as_bytes(), Some(*docs)),
+        Event::Show(name) => named("show", name.as_bytes(), None),
+        Event::Explain { name, rank } => named("explain", name.as_bytes(), Some(u64::from(*rank))),
+        Event::Scan(text) => Told {
+            word: "scan",
+            name: None,
+            number: None,
+            text: Some(text.as_slice()),
+        },
+        Event::Close(name) => named("close", name.as_bytes(), None),
+        Event::End => alone("end"),
     }
-    Ok(())
+}
+
+/// Puts bytes behind a text, as the text that they are.
+pub fn put(out: &mut String, bytes: &[u8]) -> Option<()> {
+    match std::str::from_utf8(bytes) {
+        Ok(text) => out.push_str(text).ok(),
+        Err(_) => out.push('?').ok(),
+    }
+}
+
+fn put_name(out: &mut String, name: Option<&[u8]>) -> Option<()> {
+    match name {
+        Some(name) => {
+            out.push(' ').ok()?;
+            put(out, name)
+        }
+        None => Some(()),
+    }
+}
+
+fn put_number(out: &mut String, number: Option<u64>) -> Option<()> {
+    match number {
+        Some(number) => write!(out, " {number}").ok(),
+        None => Some(()),
+    }
+}
+
+/// Puts a text in brackets behind the others. Of a long one only its length is told.
+fn put_text(out: &mut String, text: &[u8]) -> Option<()> {
+    if text.len() > 1000 {
+        return write!(out, " [{} bytes]", text.len()).ok();
+    }
+    out.push_str(" [").ok()?;
+    put(out, text)?;
+    out.push(']').ok()
+}
+
+pub fn put_told(out: &mut String, told: Told<'_>) -> Option<()> {
+    out.push_str(told.word).ok()?;
+    put_name(out, told.name)?;
+    put_number(out, told.number)?;
+    match told.text {
+        Some(text) => put_text(out, text),
+        None => Some(()),
+    }
 }
 
 fn kind_name(kind: Unread) -> &'static str {
@@ -80,50 +122,77 @@ fn kind_name(kind: Unread) -> &'static str {
     }
 }
 
-/// Puts an item behind a text.
-fn put_item(out: &mut String, item: &Item) -> Result<(), Fail> {
-    match item {
-        Item::Event(event) => put_event(out, event)?,
-        Item::Unread { kind, place } => write!(out, "{} {place}", kind_name(*kind))?,
-        Item::Trec(refusal) => write!(out, "{refusal:?}")?,
-        Item::Token(TokenRefusal::TooManyTokens { .. }) => out.push_str("TooManyTokens")?,
-        Item::Token(_) => out.push_str("TooManyFields")?,
+fn refusal_name(refusal: &TokenRefusal) -> &'static str {
+    match refusal {
+        TokenRefusal::TooManyTokens { .. } => "TooManyTokens",
+        _ => "TooManyFields",
     }
-    Ok(())
 }
 
-/// Puts items behind a text, with `; ` between them.
-fn put_items(out: &mut String, items: &[Item]) -> Result<(), Fail> {
+/// Puts an item behind a text.
+fn put_item(out: &mut String, item: &Item) -> Option<()> {
+    match item {
+        Item::Event(event) => put_told(out, of_event(event)),
+        Item::Unread { kind, place } => put_told(out, numbered(kind_name(*kind), *place)),
+        Item::Trec(refusal) => write!(out, "{refusal:?}").ok(),
+        Item::Token(refusal) => put_told(out, alone(refusal_name(refusal))),
+    }
+}
+
+/// The items as text, with `; ` between them.
+fn shown(alloc: Global, items: &[Item]) -> Option<String> {
+    let mut out = String::new(alloc);
     for item in items {
         if !out.is_empty() {
-            out.push_str("; ")?;
+            out.push_str("; ").ok()?;
         }
-        put_item(out, item)?;
+        put_item(&mut out, item)?;
     }
-    Ok(())
+    Some(out)
+}
+
+fn read(alloc: Global, script: Vec<u8>, piece: usize) -> Option<Vec<Item>> {
+    let mut source = MemSource::new(script, piece.max(1), Vec::new(alloc));
+    read_items(alloc, &mut source).ok()
 }
 
 /// The items of a script that comes in pieces of so many bytes, as text.
-pub fn items_of(alloc: Global, script: Vec<u8>, piece: usize) -> Result<String, Fail> {
-    let mut source = MemSource::new(script, piece.max(1), Vec::new(alloc));
-    let Ok(items) = read_items(alloc, &mut source) else {
-        return Err(Fail::from("a fault"));
-    };
-    let mut out = String::new(alloc);
-    put_items(&mut out, &items)?;
-    Ok(out)
+fn items_of(alloc: Global, script: Vec<u8>, piece: usize) -> Option<String> {
+    let items = read(alloc, script, piece)?;
+    shown(alloc, &items)
 }
 
-/// The items of a script are these, whatever the pieces of the source.
-pub fn assert_items(
-    rt: &impl Abort,
-    alloc: Global,
-    script: &[u8],
-    wanted: &str,
-) -> Result<(), Fail> {
-    for piece in [1, 2, 3, 7, 100] {
-        let found = items_of(alloc, script.to_vec(alloc)?, piece)?;
-        assert_eq!(rt; found.as_str(), wanted, "{script:?} in pieces of {piece}");
+/// Whether the items of a script are these, where it comes in pieces of so many bytes.
+pub fn is_read_as(alloc: Global, script: Vec<u8>, piece: usize, wanted: &str) -> bool {
+    match items_of(alloc, script, piece) {
+        Some(found) => found.as_str() == wanted,
+        None => false,
     }
-    Ok(())
+}
+
+fn is_copy_read_as(alloc: Global, script: &[u8], piece: usize, wanted: &str) -> bool {
+    match script.to_vec(alloc) {
+        Ok(script) => is_read_as(alloc, script, piece, wanted),
+        Err(_) => false,
+    }
+}
+
+/// Whether the items of a script are these, whatever the pieces of the source.
+fn is_right(alloc: Global, script: &[u8], wanted: &str) -> bool {
+    for piece in [1, 2, 3, 7, 100] {
+        if !is_copy_read_as(alloc, script, piece, wanted) {
+            return false;
+        }
+    }
+    true
+}
+
+/// The first of these scripts whose items are others, if one is.
+pub fn first_wrong(alloc: Global, rows: &[(&[u8], &str)]) -> Option<usize> {
+    for (i, (script, wanted)) in rows.iter().enumerate() {
+        if !is_right(alloc, script, wanted) {
+            return Some(i);
+        }
+    }
+    None
 }

@@ -1,6 +1,5 @@
 // Each row of the table of lines.
-use crate::shown::assert_items;
-use std::test::Fail;
+use crate::shown::first_wrong;
 
 /// Scripts and their items. The number of each line stands at both ends of its range and past it.
 static ROWS: [(&[u8], &str); 26] = [
@@ -75,9 +74,6 @@ static ROWS: [(&[u8], &str); 26] = [
 ];
 
 #[test]
-fn lines_of_the_table(rt: HostRuntime) -> Result<(), Fail> {
-    for (script, wanted) in &ROWS {
-        assert_items(&rt, rt.alloc(), script, wanted)?;
-    }
-    Ok(())
+fn lines_of_the_table(rt: HostRuntime) {
+    assert_eq!(rt; first_wrong(rt.alloc(), &ROWS), None);
 }

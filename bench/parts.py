@@ -1,0 +1,198 @@
+#!/usr/bin/env python3
+"""Measures the opening of a segment and the counting of words over it, as LLVM builds the calls. It stands apart from the gate.
+
+usage: bench/parts.py [--rounds N] [--mega N] [--documents N] [--program FILE]
+
+The program that is measured is file_counts. It opens the segment of a folder, or counts a word over it, once for each line that
+it is sent. `rt run` in crates/file_counts builds it, and proves it first.
+
+    usual words     a segment of 20 MB, which --mega changes; the word n comes about one n-th as often as the word 1
+    documents       60,000 short documents, which --documents changes
+
+A row of an opening has MB of what is read in a second of processor time, the best of the rounds, and the peak of memory for
+each byte of that. Only the header, the documents and the dictionary may be read. A row of a word has how many bytes are read
+where it is counted first, which must be its blocks, each by one read, and how many where it is counted again, which must be
+none. What the system counted for the process is compared, less the line that it was sent.
+
+The status is 1 where a row is beyond its bound, or where the program reads or says something else than it must.
+"""
+import argparse
+import os
+import struct
+import sys
+import tempfile
+from collections import defaultdict
+from dataclasses import dataclass
+from pathlib import Path
+
+from files import COLLECTIONS, MEGA, PROGRAM, Program
+
+OPENED = 50
+PEAK = 8
+NAME = "seg-0000000000000001"
+COMMON, WORDS = 97, 5003
+TOKENS = 8
+
+
+@dataclass(frozen=True)
+class Reads:
+    """How often the process read, and how many bytes."""
+
+    calls: int
+    size: int
+
+
+class Reader(Program):
+    """A run of the program whose reads are counted."""
+
+    def reads(self):
+        counts = dict(line.split(": ") for line in (self.proc / "io").read_text().splitlines())
+        return Reads(int(counts["syscr"]), int(counts["rchar"]))
+
+    def reads_of(self, line):
+        """What the program says to a line, and its reads but that of the line."""
+        before = self.reads()
+        spent = self.ask(line)
+        after = self.reads()
+        return spent, Reads(after.calls - before.calls - 1, after.size - before.size - len(line) - 1)
+
+
+def number(width, value):
+    return value.to_bytes(width, "little")
+
+
+def tokens_of(document):
+    """The words of a document: one that all have, some that many have, and some that few have."""
+    return [0, *(1 + (document * k) % COMMON for k in range(1, 4)), *(COMMON + 1 + (document * k) % WORDS for k in range(1, TOKENS - 3))]
+
+
+def postings_of(documents):
+    """Of each word the places in each document, by documents."""
+    found = defaultdict(dict)
+    for document in range(documents):
+        for at, word in enumerate(tokens_of(document)):
+            found[b"w%d" % word].setdefault(document, []).append(at)
+    return found
+
+
+def blocks_of(postings):
+    """The ranges of a word, each with its block."""
+    ranges = defaultdict(list)
+    for document, places in postings.items():
+        entry = number(1, document % 64) + number(4, len(places)) + b"".join(number(4, at) for at in places)
+        ranges[document // 64].append(entry)
+    return {key: number(1, len(entries)) + b"".join(entries) for key, entries in sorted(ranges.items())}
+
+
+def segment(documents):
+    """The segment of so many documents, and of each word how often it occurs and its blocks."""
+    outlines = b"".join(number(1, len(name)) + name + number(4, TOKENS) + number(2, 0) for name in (b"d%d" % i for i in range(documents)))
+    found = {word: (sum(map(len, postings.values())), blocks_of(postings)) for word, postings in sorted(postings_of(documents).items())}
+    dictionary_at = 64 + len(outlines)
+    blocks_at = dictionary_at + sum(1 + len(word) + 4 + 16 * len(blocks) for word, (_, blocks) in found.items())
+    place, dictionary, content = blocks_at, [], []
+    for word, (_, blocks) in found.items():
+        dictionary.append(number(1, len(word)) + word + number(4, len(blocks)))
+        for key, block in blocks.items():
+            dictionary.append(number(4, key) + number(8, place) + number(4, len(block)))
+            content.append(block)
+            place += len(block)
+    header = b"indriseg" + number(4, 1) + number(4, documents) + number(8, documents * TOKENS) + number(4, len(found)) + number(4, 0)
+    for at in (64, dictionary_at, blocks_at, place):
+        header += number(8, at)
+    return header + outlines + b"".join(dictionary) + b"".join(content), found
+
+
+class Table:
+    def __init__(self, program, rounds, folder):
+        self.program, self.rounds, self.folder = program, rounds, folder
+        self.is_within = True
+
+    def wanted(self, what, found, wanted):
+        if found != wanted:
+            self.is_within = False
+            print(f"   {what}: {found}, not {wanted}")
+
+    def bounded(self, shown, is_within, bound):
+        self.is_within &= is_within
+        return f"{shown} ({bound})" if is_within else f"{shown} BEYOND {bound}"
+
+    def made(self, name):
+        folder = self.folder / name
+        folder.mkdir()
+        return folder
+
+    def opening(self, name, folder, documents):
+        """The segment of the folder is opened again and again."""
+        with (folder / NAME).open("rb") as file:
+            blocks_at = struct.unpack("<Q", file.read(64)[48:56])[0]
+        spent = []
+        with Reader(self.program, "open", folder, documents) as run:
+            for _ in range(self.rounds):
+                one, reads = run.reads_of("")
+                self.wanted("said", one.said, f"{documents} documents")
+                self.wanted("bytes read", reads.size, blocks_at)
+                spent.append(one)
+        speed = blocks_at / MEGA / min(one.seconds for one in spent)
+        peak = spent[0].peak / blocks_at
+        cells = (
+            f"{blocks_at / MEGA:5.1f} MB of {(folder / NAME).stat().st_size / MEGA:5.1f} MB",
+            self.bounded(f"{speed:4.0f} MB/s", speed >= OPENED, f"at least {OPENED}"),
+            self.bounded(f"peak {peak:4.2f} times what is read", peak <= PEAK, f"at most {PEAK}"),
+        )
+        print(f"{'open, ' + name:<24}", "   ".join(cells), flush=True)
+
+    def word(self, run, word, count, total, blocks):
+        """A word is counted twice."""
+        said = f"{count} of {total}"
+        first, reads = run.reads_of(word)
+        self.wanted("said", first.said, said)
+        self.wanted("reads of the first count", reads, Reads(len(blocks), sum(map(len, blocks.values()))))
+        second, again = run.reads_of(word)
+        self.wanted("said", second.said, said)
+        self.wanted("reads of the second count", again, Reads(0, 0))
+        cells = (
+            f"{count} times in {total} words",
+            f"{reads.size} bytes in {reads.calls} reads, then {again.size} in {again.calls}",
+            f"{1000 * first.seconds:5.2f} ms, then {1000 * second.seconds:5.2f} ms",
+        )
+        print(f"{'count, ' + word:<24}", "   ".join(cells), flush=True)
+
+    def usual_words(self, size):
+        spread, each = COLLECTIONS["usual words"]
+        folder, documents = self.made("usual"), size // each
+        with Program(self.program, "write", documents, spread) as run:
+            run.ask(str(folder / NAME))
+        self.opening("usual words", folder, documents)
+
+    def documents(self, documents):
+        folder = self.made("documents")
+        content, found = segment(documents)
+        (folder / NAME).write_bytes(content)
+        self.opening("documents", folder, documents)
+        with Reader(self.program, "count", folder, documents) as run:
+            for word in ("w0", "w1", f"w{COMMON}", f"w{COMMON + 1}", f"w{COMMON + WORDS}", "absent"):
+                count, blocks = found.get(word.encode(), (0, {}))
+                self.word(run, word, count, documents * TOKENS, blocks)
+
+
+def main():
+    parser = argparse.ArgumentParser(description="Measures the opening of a segment and the counting of words over it.")
+    parser.add_argument("--rounds", type=int, default=5, help="a time is the best of so many (5)")
+    parser.add_argument("--mega", type=int, default=20, help="the size of the segment of usual words in MB (20)")
+    parser.add_argument("--documents", type=int, default=60_000, help="how many short documents there are (60,000)")
+    parser.add_argument("--program", type=Path, default=PROGRAM, help="the program that is measured")
+    chosen = parser.parse_args()
+    if min(chosen.rounds, chosen.mega, chosen.documents) < 1:
+        parser.error("a number is below 1")
+    if not os.access(chosen.program, os.X_OK):
+        sys.exit("the program isn't built: `rt run` in crates/file_counts builds it")
+    with tempfile.TemporaryDirectory() as folder:
+        table = Table(chosen.program.resolve(), chosen.rounds, Path(folder))
+        table.usual_words(chosen.mega * MEGA)
+        table.documents(chosen.documents)
+    sys.exit(0 if table.is_within else 1)
+
+
+if __name__ == "__main__":
+    main()

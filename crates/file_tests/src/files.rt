@@ -1,240 +1,151 @@
 // Whole files of segments, read back.
-ghost use Rattle.std.specs.Prelude.{◌≤◌, IfOk};
-ghost use Rattle.ri_base.specs.Documents.{AreFields};
-
 use crate::documents::{bytes_of, doc};
 use crate::places::with_bytes;
-use crate::segments::BYTES;
-use ri_base::{
-    Doc, Docno, FieldSpan, FileName, List, Name, PartName, SegFault, Spans, Term, Terms,
-};
+use crate::segments::{BYTES, changed, put};
+use ri_base::{Doc, FileName, List, PartName, SegFault};
 use seg_codec::read_segment;
 use std::alloc::Global;
-use std::test::Fail;
 
-/// The documents, or the part and the place of the fault.
-fn read(alloc: Global, bytes: &[u8]) -> Result<Result<List<Doc>, (PartName, u64)>, Fail> {
-    match read_segment(alloc, bytes, FileName::Segment(1)) {
-        Ok(documents) => Ok(Ok(documents)),
+pub fn read(alloc: Global, bytes: &[u8]) -> Result<List<Doc>, SegFault> {
+    read_segment(alloc, bytes, FileName::Segment(1))
+}
+
+/// The part and the place of the fault, where there is one.
+fn fault_in(alloc: Global, bytes: &[u8]) -> Option<(PartName, u64)> {
+    match read(alloc, bytes) {
         Err(
             SegFault::Malformed {
                 file: _,
                 part,
                 place,
             },
-        ) => Ok(Err((part, place))),
-        Err(_) => Err(Fail::from("another fault")),
+        ) => Some((part, place)),
+        _ => None,
     }
 }
 
-/// The part and the place of the fault, where there is one.
-fn fault_in(alloc: Global, bytes: &[u8]) -> Result<Option<(PartName, u64)>, Fail> {
-    Ok(read(alloc, bytes)?.err())
+/// Whether the segment of the documents has these bytes.
+pub fn is_segment_of(alloc: Global, documents: &[Doc], bytes: &[u8]) -> bool {
+    match bytes_of(alloc, documents) {
+        Some(found) => found.as_slice() == bytes,
+        None => false,
+    }
 }
 
-/// What is read of these bytes has them as its segment.
-fn is_read(alloc: Global, bytes: &[u8]) -> Result<bool, Fail> {
-    match read(alloc, bytes)? {
-        Ok(documents) => Ok(bytes_of(alloc, documents.as_slice())?.as_slice() == bytes),
-        Err(_) => Ok(false),
+/// Whether the bytes are those of the segment of what is read of them.
+fn is_read(alloc: Global, bytes: &[u8]) -> bool {
+    match read(alloc, bytes) {
+        Ok(documents) => is_segment_of(alloc, documents.as_slice(), bytes),
+        Err(_) => false,
     }
 }
 
 #[test]
-fn two_documents(rt: HostRuntime) -> Result<(), Fail> {
-    let Ok(documents) = read(rt.alloc(), &BYTES)? else {
-        return Err(Fail::from("refused"));
-    };
-    assert_eq!(rt; documents.len(), 2);
-    assert!(rt; is_read(rt.alloc(), &BYTES)?);
-    Ok(())
+fn two_documents(rt: HostRuntime) {
+    assert!(rt; is_read(rt.alloc(), &BYTES));
 }
 
-/// A front of fewer than 64 bytes breaks in the header, and a longer one at the length that the header tells.
+/// Whether a front of so many bytes breaks so: one of fewer than 64 in the header, and a longer one at the length that the header
+/// tells.
+fn is_fault_of_front(fault: Option<(PartName, u64)>, count: u64) -> bool {
+    match fault {
+        Some((PartName::Header, place)) => place <= count && (count < 64 || place == 56),
+        _ => false,
+    }
+}
+
 #[test]
-fn no_front_is_read(rt: HostRuntime) -> Result<(), Fail> {
+fn no_front_is_read(rt: HostRuntime) {
     for n in 0..155usize {
-        let Some((part, place)) = fault_in(rt.alloc(), &BYTES[..n])? else {
-            return Err(Fail::from("a front was read"));
-        };
-        assert!(rt; part == PartName::Header && place <= n as u64, "{n}");
-        if n >= 64 {
-            assert_eq!(rt; place, 56, "{n}");
-        }
+        let fault = fault_in(rt.alloc(), &BYTES[..n]);
+        assert!(rt; is_fault_of_front(fault, n as u64), "{n}");
     }
-    Ok(())
 }
 
-/// Each byte one more is refused, or it is the segment of other documents.
+/// Whether the file is read with a byte one more. It is then the segment of other documents; nothing where it isn't.
+fn raised_is_read(alloc: Global, at: usize) -> Option<bool> {
+    let bytes = changed(at, BYTES.get(at)?.wrapping_add(1));
+    match fault_in(alloc, &bytes) {
+        Some(_) => Some(false),
+        None if is_read(alloc, &bytes) => Some(true),
+        None => None,
+    }
+}
+
+/// Only the bytes of the docnos and that of the last term may be greater.
 #[test]
-fn raised_bytes(rt: HostRuntime) -> Result<(), Fail> {
+fn raised_bytes(rt: HostRuntime) {
     let mut others = 0u32;
     for n in 0..155usize {
-        let mut bytes = BYTES;
-        bytes[n] = bytes[n].wrapping_add(1);
-        if fault_in(rt.alloc(), &bytes)?.is_none() {
-            assert!(rt; is_read(rt.alloc(), &bytes)?, "{n}");
-            others = others.saturating_add(1);
-        }
+        let found = raised_is_read(rt.alloc(), n);
+        assert!(rt; found.is_some(), "{n}");
+        others = others.saturating_add(u32::from(found == Some(true)));
     }
-    assert_eq!(rt; others, 5);
-    Ok(())
+    assert!(rt; others == 5);
+}
+
+fn fault_behind(alloc: Global) -> Option<(PartName, u64)> {
+    let mut bytes = BYTES.to_vec(alloc).ok()?;
+    bytes.push(0).ok()?;
+    fault_in(alloc, &bytes)
 }
 
 #[test]
-fn a_byte_behind(rt: HostRuntime) -> Result<(), Fail> {
-    let mut bytes = BYTES.to_vec(rt.alloc())?;
-    bytes.push(0)?;
-    assert_eq!(rt; fault_in(rt.alloc(), &bytes)?, Some((PartName::Header, 56)));
-    Ok(())
+fn a_byte_behind(rt: HostRuntime) {
+    assert!(rt; fault_behind(rt.alloc()) == Some((PartName::Header, 56)));
 }
 
-/// Two changes of a byte, and the place of the fault in the blocks. The first two tell a place twice. In the next two
-/// a place is told of no term.
-static ACROSS: [((usize, u8), (usize, u8), u64); 4] = [
-    ((151, 0), (151, 0), 151),
-    ((132, 1), (132, 1), 151),
-    ((67, 3), (16, 4), 155),
-    ((76, 2), (16, 4), 155),
+/// Changes of a byte, and the place of the fault in the blocks. The first two rows tell a place twice. In the next two a place is
+/// told of no term. The file of the last two tells of very many tokens.
+static ACROSS: [(&[(usize, u8)], u64); 6] = [
+    (&[(151, 0)], 151),
+    (&[(132, 1)], 151),
+    (&[(67, 3), (16, 4)], 155),
+    (&[(76, 2), (16, 4)], 155),
+    (&[(16, 1), (18, 16), (67, 0), (69, 16)], 155),
+    (&[(16, 1), (18, 16), (67, 0), (69, 16), (151, 0)], 151),
 ];
 
-#[test]
-fn places_across_blocks(rt: HostRuntime) -> Result<(), Fail> {
-    for ((at, byte), (other, more), place) in &ACROSS {
-        let mut bytes = BYTES;
-        if *at >= 155 || *other >= 155 {
-            return Err(Fail::from("no such byte"));
-        }
-        bytes[*at] = *byte;
-        bytes[*other] = *more;
-        assert_eq!(rt;
-            fault_in(rt.alloc(), &bytes)?,
-            Some((PartName::Block, *place)),
-            "{at}"
-        );
-    }
-    Ok(())
-}
-
-/// A small file that tells of very many tokens.
-#[test]
-fn many_tokens_told(rt: HostRuntime) -> Result<(), Fail> {
+fn changed_so(changes: &[(usize, u8)]) -> [u8; 155] {
     let mut bytes = BYTES;
-    bytes[16] = 1;
-    bytes[18] = 16;
-    bytes[67] = 0;
-    bytes[69] = 16;
-    assert_eq!(rt; fault_in(rt.alloc(), &bytes)?, Some((PartName::Block, 155)));
-    bytes[151] = 0;
-    assert_eq!(rt; fault_in(rt.alloc(), &bytes)?, Some((PartName::Block, 151)));
-    Ok(())
+    for (at, byte) in changes {
+        put(&mut bytes, *at, *byte);
+    }
+    bytes
 }
 
-/// A bad field of a later block is told before a place that is told twice in an earlier one.
 #[test]
-fn a_bad_field_is_told_first(rt: HostRuntime) -> Result<(), Fail> {
-    let mut documents = List::new(rt.alloc());
-    documents.push(doc(rt.alloc(), "d1", "a b c")?)?;
-    let bytes = bytes_of(rt.alloc(), documents.as_slice())?;
-    let mut bytes = bytes.into_vec();
-    let end = bytes.len();
-    if end < 20 || end > 1000 {
-        return Err(Fail::from("another length"));
+fn places_across_blocks(rt: HostRuntime) {
+    for (changes, place) in &ACROSS {
+        let fault = fault_in(rt.alloc(), &changed_so(changes));
+        assert!(rt; fault == Some((PartName::Block, *place)), "{place}");
     }
-    bytes[end - 14] = 0;
-    assert_eq!(rt;
-        fault_in(rt.alloc(), &bytes)?,
-        Some((PartName::Block, end as u64 - 14))
-    );
-    bytes[end - 10] = 0;
-    assert_eq!(rt;
-        fault_in(rt.alloc(), &bytes)?,
-        Some((PartName::Block, end as u64 - 10))
-    );
-    Ok(())
 }
 
-/// `d3` has the token `a` twice. Where its places 0 and 1 are exchanged, the second is refused.
+/// The words of a document, a place of its segment, what stands there instead, and the place of the fault in the blocks. In the
+/// first row a place stands twice, and in the second a later block has a bad field too, which is told first. In the last the
+/// places 0 and 1 are exchanged, and the second is refused.
+static BLOCKS: [(&str, usize, &[u8], u64); 3] = [
+    ("a b c", 155, &[0], 155),
+    ("a b c", 155, &[0, 0, 0, 0, 0], 159),
+    ("a a", 101, &[1, 0, 0, 0, 0, 0, 0, 0], 105),
+];
+
+fn segment_of(alloc: Global, words: &str) -> Option<Vec<u8>> {
+    let documents = [doc(alloc, "d1", words)?];
+    Some(bytes_of(alloc, &documents)?.into_vec())
+}
+
+fn fault_with(alloc: Global, words: &str, at: usize, others: &[u8]) -> Option<(PartName, u64)> {
+    let bytes = segment_of(alloc, words)?;
+    let bytes = with_bytes(alloc, &bytes, at, others)?;
+    fault_in(alloc, &bytes)
+}
+
 #[test]
-fn places_out_of_order(rt: HostRuntime) -> Result<(), Fail> {
-    let mut documents = List::new(rt.alloc());
-    documents.push(doc(rt.alloc(), "d3", "a a")?)?;
-    let bytes = bytes_of(rt.alloc(), documents.as_slice())?;
-    let bytes = with_bytes(rt.alloc(), bytes.as_slice(), 101, &[1, 0, 0, 0, 0, 0, 0, 0])?;
-    assert_eq!(rt; fault_in(rt.alloc(), &bytes)?, Some((PartName::Block, 105)));
-    Ok(())
-}
-
-/// Four digits.
-fn push_number(text: &mut Vec<u8>, number: u32) -> Result<(), Fail> {
-    text.push(b'0' + (number / 1000 % 10) as u8)?;
-    text.push(b'0' + (number / 100 % 10) as u8)?;
-    text.push(b'0' + (number / 10 % 10) as u8)?;
-    text.push(b'0' + (number % 10) as u8)?;
-    Ok(())
-}
-
-fn text_of(alloc: Global, front: &[u8], number: u32) -> Result<Vec<u8>, Fail> {
-    let mut text = front.to_vec(alloc)?;
-    push_number(&mut text, number)?;
-    Ok(text)
-}
-
-/// A term of 128 bytes.
-fn long_term(alloc: Global, number: u32) -> Result<Term, Fail> {
-    let mut text = text_of(alloc, b"w", number)?;
-    for _ in text.len()..128 {
-        text.push(b'x')?;
+fn blocks_of_a_document(rt: HostRuntime) {
+    for (words, at, others, place) in &BLOCKS {
+        let fault = fault_with(rt.alloc(), words, *at, others);
+        assert!(rt; fault == Some((PartName::Block, *place)), "{place}");
     }
-    Ok(Term::new(alloc, &text)?.ok_or("no term")?)
-}
-
-/// One field, of the first ten tokens of so many.
-fn field(alloc: Global, number: u32, end: u32) -> Result<Spans, Fail>
-    requires { 10 ≤ end }
-    ensures { IfOk result (AreFields end) }
-{
-    let name = Name::new(alloc, &text_of(alloc, b"f", number % 7)?)?.ok_or("no name")?;
-    let mut fields = Vec::new(alloc);
-    fields.push(FieldSpan::new(name, number % 5, 10))?;
-    Ok(Spans::of(fields))
-}
-
-/// Twenty words of a hundred, and a long one.
-fn words(alloc: Global, number: u32) -> Result<Terms, Fail> {
-    let mut tokens = Terms::new(alloc);
-    for i in 0..20u32 {
-        let word = text_of(alloc, b"w", number.saturating_mul(i) % 97)?;
-        tokens.push(Term::new(alloc, &word)?.ok_or("no term")?)?;
-    }
-    tokens.push(long_term(alloc, number % 10)?)?;
-    Ok(tokens)
-}
-
-fn section(alloc: Global, number: u32) -> Result<Doc, Fail> {
-    let docno = Docno::new(alloc, &text_of(alloc, b"section-", number)?)?.ok_or("no docno")?;
-    let tokens = words(alloc, number)?;
-    let count = tokens.len();
-    if count < 10 || count > 100 {
-        return Err(Fail::from("another length"));
-    }
-    let fields = field(alloc, number, count as u32)?;
-    Ok(Doc::new(alloc, docno, tokens, fields)?)
-}
-
-/// The bytes of 1,000 documents, read and written again.
-#[test]
-fn a_thousand_sections(rt: HostRuntime) -> Result<(), Fail> {
-    let mut documents = List::new(rt.alloc());
-    for number in 0..1000u32 {
-        documents.push(section(rt.alloc(), number)?)?;
-    }
-    let bytes = bytes_of(rt.alloc(), documents.as_slice())?;
-    let Ok(found) = read(rt.alloc(), bytes.as_slice())? else {
-        return Err(Fail::from("refused"));
-    };
-    assert_eq!(rt; found.len(), 1000);
-    let again = bytes_of(rt.alloc(), found.as_slice())?;
-    assert!(rt; again.as_slice() == bytes.as_slice());
-    Ok(())
 }

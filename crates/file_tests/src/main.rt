@@ -16,6 +16,8 @@ mod places;
 #[cfg(test)]
 mod priors;
 #[cfg(test)]
+mod sections;
+#[cfg(test)]
 mod segments;
 
 fn main() {}

@@ -1,9 +1,8 @@
 // Manifests that were written out by hand.
-use crate::places::{fault_place, with_bytes};
+use crate::places::{OTHER, place_of, with_bytes};
 use manifest::{manifest_bytes, read_manifest};
-use std::alloc::Global;
-use std::process::Abort;
-use std::test::Fail;
+use ri_base::Bytes;
+use std::alloc::{AllocError, Global};
 
 /// No file, and the next number is 1.
 static EMPTY: [u8; 33] = [
@@ -32,31 +31,32 @@ static ONE_BEGINS: [usize; 9] = [0, 8, 12, 20, 24, 32, 36, 40, 48];
 
 static ALL_BEGINS: [usize; 16] = [0, 8, 12, 20, 24, 32, 36, 40, 44, 48, 56, 64, 72, 73, 74, 76];
 
-/// The manifest of these bytes, as bytes again, or the place of the fault.
-fn again(alloc: Global, bytes: &[u8]) -> Result<Result<Vec<u8>, u64>, Fail> {
-    match read_manifest(alloc, bytes) {
-        Ok(manifest) => Ok(Ok(manifest_bytes(alloc, &manifest)?.into_vec())),
-        Err(fault) => Ok(Err(fault_place(fault)?)),
+/// The place of the fault, where there is one.
+fn fault_in(alloc: Global, bytes: &[u8]) -> Option<u64> {
+    place_of(read_manifest(alloc, bytes))
+}
+
+/// Whether these bytes are written.
+fn are_written(written: Result<Bytes, AllocError>, bytes: &[u8]) -> bool {
+    match written {
+        Ok(written) => written.as_slice() == bytes,
+        Err(_) => false,
     }
 }
 
-fn assert_again(rt: &impl Abort, alloc: Global, bytes: &[u8]) -> Result<(), Fail> {
-    match again(alloc, bytes)? {
-        Ok(written) => assert_eq!(rt; written.as_slice(), bytes),
-        Err(_) => return Err(Fail::from("it isn't read")),
+/// Whether the bytes are those of the manifest that is read of them.
+fn is_read(alloc: Global, bytes: &[u8]) -> bool {
+    match read_manifest(alloc, bytes) {
+        Ok(manifest) => are_written(manifest_bytes(alloc, &manifest), bytes),
+        Err(_) => false,
     }
-    Ok(())
 }
 
 #[test]
-fn each_is_written_again(rt: HostRuntime) -> Result<(), Fail> {
-    assert_again(&rt, rt.alloc(), &EMPTY)?;
-    assert_again(&rt, rt.alloc(), &ONE)?;
-    assert_again(&rt, rt.alloc(), &ALL)
-}
-
-fn place_of(alloc: Global, bytes: &[u8]) -> Result<Option<u64>, Fail> {
-    Ok(again(alloc, bytes)?.err())
+fn each_is_written_again(rt: HostRuntime) {
+    assert!(rt; is_read(rt.alloc(), &EMPTY));
+    assert!(rt; is_read(rt.alloc(), &ONE));
+    assert!(rt; is_read(rt.alloc(), &ALL));
 }
 
 /// The last begin of a field that isn't behind this place.
@@ -70,25 +70,32 @@ fn begin_at(begins: &[usize], place: usize) -> u64 {
     begin as u64
 }
 
-/// A front of the bytes is broken at the begin of the field that isn't whole.
-fn assert_fronts(
-    rt: &impl Abort,
-    alloc: Global,
-    bytes: &[u8],
-    begins: &[usize],
-) -> Result<(), Fail> {
+/// The first front of the bytes that isn't broken at the begin of the field that isn't whole, if there is one.
+fn first_wrong_front(alloc: Global, bytes: &[u8], begins: &[usize]) -> Option<usize> {
     for n in 0..bytes.len() {
-        let found = place_of(alloc, &bytes[..n])?;
-        assert_eq!(rt; found, Some(begin_at(begins, n)), "{n}");
+        if fault_in(alloc, &bytes[..n]) != Some(begin_at(begins, n)) {
+            return Some(n);
+        }
     }
-    Ok(())
+    None
 }
 
 #[test]
-fn no_front_is_read(rt: HostRuntime) -> Result<(), Fail> {
-    assert_fronts(&rt, rt.alloc(), &EMPTY, &EMPTY_BEGINS)?;
-    assert_fronts(&rt, rt.alloc(), &ONE, &ONE_BEGINS)?;
-    assert_fronts(&rt, rt.alloc(), &ALL, &ALL_BEGINS)
+fn no_front_is_read(rt: HostRuntime) {
+    assert!(rt; first_wrong_front(rt.alloc(), &EMPTY, &EMPTY_BEGINS).is_none());
+    assert!(rt; first_wrong_front(rt.alloc(), &ONE, &ONE_BEGINS).is_none());
+    assert!(rt; first_wrong_front(rt.alloc(), &ALL, &ALL_BEGINS).is_none());
+}
+
+/// The place of the fault where others stand in the bytes from a place on. Without a fault the bytes are those of what is read.
+fn fault_with(alloc: Global, bytes: &[u8], at: usize, others: &[u8]) -> Option<u64> {
+    let Some(changed) = with_bytes(alloc, bytes, at, others) else {
+        return Some(OTHER);
+    };
+    if is_read(alloc, &changed) {
+        return None;
+    }
+    Some(fault_in(alloc, &changed).unwrap_or(OTHER))
 }
 
 /// A byte of the last manifest, what stands there instead, and the place of the fault.
@@ -112,46 +119,34 @@ static CHANGED: [(usize, u8, Option<u64>); 16] = [
 ];
 
 #[test]
-fn changed_bytes(rt: HostRuntime) -> Result<(), Fail> {
+fn changed_bytes(rt: HostRuntime) {
     for (at, byte, place) in &CHANGED {
-        let mut bytes = ALL;
-        if *at >= 84 {
-            return Err(Fail::from("no such byte"));
-        }
-        bytes[*at] = *byte;
-        assert_eq!(rt; place_of(rt.alloc(), &bytes)?, *place, "{at} {byte}");
+        assert!(rt;
+            fault_with(rt.alloc(), &ALL, *at, &[*byte]) == *place,
+            "{at} {byte}"
+        );
     }
-    Ok(())
 }
 
-/// Whether these bytes with a byte one more are those of a manifest. What is read of them is written as they are.
-fn raised_is_read(alloc: Global, bytes: &[u8], at: usize) -> Result<bool, Fail> {
-    let Some(byte) = bytes.get(at) else {
-        return Err(Fail::from("no such byte"));
-    };
-    let raised = with_bytes(alloc, bytes, at, &[byte.wrapping_add(1)])?;
-    match again(alloc, &raised)? {
-        Ok(written) if written != raised => Err(Fail::from("it is written otherwise")),
-        Ok(_) => Ok(true),
-        Err(_) => Ok(false),
+/// Whether the bytes are those of a manifest with a byte one more.
+fn raised_is_read(alloc: Global, bytes: &[u8], at: usize) -> bool {
+    match bytes.get(at) {
+        Some(byte) => fault_with(alloc, bytes, at, &[byte.wrapping_add(1)]).is_none(),
+        None => false,
     }
 }
 
 /// Only the next number may be greater, and the number of documents.
 #[test]
-fn raised_bytes(rt: HostRuntime) -> Result<(), Fail> {
+fn raised_bytes(rt: HostRuntime) {
     for n in 0..33usize {
-        assert_eq!(rt;
-            raised_is_read(rt.alloc(), &EMPTY, n)?,
-            12 <= n && n < 20,
-            "{n}"
-        );
+        let is_other = 12 <= n && n < 20;
+        assert!(rt; raised_is_read(rt.alloc(), &EMPTY, n) == is_other, "{n}");
     }
     for n in 0..49usize {
         let is_other = (12 <= n && n < 20) || (32 <= n && n < 35);
-        assert_eq!(rt; raised_is_read(rt.alloc(), &ONE, n)?, is_other, "{n}");
+        assert!(rt; raised_is_read(rt.alloc(), &ONE, n) == is_other, "{n}");
     }
-    Ok(())
 }
 
 /// Bytes of the manifest with one segment, from a place on, and the place of the fault: very many segments, numbers of
@@ -183,18 +178,15 @@ static LIMITS: [(usize, &[u8], Option<u64>); 8] = [
 ];
 
 #[test]
-fn numbers_at_their_limits(rt: HostRuntime) -> Result<(), Fail> {
+fn numbers_at_their_limits(rt: HostRuntime) {
     for (at, others, place) in &LIMITS {
-        let bytes = with_bytes(rt.alloc(), &ONE, *at, others)?;
-        assert_eq!(rt; place_of(rt.alloc(), &bytes)?, *place, "{at}");
+        assert!(rt; fault_with(rt.alloc(), &ONE, *at, others) == *place, "{at}");
     }
-    Ok(())
 }
 
 #[test]
-fn a_byte_behind(rt: HostRuntime) -> Result<(), Fail> {
-    let mut bytes = EMPTY.to_vec(rt.alloc())?;
-    bytes.push(0)?;
-    assert_eq!(rt; place_of(rt.alloc(), &bytes)?, Some(33));
-    Ok(())
+fn a_byte_behind(rt: HostRuntime) {
+    let mut bytes = [0; 34];
+    bytes[..33].copy_from_slice(&EMPTY);
+    assert!(rt; fault_in(rt.alloc(), &bytes) == Some(33));
 }

@@ -1,35 +1,31 @@
 // The places of faults, and bytes that are changed.
 use ri_base::SegFault;
 use std::alloc::Global;
-use std::test::Fail;
 
-/// The place of a fault in the bytes of a file.
-pub fn fault_place(fault: SegFault) -> Result<u64, Fail> {
-    match fault {
-        SegFault::Malformed {
-            file: _,
-            part: _,
-            place,
-        } => Ok(place),
-        _ => Err(Fail::from("another fault")),
-    }
-}
+/// The place of another fault than that of a field.
+pub const OTHER: u64 = u64::MAX;
 
-/// What is read, or the place of the fault.
-pub fn place_of<T: Drop>(found: Result<T, SegFault>) -> Result<Result<T, u64>, Fail> {
+/// The place of the fault; nothing where something is read.
+pub fn place_of<T: Drop>(found: Result<T, SegFault>) -> Option<u64> {
     match found {
-        Ok(value) => Ok(Ok(value)),
-        Err(fault) => Ok(Err(fault_place(fault)?)),
+        Ok(_) => None,
+        Err(
+            SegFault::Malformed {
+                file: _,
+                part: _,
+                place,
+            },
+        ) => Some(place),
+        Err(_) => Some(OTHER),
     }
 }
 
-/// The bytes with others from a place on.
-pub fn with_bytes(alloc: Global, bytes: &[u8], at: usize, others: &[u8]) -> Result<Vec<u8>, Fail> {
+/// The bytes with others from a place on; nothing where there aren't so many.
+pub fn with_bytes(alloc: Global, bytes: &[u8], at: usize, others: &[u8]) -> Option<Vec<u8>> {
     if at > bytes.len() || others.len() > bytes.len() - at {
-        return Err(Fail::from("no such byte"));
+        return None;
     }
-    let mut changed = bytes[..at].to_vec(alloc)?;
-    changed.extend_from_slice(others)?;
-    changed.extend_from_slice(&bytes[at + others.len()..])?;
-    Ok(changed)
+    let mut changed = bytes.to_vec(alloc).ok()?;
+    changed[at..at + others.len()].copy_from_slice(others);
+    Some(changed)
 }

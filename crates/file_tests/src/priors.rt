@@ -1,8 +1,7 @@
 // The file of a prior that was written out by hand.
-use crate::places::{fault_place, with_bytes};
-use manifest::{prior_bytes, read_prior};
+use crate::places::{OTHER, place_of, with_bytes};
+use manifest::{PriorRows, prior_bytes, read_prior};
 use std::alloc::Global;
-use std::test::Fail;
 
 /// Documents without a row have 1 / 2, `a` has 1 / 3, and `b` has 2 / 2.
 static BYTES: [u8; 65] = [
@@ -11,29 +10,47 @@ static BYTES: [u8; 65] = [
     0, 0, 0, 2, 0, 0, 0, 0, 0, 0, 0,
 ];
 
-/// The rows of these bytes, as bytes again, or the place of the fault.
-fn again(alloc: Global, bytes: &[u8]) -> Result<Result<Vec<u8>, u64>, Fail> {
+/// The place of the fault, where there is one.
+fn fault_in(alloc: Global, bytes: &[u8]) -> Option<u64> {
+    place_of(read_prior(alloc, bytes, 7))
+}
+
+fn is_written(alloc: Global, rows: &PriorRows, bytes: &[u8]) -> bool {
+    match prior_bytes(alloc, rows) {
+        Ok(written) => written.as_slice() == bytes,
+        Err(_) => false,
+    }
+}
+
+/// Whether the bytes are those of the rows that are read of them.
+fn is_read(alloc: Global, bytes: &[u8]) -> bool {
     match read_prior(alloc, bytes, 7) {
-        Ok(rows) => Ok(Ok(prior_bytes(alloc, &rows)?.into_vec())),
-        Err(fault) => Ok(Err(fault_place(fault)?)),
+        Ok(rows) => is_written(alloc, &rows, bytes),
+        Err(_) => false,
     }
 }
 
 #[test]
-fn it_is_written_again(rt: HostRuntime) -> Result<(), Fail> {
-    match again(rt.alloc(), &BYTES)? {
-        Ok(written) => assert_eq!(rt; written.as_slice(), BYTES.as_slice()),
-        Err(_) => return Err(Fail::from("it isn't read")),
-    }
-    Ok(())
+fn it_is_written_again(rt: HostRuntime) {
+    assert!(rt; is_read(rt.alloc(), &BYTES));
 }
 
 #[test]
-fn no_front_is_read(rt: HostRuntime) -> Result<(), Fail> {
+fn no_front_is_read(rt: HostRuntime) {
     for n in 0..65usize {
-        assert!(rt; again(rt.alloc(), &BYTES[..n])?.is_err());
+        assert!(rt; fault_in(rt.alloc(), &BYTES[..n]).is_some(), "{n}");
     }
-    Ok(())
+}
+
+/// The place of the fault where others stand in the bytes from a place on. Without a fault the bytes are those of what is read.
+fn fault_with(alloc: Global, at: usize, others: &[u8]) -> Option<u64> {
+    let Some(changed) = with_bytes(alloc, &BYTES, at, others) else {
+        return Some(OTHER);
+    };
+    if is_read(alloc, &changed) {
+        return None;
+    }
+    Some(fault_in(alloc, &changed).unwrap_or(OTHER))
 }
 
 /// A byte, what stands there instead, and the place of the fault.
@@ -51,17 +68,10 @@ static CHANGED: [(usize, u8, Option<u64>); 10] = [
 ];
 
 #[test]
-fn changed_bytes(rt: HostRuntime) -> Result<(), Fail> {
+fn changed_bytes(rt: HostRuntime) {
     for (at, byte, place) in &CHANGED {
-        let mut bytes = BYTES;
-        if *at >= 65 {
-            return Err(Fail::from("no such byte"));
-        }
-        bytes[*at] = *byte;
-        let found = again(rt.alloc(), &bytes)?.err();
-        assert_eq!(rt; found, *place, "{at}");
+        assert!(rt; fault_with(rt.alloc(), *at, &[*byte]) == *place, "{at}");
     }
-    Ok(())
 }
 
 /// Bytes from a place on, and the place of the fault: p and q that are one too great or just not, as many rows as there
@@ -83,10 +93,8 @@ static LIMITS: [(usize, &[u8], Option<u64>); 6] = [
 ];
 
 #[test]
-fn numbers_at_their_limits(rt: HostRuntime) -> Result<(), Fail> {
+fn numbers_at_their_limits(rt: HostRuntime) {
     for (at, others, place) in &LIMITS {
-        let bytes = with_bytes(rt.alloc(), &BYTES, *at, others)?;
-        assert_eq!(rt; again(rt.alloc(), &bytes)?.err(), *place, "{at}");
+        assert!(rt; fault_with(rt.alloc(), *at, others) == *place, "{at}");
     }
-    Ok(())
 }

@@ -1,33 +1,43 @@
-// Files that aren't there, and files of which one byte is another.
-use crate::segment::{BYTES, cache_of, open, places, store_of};
+// A file that isn't there, and files of which one byte is another.
+use crate::segment::{cache_of, changed, open, places, store_of};
+use disk_index::{BlockCache, Part};
 use ri_base::{PartName, SegFault};
 use std::alloc::Global;
-use std::test::Fail;
-use store_ends::MemStore;
+use store_ends::{MemStore, Store};
 
-/// The part and the place of the fault that is met when the segment is opened and all its blocks are read, if there is one.
-fn fault_in(alloc: Global, bytes: &[u8]) -> Result<Option<(PartName, u64)>, Fail> {
-    let mut store = store_of(alloc, bytes, Vec::new(alloc))?;
+/// Reads all blocks.
+fn read_blocks(
+    alloc: Global,
+    part: &Part,
+    store: &mut MemStore,
+    cache: &mut BlockCache,
+) -> Result<(), SegFault> {
+    for word in &["a", "b"] {
+        let _places = places(alloc, part, store, cache, word, 0)?;
+    }
+    Ok(())
+}
+
+/// Opens the segment and reads all its blocks.
+fn read_all(alloc: Global, store: &mut MemStore) -> Result<(), SegFault> {
+    let part = open(alloc, store)?;
+    let mut cache = cache_of(alloc, 4)?;
+    read_blocks(alloc, &part, store, &mut cache)
+}
+
+/// The part and the place of the fault that is met then; nothing where there is none.
+fn fault_in(alloc: Global, bytes: &[u8]) -> Option<(PartName, u64)> {
+    let mut store = store_of(alloc, bytes, Vec::new(alloc)).ok()?;
     match read_all(alloc, &mut store) {
-        Ok(()) => Ok(None),
         Err(
             SegFault::Malformed {
                 file: _,
                 part,
                 place,
             },
-        ) => Ok(Some((part, place))),
-        Err(_) => Err(Fail::from("another fault")),
+        ) => Some((part, place)),
+        _ => None,
     }
-}
-
-fn read_all(alloc: Global, store: &mut MemStore) -> Result<(), SegFault> {
-    let part = open(alloc, store)?;
-    let mut cache = cache_of(alloc, 4)?;
-    for word in &["a", "b"] {
-        let _places = places(alloc, &part, store, &mut cache, word, 0)?;
-    }
-    Ok(())
 }
 
 /// A byte of the file, what stands there instead, and the fault.
@@ -44,26 +54,20 @@ static CHANGES: [(usize, u8, PartName, u64); 9] = [
 ];
 
 #[test]
-fn one_byte_of_each_part(rt: HostRuntime) -> Result<(), Fail> {
-    assert!(rt; fault_in(rt.alloc(), &BYTES)?.is_none());
+fn one_byte_of_each_part(rt: HostRuntime) {
     for (at, byte, part, place) in &CHANGES {
-        let mut bytes = BYTES;
-        if *at >= 155 {
-            return Err(Fail::from("no such byte"));
-        }
-        bytes[*at] = *byte;
-        assert!(rt;
-            fault_in(rt.alloc(), &bytes)? == Some((*part, *place)),
-            "{at}"
-        );
+        let fault = fault_in(rt.alloc(), &changed(*at, *byte));
+        assert!(rt; fault == Some((*part, *place)), "{at}");
     }
-    Ok(())
+}
+
+/// Whether the segment isn't opened since there is no file.
+pub fn is_missing<T: Store>(alloc: Global, store: &mut T) -> bool {
+    matches!(open(alloc, store), Err(SegFault::Missing { file: _ }))
 }
 
 #[test]
-fn no_file(rt: HostRuntime) -> Result<(), Fail> {
+fn no_file(rt: HostRuntime) {
     let mut store = MemStore::new(rt.alloc(), Vec::new(rt.alloc()), Vec::new(rt.alloc()));
-    let answer = open(rt.alloc(), &mut store);
-    assert!(rt; matches!(answer, Err(SegFault::Missing { file: _ })));
-    Ok(())
+    assert!(rt; is_missing(rt.alloc(), &mut store));
 }

@@ -1,10 +1,9 @@
 // The documents of a range, put together from its blocks.
 use crate::kinds::in_memory;
-use crate::segment::{BYTES, cache_of, open, store_of};
+use crate::segment::{BYTES, cache_of, changed, open, store_of};
 use disk_index::Part;
-use ri_base::{Doc, List, PartName, SegFault};
+use ri_base::{Doc, List, PartName, SegFault, Term};
 use std::alloc::Global;
-use std::test::Fail;
 use store_ends::MemStore;
 
 /// The documents of the first range.
@@ -16,76 +15,78 @@ fn documents(alloc: Global, part: &Part, store: &mut MemStore) -> Result<List<Do
     part.documents(alloc, store, &mut cache, 0)
 }
 
-/// Docnos and tokens, document by document.
-static WORDS: [&str; 5] = ["d1", "a", "b", "d2", "a"];
+fn are_words(tokens: &[Term], words: &[&str]) -> bool {
+    let mut same = tokens.len() == words.len();
+    for (token, word) in tokens.iter().zip(words) {
+        same &= token.as_bytes() == word.as_bytes();
+    }
+    same
+}
 
-/// The first of these words that isn't the one of the documents, or how many there are where there are more or fewer.
-fn first_other(alloc: Global, docs: &[Doc]) -> Result<Option<usize>, Fail> {
-    let mut words = Vec::new(alloc);
-    for doc in docs {
-        words.push(doc.docno().as_bytes())?;
-        for token in doc.tokens().as_slice() {
-            words.push(token.as_bytes())?;
-        }
+/// Docnos and tokens.
+static DOCUMENTS: [(&str, &[&str]); 2] = [("d1", &["a", "b"]), ("d2", &["a"])];
+
+fn are_those(docs: &[Doc]) -> bool {
+    let mut same = docs.len() == DOCUMENTS.len();
+    for (doc, (docno, words)) in docs.iter().zip(&DOCUMENTS) {
+        same &= doc.docno().as_bytes() == docno.as_bytes();
+        same &= are_words(doc.tokens().as_slice(), words);
     }
-    for (i, (word, wanted)) in words.iter().zip(&WORDS).enumerate() {
-        if *word != wanted.as_bytes() {
-            return Ok(Some(i));
-        }
-    }
-    if words.len() == WORDS.len() {
-        Ok(None)
-    } else {
-        Ok(Some(words.len()))
+    same
+}
+
+/// Whether the documents of a part are those.
+fn is_whole(alloc: Global, part: &Part, store: &mut MemStore) -> bool {
+    match documents(alloc, part, store) {
+        Ok(docs) => are_those(docs.as_slice()),
+        Err(_) => false,
     }
 }
 
-#[test]
-fn each_document_whole(rt: HostRuntime) -> Result<(), Fail> {
-    let mut store = store_of(rt.alloc(), &BYTES, Vec::new(rt.alloc()))?;
-    let part = open(rt.alloc(), &mut store)?;
-    let docs = documents(rt.alloc(), &part, &mut store)?;
-    assert_eq!(rt; first_other(rt.alloc(), docs.as_slice())?, None);
-    Ok(())
+fn is_whole_in_a_file(alloc: Global) -> Option<bool> {
+    let mut store = store_of(alloc, &BYTES, Vec::new(alloc)).ok()?;
+    let part = open(alloc, &mut store).ok()?;
+    Some(is_whole(alloc, &part, &mut store))
+}
+
+fn is_whole_in_memory(alloc: Global) -> Option<bool> {
+    let mut store = store_of(alloc, &[], Vec::new(alloc)).ok()?;
+    let part = in_memory(alloc, &BYTES)?;
+    Some(is_whole(alloc, &part, &mut store))
 }
 
 #[test]
-fn each_document_in_memory(rt: HostRuntime) -> Result<(), Fail> {
-    let mut store = store_of(rt.alloc(), &[], Vec::new(rt.alloc()))?;
-    let part = in_memory(rt.alloc())?;
-    let docs = documents(rt.alloc(), &part, &mut store)?;
-    assert_eq!(rt; first_other(rt.alloc(), docs.as_slice())?, None);
-    Ok(())
+fn each_document_whole(rt: HostRuntime) {
+    assert!(rt; is_whole_in_a_file(rt.alloc()) == Some(true));
+    assert!(rt; is_whole_in_memory(rt.alloc()) == Some(true));
 }
 
-/// Two bytes of the file with what stands there instead, and the place of the fault: a place that stands twice is told by its own
-/// place, and one that is missing by that of the last block.
-static CHANGES: [(usize, u8, usize, u8, u64); 2] = [(151, 0, 151, 0, 151), (16, 4, 67, 3, 145)];
+/// The part and the place of the fault that is met when the documents are put together; nothing where there is none.
+fn fault_in(alloc: Global, bytes: &[u8]) -> Option<(PartName, u64)> {
+    let mut store = store_of(alloc, bytes, Vec::new(alloc)).ok()?;
+    let part = open(alloc, &mut store).ok()?;
+    place_of(documents(alloc, &part, &mut store))
+}
 
-#[test]
-fn blocks_that_are_not_whole(rt: HostRuntime) -> Result<(), Fail> {
-    for (first, one, second, other, wanted) in &CHANGES {
-        let mut bytes = BYTES;
-        if *first >= 155 || *second >= 155 {
-            return Err(Fail::from("no such byte"));
-        }
-        bytes[*first] = *one;
-        bytes[*second] = *other;
-        let mut store = store_of(rt.alloc(), &bytes, Vec::new(rt.alloc()))?;
-        let part = open(rt.alloc(), &mut store)?;
-        match documents(rt.alloc(), &part, &mut store) {
-            Err(
-                SegFault::Malformed {
-                    file: _,
-                    part,
-                    place,
-                },
-            ) => {
-                assert!(rt; part == PartName::Block);
-                assert_eq!(rt; place, *wanted);
-            }
-            _ => return Err(Fail::from("not refused")),
-        }
+fn place_of(found: Result<List<Doc>, SegFault>) -> Option<(PartName, u64)> {
+    match found {
+        Err(
+            SegFault::Malformed {
+                file: _,
+                part,
+                place,
+            },
+        ) => Some((part, place)),
+        _ => None,
     }
-    Ok(())
+}
+
+// A place that stands twice is told by its own place, and one that is missing by that of the last block.
+#[test]
+fn blocks_that_are_not_whole(rt: HostRuntime) {
+    let twice = fault_in(rt.alloc(), &changed(151, 0));
+    assert!(rt; twice == Some((PartName::Block, 151)));
+    let mut bytes = changed(16, 4);
+    bytes[67] = 3;
+    assert!(rt; fault_in(rt.alloc(), &bytes) == Some((PartName::Block, 145)));
 }

@@ -1,45 +1,79 @@
-// The same documents in memory, and read from bytes that are a segment.
-use crate::segment::{BYTES, cache_of, open, places, store_of};
+// The same documents in a file, read from bytes that are a segment, and in memory.
+use crate::places::are_read;
+use crate::segment::{BYTES, open, shared, store_of};
 use disk_index::{DiskIndex, Part};
 use memory_index::MemIndex;
-use ri_base::{Doc, FileName, Term};
+use ri_base::{Doc, FileName, List, Sealed, SegFault, Term};
 use seg_codec::read_segment;
 use std::alloc::{AllocError, Global};
 use std::rc::Rc;
-use std::test::Fail;
 use store_ends::MemStore;
 
-fn put(alloc: Global, index: &mut MemIndex, doc: &Doc) -> Result<(), Fail> {
+/// The documents of a segment.
+fn documents_of(alloc: Global, bytes: &[u8]) -> Option<List<Doc>> {
+    read_segment(alloc, bytes, FileName::Segment(1)).ok()
+}
+
+fn put(alloc: Global, index: &mut MemIndex, doc: &Doc) -> bool {
     if index.token_count() + u64::from(doc.len()) > 67_108_864 {
-        return Err(Fail::from("too many tokens"));
+        return false;
     }
-    match index.add(alloc, doc) {
-        Ok(_) => Ok(()),
-        Err(_) => Err(Fail::from("not added")),
+    index.add(alloc, doc).is_ok()
+}
+
+/// An index of these documents, two at most.
+fn index_of(alloc: Global, docs: &[Doc]) -> Option<MemIndex> {
+    let mut index = MemIndex::new(alloc, 2).ok()?;
+    for doc in docs {
+        if !put(alloc, &mut index, doc) {
+            return None;
+        }
+    }
+    Some(index)
+}
+
+fn sealed(alloc: Global, bytes: &[u8]) -> Option<Sealed> {
+    let docs = documents_of(alloc, bytes)?;
+    index_of(alloc, docs.as_slice())?.seal(alloc).ok()
+}
+
+/// The documents of a segment in memory.
+pub fn in_memory(alloc: Global, bytes: &[u8]) -> Option<Part> {
+    let sealed = sealed(alloc, bytes)?;
+    Some(Part::Memory(Rc::new(alloc, sealed).map_err(AllocError::from).ok()?))
+}
+
+/// What is kept of the segment's bytes; nothing where they have no documents.
+fn of_bytes(alloc: Global) -> Result<Option<DiskIndex>, SegFault> {
+    let docs = read_segment(alloc, &BYTES, FileName::Segment(1))?;
+    if docs.is_empty() {
+        return Ok(None);
+    }
+    Ok(Some(DiskIndex::of_bytes(alloc, &BYTES, 1)?))
+}
+
+/// Where the documents of a part are.
+#[derive(Clone, Copy)]
+enum Kind {
+    File,
+    Bytes,
+    Memory,
+}
+
+fn part_of(alloc: Global, kind: Kind, store: &mut MemStore) -> Option<Part> {
+    match kind {
+        Kind::File => open(alloc, store).ok(),
+        Kind::Bytes => shared(alloc, of_bytes(alloc).ok()??).ok(),
+        Kind::Memory => in_memory(alloc, &BYTES),
     }
 }
 
-/// The documents of the segment in memory.
-pub fn in_memory(alloc: Global) -> Result<Part, Fail> {
-    let docs = read_segment(alloc, &BYTES, FileName::Segment(1))?;
-    let mut index = MemIndex::new(alloc, 2)?;
-    for doc in docs.as_slice() {
-        put(alloc, &mut index, doc)?;
-    }
-    match index.seal(alloc) {
-        Ok(sealed) => Ok(Part::Memory(Rc::new(alloc, sealed).map_err(AllocError::from)?)),
-        Err(_) => Err(Fail::from("not sealed")),
-    }
-}
-
-/// What is kept of the segment's bytes.
-fn of_bytes(alloc: Global) -> Result<Part, Fail> {
-    let docs = read_segment(alloc, &BYTES, FileName::Segment(1))?;
-    if docs.len() != 2 {
-        return Err(Fail::from("other documents"));
-    }
-    let index = DiskIndex::of_bytes(alloc, &BYTES, 1)?;
-    Ok(Part::Disk(Rc::new(alloc, index).map_err(AllocError::from)?))
+/// Whether the document has this docno, so many tokens, and no fields.
+fn is_outline(part: &Part, id: u32, docno: &[u8], tokens: u32) -> bool {
+    id < part.docs()
+        && part.docno(id).as_bytes() == docno
+        && part.length(id) == tokens
+        && part.spans(id).is_empty()
 }
 
 /// Whether a word may stand in the documents of a range.
@@ -51,55 +85,55 @@ static PRESENT: [(&str, u32, bool); 5] = [
     ("b", 67_108_863, false),
 ];
 
+/// Whether the answer is this one.
+fn is_told(alloc: Global, part: &Part, word: &str, range: u32, wanted: bool) -> bool {
+    match Term::new(alloc, word.as_bytes()) {
+        Ok(Some(term)) => part.may_have(&term, range) == wanted,
+        _ => false,
+    }
+}
+
 /// The first of these rows that a part answers otherwise, if one is.
-fn first_wrong(alloc: Global, part: &Part) -> Result<Option<usize>, Fail> {
+fn first_wrong(alloc: Global, part: &Part) -> Option<usize> {
     for (i, (word, range, wanted)) in PRESENT.iter().enumerate() {
-        let term = Term::new(alloc, word.as_bytes())?.ok_or("no term")?;
-        if part.may_have(&term, *range) != *wanted {
-            return Ok(Some(i));
+        if !is_told(alloc, part, word, *range, *wanted) {
+            return Some(i);
         }
     }
-    Ok(None)
+    None
+}
+
+/// Whether a part is those two documents, as it tells without a read.
+fn is_kept(alloc: Global, part: &Part) -> bool {
+    part.docs() == 2
+        && is_outline(part, 0, b"d1", 2)
+        && is_outline(part, 1, b"d2", 1)
+        && first_wrong(alloc, part).is_none()
+}
+
+/// Whether a part of this kind is those documents, with room for so many blocks.
+fn is_right(alloc: Global, kind: Kind, slots: usize) -> bool {
+    let Ok(mut store) = store_of(alloc, &BYTES, Vec::new(alloc)) else {
+        return false;
+    };
+    match part_of(alloc, kind, &mut store) {
+        Some(part) => is_kept(alloc, &part) && are_read(alloc, &part, &mut store, slots),
+        None => false,
+    }
 }
 
 #[test]
-fn where_words_may_stand(rt: HostRuntime) -> Result<(), Fail> {
-    let mut store = store_of(rt.alloc(), &BYTES, Vec::new(rt.alloc()))?;
-    let opened = open(rt.alloc(), &mut store)?;
-    assert_eq!(rt; first_wrong(rt.alloc(), &opened)?, None);
-    assert_eq!(rt; first_wrong(rt.alloc(), &of_bytes(rt.alloc())?)?, None);
-    assert_eq!(rt; first_wrong(rt.alloc(), &in_memory(rt.alloc())?)?, None);
-    Ok(())
-}
-
-/// Docnos, lengths and the places of `b` in both documents.
-fn outline(
-    alloc: Global,
-    part: &Part,
-    store: &mut MemStore,
-    id: u32,
-) -> Result<(u8, u32, usize), Fail> {
-    if id >= part.docs() {
-        return Err(Fail::from("no such document"));
-    }
-    let mut cache = cache_of(alloc, 1)?;
-    let found = places(alloc, part, store, &mut cache, "b", id)?;
-    let last = part.docno(id).as_bytes().last().copied().unwrap_or(0);
-    Ok((last, part.length(id), found.as_slice().len()))
+fn in_a_file(rt: HostRuntime) {
+    assert!(rt; is_right(rt.alloc(), Kind::File, 16));
 }
 
 #[test]
-fn all_read_alike(rt: HostRuntime) -> Result<(), Fail> {
-    let mut store = store_of(rt.alloc(), &BYTES, Vec::new(rt.alloc()))?;
-    let parts = [
-        open(rt.alloc(), &mut store)?,
-        of_bytes(rt.alloc())?,
-        in_memory(rt.alloc())?,
-    ];
-    for part in &parts {
-        assert_eq!(rt; part.docs(), 2);
-        assert_eq!(rt; outline(rt.alloc(), part, &mut store, 0)?, (b'1', 2, 1));
-        assert_eq!(rt; outline(rt.alloc(), part, &mut store, 1)?, (b'2', 1, 0));
-    }
-    Ok(())
+fn one_slot_gives_the_same(rt: HostRuntime) {
+    assert!(rt; is_right(rt.alloc(), Kind::File, 1));
+}
+
+#[test]
+fn all_read_alike(rt: HostRuntime) {
+    assert!(rt; is_right(rt.alloc(), Kind::Bytes, 1));
+    assert!(rt; is_right(rt.alloc(), Kind::Memory, 1));
 }

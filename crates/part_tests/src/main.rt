@@ -8,6 +8,8 @@ mod documents;
 #[cfg(test)]
 mod failing;
 #[cfg(test)]
+mod folder;
+#[cfg(test)]
 mod kinds;
 #[cfg(test)]
 mod marked;

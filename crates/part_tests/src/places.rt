@@ -1,10 +1,8 @@
-// What is read of a segment, over a store in memory and over a folder.
-use crate::segment::{BYTES, NAME, cache_of, open, places, store_of};
-use disk_index::Part;
+// The places of words in documents.
+use crate::segment::{cache_of, open, places};
+use disk_index::{BlockCache, Part};
 use std::alloc::Global;
-use std::fs;
-use std::test::Fail;
-use store_ends::{FolderStore, Store};
+use store_ends::Store;
 
 /// A word, a document, and the places of the word there.
 static PLACES: [(&str, u32, &[u32]); 6] = [
@@ -16,62 +14,49 @@ static PLACES: [(&str, u32, &[u32]); 6] = [
     ("a", 0, &[0]),
 ];
 
+/// Whether a word has these places in a document.
+pub fn are_places<T: Store>(
+    alloc: Global,
+    part: &Part,
+    store: &mut T,
+    cache: &mut BlockCache,
+    word: &str,
+    id: u32,
+    wanted: &[u32],
+) -> bool {
+    match places(alloc, part, store, cache, word, id) {
+        Ok(found) => found.as_slice() == wanted,
+        Err(_) => false,
+    }
+}
+
 /// The first of these rows that is read otherwise, if one is.
 fn first_wrong<T: Store>(
     alloc: Global,
     part: &Part,
     store: &mut T,
-    slots: usize,
-) -> Result<Option<usize>, Fail> {
-    let mut cache = cache_of(alloc, slots)?;
+    cache: &mut BlockCache,
+) -> Option<usize> {
     for (i, (word, id, wanted)) in PLACES.iter().enumerate() {
-        let found = places(alloc, part, store, &mut cache, word, *id)?;
-        if found.as_slice() != *wanted {
-            return Ok(Some(i));
+        if !are_places(alloc, part, store, cache, word, *id, wanted) {
+            return Some(i);
         }
     }
-    Ok(None)
+    None
 }
 
-#[test]
-fn each_place(rt: HostRuntime) -> Result<(), Fail> {
-    let mut store = store_of(rt.alloc(), &BYTES, Vec::new(rt.alloc()))?;
-    let part = open(rt.alloc(), &mut store)?;
-    assert_eq!(rt; first_wrong(rt.alloc(), &part, &mut store, 16)?, None);
-    Ok(())
-}
-
-#[test]
-fn one_slot_gives_the_same(rt: HostRuntime) -> Result<(), Fail> {
-    let mut store = store_of(rt.alloc(), &BYTES, Vec::new(rt.alloc()))?;
-    let part = open(rt.alloc(), &mut store)?;
-    assert_eq!(rt; first_wrong(rt.alloc(), &part, &mut store, 1)?, None);
-    Ok(())
-}
-
-#[test]
-fn each_place_over_a_folder(rt: HostRuntime) -> Result<(), Fail> {
-    fs::create_dir(&rt, "parts")?;
-    let mut store = FolderStore::new(&rt, "parts")?;
-    if NAME.len() > 64 {
-        return Err(Fail::from("a name too long"));
+/// Whether all rows are read so of a part, with room for so many blocks.
+pub fn are_read<T: Store>(alloc: Global, part: &Part, store: &mut T, slots: usize) -> bool {
+    match cache_of(alloc, slots) {
+        Ok(mut cache) => first_wrong(alloc, part, store, &mut cache).is_none(),
+        Err(_) => false,
     }
-    store.put(NAME, &BYTES)?;
-    let part = open(rt.alloc(), &mut store)?;
-    assert_eq!(rt; first_wrong(rt.alloc(), &part, &mut store, 2)?, None);
-    fs::remove_dir_all(&rt, "parts")?;
-    Ok(())
 }
 
-#[test]
-fn what_is_kept(rt: HostRuntime) -> Result<(), Fail> {
-    let mut store = store_of(rt.alloc(), &BYTES, Vec::new(rt.alloc()))?;
-    let part = open(rt.alloc(), &mut store)?;
-    assert_eq!(rt; part.docs(), 2);
-    assert_eq!(rt; part.docno(0).as_bytes(), b"d1".as_slice());
-    assert_eq!(rt; part.docno(1).as_bytes(), b"d2".as_slice());
-    assert_eq!(rt; part.length(0), 2);
-    assert_eq!(rt; part.length(1), 1);
-    assert_eq!(rt; part.spans(0).len(), 0);
-    Ok(())
+/// Whether they are read so of the segment once it is opened.
+pub fn are_read_once_open<T: Store>(alloc: Global, store: &mut T, slots: usize) -> bool {
+    match open(alloc, store) {
+        Ok(part) => are_read(alloc, &part, store, slots),
+        Err(_) => false,
+    }
 }

@@ -17,6 +17,19 @@ pub static BYTES: [u8; 155] = [
 
 pub const NAME: &str = "seg-0000000000000001";
 
+/// The same with another byte at a place of it.
+pub fn changed(at: usize, byte: u8) -> [u8; 155] {
+    let mut bytes = BYTES;
+    if at < 155 {
+        bytes[at] = byte;
+    }
+    bytes
+}
+
+fn file_of(alloc: Global, bytes: &[u8]) -> Result<(Vec<u8>, Vec<u8>), AllocError> {
+    Ok((NAME.as_bytes().to_vec(alloc)?, bytes.to_vec(alloc)?))
+}
+
 /// A store with these bytes as the file of segment 1, in which these calls fail.
 pub fn store_of(
     alloc: Global,
@@ -24,14 +37,18 @@ pub fn store_of(
     fails: Vec<StoreFail>,
 ) -> Result<MemStore, AllocError> {
     let mut files = Vec::new(alloc);
-    files.push((NAME.as_bytes().to_vec(alloc)?, bytes.to_vec(alloc)?))?;
+    files.push(file_of(alloc, bytes)?)?;
     Ok(MemStore::new(alloc, files, fails))
+}
+
+pub fn shared(alloc: Global, index: DiskIndex) -> Result<Part, AllocError> {
+    Ok(Part::Disk(Rc::new(alloc, index).map_err(AllocError::from)?))
 }
 
 /// Segment 1, of two documents.
 pub fn open<T: Store>(alloc: Global, store: &mut T) -> Result<Part, SegFault> {
     let index = DiskIndex::open(alloc, store, 1, 2)?;
-    Ok(Part::Disk(Rc::new(alloc, index).map_err(AllocError::from)?))
+    Ok(shared(alloc, index)?)
 }
 
 /// A cache of so many blocks, or of one.
@@ -39,7 +56,22 @@ pub fn cache_of(alloc: Global, slots: usize) -> Result<BlockCache, AllocError> {
     BlockCache::new(alloc, NonZeroUsize::new(slots).unwrap_or(NonZeroUsize::MIN))
 }
 
-/// The places of a word in a document; none where there is no such document.
+/// The places of a term in a document; none where there is no such document.
+fn places_of<T: Store>(
+    alloc: Global,
+    part: &Part,
+    store: &mut T,
+    cache: &mut BlockCache,
+    term: &Term,
+    id: u32,
+) -> Result<Positions, SegFault> {
+    if id >= part.docs() {
+        return Ok(Positions::new(alloc));
+    }
+    part.positions(alloc, store, cache, term, id)
+}
+
+/// The same of a word.
 pub fn places<T: Store>(
     alloc: Global,
     part: &Part,
@@ -49,7 +81,7 @@ pub fn places<T: Store>(
     id: u32,
 ) -> Result<Positions, SegFault> {
     match Term::new(alloc, word.as_bytes())? {
-        Some(term) if id < part.docs() => part.positions(alloc, store, cache, &term, id),
-        _ => Ok(Positions::new(alloc)),
+        Some(term) => places_of(alloc, part, store, cache, &term, id),
+        None => Ok(Positions::new(alloc)),
     }
 }

@@ -1,52 +1,60 @@
 // A repository is made where there is none.
-use crate::files::{EMPTY, File, ONE, fails_at, manifest_bytes, store_of};
+use crate::files::{EMPTY, File, ONE, fails_at, is_manifest, store_of};
 use repository::create;
-use ri_base::SegFault;
 use std::alloc::Global;
-use std::test::Fail;
-use store_ends::Left;
+use store_ends::{Left, MemStore, StoreFail};
 
-/// Whether one is made of these files, and the manifest behind it.
-fn made_of(alloc: Global, files: &[File]) -> Result<(bool, Vec<u8>), Fail> {
-    let mut store = store_of(alloc, files, Vec::new(alloc))?;
-    match create(alloc, &mut store) {
-        Ok(made) => Ok((made, manifest_bytes(alloc, &mut store)?)),
-        Err(_) => Err(Fail::from("not made")),
-    }
+/// Whether one is made; nothing where that fails.
+fn answer_of(alloc: Global, store: &mut MemStore) -> Option<bool> {
+    create(alloc, store).ok()
+}
+
+/// Whether the answer is this one, and the manifest behind it.
+fn is_answered(
+    alloc: Global,
+    files: &[File],
+    fails: Vec<StoreFail>,
+    answer: Option<bool>,
+    manifest: &[u8],
+) -> bool {
+    let Ok(mut store) = store_of(alloc, files, fails) else {
+        return false;
+    };
+    answer_of(alloc, &mut store) == answer && is_manifest(&mut store, manifest)
 }
 
 #[test]
-fn of_no_files(rt: HostRuntime) -> Result<(), Fail> {
-    let (made, manifest) = made_of(rt.alloc(), &[])?;
-    assert!(rt; made);
-    assert!(rt; manifest.as_slice() == EMPTY.as_slice());
-    Ok(())
+fn of_no_files(rt: HostRuntime) {
+    let fails = Vec::new(rt.alloc());
+    assert!(rt; is_answered(rt.alloc(), &[], fails, Some(true), &EMPTY));
 }
 
 #[test]
-fn another_is_kept(rt: HostRuntime) -> Result<(), Fail> {
-    let (made, manifest) = made_of(rt.alloc(), &[("manifest", ONE.as_slice())])?;
-    assert!(rt; !made);
-    assert!(rt; manifest.as_slice() == ONE.as_slice());
-    Ok(())
+fn another_is_kept(rt: HostRuntime) {
+    let fails = Vec::new(rt.alloc());
+    assert!(rt;
+        is_answered(
+            rt.alloc(),
+            &[("manifest", ONE.as_slice())],
+            fails,
+            Some(false),
+            &ONE
+        )
+    );
 }
 
-/// Whether the manifest is there after a failure of this call, which leaves the file so.
-fn is_left_by(alloc: Global, call: u64, left: Left) -> Result<bool, Fail> {
-    let mut store = store_of(alloc, &[], fails_at(alloc, call, left)?)?;
-    match create(alloc, &mut store) {
-        Err(SegFault::Store) => Ok(
-            manifest_bytes(alloc, &mut store)?.as_slice() == EMPTY.as_slice(),
-        ),
-        _ => Err(Fail::from("no failure")),
+/// Whether the manifest has these bytes behind a failure of this call, which leaves the file so.
+fn is_left(alloc: Global, call: u64, left: Left, manifest: &[u8]) -> bool {
+    match fails_at(alloc, call, left) {
+        Ok(fails) => is_answered(alloc, &[], fails, None, manifest),
+        Err(_) => false,
     }
 }
 
 // The calls are the length of the manifest and its replacement.
 #[test]
-fn each_call_fails(rt: HostRuntime) -> Result<(), Fail> {
-    assert!(rt; !is_left_by(rt.alloc(), 1, Left::New)?);
-    assert!(rt; !is_left_by(rt.alloc(), 2, Left::Old)?);
-    assert!(rt; is_left_by(rt.alloc(), 2, Left::New)?);
-    Ok(())
+fn each_call_fails(rt: HostRuntime) {
+    assert!(rt; is_left(rt.alloc(), 1, Left::New, &[]));
+    assert!(rt; is_left(rt.alloc(), 2, Left::Old, &[]));
+    assert!(rt; is_left(rt.alloc(), 2, Left::New, &EMPTY));
 }

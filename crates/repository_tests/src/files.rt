@@ -1,7 +1,5 @@
 // The files of repositories, written out by hand.
-use ri_base::{FileName, PartName, SegFault};
 use std::alloc::{AllocError, Global};
-use std::test::Fail;
 use store_ends::{Left, MemStore, Store, StoreFail};
 
 /// The manifest that lists nothing.
@@ -42,6 +40,11 @@ pub static SEGMENT: [u8; 155] = [
 /// A name and a content.
 pub type File = (&'static str, &'static [u8]);
 
+fn file_of(alloc: Global, file: &File) -> Result<(Vec<u8>, Vec<u8>), AllocError> {
+    let (name, bytes) = file;
+    Ok((name.as_bytes().to_vec(alloc)?, bytes.to_vec(alloc)?))
+}
+
 /// A store with these files, in which these calls fail.
 pub fn store_of(
     alloc: Global,
@@ -49,8 +52,8 @@ pub fn store_of(
     fails: Vec<StoreFail>,
 ) -> Result<MemStore, AllocError> {
     let mut kept = Vec::new(alloc);
-    for (name, bytes) in files {
-        kept.push((name.as_bytes().to_vec(alloc)?, bytes.to_vec(alloc)?))?;
+    for file in files {
+        kept.push(file_of(alloc, file)?)?;
     }
     Ok(MemStore::new(alloc, kept, fails))
 }
@@ -62,31 +65,11 @@ pub fn fails_at(alloc: Global, call: u64, left: Left) -> Result<Vec<StoreFail>, 
     Ok(fails)
 }
 
-/// The first bytes of the manifest, 64 at most; none where there is no manifest.
-pub fn manifest_bytes(alloc: Global, store: &mut MemStore) -> Result<Vec<u8>, Fail> {
-    let mut bytes = vec![in alloc; 0u8; 64]?;
+/// Whether the manifest has these bytes. Where there is none it has no bytes.
+pub fn is_manifest(store: &mut MemStore, wanted: &[u8]) -> bool {
+    let mut bytes = [0; 64];
     match store.read_at("manifest", 0, &mut bytes) {
-        Ok(count) => {
-            bytes.truncate(count);
-            Ok(bytes)
-        }
-        Err(_) => Err(Fail::from("the store failed")),
-    }
-}
-
-/// The file, the part and the place of a fault, or whether a file is missing.
-#[derive(Clone, Copy, Debug, PartialEq, Eq)]
-pub enum Fault {
-    Malformed(FileName, PartName, u64),
-    Missing(FileName),
-    Store,
-}
-
-pub fn shown(fault: SegFault) -> Result<Fault, Fail> {
-    match fault {
-        SegFault::Malformed { file, part, place } => Ok(Fault::Malformed(file, part, place)),
-        SegFault::Missing { file } => Ok(Fault::Missing(file)),
-        SegFault::Store => Ok(Fault::Store),
-        SegFault::Memory => Err(Fail::from("out of memory")),
+        Ok(count) => &bytes[..count] == wanted,
+        Err(_) => false,
     }
 }

@@ -1,10 +1,10 @@
 -- What the answer of `read_words` says.
 use Rattle.std.specs.Prelude.{ℕ, ◌≤◌, List, Option, String, option_map, string_bytes}
 use Rattle.smoothing.specs.Fractions.{IsMu}
-use Rattle.command_words.specs.Table.{Asks, Question, explain, query, scan}
+use Rattle.command_words.specs.Table.{Asks, Question, add, create, delete, explain, prior, query, scan}
 use Rattle.command_words.specs.declared.words.Asked.{Asked}
 use Rattle.command_words.specs.declared.words.Words.{Words}
-use Rattle.command_words.specs.declared.words.Words.TheVariants.{Explain, Query, Scan}
+use Rattle.command_words.specs.declared.words.Words.TheVariants.{Add, Create, Delete, Explain, Prior, Query, Scan}
 use Rattle.command_words.specs.declared.words.TheConstants.{MAX_RESULTS}
 
 abbrev pub told_labels : {Z : Type 0} → Option (String Z × String Z) → Option (List ℕ × List ℕ)
@@ -17,6 +17,10 @@ abbrev pub told_words : Words → Asks
 told_words (Scan text) = scan (string_bytes text)
 told_words (Query asked) = query (told_asked asked)
 told_words (Explain rank asked) = explain rank (told_asked asked)
+told_words Create = create
+told_words Add = add
+told_words Delete = delete
+told_words (Prior name) = prior name
 
 -- the numbers of a query are in their ranges
 pub record IsInRange (asked : Asked) : Type 0 where
@@ -28,3 +32,7 @@ abbrev pub AreInRange : Words → Type 0
 AreInRange (Scan text) = Unit {0}
 AreInRange (Query asked) = IsInRange asked
 AreInRange (Explain rank asked) = (1 ≤ rank) × (rank ≤ MAX_RESULTS) × IsInRange asked
+AreInRange Create = Unit {0}
+AreInRange Add = Unit {0}
+AreInRange Delete = Unit {0}
+AreInRange (Prior name) = Unit {0}

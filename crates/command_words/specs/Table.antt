@@ -1,7 +1,9 @@
 -- The table of commands: what the words of the command line ask for.
-use Rattle.std.specs.Prelude.{ℕ, Bool, ◌&&◌, ◌||◌, nat_le, List, ◌∷◌, codes, length, Option, None, Some, is_some, option_map, option_and_then, if◌then◌else◌}
+use Rattle.std.specs.Prelude.{ℕ, Bool, ◌&&◌, ◌||◌, nat_le, List, ◌∷◌, codes, length, map, Option, None, Some, is_some, option_map, option_and_then, if◌then◌else◌}
 use Rattle.std.specs.List.{list_all}
 use Rattle.std.specs.Str.{bytes_eq}
+use Rattle.ri_base.specs.Ascii.{lower}
+use Rattle.ri_base.specs.Text.{is_name}
 use Rattle.smoothing.specs.declared.rule.TheConstants.{MAX_MU}
 use Rattle.command_words.specs.Given.{Values, given_by}
 use Rattle.line_parts.specs.Digits.{number_to}
@@ -21,6 +23,10 @@ pub data Asks : Type 0 where
   scan : List ℕ → Asks
   query : Question → Asks
   explain : ℕ → Question → Asks
+  create : Asks
+  add : Asks
+  delete : Asks
+  prior : List ℕ → Asks
 
 -- ---- the topic and the run: both or neither, each of 1 to 64 bytes from 33 to 126
 
@@ -41,9 +47,12 @@ labels_of _ _ = None
 abbrev pub only_word : Values → Option (List ℕ)
 only_word given = if is_some given.second then None else given.first
 
+abbrev pub has_options : Values → Bool
+has_options given = is_some given.k || is_some given.mu || is_some given.topic || is_some given.run
+
 -- scan EXPR
 abbrev pub scan_by : Values → Option Asks
-scan_by given = if is_some given.k || is_some given.mu || is_some given.topic || is_some given.run then None else option_map scan (only_word given)
+scan_by given = if has_options given then None else option_map scan (only_word given)
 
 abbrev pub query_from : Option (List ℕ) → Option ℕ → Option ℕ → Option (Option (List ℕ × List ℕ)) → Option Asks
 query_from (Some text) (Some k) (Some mu) (Some labels) = Some (query (record { text = text; k = k; mu = mu; labels = labels }))
@@ -64,11 +73,27 @@ explain_by given =
     if is_some given.k || is_some given.topic || is_some given.run then None
     else explain_from (option_and_then (number_to MAX_RESULTS) given.first) given.second (number_or DEFAULT_MU MAX_MU given.mu)
 
+-- a command behind which nothing stands
+abbrev pub bare_by : Asks → Values → Option Asks
+bare_by asks given = if has_options given || is_some given.first || is_some given.second then None else Some asks
+
+-- the name that a word is, read without case
+abbrev pub name_in : List ℕ → Option (List ℕ)
+name_in word = if is_name (map lower word) then Some (map lower word) else None
+
+-- prior NAME
+abbrev pub prior_by : Values → Option Asks
+prior_by given = if has_options given then None else option_map prior (option_and_then name_in (only_word given))
+
 abbrev pub command_by : List ℕ → Values → Option Asks
 command_by command given =
     if bytes_eq command (codes "scan") then scan_by given
     else if bytes_eq command (codes "query") then query_by given
     else if bytes_eq command (codes "explain") then explain_by given
+    else if bytes_eq command (codes "create") then bare_by create given
+    else if bytes_eq command (codes "add") then bare_by add given
+    else if bytes_eq command (codes "delete") then bare_by delete given
+    else if bytes_eq command (codes "prior") then prior_by given
     else None
 
 -- what the words ask for, where they are in the table: a folder, a command, and what stands behind them

@@ -3,13 +3,13 @@ ghost use Rattle.std.specs.Prelude.{◌≡◌, ◌++◌, ◌∷◌, [], IfOk, If
 ghost use Rattle.std.specs.Str.{is_utf8};
 ghost use Rattle.command_words.specs.Asked.{AreInRange, told_labels, told_words};
 ghost use Rattle.command_words.specs.Given.{told_given};
-ghost use Rattle.command_words.specs.Table.{asks_of, command_by, explain_by, query_by, scan_by};
+ghost use Rattle.command_words.specs.Table.{asks_of, bare_by, command_by, explain_by, has_options, only_word, prior_by, query_by, scan_by};
 ghost use Rattle.command_words.specs.Texts.{are_texts};
 
 use crate::given::{Given, given_by};
 use crate::labels::labels_of;
 use crate::numbers::{number_or, number_to};
-use ri_base::{ArgList, NoMemory};
+use ri_base::{ArgList, Name, NoMemory};
 use smoothing::MAX_MU;
 use std::alloc::Global;
 
@@ -43,24 +43,44 @@ pub enum Words {
     Query(Asked),
     /// Why the result of this rank, counted from 1, has its score. Its query is asked for as many results.
     Explain(u32, Asked),
+    /// A collection in which nothing is.
+    Create,
+    /// The documents of the input, behind those of the collection.
+    Add,
+    /// The collection without the documents whose docnos the input names.
+    Delete,
+    /// The rows of the input, for the prior of this name.
+    Prior(Name),
+}
+
+/// Whether an option stands behind the command.
+fn has_options(given: &Given) -> bool
+    ensures { result ≡ has_options (told_given given.now) }
+{
+    given.k.is_some() || given.mu.is_some() || given.topic.is_some() || given.run.is_some()
+}
+
+/// The one positional word, where no second one stands.
+fn only_word<'a>(given: &Given<'a>) -> Option<&'a str>
+    ensures { option_map (λ s. s.now) result ≡ only_word (told_given given.now) }
+{
+    match given.second {
+        None => given.first,
+        Some(_) => None,
+    }
 }
 
 fn scan_words(alloc: Global, given: &Given) -> Result<Option<Words>, NoMemory>
     ensures words { IfOk result (λ words. option_map told_words words ≡ scan_by (told_given given.now)) }
     ensures ranges { IfOk result (λ words. IfSome words AreInRange) }
 {
-    let Given {
-        first: Some(text),
-        second: None,
-        k: None,
-        mu: None,
-        topic: None,
-        run: None,
-    } = *given
-    else {
+    if has_options(given) {
         return Ok(None);
-    };
-    Ok(Some(Words::Scan(text.to_string(alloc)?)))
+    }
+    match only_word(given) {
+        Some(text) => Ok(Some(Words::Scan(text.to_string(alloc)?))),
+        None => Ok(None),
+    }
 }
 
 /// Copies of a topic and a run.
@@ -132,6 +152,34 @@ fn explain_words(alloc: Global, given: &Given) -> Result<Option<Words>, NoMemory
     )))
 }
 
+/// A command behind which nothing stands.
+fn bare_words(given: &Given, words: Words) -> Option<Words>
+    requires { AreInRange words }
+    ensures words { option_map told_words result ≡ bare_by (told_words words) (told_given given.now) }
+    ensures ranges { IfSome result AreInRange }
+{
+    if has_options(given) || given.first.is_some() || given.second.is_some() {
+        return None;
+    }
+    Some(words)
+}
+
+fn prior_words(alloc: Global, given: &Given) -> Result<Option<Words>, NoMemory>
+    ensures words { IfOk result (λ words. option_map told_words words ≡ prior_by (told_given given.now)) }
+    ensures ranges { IfOk result (λ words. IfSome words AreInRange) }
+{
+    if has_options(given) {
+        return Ok(None);
+    }
+    let Some(name) = only_word(given) else {
+        return Ok(None);
+    };
+    match Name::new(alloc, name.as_bytes())? {
+        Some(name) => Ok(Some(Words::Prior(name))),
+        None => Ok(None),
+    }
+}
+
 fn command_words(alloc: Global, command: &str, given: &Given) -> Result<Option<Words>, NoMemory>
     ensures words { IfOk result (λ words. option_map told_words words ≡ command_by command.now (told_given given.now)) }
     ensures ranges { IfOk result (λ words. IfSome words AreInRange) }
@@ -140,6 +188,10 @@ fn command_words(alloc: Global, command: &str, given: &Given) -> Result<Option<W
         "scan" => scan_words(alloc, given),
         "query" => query_words(alloc, given),
         "explain" => explain_words(alloc, given),
+        "create" => Ok(bare_words(given, Words::Create)),
+        "add" => Ok(bare_words(given, Words::Add)),
+        "delete" => Ok(bare_words(given, Words::Delete)),
+        "prior" => prior_words(alloc, given),
         _ => Ok(None),
     }
 }

@@ -16,7 +16,7 @@ use Rattle.true_order.specs.Ranked.{hit_beliefs}
 use Rattle.true_order.specs.TrueOrder.{IsTrueOrder}
 use Rattle.full_ranking.specs.Ranking.{IsRanking}
 use Rattle.indri_app.specs.Answer.{IsAnswerPiece}
-use Rattle.indri_app.specs.Pieces.{told_piece}
+use Rattle.command_pieces.specs.Written.{told_piece}
 use Rattle.indri_app.specs.Priors.{run_priors}
 use Rattle.indri_app.specs.Shown.{results, shown_text}
 

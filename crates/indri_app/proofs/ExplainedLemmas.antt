@@ -25,7 +25,7 @@ use Rattle.result_explanation.specs.Explanation.{IsExplanation}
 use Rattle.full_ranking.specs.Ranking.{IsRanking, candidate_of, query_candidates}
 use Rattle.result_explanation.specs.Sound.{IsOf}
 use Rattle.indri_app.specs.Answer.{document_with, hit_of_rank}
-use Rattle.indri_app.specs.Collection.{docnos_of}
+use Rattle.document_handlers.specs.Collection.{docnos_of}
 
 -- ---- the document with a docno
 

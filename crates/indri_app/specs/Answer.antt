@@ -12,12 +12,12 @@ use Rattle.ranked_output.specs.declared.explained.Explained.{Explained}
 use Rattle.true_order.specs.Ranked.{hit_beliefs}
 use Rattle.true_order.specs.TrueOrder.{IsTrueOrder}
 use Rattle.full_ranking.specs.Ranking.{IsRanking}
-use Rattle.refusals.specs.declared.refusal.Refusal.TheVariants.{NoSuchRank}
+use Rattle.query_refusals.specs.Lines.{refusal_piece}
+use Rattle.query_refusals.specs.declared.refusal.QueryRefusal.TheVariants.{NoSuchRank}
 use Rattle.result_explanation.specs.Explanation.{IsExplanation}
-use Rattle.indri_app.specs.Pieces.{Piece, told_piece}
+use Rattle.command_pieces.specs.Written.{Plain, told_piece}
 use Rattle.indri_app.specs.Priors.{run_priors}
 use Rattle.indri_app.specs.Shown.{Shown, explanation, results, shown_text}
-use Rattle.indri_app.specs.Work.{refusal_piece}
 
 -- ---- the first results
 
@@ -42,7 +42,7 @@ hit_of_rank rank ranking = slice_get ranking (rank - 1)
 
 -- the lines of what explains a hit of that rank in the document with its docno, by what these documents have of the leaves;
 -- the priors of a query have no names but `length`
-pub record Explains (q : CheckedTree) (docs : List Document) (rank : ℕ) (hit : Hit) (piece : Piece) : Type 0 where
+pub record Explains (q : CheckedTree) (docs : List Document) (rank : ℕ) (hit : Hit) (piece : Plain) : Type 0 where
   pub document : Document
   pub there : document_with hit.docno docs ≡ Some document
   pub explained : Explained
@@ -50,14 +50,14 @@ pub record Explains (q : CheckedTree) (docs : List Document) (rank : ℕ) (hit :
   pub text : piece ≡ told_piece (explained_text explained)
 
 -- what explains the result of that rank, or the refusal where there are fewer results
-abbrev pub ExplainsRank : CheckedTree → List Document → ℕ → Option Hit → Piece → Type 0
+abbrev pub ExplainsRank : CheckedTree → List Document → ℕ → Option Hit → Plain → Type 0
 ExplainsRank q docs rank None piece = piece ≡ refusal_piece (NoSuchRank (codes "q"))
 ExplainsRank q docs rank (Some hit) piece = Explains q docs rank hit piece
 
 -- ---- the answer
 
 -- The one piece that answers a query over these documents, by a ranking of them.
-abbrev pub IsAnswerPiece : RuleKind → Shown → CheckedTree → List Document → Piece → Type 0
+abbrev pub IsAnswerPiece : RuleKind → Shown → CheckedTree → List Document → Plain → Type 0
 IsAnswerPiece rule (results k labels) q docs piece =
     (ranking : List Hit) × IsResult rule k q docs ranking × (piece ≡ told_piece (shown_text labels (first_lines k q ranking)))
 IsAnswerPiece rule (explanation rank) q docs piece =

@@ -1,13 +1,8 @@
 pub mod Answer
-pub mod Collection
 pub mod Command
 pub mod CommandPieces
-pub mod Faults
-pub mod Pieces
 pub mod Priors
 pub mod Runs
-pub mod Scan
 pub mod Shown
 pub mod Status
 pub mod Told
-pub mod Work

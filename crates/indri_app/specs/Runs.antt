@@ -1,11 +1,12 @@
 -- What a run has written, by the status with which it ends.
-use Rattle.std.specs.Prelude.{ℕ, ◌≡◌, ◌⊎◌, ◌<◌, true, false, List, Option, take, length, codes}
-use Rattle.ri_ends.specs.Causes.{Rose}
+use Rattle.std.specs.Prelude.{ℕ, ◌≡◌, ◌⊎◌, true, false, List, Option, codes}
 use Rattle.indri_app.specs.Command.{Command}
 use Rattle.indri_app.specs.CommandPieces.{IsCutShort, IsDone, read_pieces}
-use Rattle.indri_app.specs.Pieces.{Piece, StoppedBetween, Writes, WritesFront}
-use Rattle.indri_app.specs.declared.fault.Fault.{Fault}
-use Rattle.indri_app.specs.declared.fault.Fault.TheVariants as fault
+use Rattle.command_pieces.specs.Lines.{WritesLine}
+use Rattle.command_pieces.specs.Pieces.{Writes, WritesFront}
+use Rattle.command_pieces.specs.Written.{CutBetween, CutThenLine}
+use Rattle.command_pieces.specs.declared.fault.Fault.{Fault}
+use Rattle.command_pieces.specs.declared.fault.Fault.TheVariants as fault
 use Rattle.indri_app.specs.declared.status.Status.{Status}
 use Rattle.indri_app.specs.declared.status.Status.TheVariants.{Done, Memory, QueryRefused, ReadFault, SomeRefused, Usage, WriteFault}
 
@@ -13,26 +14,14 @@ use Rattle.indri_app.specs.declared.status.Status.TheVariants.{Done, Memory, Que
 unfoldable pub read_line : List ℕ
 read_line = codes "fault read\n"
 
--- A line was written, whole, or only a front of it where the sink's count rose.
-pub record WritesLine (before now : Option (List ℕ)) (line : List ℕ) (count_before count_now : ℕ) : Type 0 where
-  pub front : ℕ
-  pub written : Writes before now (take front line)
-  pub whole : front < length line → Rose count_before count_now
-
--- The command stopped between two of its pieces, and behind what it had written by then stands a last line.
-pub record EndsIn (line : List ℕ) (pieces : List Piece) (before now : Option (List ℕ)) (count_before count_now : ℕ) : Type 0 where
-  pub taken : Option (List ℕ)
-  pub stopped : StoppedBetween pieces before taken
-  pub ended : WritesLine taken now line count_before count_now
-
 -- What a command has written of these bytes. Whole pieces stand before the last line of a run whose source failed, and
 -- where memory was wanting nothing stands behind them.
 abbrev pub RunsTo : Status → Command → List ℕ → Option (List ℕ) → Option (List ℕ) → ℕ → ℕ → Type 0
 RunsTo Done command bytes before now count_before count_now = IsDone command bytes false before now
 RunsTo SomeRefused command bytes before now count_before count_now = IsDone command bytes true before now
-RunsTo ReadFault command bytes before now count_before count_now = EndsIn read_line (read_pieces command bytes) before now count_before count_now
+RunsTo ReadFault command bytes before now count_before count_now = CutThenLine read_line (read_pieces command bytes) before now count_before count_now
 RunsTo WriteFault command bytes before now count_before count_now = IsCutShort command bytes before now
-RunsTo Memory command bytes before now count_before count_now = StoppedBetween (read_pieces command bytes) before now
+RunsTo Memory command bytes before now count_before count_now = CutBetween (read_pieces command bytes) before now
 RunsTo Usage command bytes before now count_before count_now = ⊥
 RunsTo QueryRefused command bytes before now count_before count_now = ⊥
 

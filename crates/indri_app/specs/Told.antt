@@ -4,8 +4,8 @@ use Rattle.command_words.specs.declared.words.TheConstants.{MAX_RESULTS}
 use Rattle.query_check.specs.Answers.{whole_checked}
 use Rattle.query_reader.specs.declared.fault.QueryFault.{QueryFault}
 use Rattle.query_reader.specs.declared.fault.QueryFault.TheVariants as text
-use Rattle.refusals.specs.declared.refusal.Refusal.{Refusal}
-use Rattle.refusals.specs.declared.refusal.Refusal.TheVariants as refusal
+use Rattle.query_refusals.specs.declared.refusal.QueryRefusal.{QueryRefusal}
+use Rattle.query_refusals.specs.declared.refusal.QueryRefusal.TheVariants as refusal
 use Rattle.ri_base.specs.Expression.{expr_tree}
 use Rattle.indri_app.specs.Command.{Command as Asked, IsRule, rank_by, scan_for}
 use Rattle.indri_app.specs.Shown.{Shown, explanation, results, told_shown}
@@ -33,14 +33,8 @@ abbrev pub text_fault : QueryFault → TextFault
 text_fault (text.Refused kind place) = Refused (refusal.Text kind place)
 text_fault text.Memory = Memory
 
--- The answer is the command, or the refusal of its text. Want of memory may be answered always.
-abbrev pub IsReadAs : Result Command TextFault → Result Asked Refusal → Type 0
-IsReadAs (Ok command) is = is ≡ Ok (told command)
-IsReadAs (Err (Refused why)) is = is ≡ Err why
-IsReadAs (Err Memory) is = Unit {0}
-
--- The same of words, which may be no command.
-abbrev pub Reads : Result (Option Command) TextFault → Option (Result Asked Refusal) → Type 0
+-- The answer is the command, or the refusal of its text; or there is no command. Want of memory may be answered always.
+abbrev pub Reads : Result (Option Command) TextFault → Option (Result Asked QueryRefusal) → Type 0
 Reads (Ok (Some command)) is = is ≡ Some (Ok (told command))
 Reads (Ok None) is = is ≡ None
 Reads (Err (Refused why)) is = is ≡ Some (Err why)

@@ -4,13 +4,13 @@ ghost use Rattle.command_words.specs.Asked.{AreInRange, told_words};
 ghost use Rattle.query_reader.specs.QueryText.{query_text};
 ghost use Rattle.indri_app.specs.Command.{IsRule, asked, command_of, query_read};
 ghost use Rattle.indri_app.specs.Shown.{told_shown};
-ghost use Rattle.indri_app.specs.Told.{CanRun, IsReadAs, IsShowable, Reads, text_fault, told};
+ghost use Rattle.indri_app.specs.Told.{CanRun, IsShowable, Reads, text_fault, told};
 
 use crate::shown::Shown;
 use command_words::{Words, read_words};
 use query_check::{CheckFault, Checked, check};
 use query_reader::{QueryFault, read_expr, read_query};
-use refusals::Refusal;
+use query_refusals::QueryRefusal;
 use ri_base::{ArgList, ExtentExpr};
 use smoothing::RuleKind;
 use std::alloc::Global;
@@ -31,7 +31,7 @@ pub enum Command {
 /// Why there is no command of a text.
 #[derive(Debug, Drop)]
 pub enum TextFault {
-    Refused(Refusal),
+    Refused(QueryRefusal),
     Memory,
 }
 
@@ -39,7 +39,10 @@ fn text_fault(fault: QueryFault) -> TextFault
     ensures { result ≡ text_fault fault }
 {
     match fault {
-        QueryFault::Refused { kind, place } => TextFault::Refused(Refusal::Text { kind, place }),
+        QueryFault::Refused { kind, place } => TextFault::Refused(QueryRefusal::Text {
+            kind,
+            place,
+        }),
         QueryFault::Memory => TextFault::Memory,
     }
 }
@@ -50,32 +53,32 @@ fn read_ranked(
     rule: RuleKind,
     shown: Shown,
     text: &str,
-) -> Result<Command, TextFault>
+) -> Result<Option<Command>, TextFault>
     requires rule { IsRule rule }
     requires shown { IsShowable (told_shown shown) }
-    ensures read { IsReadAs result (query_read rule (told_shown shown) (query_text text.now)) }
-    ensures can { IfOk result (λ command. CanRun (told command)) }
+    ensures read { Reads result (Some (query_read rule (told_shown shown) (query_text text.now))) }
+    ensures can { IfOk result (λ found. IfSome found (λ command. CanRun (told command))) }
 {
     let query = match read_query(alloc, text) {
         Ok(query) => query,
         Err(fault) => return Err(text_fault(fault)),
     };
     match check(alloc, query, &[]) {
-        Ok(query) => Ok(Command::Query { rule, shown, query }),
+        Ok(query) => Ok(Some(Command::Query { rule, shown, query })),
         Err(CheckFault::Memory) => Err(TextFault::Memory),
-        Err(fault) => Err(TextFault::Refused(Refusal::Check(fault))),
+        Err(fault) => Err(TextFault::Refused(QueryRefusal::Check(fault))),
     }
 }
 
-/// The command of what is asked for.
-fn read_command(alloc: Global, words: Words) -> Result<Command, TextFault>
+/// The command of what is asked for, and `None` where there is none yet.
+fn read_command(alloc: Global, words: Words) -> Result<Option<Command>, TextFault>
     requires ranges { AreInRange words }
-    ensures read { IsReadAs result (command_of (told_words words)) }
-    ensures can { IfOk result (λ command. CanRun (told command)) }
+    ensures read { Reads result (command_of (told_words words)) }
+    ensures can { IfOk result (λ found. IfSome found (λ command. CanRun (told command))) }
 {
     match words {
         Words::Scan(text) => match read_expr(alloc, &text) {
-            Ok(expr) => Ok(Command::Scan(expr)),
+            Ok(expr) => Ok(Some(Command::Scan(expr))),
             Err(fault) => Err(text_fault(fault)),
         },
         Words::Query(asked) => {
@@ -91,6 +94,7 @@ fn read_command(alloc: Global, words: Words) -> Result<Command, TextFault>
             let shown = Shown::Explanation { rank };
             read_ranked(alloc, rule, shown, &asked.text)
         }
+        Words::Create | Words::Add | Words::Delete | Words::Prior(_) => Ok(None),
     }
 }
 
@@ -100,10 +104,7 @@ pub fn asked_command(alloc: Global, words: &ArgList) -> Result<Option<Command>, 
     ensures can { IfOk result (λ found. IfSome found (λ command. CanRun (told command))) }
 {
     match read_words(alloc, words) {
-        Ok(Some(words)) => match read_command(alloc, words) {
-            Ok(command) => Ok(Some(command)),
-            Err(fault) => Err(fault),
-        },
+        Ok(Some(words)) => read_command(alloc, words),
         Ok(None) => Ok(None),
         Err(_) => Err(TextFault::Memory),
     }

@@ -2,24 +2,24 @@
 ghost use Rattle.std.specs.Prelude.{◌≡◌, ◌<◌, ◌≤◌, ◌-◌, [], Some, true, codes, length, map, slice_get, Contains, IfOk};
 ghost use Rattle.ri_base.specs.Collection.{document_at};
 ghost use Rattle.query_check.specs.Answers.{whole_checked};
-ghost use Rattle.refusals.specs.declared.refusal.Refusal.TheVariants.{NoSuchRank};
+ghost use Rattle.query_refusals.specs.Lines.{refusal_piece};
+ghost use Rattle.query_refusals.specs.declared.refusal.QueryRefusal.TheVariants.{NoSuchRank};
 ghost use Rattle.result_explanation.specs.Explanation.{IsExplanation};
 ghost use Rattle.result_explanation.specs.Sound.{AreSound};
 ghost use Rattle.indri_app.specs.Answer.{IsAnswerPiece, document_with};
-ghost use Rattle.indri_app.specs.Collection.{docnos_of};
+ghost use Rattle.document_handlers.specs.Collection.{docnos_of};
 ghost use Rattle.indri_app.specs.Command.{IsRule};
 ghost use Rattle.indri_app.specs.Priors.{run_priors};
 ghost use Rattle.indri_app.specs.Shown.{explanation};
-ghost use Rattle.indri_app.specs.Work.{refusal_piece};
 
 use crate::ranked::first_hits;
-use crate::reply::Reply;
 use belief_nodes::BeliefNode;
+use command_pieces::Reply;
 use full_ranking::all_stats;
 use indexmap::IndexSet;
 use query_check::Checked;
+use query_refusals::{QueryRefusal, reply_of};
 use ranked_output::{Explained, explain_lines};
-use refusals::Refusal;
 use result_explanation::{candidates_are_of_documents, explain};
 use ri_base::{Docno, Hit, Hits, LeafStats, Name, NoMemory, Postings, Sealed, SegFault};
 use smoothing::RuleKind;
@@ -48,7 +48,7 @@ fn no_such_rank(alloc: Global) -> Result<Reply, NoMemory>
     let Some(query) = Name::of_lower(alloc, ONE_QUERY)? else {
         unreachable!();
     };
-    Reply::refused(alloc, &Refusal::NoSuchRank { query })
+    reply_of(alloc, &QueryRefusal::NoSuchRank { query })
 }
 
 /// The id of the document of the index with that docno. `docnos` has the docnos by their ids.

@@ -2,18 +2,12 @@
 #![tactic(auto)]
 
 mod answer;
-mod collection;
 mod command;
-mod documents;
 mod explained;
-mod fault;
-mod handler;
 mod priors;
 mod program;
 mod ranked;
-mod reply;
 mod results;
-mod scan;
 mod shown;
 mod status;
 

@@ -3,13 +3,13 @@ ghost use Rattle.std.specs.Prelude.{◌≡◌, ◌≢◌, ◌≤◌, ◌∷◌, 
 ghost use Rattle.query_check.specs.Answers.{whole_checked};
 ghost use Rattle.ri_base.specs.Expression.{expr_tree};
 ghost use Rattle.ri_ends.specs.Causes.{Rose};
-ghost use Rattle.refusals.specs.Lines.{line_of};
+ghost use Rattle.query_refusals.specs.Lines.{line_of};
 ghost use Rattle.result_explanation.specs.Sound.{AreSound};
-ghost use Rattle.indri_app.specs.Collection.{docnos_of};
+ghost use Rattle.document_handlers.specs.Collection.{docnos_of};
 ghost use Rattle.indri_app.specs.Command.{IfAsksFor, IfRefused, IsRule, asked, rank_by, scan_for, usage_line};
 ghost use Rattle.indri_app.specs.CommandPieces.{Breaks, IsDone, Shows};
-ghost use Rattle.indri_app.specs.Faults.{StaysUnless};
-ghost use Rattle.indri_app.specs.Pieces.{BrokenOff, Finished};
+ghost use Rattle.command_pieces.specs.Faults.{StaysUnless};
+ghost use Rattle.command_pieces.specs.Written.{AllWritten, CutWithin};
 ghost use Rattle.indri_app.specs.Priors.{run_priors};
 ghost use Rattle.indri_app.specs.Runs.{IsClosed, RunsTo, Tells};
 ghost use Rattle.indri_app.specs.Shown.{told_shown};
@@ -17,15 +17,13 @@ ghost use Rattle.indri_app.specs.Told.{CanRun, IsShowable, told};
 
 use crate::Status;
 use crate::answer::answer;
-use crate::collection::{Gathered, Gatherer};
 use crate::command::{Command, TextFault, asked_command};
-use crate::documents::take_documents;
-use crate::fault::Fault;
-use crate::scan::Scanner;
 use crate::shown::Shown;
 use belief_nodes::BeliefNode;
+use command_pieces::Fault;
+use document_handlers::{Gathered, Gatherer, Scanner, take_documents};
 use query_check::Checked;
-use refusals::{Refusal, line_of};
+use query_refusals::{QueryRefusal, line_of};
 use ri_base::{ArgList, ExtentExpr};
 use ri_ends::{OutFault, Sink, Source};
 use smoothing::RuleKind;
@@ -51,7 +49,7 @@ fn tell<K: Sink>(sink: &mut K, line: &[u8], told: Status) -> Status
 }
 
 /// Writes the line of the refusal of a command's text.
-fn tell_refusal<K: Sink>(alloc: Global, sink: &mut K, refusal: &Refusal) -> Status
+fn tell_refusal<K: Sink>(alloc: Global, sink: &mut K, refusal: &QueryRefusal) -> Status
     ensures tells { Tells Status.QueryRefused (line_of refusal.now) result (K.taken sink.old) (K.taken sink.new) }
     ensures later { K.faults sink.old ≤ K.faults sink.new }
     ensures write { result ≡ Status.WriteFault → Rose (K.faults sink.old) (K.faults sink.new) }
@@ -65,7 +63,7 @@ fn tell_refusal<K: Sink>(alloc: Global, sink: &mut K, refusal: &Refusal) -> Stat
 
 /// Writes the last line of a command that is broken off, if it has one. The status says why it is, even where the sink
 /// fails at that line.
-#[tactic(auto, using(crate::proofs::Ending::line_whole), unfolding(crate::specs::Runs::read_line))]
+#[tactic(auto, using(command_pieces::proofs::Ending::line_whole), unfolding(crate::specs::Runs::read_line))]
 fn close<K: Sink>(fault: Fault, sink: &mut K) -> Status
     ensures closed { IsClosed fault result (K.taken sink.old) (K.taken sink.new) (K.faults sink.old) (K.faults sink.new) }
     ensures later { K.faults sink.old ≤ K.faults sink.new }
@@ -119,9 +117,9 @@ fn write_answer<K: Sink>(
     requires plugs { map (λ plug. meaning plug) plugs.old ≡ run_priors }
     requires paired { gathered.docnos.keys ≡ docnos_of gathered.index.documents }
     requires sound { AreSound gathered.index.documents }
-    ensures shown { IfOk result (λ refused. Shows rule (told_shown shown.now) (whole_checked query.now) gathered.index.documents (λ piece. (piece.is_refusal ≡ refused) × Finished (piece ∷ []) (K.taken sink.old) (K.taken sink.new))) }
+    ensures shown { IfOk result (λ refused. Shows rule (told_shown shown.now) (whole_checked query.now) gathered.index.documents (λ piece. (piece.is_refusal ≡ refused) × AllWritten (piece ∷ []) (K.taken sink.old) (K.taken sink.new))) }
     ensures none { IsErrOf result Fault.Memory → K.taken sink.new ≡ K.taken sink.old }
-    ensures front { IsErrOf result Fault.Write → Shows rule (told_shown shown.now) (whole_checked query.now) gathered.index.documents (λ piece. BrokenOff (piece ∷ []) (K.taken sink.old) (K.taken sink.new)) }
+    ensures front { IsErrOf result Fault.Write → Shows rule (told_shown shown.now) (whole_checked query.now) gathered.index.documents (λ piece. CutWithin (piece ∷ []) (K.taken sink.old) (K.taken sink.new)) }
     ensures no_read { IsErrOf result Fault.Read → ⊥ }
     ensures later { K.faults sink.old ≤ K.faults sink.new }
     ensures cause { IsErrOf result Fault.Write → Rose (K.faults sink.old) (K.faults sink.new) }

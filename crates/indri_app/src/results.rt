@@ -7,7 +7,7 @@ ghost use Rattle.ranked_output.specs.Marks.{IsScale};
 ghost use Rattle.ranked_output.specs.Texts.{line_of, lines_of};
 ghost use Rattle.indri_app.specs.Answer.{IsAnswerPiece};
 ghost use Rattle.indri_app.specs.Command.{IsRule};
-ghost use Rattle.indri_app.specs.Pieces.{told_piece};
+ghost use Rattle.command_pieces.specs.Written.{told_piece};
 ghost use Rattle.indri_app.specs.Priors.{run_priors};
 ghost use Rattle.indri_app.specs.Shown.{results, shown_line, shown_text};
 

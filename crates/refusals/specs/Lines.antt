@@ -1,10 +1,7 @@
 -- The lines of refusals. What is no refusal has no line.
 use Rattle.std.specs.Prelude.{ℕ, List, [], ◌∷◌, ◌++◌, codes}
 use Rattle.std.specs.Fmt.{decimal}
-use Rattle.query_check.specs.declared.fault.CheckFault.{CheckFault}
-use Rattle.query_check.specs.declared.fault.CheckFault.TheVariants as check
-use Rattle.query_reader.specs.declared.fault.QueryKind.{QueryKind}
-use Rattle.query_reader.specs.declared.fault.QueryKind.TheVariants as text
+use Rattle.command_pieces.specs.Written.{Plain, refused_piece}
 use Rattle.refusals.specs.declared.refusal.CollectionKind.{CollectionKind}
 use Rattle.refusals.specs.declared.refusal.CollectionKind.TheVariants as collection
 use Rattle.refusals.specs.declared.refusal.Refusal.{Refusal}
@@ -43,33 +40,21 @@ input_line input.Read = []
 input_line input.Ended = []
 input_line input.Memory = []
 
-abbrev pub kind_name : QueryKind → List ℕ
-kind_name text.Expected = codes "Query Expected"
-kind_name text.UnknownOperator = codes "Query UnknownOperator"
-kind_name text.BadNumber = codes "Query BadNumber"
-kind_name text.EmptyTerm = codes "Query EmptyTerm"
-kind_name text.EmptyOperator = codes "Query EmptyOperator"
-kind_name text.TooDeep = codes "Query TooDeep"
-kind_name text.TooManyNodes = codes "Query TooManyNodes"
-kind_name text.FilterInside = codes "Query FilterInside"
-kind_name text.WindowInside = codes "Query WindowInside"
-kind_name text.ContextInside = codes "Query ContextInside"
-kind_name text.BadField = codes "Query BadField"
-kind_name text.WeightTooLong = codes "Query WeightTooLong"
-kind_name text.NotYetBuilt = codes "Query NotYetBuilt"
-
-abbrev pub check_name : CheckFault → List ℕ
-check_name check.NoWeight = codes "NoWeight"
-check_name check.NoLeaf = codes "NoLeaf"
-check_name check.ScaleTooLarge = codes "ScaleTooLarge"
-check_name (check.UnknownPrior name) = codes "UnknownPrior " ++ name
-check_name check.Memory = []
-
 -- the line of a refusal: its kind, and the docno, the offset or the name that it is about
 unfoldable pub line_of : Refusal → List ℕ
 line_of (refusal.Document why) = token_line why
 line_of (refusal.Collection kind docno) = named_line (collection_name kind) docno
 line_of (refusal.Input why) = input_line why
-line_of (refusal.Text kind place) = placed_line (kind_name kind) place
-line_of (refusal.Check why) = named_line (codes "Check") (check_name why)
-line_of (refusal.NoSuchRank query) = named_line (codes "NoSuchRank") query
+line_of (refusal.NoSuchDoc docno) = named_line (codes "NoSuchDoc") docno
+line_of (refusal.BadEvent place) = placed_line (codes "BadEvent") place
+line_of (refusal.LineTooLong place) = placed_line (codes "LineTooLong") place
+line_of (refusal.BadRow place) = placed_line (codes "BadRow") place
+line_of (refusal.RepeatedRow docno) = named_line (codes "RepeatedRow") docno
+line_of refusal.RepeatedRest = named_line (codes "RepeatedRow") (codes "*")
+line_of (refusal.TooManyRows place) = placed_line (codes "TooManyRows") place
+line_of (refusal.Fixed name) = named_line (codes "Fixed") name
+line_of (refusal.PriorsFull name) = named_line (codes "PriorsFull") name
+
+-- the piece of a refusal
+abbrev pub refusal_piece : Refusal → Plain
+refusal_piece why = refused_piece (line_of why)

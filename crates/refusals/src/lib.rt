@@ -3,6 +3,8 @@
 
 mod lines;
 mod refusal;
+mod reply;
 
-pub use lines::line_of;
+pub use lines::{line_of, named_line, placed_line};
 pub use refusal::{CollectionKind, Refusal};
+pub use reply::reply_of;

@@ -1,17 +1,15 @@
 // The lines of refusals.
 ghost use Rattle.std.specs.Prelude.{◌≡◌, IfOk};
-ghost use Rattle.refusals.specs.Lines.{check_name, collection_name, input_line, kind_name, line_of, named_line, placed_line, token_line};
+ghost use Rattle.refusals.specs.Lines.{collection_name, input_line, line_of, named_line, placed_line, token_line};
 
 use crate::{CollectionKind, Refusal};
-use query_check::CheckFault;
-use query_reader::QueryKind;
 use ri_base::{Docno, NoMemory};
 use std::alloc::Global;
 use tokens::TokenRefusal;
 use trec_reader::TrecRefusal;
 
 /// `refused KIND NAME`.
-fn named_line(alloc: Global, kind: &[u8], name: &[u8]) -> Result<Vec<u8>, NoMemory>
+pub fn named_line(alloc: Global, kind: &[u8], name: &[u8]) -> Result<Vec<u8>, NoMemory>
     ensures { IfOk result (λ line. line.items ≡ named_line kind.now name.now) }
 {
     let mut line = b"refused ".to_vec(alloc)?;
@@ -23,7 +21,7 @@ fn named_line(alloc: Global, kind: &[u8], name: &[u8]) -> Result<Vec<u8>, NoMemo
 }
 
 /// `refused KIND PLACE`.
-fn placed_line(alloc: Global, kind: &[u8], place: u64) -> Result<Vec<u8>, NoMemory>
+pub fn placed_line(alloc: Global, kind: &[u8], place: u64) -> Result<Vec<u8>, NoMemory>
     ensures { IfOk result (λ line. line.items ≡ placed_line kind.now place) }
 {
     let digits = place.to_string(alloc)?;
@@ -70,43 +68,6 @@ fn input_line(alloc: Global, refusal: TrecRefusal) -> Result<Vec<u8>, NoMemory>
     }
 }
 
-fn kind_name(kind: QueryKind) -> &'static [u8]
-    ensures { result.now ≡ kind_name kind }
-{
-    match kind {
-        QueryKind::Expected => b"Query Expected",
-        QueryKind::UnknownOperator => b"Query UnknownOperator",
-        QueryKind::BadNumber => b"Query BadNumber",
-        QueryKind::EmptyTerm => b"Query EmptyTerm",
-        QueryKind::EmptyOperator => b"Query EmptyOperator",
-        QueryKind::TooDeep => b"Query TooDeep",
-        QueryKind::TooManyNodes => b"Query TooManyNodes",
-        QueryKind::FilterInside => b"Query FilterInside",
-        QueryKind::WindowInside => b"Query WindowInside",
-        QueryKind::ContextInside => b"Query ContextInside",
-        QueryKind::BadField => b"Query BadField",
-        QueryKind::WeightTooLong => b"Query WeightTooLong",
-        QueryKind::NotYetBuilt => b"Query NotYetBuilt",
-    }
-}
-
-/// The name of a fault of the check, with the prior that isn't known.
-fn check_name(alloc: Global, fault: &CheckFault) -> Result<Vec<u8>, NoMemory>
-    ensures { IfOk result (λ name. name.items ≡ check_name fault.now) }
-{
-    match fault {
-        CheckFault::NoWeight => b"NoWeight".to_vec(alloc),
-        CheckFault::NoLeaf => b"NoLeaf".to_vec(alloc),
-        CheckFault::ScaleTooLarge => b"ScaleTooLarge".to_vec(alloc),
-        CheckFault::UnknownPrior { name } => {
-            let mut text = b"UnknownPrior ".to_vec(alloc)?;
-            text.extend_from_slice(name.as_bytes())?;
-            Ok(text)
-        }
-        CheckFault::Memory => Ok(Vec::new(alloc)),
-    }
-}
-
 /// The line of a refusal.
 #[tactic(auto, unfolding(crate::specs::Lines::line_of))]
 pub fn line_of(alloc: Global, refusal: &Refusal) -> Result<Vec<u8>, NoMemory>
@@ -118,11 +79,14 @@ pub fn line_of(alloc: Global, refusal: &Refusal) -> Result<Vec<u8>, NoMemory>
             named_line(alloc, collection_name(*kind), docno.as_bytes())
         }
         Refusal::Input(refusal) => input_line(alloc, *refusal),
-        Refusal::Text { kind, place } => placed_line(alloc, kind_name(*kind), *place as u64),
-        Refusal::Check(fault) => {
-            let name = check_name(alloc, fault)?;
-            named_line(alloc, b"Check", &name)
-        }
-        Refusal::NoSuchRank { query } => named_line(alloc, b"NoSuchRank", query.as_bytes()),
+        Refusal::NoSuchDoc(docno) => named_line(alloc, b"NoSuchDoc", docno.as_bytes()),
+        Refusal::BadEvent { place } => placed_line(alloc, b"BadEvent", *place),
+        Refusal::LineTooLong { place } => placed_line(alloc, b"LineTooLong", *place),
+        Refusal::BadRow { place } => placed_line(alloc, b"BadRow", *place),
+        Refusal::RepeatedRow(docno) => named_line(alloc, b"RepeatedRow", docno.as_bytes()),
+        Refusal::RepeatedRest => named_line(alloc, b"RepeatedRow", b"*"),
+        Refusal::TooManyRows { place } => placed_line(alloc, b"TooManyRows", *place),
+        Refusal::Fixed(name) => named_line(alloc, b"Fixed", name.as_bytes()),
+        Refusal::PriorsFull(name) => named_line(alloc, b"PriorsFull", name.as_bytes()),
     }
 }

@@ -1,6 +1,4 @@
 // Why something is refused.
-use query_check::CheckFault;
-use query_reader::QueryKind;
 use ri_base::{Docno, Name};
 use tokens::TokenRefusal;
 use trec_reader::TrecRefusal;
@@ -14,7 +12,8 @@ pub enum CollectionKind {
     CollectionFull,
 }
 
-/// Why something is refused. Want of memory and a source that failed are no refusals: they have no line.
+/// Why something in the input of a command is refused, or the name that it is about. Want of memory and a source that failed are no
+/// refusals: they have no line.
 #[derive(Debug, Drop)]
 pub enum Refusal {
     /// A document that isn't read.
@@ -23,10 +22,21 @@ pub enum Refusal {
     Collection { kind: CollectionKind, docno: Docno },
     /// What stands where a document must stand.
     Input(TrecRefusal),
-    /// The text of a command, and the offset of the byte where its fault is.
-    Text { kind: QueryKind, place: usize },
-    /// A query whose text can be read.
-    Check(CheckFault),
-    /// The rank of a result that the query of this name doesn't have.
-    NoSuchRank { query: Name },
+    /// No live document has this docno.
+    NoSuchDoc(Docno),
+    /// The line at this place doesn't say what is to be done.
+    BadEvent { place: u64 },
+    LineTooLong { place: u64 },
+    /// The line at this place is no row of a prior.
+    BadRow { place: u64 },
+    /// This docno has a row.
+    RepeatedRow(Docno),
+    /// The documents without a row have a fraction.
+    RepeatedRest,
+    /// As many docnos as can have a row have one, and the one at this place isn't among them.
+    TooManyRows { place: u64 },
+    /// The prior of this name has no rows of its own.
+    Fixed(Name),
+    /// There is no room for one more prior.
+    PriorsFull(Name),
 }

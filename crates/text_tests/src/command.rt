@@ -5,7 +5,7 @@ use std::alloc::Global;
 use std::test::Fail;
 
 /// The words behind a folder with a `|` between two of them, and what they ask for.
-static ASKED: [(&str, &str); 29] = [
+static ASKED: [(&str, &str); 33] = [
     ("scan|a", "Some(Scan(\"a\"))"),
     ("scan|", "Some(Scan(\"\"))"),
     ("scan|-", "Some(Scan(\"-\"))"),
@@ -104,13 +104,31 @@ static ASKED: [(&str, &str); 29] = [
         "explain|2|-",
         "Some(Explain(2, Asked { text: \"-\", k: 2, mu: 2500, trec: None }))",
     ),
+    ("create", "Some(Create)"),
+    ("add", "Some(Add)"),
+    ("delete", "Some(Delete)"),
+    ("delete|--", "Some(Delete)"),
 ];
 
 /// Words behind a folder that are in no row of the table of commands.
-static REFUSED: [&str; 78] = [
+static REFUSED: [&str; 92] = [
     "sing|a",
-    "create",
+    "merge",
     "gen|3",
+    "create|a",
+    "create|",
+    "create|--k|3",
+    "add|a|b",
+    "add|--mu|3",
+    "delete|a",
+    "delete|--topic|t|--run|r",
+    "prior",
+    "prior|a|b",
+    "prior|",
+    "prior|1a",
+    "prior|a-b",
+    "prior|--k|3|a",
+    "prior|aaaaaaaaaaaaaaaaaaaaaaaaaaaaaaaaa",
     "scan",
     "scan|a|b",
     "scan|-a",

@@ -6,7 +6,7 @@ use Rattle.query_check.specs.Leaves.{leaf_tree}
 use Rattle.full_ranking.specs.Ranking.{candidate_of, query_network}
 use Rattle.result_explanation.specs.Sound.{IsOf}
 use Rattle.indri_app.specs.Answer.{ExplainsRank, hit_of_rank}
-use Rattle.indri_app.specs.Pieces.{told_piece}
+use Rattle.command_pieces.specs.Written.{told_piece}
 use Rattle.indri_app.specs.Priors.{run_priors}
 use Rattle.indri_app.proofs.ExplainedLemmas.{hit_is_of, hit_shown, is_explained, of_each}
 use Rattle.indri_app.proofs.explained.explanation.Goals as goal

@@ -1,0 +1,114 @@
+-- Lines of docnos that are taken one by one.
+use Rattle.std.proofs.Common.{◌≡◌, ℕ, Bool, true, false, ◌||◌, List, [], ◌∷◌, ◌++◌, refl, ap, sym, ◌∙◌, subst, Option, Some, None, append_assoc, append-nil}
+use Rattle.std.specs.Io.KnownBytes.{prepend_known}
+use Rattle.std.specs.Option.{option_map, IfSome}
+use Rattle.command_pieces.specs.Faults.{IsCut}
+use Rattle.command_pieces.specs.Pieces.{some_refused}
+use Rattle.command_pieces.specs.Written.{AllWritten, CutBetween, Plain}
+use Rattle.command_pieces.specs.declared.fault.Fault.{Fault}
+use Rattle.command_pieces.proofs.Cut.{all-then, all_none, cut-behind, cut-more, cut-then}
+use Rattle.command_pieces.proofs.Joining.{refused-append, refused-one}
+use Rattle.docno_lines.specs.Docnos.{docno_answer, docnos_at}
+use Rattle.docno_lines.specs.declared.docno.DocnoLine.{DocnoLine}
+use Rattle.repository.specs.Stands.{Collection}
+use Rattle.collection_commands.specs.Deletions.{behind_line, behind_lines, line_piece, line_pieces}
+
+-- These lines were read, and what is unread, before which stand so many bytes, holds the others.
+abbrev pub AreFollowed : List DocnoLine → ℕ → Option (List ℕ) → Option (List ℕ) → Type 0
+AreFollowed done offset unread start = option_map (λ rest. done ++ docnos_at offset rest) unread ≡ option_map (docnos_at 0) start
+
+followed-from : (start : Option (List ℕ)) → AreFollowed [] 0 (prepend_known [] start) start
+followed-from None = refl
+followed-from (Some bytes) = refl
+
+pub followed-start : (ahead : List ℕ) (offset : ℕ) (start : Option (List ℕ)) → ahead ≡ [] → offset ≡ 0 → AreFollowed [] offset (prepend_known ahead start) start
+followed-start ahead offset start none first = rw (none, first) (followed-from start)
+
+pub followed-more : (done : List DocnoLine) (line : DocnoLine) (o p : ℕ) (old new start : Option (List ℕ)) → AreFollowed done o old start
+    → option_map (docnos_at o) old ≡ option_map (docno_answer (Some line) p) new → AreFollowed (done ++ line ∷ []) p new start
+followed-more done line o p None None start f e = f
+followed-more done line o p None (Some ys) start f e = cc
+followed-more done line o p (Some xs) None start f e = cc
+followed-more done line o p (Some xs) (Some ys) start f e =
+    let one : docnos_at o xs ≡ line ∷ docnos_at p ys = cc in
+    ap Some (append_assoc done (line ∷ []) (docnos_at p ys) ∙ ap (λ rest. done ++ rest) (sym one)) ∙ f
+
+-- What holds of the lines that were read, however the input goes on, holds of the input.
+pub some-done : (Q : List DocnoLine → Type 0) (done : List DocnoLine) (o : ℕ) (unread start : Option (List ℕ)) → AreFollowed done o unread start → ((rest : List DocnoLine) → Q (done ++ rest)) → IfSome start (λ bytes. Q (docnos_at 0 bytes))
+some-done Q done o unread None f q = tt
+some-done Q done o None (Some bytes) f q = cc
+some-done Q done o (Some ys) (Some bytes) f q =
+    let all : done ++ docnos_at o ys ≡ docnos_at 0 bytes = cc in
+    subst Q all (q (docnos_at o ys))
+
+-- The input ends.
+pub all-done : (Q : List DocnoLine → Type 0) (done : List DocnoLine) (o p : ℕ) (old new start : Option (List ℕ)) → AreFollowed done o old start → option_map (docnos_at o) old ≡ option_map (docno_answer None p) new → Q done → IfSome start (λ bytes. Q (docnos_at 0 bytes))
+all-done Q done o p old new None f e q = tt
+all-done Q done o p None new (Some bytes) f e q = cc
+all-done Q done o p (Some xs) None (Some bytes) f e q = cc
+all-done Q done o p (Some xs) (Some ys) (Some bytes) f e q =
+    let none : docnos_at o xs ≡ [] = cc in
+    let all : done ++ docnos_at o xs ≡ docnos_at 0 bytes = cc in
+    subst Q (sym (append-nil done) ∙ ap (λ rest. done ++ rest) (sym none) ∙ all) q
+
+-- ---- what is written of lines
+
+pieces-append : (c : Collection) (xs ys : List DocnoLine) → line_pieces c (xs ++ ys) ≡ line_pieces c xs ++ line_pieces (behind_lines c xs) ys
+unfolding line_pieces behind_lines
+pieces-append c [] ys = refl
+pieces-append c (x ∷ xs) ys = ap (λ ps. line_piece c x ∷ ps) (pieces-append (behind_line c x) xs ys)
+
+behind-append : (c : Collection) (xs ys : List DocnoLine) → behind_lines c (xs ++ ys) ≡ behind_lines (behind_lines c xs) ys
+unfolding behind_lines
+behind-append c [] ys = refl
+behind-append c (x ∷ xs) ys = behind-append (behind_line c x) xs ys
+
+pieces-one : (c : Collection) (line : DocnoLine) → line_pieces c (line ∷ []) ≡ line_piece c line ∷ []
+unfolding line_pieces
+pieces-one c line = refl
+
+behind-one : (c : Collection) (line : DocnoLine) → behind_lines c (line ∷ []) ≡ behind_line c line
+unfolding behind_lines
+behind-one c line = refl
+
+pieces-none : (c : Collection) → line_pieces c [] ≡ []
+unfolding line_pieces
+pieces-none c = refl
+
+pub behind-none : (c : Collection) → c ≡ behind_lines c []
+unfolding behind_lines
+behind-none c = refl
+
+pieces-next : (c : Collection) (done : List DocnoLine) (line : DocnoLine) → line_pieces c done ++ line_piece (behind_lines c done) line ∷ [] ≡ line_pieces c (done ++ line ∷ [])
+pieces-next c done line = ap (λ ps. line_pieces c done ++ ps) (sym (pieces-one (behind_lines c done) line)) ∙ sym (pieces-append c done (line ∷ []))
+
+pub behind-next : (c : Collection) (done : List DocnoLine) (line : DocnoLine) → behind_line (behind_lines c done) line ≡ behind_lines c (done ++ line ∷ [])
+behind-next c done line = sym (behind-append c done (line ∷ []) ∙ behind-one (behind_lines c done) line)
+
+pub refused-start : (c : Collection) → false ≡ some_refused (line_pieces c [])
+refused-start c = sym (ap some_refused (pieces-none c))
+
+pub written-start : (c : Collection) (taken : Option (List ℕ)) → AllWritten (line_pieces c []) taken taken
+written-start c taken = subst (λ ps. AllWritten ps taken taken) (sym (pieces-none c)) (all_none taken)
+
+pub refused-next : (c : Collection) (done : List DocnoLine) (line : DocnoLine) (noted refused : Bool) → noted ≡ some_refused (line_pieces c done) → refused ≡ (line_piece (behind_lines c done) line).is_refusal
+    → (noted || refused) ≡ some_refused (line_pieces c (done ++ line ∷ []))
+refused-next c done line noted refused n r =
+    ap (λ b. b || refused) n ∙ ap (λ b. some_refused (line_pieces c done) || b) (r ∙ sym (refused-one (line_piece (behind_lines c done) line)))
+    ∙ sym (refused-append (line_pieces c done) (line_piece (behind_lines c done) line ∷ [])) ∙ ap some_refused (pieces-next c done line)
+
+pub written-next : (c : Collection) (done : List DocnoLine) (line : DocnoLine) (before mid now : Option (List ℕ)) → AllWritten (line_pieces c done) before mid → AllWritten (line_piece (behind_lines c done) line ∷ []) mid now
+    → AllWritten (line_pieces c (done ++ line ∷ [])) before now
+written-next c done line before mid now a b =
+    subst (λ ps. AllWritten ps before now) (pieces-next c done line) (all-then (line_pieces c done) (line_piece (behind_lines c done) line ∷ []) before mid now a b)
+
+-- A line is broken off behind others, and further ones would have followed.
+pub cut-next : (e : Fault) (c : Collection) (done : List DocnoLine) (line : DocnoLine) (rest : List DocnoLine) (before mid now : Option (List ℕ)) → AllWritten (line_pieces c done) before mid
+    → IsCut e (line_piece (behind_lines c done) line ∷ []) mid now → IsCut e (line_pieces c ((done ++ line ∷ []) ++ rest)) before now
+cut-next e c done line rest before mid now a b =
+    subst (λ ps. IsCut e ps before now) (ap (λ ps. ps ++ line_pieces (behind_lines c (done ++ line ∷ [])) rest) (pieces-next c done line) ∙ sym (pieces-append c (done ++ line ∷ []) rest))
+    (cut-more e (line_pieces c done ++ line_piece (behind_lines c done) line ∷ []) _ before now (cut-then e (line_pieces c done) (line_piece (behind_lines c done) line ∷ []) before mid now a b))
+
+-- Between two lines further ones would have followed.
+pub cut-here : (c : Collection) (done rest : List DocnoLine) (before now : Option (List ℕ)) → AllWritten (line_pieces c done) before now → CutBetween (line_pieces c (done ++ rest)) before now
+cut-here c done rest before now a = subst (λ ps. CutBetween ps before now) (sym (pieces-append c done rest)) (cut-behind (line_pieces c done) _ before now a)

@@ -1,0 +1,2 @@
+pub mod DeletionLemmas
+pub mod Following

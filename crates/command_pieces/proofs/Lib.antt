@@ -1,0 +1,4 @@
+pub mod Cut
+pub mod Ending
+pub mod Joining
+pub mod Lifting

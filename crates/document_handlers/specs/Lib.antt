@@ -1,0 +1,3 @@
+pub mod Collection
+pub mod Scan
+pub mod Work

@@ -28,7 +28,7 @@ from pathlib import Path
 from files import COLLECTIONS, MEGA, PROGRAM, Program
 
 OPENED = 50
-PEAK = 8
+PEAK = 4
 NAME = "seg-0000000000000001"
 COMMON, WORDS = 97, 5003
 TOKENS = 8
@@ -50,11 +50,12 @@ class Reader(Program):
         return Reads(int(counts["syscr"]), int(counts["rchar"]))
 
     def reads_of(self, line):
-        """What the program says to a line, and its reads but that of the line."""
+        """What the program says to a line, and its reads but those of the line, which it reads byte by byte."""
+        line_bytes = len(line) + 1
         before = self.reads()
         spent = self.ask(line)
         after = self.reads()
-        return spent, Reads(after.calls - before.calls - 1, after.size - before.size - len(line) - 1)
+        return spent, Reads(after.calls - before.calls - line_bytes, after.size - before.size - line_bytes)
 
 
 def number(width, value):

@@ -1,0 +1,6 @@
+//! The terms that an expression wants to know the places of.
+#![tactic(auto)]
+
+mod words;
+
+pub use words::words_of;

@@ -1,0 +1,8 @@
+pub mod Covers
+pub mod Falls
+pub mod Members
+pub mod Mosts
+pub mod SectionLemmas
+pub mod Tallies
+pub mod Togethers
+pub mod Told

@@ -4,4 +4,5 @@ pub mod MarkLemmas
 pub mod NameLemmas
 pub mod OpenLemmas
 pub mod PriorLemmas
+pub mod RealLemmas
 pub mod StepLemmas

@@ -11,4 +11,5 @@ mod repository;
 mod segments;
 
 pub use creation::create;
+pub use names::prior_name;
 pub use repository::Repository;

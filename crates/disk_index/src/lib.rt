@@ -25,5 +25,6 @@ pub use index::DiskIndex;
 pub use marked_part::MarkedPart;
 pub use name::segment_name;
 pub use part::Part;
+pub use presence::next_in_memory;
 pub use reader::PartReader;
 pub use snapshot::{Snapshot, fits_snapshot};

@@ -1,4 +1,4 @@
--- An extent needs its terms; and operators by the list of their arguments.
+-- An extent needs its terms; and whether a document may have one, by the variant of the expression.
 use Rattle.std.proofs.Common.{◌≡◌, ℕ, zero, suc, ◌+◌, ◌*◌, Bool, true, false, ◌&&◌, ◌||◌, cond, List, [], ◌∷◌, map, slice_get, Some, Vec, Box, Global, inl, inr, refl, ap, ◌∙◌, arith}
 use Rattle.std.specs.Int.{bit_at}
 use Rattle.std.specs.List.{list_all, list_any}
@@ -13,7 +13,6 @@ use Rattle.extent_lists.specs.Extents.{Ext, Exts}
 use Rattle.extent_lists.specs.Operators.{HasEach, HasEachInside, IsChain, IsInSome}
 use Rattle.range_masks.specs.Masks.{HasEachDocument, IsMask}
 use Rattle.range_masks.specs.May.{has_term, may, may_each, may_some}
-use Rattle.range_masks.proofs.MaskLemmas.{IsMask-all, IsMask-same}
 
 pub both : (p q : Bool) → p ≡ true → q ≡ true → p && q ≡ true
 both p q h i = rw (h, i) refl
@@ -113,36 +112,28 @@ of_in_field : (x : ExprTree) (f : List ℕ) (d : Document) → may (in_field x f
 unfolding may
 of_in_field x f d = refl
 
--- ---- masks of the variants of an expression
+-- ---- by the variant of an expression
 
-module _ (range : ℕ) (docs : List Document) (x : ExtentExpr) (m : ℕ) where
-  pub IsMask-word : (t : List ℕ) → x ≡ Word t → IsMask (has_term t) range docs m → IsMask (may (expr_tree x)) range docs m
-  IsMask-word t is h = IsMask-same range docs (has_term t) (may (expr_tree x)) m (λ d. ap (λ y. may (expr_tree y) d) is ∙ ap (λ y. may y d) (expr_tree-Word t) ∙ of_word t d) h
+module _ (x : ExtentExpr) (d : Document) where
+  pub may-word : (t : List ℕ) → x ≡ Word t → may (expr_tree x) d ≡ has_term t d
+  may-word t is = ap (λ y. may (expr_tree y) d) is ∙ ap (λ y. may y d) (expr_tree-Word t) ∙ of_word t d
 
-  pub IsMask-ordered : (n : ℕ) (a : Vec ExtentExpr Global) → x ≡ Ordered n a → IsMask (λ d. list_all (λ y. may (expr_tree y) d) a.items) range docs m → IsMask (may (expr_tree x)) range docs m
-  IsMask-ordered n a is h =
-      IsMask-same range docs (λ d. list_all (λ y. may (expr_tree y) d) a.items) (may (expr_tree x)) m
-      (λ d. ap (λ y. may (expr_tree y) d) is ∙ ap (λ y. may y d) (expr_tree-Ordered n a) ∙ of_ordered n (expr_trees (map expr_tree a.items)) d ∙ each_listed d a.items) h
+  pub may-any : (f : List ℕ) → x ≡ Any f → may (expr_tree x) d ≡ true
+  may-any f is = ap (λ y. may (expr_tree y) d) is ∙ ap (λ y. may y d) (expr_tree-Any f) ∙ of_any f d
 
-  pub IsMask-unordered : (n : ℕ) (a : Vec ExtentExpr Global) → x ≡ Unordered n a → IsMask (λ d. list_all (λ y. may (expr_tree y) d) a.items) range docs m → IsMask (may (expr_tree x)) range docs m
-  IsMask-unordered n a is h =
-      IsMask-same range docs (λ d. list_all (λ y. may (expr_tree y) d) a.items) (may (expr_tree x)) m
-      (λ d. ap (λ y. may (expr_tree y) d) is ∙ ap (λ y. may y d) (expr_tree-Unordered n a) ∙ of_unordered n (expr_trees (map expr_tree a.items)) d ∙ each_listed d a.items) h
+  pub may-ordered : (n : ℕ) (a : Vec ExtentExpr Global) → x ≡ Ordered n a → may (expr_tree x) d ≡ list_all (λ y. may (expr_tree y) d) a.items
+  may-ordered n a is =
+      ap (λ y. may (expr_tree y) d) is ∙ ap (λ y. may y d) (expr_tree-Ordered n a) ∙ of_ordered n (expr_trees (map expr_tree a.items)) d ∙ each_listed d a.items
 
-  pub IsMask-band : (a : Vec ExtentExpr Global) → x ≡ Band a → IsMask (λ d. list_all (λ y. may (expr_tree y) d) a.items) range docs m → IsMask (may (expr_tree x)) range docs m
-  IsMask-band a is h =
-      IsMask-same range docs (λ d. list_all (λ y. may (expr_tree y) d) a.items) (may (expr_tree x)) m
-      (λ d. ap (λ y. may (expr_tree y) d) is ∙ ap (λ y. may y d) (expr_tree-Band a) ∙ of_band (expr_trees (map expr_tree a.items)) d ∙ each_listed d a.items) h
+  pub may-unordered : (n : ℕ) (a : Vec ExtentExpr Global) → x ≡ Unordered n a → may (expr_tree x) d ≡ list_all (λ y. may (expr_tree y) d) a.items
+  may-unordered n a is =
+      ap (λ y. may (expr_tree y) d) is ∙ ap (λ y. may y d) (expr_tree-Unordered n a) ∙ of_unordered n (expr_trees (map expr_tree a.items)) d ∙ each_listed d a.items
 
-  pub IsMask-syn : (a : Vec ExtentExpr Global) → x ≡ Syn a → IsMask (λ d. list_any (λ y. may (expr_tree y) d) a.items) range docs m → IsMask (may (expr_tree x)) range docs m
-  IsMask-syn a is h =
-      IsMask-same range docs (λ d. list_any (λ y. may (expr_tree y) d) a.items) (may (expr_tree x)) m
-      (λ d. ap (λ y. may (expr_tree y) d) is ∙ ap (λ y. may y d) (expr_tree-Syn a) ∙ of_syn (expr_trees (map expr_tree a.items)) d ∙ some_listed d a.items) h
+  pub may-band : (a : Vec ExtentExpr Global) → x ≡ Band a → may (expr_tree x) d ≡ list_all (λ y. may (expr_tree y) d) a.items
+  may-band a is = ap (λ y. may (expr_tree y) d) is ∙ ap (λ y. may y d) (expr_tree-Band a) ∙ of_band (expr_trees (map expr_tree a.items)) d ∙ each_listed d a.items
 
-  pub IsMask-in_field : (b : Box ExtentExpr Global) (f : List ℕ) → x ≡ InField b f → IsMask (may (expr_tree b.value)) range docs m → IsMask (may (expr_tree x)) range docs m
-  IsMask-in_field b f is h =
-      IsMask-same range docs (may (expr_tree b.value)) (may (expr_tree x)) m (λ d. ap (λ y. may (expr_tree y) d) is ∙ ap (λ y. may y d) (expr_tree-InField b f) ∙ of_in_field (expr_tree b.value) f d) h
+  pub may-syn : (a : Vec ExtentExpr Global) → x ≡ Syn a → may (expr_tree x) d ≡ list_any (λ y. may (expr_tree y) d) a.items
+  may-syn a is = ap (λ y. may (expr_tree y) d) is ∙ ap (λ y. may y d) (expr_tree-Syn a) ∙ of_syn (expr_trees (map expr_tree a.items)) d ∙ some_listed d a.items
 
-pub IsMask-any : (range : ℕ) (docs : List Document) (x : ExtentExpr) (f : List ℕ) → x ≡ Any f → IsMask (may (expr_tree x)) range docs 18446744073709551615
-IsMask-any range docs x f is =
-    IsMask-same range docs (λ d. true) (may (expr_tree x)) 18446744073709551615 (λ d. ap (λ y. may (expr_tree y) d) is ∙ ap (λ y. may y d) (expr_tree-Any f) ∙ of_any f d) (IsMask-all range docs)
+  pub may-in_field : (b : Box ExtentExpr Global) (f : List ℕ) → x ≡ InField b f → may (expr_tree x) d ≡ may (expr_tree b.value) d
+  may-in_field b f is = ap (λ y. may (expr_tree y) d) is ∙ ap (λ y. may y d) (expr_tree-InField b f) ∙ of_in_field (expr_tree b.value) f d

@@ -1,7 +1,15 @@
+pub mod CommitLemmas
 pub mod FirstLemmas
+pub mod FlushLemmas
+pub mod FrameLemmas
+pub mod ListedLemmas
 pub mod ManifestLemmas
 pub mod MarkLemmas
 pub mod NameLemmas
+pub mod NumberLemmas
 pub mod OpenLemmas
 pub mod PriorLemmas
+pub mod RemovalLemmas
+pub mod SaveLemmas
 pub mod StepLemmas
+pub mod SweepLemmas

@@ -4,10 +4,14 @@
 mod across;
 mod creation;
 mod files;
+mod listing;
 mod names;
+mod numbers;
 mod opening;
 mod priors;
+mod removal;
 mod repository;
+mod saving;
 mod segments;
 
 pub use creation::create;

@@ -1,11 +1,12 @@
 // A repository.
-ghost use Rattle.std.specs.Prelude.{◌≡◌, ◌≤◌, ◌<◌, ◌⊎◌, ◌↔◌, List, Option, Some, Err, false, true, length, slice_index_or, is_some, IfOk, IfErr, IfSome, IsErr, IsSomeAnd, OnErr, OnOk};
+ghost use Rattle.std.specs.Prelude.{◌≡◌, ◌≤◌, ◌<◌, ◌⊎◌, ◌↔◌, [], List, Option, Some, Err, false, true, length, slice_index_or, is_some, IfOk, IfErr, IfSome, IsErr, IsSomeAnd, OnErr, OnOk};
 ghost use Rattle.std.specs.List.{AllZip, IsDistinct};
 ghost use Rattle.std.specs.Str.{bytes_eq};
 ghost use Rattle.ri_base.specs.Documents.{Document};
 ghost use Rattle.ri_base.specs.Faults.{IsOutside};
 ghost use Rattle.ri_base.specs.Keeps.{Rose};
 ghost use Rattle.store_ends.specs.Files.{Files, IsQuiet};
+ghost use Rattle.manifest.specs.Fits.{IsManifest};
 ghost use Rattle.manifest.specs.declared.manifest.PriorEntry.{PriorEntry};
 ghost use Rattle.disk_index.specs.Snapshots as snapshots;
 ghost use Rattle.disk_index.specs.Snapshots.{AreBacked};
@@ -16,11 +17,16 @@ ghost use Rattle.repository.specs.Names.{manifest_name};
 ghost use Rattle.repository.specs.Opening.{IsAcrossFault, IsEntryFault, IsFresh, IsOpeningFault, IsRepositoryOpened};
 ghost use Rattle.repository.specs.Priors.{IsPriorFault};
 ghost use Rattle.repository.specs.Stands.{AreHeld, Collection, HasManifest, IsListed, IsPriorListed, Prior, Stands};
-ghost use Rattle.repository.specs.States.{IsBacked, ReadsAs, part_numbers};
+ghost use Rattle.repository.specs.Saved.{IsUnlisted};
+ghost use Rattle.repository.specs.States.{IsBacked, ReadsAs, kept_numbers, listed_numbers, part_numbers};
 ghost use Rattle.repository.specs.Steps.{with_document, with_held, without_docno};
+ghost use Rattle.repository.specs.Writes.{AreGone, IsSavedAs, Wrote, Writes};
 
+use crate::listing::list_files;
 use crate::opening::find_manifest;
 use crate::priors::read_rows;
+use crate::removal::remove_files;
+use crate::saving::save;
 use crate::segments::hold_entries;
 use disk_index::Snapshot;
 use holdings::{AddRefusal, Holdings, Limits, NoSuchDoc};
@@ -41,11 +47,14 @@ pub struct Repository {
 }
 
 impl Model for Repository {
-    ghost use Rattle.repository.specs.States.{State};
+    ghost use Rattle.std.specs.Prelude.{◌≡◌, true};
+    ghost use Rattle.repository.specs.States.{IsNumbered, State};
 
     ghost Value = { State };
 
     ghost view = { λ r. record { held = r.held; next = r.next; stale = r.stale.items; priors = r.priors.items; usable = r.usable } };
+
+    ghost invariant = { λ r. r.usable ≡ true → IsNumbered (record { held = r.held; next = r.next; stale = r.stale.items; priors = r.priors.items; usable = r.usable }) };
 }
 
 impl Repository {
@@ -125,6 +134,75 @@ impl Repository {
         self.held.snapshot(alloc)
     }
 
+    /// Writes each part that is in memory alone, and then the manifest with all marks. The live documents stay. After an error it must be
+    /// opened again.
+    pub fn flush<T: Store>(&mut self, alloc: Global, store: &mut T) -> Result<(), SegFault>
+        requires { self.old.usable ≡ true }
+
+        // At each moment the files stand for what they stood for, or for what it reads as; files that are listed stay.
+        ensures writes { Writes T.files T.since (IsUnlisted (listed_numbers self.old)) (λ c. c) self.old store.old store.new }
+
+        // It reads as before, and the files stand for just that.
+        ensures wrote { OnOk result (Wrote (λ c. c) (T.files store.old) (T.files store.new) self.old self.new) }
+        ensures saved { OnOk result (IsSavedAs self.old self.new self.old.stale) }
+        ensures usable { OnOk result (self.new.usable ≡ true) }
+        ensures broken { OnErr result (self.new.usable ≡ false) }
+        ensures outside { IfErr result IsOutside }
+        ensures later { T.faults store.old ≤ T.faults store.new }
+        ensures store { result ≡ Err SegFault.Store → Rose (T.faults store.old) (T.faults store.new) }
+    {
+        self.usable = false;
+        let after = save(
+            alloc,
+            store,
+            &mut self.held,
+            self.next,
+            &self.stale,
+            &self.priors,
+        )?;
+        self.next = after;
+        let parts = self.held.closed_parts();
+        list_files(alloc, store, after, parts, &self.stale, &self.priors)?;
+        self.usable = true;
+        Ok(())
+    }
+
+    /// Removes the stale files, and then writes what `flush` writes, with a manifest that lists none. A snapshot that reads one of these
+    /// files isn't backed any more. After an error it must be opened again.
+    pub fn sweep<T: Store>(&mut self, alloc: Global, store: &mut T) -> Result<(), SegFault>
+        requires { self.old.usable ≡ true }
+
+        // At each moment the files stand for what they stood for, or for what it reads as; those of segments and priors stay.
+        ensures writes { Writes T.files T.since (IsUnlisted (kept_numbers self.old)) (λ c. c) self.old store.old store.new }
+
+        // It reads as before, and the files stand for just that.
+        ensures wrote { OnOk result (Wrote (λ c. c) (T.files store.old) (T.files store.new) self.old self.new) }
+        ensures saved { OnOk result (IsSavedAs self.old self.new []) }
+        ensures gone { OnOk result (AreGone self.old.stale (T.files store.new)) }
+        ensures usable { OnOk result (self.new.usable ≡ true) }
+        ensures broken { OnErr result (self.new.usable ≡ false) }
+        ensures outside { IfErr result IsOutside }
+        ensures later { T.faults store.old ≤ T.faults store.new }
+        ensures store { result ≡ Err SegFault.Store → Rose (T.faults store.old) (T.faults store.new) }
+    {
+        self.usable = false;
+        remove_files(store, &self.stale)?;
+        let after = save(
+            alloc,
+            store,
+            &mut self.held,
+            self.next,
+            &self.stale,
+            &self.priors,
+        )?;
+        self.next = after;
+        self.stale.clear();
+        let parts = self.held.closed_parts();
+        list_files(alloc, store, after, parts, &self.stale, &self.priors)?;
+        self.usable = true;
+        Ok(())
+    }
+
     /// How many documents are live.
     pub fn live_count(&self) -> u64
         ensures { (told : Option Files) → result ≡ length (live told self.now.held.parts) }
@@ -192,6 +270,7 @@ fn of_manifest<T: Store>(
     limits: Limits,
     list: Manifest,
 ) -> Result<Repository, SegFault>
+    requires { IsManifest list }
     ensures fresh { IfOk result (IsFresh limits) }
     ensures opened { HasManifest (T.files store.old) list → IfOk result (IsRepositoryOpened (T.files store.old) limits) }
     ensures honest { (segments : List (List Document)) (c : Collection) → AllZip (IsListed (T.files store.old)) list.segments segments → AreHeld limits list.segments segments c

@@ -10,6 +10,8 @@ mod changed;
 #[cfg(test)]
 mod files;
 #[cfg(test)]
+mod flushed;
+#[cfg(test)]
 mod held;
 #[cfg(test)]
 mod opened;

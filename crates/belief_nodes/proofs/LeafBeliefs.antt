@@ -14,7 +14,7 @@ use Rattle.query_check.specs.Leaves.{LeafTree, extents, prior}
 use Rattle.query_check.proofs.Walks.{drop_at, drop_end}
 use Rattle.belief_nodes.specs.Fractions.{leaf_fraction, leaf_fractions}
 use Rattle.belief_nodes.specs.Leaves.{IsLeafCount, AreLeafStats}
-use Rattle.belief_nodes.specs.Priors.{Prior, IsPrior, prior_at, prior_fraction, by_length}
+use Rattle.belief_nodes.specs.Priors.{Prior, IsPrior, prior_at, prior_fraction, prior_fractions, by_length}
 use Rattle.belief_nodes.specs.declared.leaf_count.LeafCount.{LeafCount}
 use Rattle.belief_nodes.proofs.Lists.{all_first, all_rest, all_front, all_behind}
 
@@ -46,35 +46,36 @@ module _ (kind : RuleKind) (priors : List Prior) (docno : List ℕ) (tokens : �
   unfolding leaf_fractions
   leaf_end out = rw (drop_end leaves i out) refl
 
--- ---- what a prior tells is a belief
+-- ---- what a prior tells is one of its fractions
 
-module _ {X : Type 0} (p : X × Ratio → Bool) where
-  first_belief : (rows : List (X × Ratio)) (d : Ratio) → IsBelief d → All IsBelief (map (λ row. row.1) rows) → IsBelief (slice_index_or (map (λ row. row.1) (filter p rows)) 0 d)
-  first_belief [] d h all = h
-  first_belief (row ∷ rows) d h all = by (p row) (first_belief rows d h (all_rest IsBelief row.1 (map (λ row. row.1) rows) all))
+module _ {X : Type 0} (P : Ratio → Type 0) (p : X × Ratio → Bool) where
+  first_kept : (rows : List (X × Ratio)) (d : Ratio) → P d → All P (map (λ row. row.1) rows) → P (slice_index_or (map (λ row. row.1) (filter p rows)) 0 d)
+  first_kept [] d h all = h
+  first_kept (row ∷ rows) d h all = by (p row) (first_kept rows d h (all_rest P row.1 (map (λ row. row.1) rows) all))
     where
-      by : (b : Bool) → IsBelief (slice_index_or (map (λ (row : X × Ratio). row.1) (filter p rows)) 0 d)
-          → IsBelief (slice_index_or (map (λ (row : X × Ratio). row.1) (cond b (row ∷ filter p rows) (filter p rows))) 0 d)
-      by true later = all_first IsBelief row.1 (map (λ row. row.1) rows) all
+      by : (b : Bool) → P (slice_index_or (map (λ (row : X × Ratio). row.1) (filter p rows)) 0 d)
+          → P (slice_index_or (map (λ (row : X × Ratio). row.1) (cond b (row ∷ filter p rows) (filter p rows))) 0 d)
+      by true later = all_first P row.1 (map (λ row. row.1) rows) all
       by false later = later
 
-  last_belief : (steps : List (X × Ratio)) (d : Ratio) → IsBelief d → All IsBelief (map (λ step. step.1) steps) → IsBelief (fold (λ r s. s) d (map (λ step. step.1) (filter p steps)))
-  last_belief [] d h all = h
-  last_belief (step ∷ steps) d h all = by (p step) (λ r is. last_belief steps r is (all_rest IsBelief step.1 (map (λ step. step.1) steps) all))
+  last_kept : (steps : List (X × Ratio)) (d : Ratio) → P d → All P (map (λ step. step.1) steps) → P (fold (λ r s. s) d (map (λ step. step.1) (filter p steps)))
+  last_kept [] d h all = h
+  last_kept (step ∷ steps) d h all = by (p step) (λ r is. last_kept steps r is (all_rest P step.1 (map (λ step. step.1) steps) all))
     where
-      by : (b : Bool) → ((r : Ratio) → IsBelief r → IsBelief (fold (λ r s. s) r (map (λ (step : X × Ratio). step.1) (filter p steps))))
-          → IsBelief (fold (λ r s. s) d (map (λ (step : X × Ratio). step.1) (cond b (step ∷ filter p steps) (filter p steps))))
-      by true later = later step.1 (all_first IsBelief step.1 (map (λ step. step.1) steps) all)
+      by : (b : Bool) → ((r : Ratio) → P r → P (fold (λ r s. s) r (map (λ (step : X × Ratio). step.1) (filter p steps))))
+          → P (fold (λ r s. s) d (map (λ (step : X × Ratio). step.1) (cond b (step ∷ filter p steps) (filter p steps))))
+      by true later = later step.1 (all_first P step.1 (map (λ step. step.1) steps) all)
       by false later = later d h
 
-prior_belief : (p : Prior) (docno : List ℕ) (tokens : ℕ) → IsPrior p → IsBelief (prior_fraction p docno tokens)
-prior_belief p docno tokens h =
+-- what holds of all fractions of a prior holds of the one that it tells
+pub prior_kept : (P : Ratio → Type 0) (p : Prior) (docno : List ℕ) (tokens : ℕ) → All P (prior_fractions p) → P (prior_fraction p docno tokens)
+prior_kept P p docno tokens h =
     let rows : List Ratio = map (λ row. row.1) p.rows in
     let steps : List Ratio = map (λ step. step.1) p.steps in
-    let told : All IsBelief (rows ++ steps) = all_rest IsBelief p.rest (rows ++ steps) h in
-    first_belief (λ row. bytes_eq docno row.0) p.rows (by_length p tokens)
-    (last_belief (λ step. nat_le step.0 tokens) p.steps p.rest (all_first IsBelief p.rest (rows ++ steps) h) (all_behind IsBelief rows steps told))
-    (all_front IsBelief rows steps told)
+    let told : All P (rows ++ steps) = all_rest P p.rest (rows ++ steps) h in
+    first_kept P (λ row. bytes_eq docno row.0) p.rows (by_length p tokens)
+    (last_kept P (λ step. nat_le step.0 tokens) p.steps p.rest (all_first P p.rest (rows ++ steps) h) (all_behind P rows steps told))
+    (all_front P rows steps told)
 
 is_prior_at : (priors : List Prior) (n : ℕ) → All IsPrior priors → IsPrior (prior_at priors n)
 is_prior_at [] n h = All-cons IsBelief (record { p = 1; q = 1 }) [] (record { positive = omega arith; at_most_one = omega arith; fits = omega arith }) (All-nil IsBelief)
@@ -87,7 +88,7 @@ leaf_belief : (mu : ℕ) → IsMu mu → (priors : List Prior) (docno : List ℕ
     → (l : LeafTree) (n : LeafCount) (s : LeafStats) → IsLeafCount n → AreLeafStats s → IsBelief (leaf_fraction (Dirichlet mu) priors docno tokens l n s)
 leaf_belief mu m priors docno tokens told (extents x c) n s h h' =
     dirichlet_belief mu n.tf n.len s.cf s.total m (record { within = h.within; part = h'.part; short = h.short; few = h'.few })
-leaf_belief mu m priors docno tokens told (prior i) n s h h' = prior_belief (prior_at priors i) docno tokens (is_prior_at priors i told)
+leaf_belief mu m priors docno tokens told (prior i) n s h h' = prior_kept IsBelief (prior_at priors i) docno tokens (is_prior_at priors i told)
 
 pub leaf_beliefs : (mu : ℕ) → IsMu mu → (priors : List Prior) (docno : List ℕ) (tokens : ℕ) → All IsPrior priors
     → (leaves : List LeafTree) (counts : List LeafCount) (stats : List LeafStats) → All IsLeafCount counts → All AreLeafStats stats

@@ -34,13 +34,13 @@ has_term_at t (x ∷ xs) zero h =
 has_term_at t (x ∷ xs) (suc b) h = right_or (bytes_eq x t) _ (has_term_at t xs b h)
 
 -- each of the sets has an extent, where they have a chain
-chain_each : (n : ℕ) (Rs : List (ℕ → ℕ → Type 0)) (b e : ℕ) → IsChain n Rs b e → HasEach Rs
+pub chain_each : (n : ℕ) (Rs : List (ℕ → ℕ → Type 0)) (b e : ℕ) → IsChain n Rs b e → HasEach Rs
 chain_each n [] b e h = absurd h
 chain_each n (R ∷ []) b e h = ((b, e, h), tt)
 chain_each n (R ∷ S ∷ rest) b e h = ((b, h.0, h.2), chain_each n (S ∷ rest) h.1 e h.4)
 
 -- and where they have extents inside a window
-inside_each : (Rs : List (ℕ → ℕ → Type 0)) (b e : ℕ) → HasEachInside Rs b e → HasEach Rs
+pub inside_each : (Rs : List (ℕ → ℕ → Type 0)) (b e : ℕ) → HasEachInside Rs b e → HasEach Rs
 inside_each [] b e h = tt
 inside_each (R ∷ rest) b e h = ((h.0.0, h.0.1, h.0.2), inside_each rest b e h.1)
 

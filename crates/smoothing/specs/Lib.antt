@@ -1,2 +1,3 @@
+pub mod Bounds
 pub mod Counts
 pub mod Fractions

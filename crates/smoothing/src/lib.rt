@@ -6,5 +6,5 @@ mod laws;
 mod rule;
 
 pub use dirichlet::dirichlet_fraction;
-pub use laws::dirichlet_sizes;
+pub use laws::{dirichlet_rises, dirichlet_sizes};
 pub use rule::{MAX_MU, Rule, RuleKind};

@@ -1,5 +1,6 @@
-ghost use Rattle.std.specs.Prelude.{◌≡◌};
+ghost use Rattle.std.specs.Prelude.{◌≡◌, ◌≤◌, ℕ, max};
 ghost use Rattle.ri_base.specs.Ratio.{ratio_of};
+ghost use Rattle.smoothing.specs.Bounds.{AreLimits, IsAtMost};
 ghost use Rattle.smoothing.specs.Counts.{AreCounts};
 ghost use Rattle.smoothing.specs.Fractions.{Computes, fraction_of};
 
@@ -40,5 +41,18 @@ impl<F: Fn(u32, u32, u64, u64) -> Fraction> Rule<F> {
         ensures exact { ratio_of result ≡ fraction_of self.now.kind tf len cf total }
     {
         (self.f)(tf, len, cf, total)
+    }
+
+    /// A bound of the beliefs of a leaf that occurs at most `tf_most` times, where at least `len_least` words are scored:
+    /// the belief for `tf_most` in the least length that has room for it.
+    pub fn bound(&self, tf_most: u32, len_least: u32, cf: u64, total: u64) -> Fraction
+        requires rule { Computes F.pre F.post self.now.kind self.now.f }
+        requires limits { AreLimits tf_most len_least cf total }
+        ensures answer { F.post self.now.f tf_most (max len_least tf_most) cf total result }
+        ensures exact { ratio_of result ≡ fraction_of self.now.kind tf_most (max len_least tf_most) cf total }
+        ensures covers { (tf len : ℕ) → AreCounts tf len cf total → tf ≤ tf_most → len_least ≤ len
+            → IsAtMost (fraction_of self.now.kind tf len cf total) (ratio_of result) }
+    {
+        self.belief(tf_most, len_least.max(tf_most), cf, total)
     }
 }

@@ -7,6 +7,7 @@ use Rattle.ri_base.specs.Documents.{Document}
 use Rattle.ri_base.specs.Expression.{ExprTree}
 use Rattle.ri_base.specs.declared.limits.TheConstants.{MAX_HELD_TOKENS}
 use Rattle.store_ends.specs.Files.{Files}
+use Rattle.extent_lists.specs.Presence.{may_with}
 use Rattle.extent_evaluation.proofs.CountLaws.{whole-len-le}
 use Rattle.extent_evaluation.proofs.ListedLemmas.{listing}
 use Rattle.disk_index.specs.Parts.{IsPartBacked, reads, size}
@@ -16,7 +17,6 @@ use Rattle.disk_index.proofs.LiveLemmas.{live-short, sum-live, sum-unmarked-le, 
 use Rattle.disk_index.proofs.PresenceLemmas.{nowhere}
 use Rattle.disk_index.proofs.RebuiltLemmas.{reads-length}
 use Rattle.counts.specs.PartSums.{living, sum_first}
-use Rattle.counts.specs.Presence.{may}
 use Rattle.counts.specs.Sums.{counted_tokens, occurrences}
 use Rattle.counts.proofs.PresenceLemmas.{occurs-nowhere}
 
@@ -118,7 +118,7 @@ module _ (f : Document → ℕ) (told : Option Files) (m : Marked) where
       omega (arith, so_far, own, next)
 
 -- where an expression can't occur by the terms that the part may have in a range, it doesn't
-pub range-skipped : (told : Option Files) (m : Marked) (range : ℕ) (x : ExprTree) (context : Option (List ℕ)) → length m.marks ≡ size m.source → IsPartBacked told m.source → may (may_have m.source range) x ≡ false
+pub range-skipped : (told : Option Files) (m : Marked) (range : ℕ) (x : ExprTree) (context : Option (List ℕ)) → length m.marks ≡ size m.source → IsPartBacked told m.source → may_with (may_have m.source range) x ≡ false
     → sum_first (occurrences x context) told m (64 * range + 64) ≡ sum_first (occurrences x context) told m (64 * range)
 range-skipped told m range x context whole backed not = first-skipped (occurrences x context) told m (64 * range) 64 whole none
   where

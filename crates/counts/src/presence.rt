@@ -1,9 +1,9 @@
 // Whether an expression may occur in a range of documents.
 ghost use Rattle.std.specs.Prelude.{◌≡◌, map};
 ghost use Rattle.ri_base.specs.Expression.{expr_tree, expr_trees};
+ghost use Rattle.extent_lists.specs.Presence.{may_with, may_each_with, may_some_with};
 ghost use Rattle.disk_index.specs.Parts.{source_of};
 ghost use Rattle.disk_index.specs.Presence.{may_have};
-ghost use Rattle.counts.specs.Presence.{may, may_each, may_some};
 
 use disk_index::Part;
 use ri_base::ExtentExpr;
@@ -12,7 +12,7 @@ use ri_base::ExtentExpr;
 /// part may have there. No file is read.
 #[cycle(presence)]
 pub fn may_occur(expr: &ExtentExpr, part: &Part, range: u32) -> bool
-    ensures { result ≡ may (may_have (source_of part.now) range) (expr_tree expr.now) }
+    ensures { result ≡ may_with (may_have (source_of part.now) range) (expr_tree expr.now) }
 {
     match expr {
         ExtentExpr::Word(term) => part.may_have(term, range),
@@ -27,7 +27,7 @@ pub fn may_occur(expr: &ExtentExpr, part: &Part, range: u32) -> bool
 /// Whether each of the expressions may.
 #[cycle(presence)]
 fn each_may(all: &[ExtentExpr], part: &Part, range: u32) -> bool
-    ensures { result ≡ may_each (may_have (source_of part.now) range) (expr_trees (map expr_tree all.now)) }
+    ensures { result ≡ may_each_with (may_have (source_of part.now) range) (expr_trees (map expr_tree all.now)) }
 {
     for x in all {
         if !may_occur(x, part, range) {
@@ -40,7 +40,7 @@ fn each_may(all: &[ExtentExpr], part: &Part, range: u32) -> bool
 /// Whether some of the expressions may.
 #[cycle(presence)]
 fn some_may(all: &[ExtentExpr], part: &Part, range: u32) -> bool
-    ensures { result ≡ may_some (may_have (source_of part.now) range) (expr_trees (map expr_tree all.now)) }
+    ensures { result ≡ may_some_with (may_have (source_of part.now) range) (expr_trees (map expr_tree all.now)) }
 {
     for x in all {
         if may_occur(x, part, range) {

@@ -9,6 +9,7 @@ pub mod SegmentLaws
 pub mod LookupLemmas
 pub mod LiveLemmas
 pub mod NameLemmas
+pub mod NextLemmas
 pub mod OpeningLaws
 pub mod PresenceLemmas
 pub mod RankLemmas

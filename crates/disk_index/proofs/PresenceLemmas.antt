@@ -1,5 +1,5 @@
 -- Where a term stands nowhere in a range of documents.
-use Rattle.std.proofs.Common.{◌≡◌, ◌≢◌, ◌⊎◌, ◌<◌, ◌≤◌, ◌+◌, ◌/◌, ◌==◌, ◌||◌, ltb, ℕ, zero, suc, Bool, true, false, cond, List, [], ◌∷◌, ◌++◌, length, get_or, map, Option, Some, None, is_some, refl, sym, ap, subst, ◌∙◌, inl, inr, arith}
+use Rattle.std.proofs.Common.{◌≡◌, ◌≢◌, ◌⊎◌, ◌<◌, ◌≤◌, ◌+◌, ◌/◌, ◌==◌, ◌||◌, ltb, ℕ, Bool, true, false, cond, List, [], ◌∷◌, ◌++◌, length, get_or, map, Option, Some, None, is_some, refl, sym, ap, subst, ◌∙◌, inl, inr, arith}
 use Rattle.std.specs.List.{list_any}
 use Rattle.std.specs.Option.{option_map}
 use Rattle.std.specs.List.Sorted.{IsNonDecreasingBy, IsPartitionPoint}
@@ -18,6 +18,7 @@ use Rattle.disk_index.specs.Presence.{IsNowhere, may_have}
 use Rattle.disk_index.specs.Reads.{IsBacked}
 use Rattle.disk_index.proofs.EntryLemmas.{places_of-block}
 use Rattle.disk_index.proofs.KeyLemmas.{unkeyed}
+use Rattle.disk_index.proofs.NextLemmas.{none-at, some-at}
 use Rattle.disk_index.proofs.RebuiltLemmas.{reads-backed}
 
 -- ---- postings
@@ -71,24 +72,13 @@ nowhere told (OnDisk kept) range t backed none =
 
 -- ---- the first posting that is not before a range
 
+-- postings by rising id are postings by rising range
+pub postings-rise : (ps : List Place) → IsNonDecreasingBy (λ p. p.id) ps → IsNonDecreasingBy (λ p. p.id / 64) ps
+postings-rise ps up i j d le inside = let h = up i j d le inside in omega (arith, h)
+
 -- what a search for that posting answers
 abbrev pub IsFirstFrom : ℕ → List Place → ℕ → Type 0
 IsFirstFrom range ps first = IsPartitionPoint (λ p. ltb (p.id / 64) range ≡ true) (λ p. ltb (p.id / 64) range ≡ false) ps first
-
-none-before : (range : ℕ) (ps : List Place) → ((k : ℕ) (d : Place) → k < length ps → (get_or ps k d).id / 64 ≡ range → ⊥) → list_any (λ p. p.id / 64 == range) ps ≡ false
-none-before range [] away = refl
-none-before range (p ∷ ps) away =
-    let here : (p.id / 64 == range) ≡ false = grind (arith, away 0 p (omega arith)) in
-    rw here (none-before range ps (λ k d inside. away (suc k) d (omega (arith, inside))))
-
-some-there : (range : ℕ) (ps : List Place) (k : ℕ) (d : Place) → k < length ps → (get_or ps k d).id / 64 ≡ range → list_any (λ p. p.id / 64 == range) ps ≡ true
-some-there range [] k d inside is = absurd (omega (arith, inside))
-some-there range (p ∷ ps) zero d inside is = let here : (p.id / 64 == range) ≡ true = grind (arith, is) in rw here refl
-some-there range (p ∷ ps) (suc k) d inside is = or (p.id / 64 == range) (some-there range ps k d (omega (arith, inside)) is)
-  where
-    or : (a : Bool) → list_any (λ q. q.id / 64 == range) ps ≡ true → a || list_any (λ q. q.id / 64 == range) ps ≡ true
-    or true h = refl
-    or false h = h
 
 module _ (range : ℕ) (ps : List Place) (first : ℕ) (point : IsFirstFrom range ps first) where
   before : (k : ℕ) (d : Place) → k < first → (get_or ps k d).id / 64 ≡ range → ⊥
@@ -96,15 +86,15 @@ module _ (range : ℕ) (ps : List Place) (first : ℕ) (point : IsFirstFrom rang
 
   -- each is before the range
   pub all-before : length ps ≤ first → list_any (λ p. p.id / 64 == range) ps ≡ false
-  all-before end = none-before range ps (λ k d inside. before k d (omega (arith, inside, end)))
+  all-before end = none-at (λ (p : Place). p.id / 64) range ps (λ k d inside. before k d (omega (arith, inside, end)))
 
   -- the first that isn't is in the range or behind it
   pub at-first : (d : Place) → IsNonDecreasingBy (λ p. p.id) ps → first < length ps → ((get_or ps first d).id / 64 == range) ≡ list_any (λ p. p.id / 64 == range) ps
   at-first d rises inside = by ((get_or ps first d).id / 64 == range) refl
     where
       by : (b : Bool) → ((get_or ps first d).id / 64 == range) ≡ b → b ≡ list_any (λ p. p.id / 64 == range) ps
-      by true e = let is : (get_or ps first d).id / 64 ≡ range = grind (arith, e) in sym (some-there range ps first d inside is)
-      by false e = sym (none-before range ps (λ k o within is. away k o within is))
+      by true e = let is : (get_or ps first d).id / 64 ≡ range = grind (arith, e) in sym (some-at (λ (p : Place). p.id / 64) range ps first d inside is)
+      by false e = sym (none-at (λ (p : Place). p.id / 64) range ps (λ k o within is. away k o within is))
         where
           away : (k : ℕ) (o : Place) → k < length ps → (get_or ps k o).id / 64 ≡ range → ⊥
           away k o within is =

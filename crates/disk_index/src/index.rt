@@ -17,10 +17,11 @@ ghost use Rattle.disk_index.specs.Cache.{CacheKeeps, IsCacheBacked};
 ghost use Rattle.disk_index.specs.Faults.{ArePlacesIn, CameFrom, IsRangeFault, IsTermFault};
 ghost use Rattle.disk_index.specs.Kept.{AreKept, IsOutline, IsSegmentOf, kept_of, key_of, place_of};
 ghost use Rattle.disk_index.specs.Opening.{IsOpenFault, IsOpened};
+ghost use Rattle.disk_index.specs.Presence.{IsNext};
 ghost use Rattle.disk_index.specs.Ranks.{ranks_of, term_of};
 ghost use Rattle.disk_index.specs.Reads.{HasSegment, IsBacked, rebuilt};
 
-use crate::lookup::{of_range, place_of, ranked_place};
+use crate::lookup::{next_place, of_range, place_of, ranked_place};
 use crate::opening::{KeptParts, docs_within, kept_within, read_kept};
 use crate::ranks::{Ranks, ranks_by_range};
 use crate::reading::file_length;
@@ -168,6 +169,13 @@ impl DiskIndex {
             Some(place) => Some(self.key_at(range, place)),
             None => None,
         }
+    }
+
+    /// The first range from this one on for which the dictionary has a block of the term. No file is read.
+    pub fn next_block(&self, term: &Term, from: u32) -> Option<u32>
+        ensures { IsNext (λ range. is_some (place_of self.now.dictionary term.now range)) from result }
+    {
+        next_place(self.dictionary.as_slice(), term, from)
     }
 
     /// The number of its file.

@@ -1,5 +1,5 @@
 // Looking a term and a range up in a dictionary, and a range in the documents.
-ghost use Rattle.std.specs.Prelude.{◌≡◌, ◌<◌, ◌*◌, ◌==◌, Some, None, length, IfSome, IfNone};
+ghost use Rattle.std.specs.Prelude.{◌≡◌, ◌<◌, ◌*◌, ◌==◌, Some, None, is_some, length, IfSome, IfNone};
 ghost use Rattle.std.specs.Cmp.Lexicographic.{slice_cmp};
 ghost use Rattle.std.specs.Ordering.{nat_cmp};
 ghost use Rattle.std.specs.List.{All, AllPairs, find};
@@ -8,6 +8,7 @@ ghost use Rattle.std.specs.Str.{bytes_eq};
 ghost use Rattle.ri_base.specs.Vocabulary.{IsTermBefore};
 ghost use Rattle.disk_index.specs.Blocks.{of_range};
 ghost use Rattle.disk_index.specs.Kept.{ArePlaces, place_of};
+ghost use Rattle.disk_index.specs.Presence.{IsNext};
 ghost use Rattle.disk_index.specs.Ranks.{term_of};
 
 use ri_base::Term;
@@ -52,6 +53,30 @@ pub(crate) fn place_of(dictionary: &[TermBlocks], term: &Term, range: u32) -> Op
 {
     match blocks_of(dictionary, term) {
         Some(found) => block_in(found.blocks.as_slice(), range),
+        None => None,
+    }
+}
+
+/// The first range from this one on of which there is a block.
+fn next_in(blocks: &[BlockPlace], from: u32) -> Option<u32>
+    requires { AllPairs (λ a b. a.range < b.range) blocks.now }
+    ensures { IsNext (λ range. is_some (find (λ b. b.range == range) blocks.now)) from result }
+{
+    let first = blocks.partition_point(|b| b.range < from);
+    if first < blocks.len() {
+        return Some(blocks[first].range);
+    }
+    None
+}
+
+/// The first range from this one on for which the term has a block.
+pub(crate) fn next_place(dictionary: &[TermBlocks], term: &Term, from: u32) -> Option<u32>
+    requires terms { AllPairs (λ a b. IsTermBefore a.term b.term) dictionary.now }
+    requires places { All ArePlaces dictionary.now }
+    ensures { IsNext (λ range. is_some (place_of dictionary.now term.now range)) from result }
+{
+    match blocks_of(dictionary, term) {
+        Some(found) => next_in(found.blocks.as_slice(), from),
         None => None,
     }
 }

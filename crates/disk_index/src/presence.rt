@@ -6,7 +6,7 @@ ghost use Rattle.ri_base.specs.Places.{postings_of};
 ghost use Rattle.store_ends.specs.Files.{Files};
 ghost use Rattle.disk_index.specs.Kept.{place_of};
 ghost use Rattle.disk_index.specs.Parts.{IsPartBacked, reads, source_of};
-ghost use Rattle.disk_index.specs.Presence.{IsNowhere, may_have};
+ghost use Rattle.disk_index.specs.Presence.{IsNext, IsNowhere, may_have};
 
 use crate::{DiskIndex, Part};
 use ri_base::{Place, Sealed, Term};
@@ -32,6 +32,16 @@ impl Part {
             Part::Disk(index) => index.has_block(term, range),
         }
     }
+
+    /// The first range from this one on of which a document may have the term. No file is read.
+    pub fn next_with(&self, term: &Term, from: u32) -> Option<u32>
+        ensures { IsNext (λ range. may_have (source_of self.now) range term.now) from result }
+    {
+        match self {
+            Part::Memory(sealed) => next_in_memory(sealed, term, from),
+            Part::Disk(index) => index.next_block(term, from),
+        }
+    }
 }
 
 /// Whether a document of the range has the term.
@@ -51,4 +61,26 @@ fn has_posting(postings: &[Place], range: u32) -> bool
 {
     let first = postings.partition_point(|p| p.id / 64 < range);
     first < postings.len() && postings[first].id / 64 == range
+}
+
+/// The first range from this one on of which a document of the index has the term.
+pub fn next_in_memory(sealed: &Sealed, term: &Term, from: u32) -> Option<u32>
+    ensures { IsNext (λ range. list_any (λ p. p.id / 64 == range) (postings_of term.now sealed.now)) from result }
+{
+    match sealed.vocabulary().as_slice().binary_search(term) {
+        Ok(rank) => next_posting(sealed.postings(rank).as_slice(), from),
+        Err(_) => None,
+    }
+}
+
+/// The range of the first posting that isn't before this range, of postings by rising id.
+fn next_posting(postings: &[Place], from: u32) -> Option<u32>
+    requires { IsNonDecreasingBy (λ p. p.id) postings.now }
+    ensures { IsNext (λ range. list_any (λ p. p.id / 64 == range) postings.now) from result }
+{
+    let first = postings.partition_point(|p| p.id / 64 < from);
+    if first < postings.len() {
+        return Some(postings[first].id / 64);
+    }
+    None
 }

@@ -4,6 +4,7 @@ pub mod LeafLemmas
 pub mod ListLemmas
 pub mod ListingLemmas
 pub mod PlanTests
+pub mod PresenceLemmas
 pub mod RowLemmas
 pub mod SameLemmas
 pub mod Tested

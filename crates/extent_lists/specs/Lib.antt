@@ -3,4 +3,5 @@ pub mod Listing
 pub mod Operators
 pub mod Pairs
 pub mod Plans
+pub mod Presence
 pub mod Rows

@@ -1,4 +1,5 @@
 pub mod BlockLemmas
 pub mod MaskLemmas
 pub mod MayLemmas
+pub mod NextLemmas
 pub mod PostingLemmas

@@ -72,11 +72,11 @@ bit_more mask k i b small inside is = go (eqb_tells k i)
 -- ---- lists of tests
 
 -- where the first tests fail, all do
-stops : {X : Type 0} (test : X → Bool) (xs : List X) (i : ℕ) → list_all test (take i xs) ≡ false → list_all test xs ≡ false
+pub stops : {X : Type 0} (test : X → Bool) (xs : List X) (i : ℕ) → list_all test (take i xs) ≡ false → list_all test xs ≡ false
 stops test xs i h =
     ap (list_all test) (sym (take-append-drop i xs)) ∙ list_all-append test (take i xs) (drop i xs) ∙ ap (λ b. b && list_all test (drop i xs)) h
 
-any_map : {X Y : Type 0} (test : X → Bool) (f : Y → X) (ys : List Y) → list_any test (map f ys) ≡ list_any (λ y. test (f y)) ys
+pub any_map : {X Y : Type 0} (test : X → Bool) (f : Y → X) (ys : List Y) → list_any test (map f ys) ≡ list_any (λ y. test (f y)) ys
 any_map test f [] = refl
 any_map test f (y ∷ ys) = ap (λ b. test (f y) || b) (any_map test f ys)
 

@@ -1,34 +1,20 @@
 -- Whether a document may have an extent of an expression, and whether it may be shown for a query, by its terms alone.
-use Rattle.std.specs.Prelude.{ℕ, Bool, true, false, ◌&&◌, ◌||◌, List, if◌then◌else◌}
+use Rattle.std.specs.Prelude.{ℕ, Bool, true, false, ◌&&◌, List, if◌then◌else◌}
 use Rattle.std.specs.List.{list_all, list_any}
 use Rattle.std.specs.Str.{bytes_eq}
 use Rattle.ri_base.specs.Documents.{Document}
-use Rattle.ri_base.specs.Expression.{ExprTree, ExprTrees, word, ordered, unordered, syn, any, band, in_field, none, more}
+use Rattle.ri_base.specs.Expression.{ExprTree}
 use Rattle.ri_base.specs.Query.{FilterTree}
+use Rattle.extent_lists.specs.Presence.{may_with}
 use Rattle.query_check.specs.Leaves.{LeafTree, extents, prior}
 
 -- some token of the document is the term
 abbrev pub has_term : List ℕ → Document → Bool
 has_term t d = list_any (λ token. bytes_eq token t) d.tokens
 
-unfoldable mutual
-  -- the terms are there: of the arguments of a union those of one, of the other operators those of each; of fields nothing is asked
-  pub may : ExprTree → Document → Bool
-  may (word t) d = has_term t d
-  may (ordered n xs) d = may_each xs d
-  may (unordered n xs) d = may_each xs d
-  may (syn xs) d = may_some xs d
-  may (any f) d = true
-  may (band xs) d = may_each xs d
-  may (in_field x f) d = may x d
-
-  pub may_each : ExprTrees → Document → Bool
-  may_each none d = true
-  may_each (more x xs) d = may x d && may_each xs d
-
-  pub may_some : ExprTrees → Document → Bool
-  may_some none d = false
-  may_some (more x xs) d = may x d || may_some xs d
+-- the document has the terms that an extent of the expression needs
+abbrev pub may : ExprTree → Document → Bool
+may x d = may_with (λ t. has_term t d) x
 
 -- a leaf may occur in the document; a prior doesn't occur
 abbrev pub leaf_may : LeafTree → Document → Bool

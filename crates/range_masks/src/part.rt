@@ -27,6 +27,10 @@ impl<'a, T: Store> TermMasks for PartReader<'a, T> {
     fn term_mask(&mut self, alloc: Global, term: &Term, range: u32) -> Result<u64, SegFault> {
         mask_in_part(alloc, self.part, self.store, self.cache, term, range)
     }
+
+    fn next_term_range(&self, term: &Term, from: u32) -> Option<u32> {
+        self.part.next_with(term, from)
+    }
 }
 
 /// Which documents of the range have the term, in a part of either kind.

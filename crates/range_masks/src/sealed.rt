@@ -8,12 +8,17 @@ ghost use Rattle.range_masks.specs.May.{has_term};
 
 use crate::TermMasks;
 use crate::bits::with_id;
+use disk_index::next_in_memory;
 use ri_base::{Place, Sealed, SegFault, Term};
 use std::alloc::Global;
 
 impl TermMasks for Sealed {
     fn term_mask(&mut self, _alloc: Global, term: &Term, range: u32) -> Result<u64, SegFault> {
         Ok(mask_in(self, term, range))
+    }
+
+    fn next_term_range(&self, term: &Term, from: u32) -> Option<u32> {
+        next_in_memory(self, term, from)
     }
 }
 

@@ -1,9 +1,10 @@
 // What a part tells of a term in a range of ids.
-ghost use Rattle.std.specs.Prelude.{◌≡◌, Err, IfErr, IfOk};
+ghost use Rattle.std.specs.Prelude.{◌≡◌, ◌≤◌, Err, IfErr, IfOk, IfSome};
 ghost use Rattle.ri_base.specs.Faults.{IsOutside};
 ghost use Rattle.ri_base.specs.Keeps.{Keeps, Rose};
 ghost use Rattle.range_masks.specs.Masks.{IsMask};
 ghost use Rattle.range_masks.specs.May.{has_term};
+ghost use Rattle.range_masks.specs.Next.{IsPassed};
 
 use ri_base::{Postings, SegFault, Term};
 use std::alloc::Global;
@@ -16,4 +17,10 @@ pub trait TermMasks: Postings {
         ensures exact { Self.sound self.old → IfOk result (IsMask (has_term term.now) range (Self.documents self.old)) }
         ensures honest { Self.sound self.old → IfErr result IsOutside }
         ensures store { result ≡ Err SegFault.Store → Rose (Self.faults self.old) (Self.faults self.new) };
+
+    /// A range from this one on before which no document from this one on has the term; none where no document from this one on
+    /// has it. No file is read.
+    fn next_term_range(&self, term: &Term, from: u32) -> Option<u32>
+        ensures forward { IfSome result (λ next. from ≤ next) }
+        ensures passed { Self.sound self.now → IsPassed (has_term term.now) (Self.documents self.now) from result };
 }

@@ -1,17 +1,18 @@
 use Rattle.std.proofs.Common.{map, ap, sym, ◌∙◌, rules}
 use Rattle.ri_base.specs.Expression.{expr_tree, expr_trees}
 use Rattle.ri_base.specs.declared.expression.ExtentExpr.{ExtentExpr}
+use Rattle.extent_lists.specs.Presence.{may_with, may_each_with, may_some_with}
+use Rattle.extent_lists.proofs.PresenceLemmas.{may_with-all, may_with-any, may_with-in_field, may_with-syn, may_with-word}
 use Rattle.disk_index.specs.Parts.{source_of}
 use Rattle.disk_index.specs.Presence.{may_have}
-use Rattle.counts.specs.Presence.{may, may_each, may_some}
-use Rattle.counts.proofs.PresenceLemmas.{each-end, each-fails, each-next, may-all, may-any, may-in_field, may-syn, may-word, some-end, some-holds, some-next}
+use Rattle.counts.proofs.PresenceLemmas.{each-end, each-fails, each-next, some-end, some-holds, some-next}
 use Rattle.counts.proofs.presence.+presence.Goals as goal
 
 pub may_occur-returns-in-Word : goal.may_occur-returns-in-Word
-may_occur-returns-in-Word t c = c.may_have.ensures.exact ∙ sym (may-word (may_have (source_of c.args.part.now) c.args.range) c.args.expr.now c.in-Word.term c.in-Word.is)
+may_occur-returns-in-Word t c = c.may_have.ensures.exact ∙ sym (may_with-word (may_have (source_of c.args.part.now) c.args.range) c.args.expr.now c.in-Word.term c.in-Word.is)
 
 pub may_occur-returns-in-Any : goal.may_occur-returns-in-Any
-may_occur-returns-in-Any t c = sym (may-any (may_have (source_of c.args.part.now) c.args.range) c.args.expr.now c.in-Any.field-0 c.in-Any.is)
+may_occur-returns-in-Any t c = sym (may_with-any (may_have (source_of c.args.part.now) c.args.range) c.args.expr.now c.in-Any.field-0 c.in-Any.is)
 
 pub each_may-loop-x-preserved : goal.each_may-loop-x-preserved
 each_may-loop-x-preserved t c =
@@ -38,14 +39,14 @@ some_may-returns t c = some-end (may_have (source_of c.args.part.now) c.args.ran
 pub may_occur-returns-in-Syn : goal.may_occur-returns-in-Syn
 may_occur-returns-in-Syn t c =
     let has = may_have (source_of c.args.part.now) c.args.range in
-    c.some_may.ensures ∙ ap (λ xs. may_some has (expr_trees (map expr_tree xs))) c.deref.ensures.value ∙ sym (may-syn has c.args.expr.now c.in-Syn.all c.in-Syn.is)
+    c.some_may.ensures ∙ ap (λ xs. may_some_with has (expr_trees (map expr_tree xs))) c.deref.ensures.value ∙ sym (may_with-syn has c.args.expr.now c.in-Syn.all c.in-Syn.is)
 
 pub may_occur-returns-in-InField : goal.may_occur-returns-in-InField
 may_occur-returns-in-InField t c =
     let has = may_have (source_of c.args.part.now) c.args.range in
-    c.may_occur.ensures ∙ ap (λ (y : ExtentExpr). may has (expr_tree y)) c.deref-in-InField.ensures ∙ sym (may-in_field has c.args.expr.now c.in-InField.x c.in-InField.field-1 c.in-InField.is)
+    c.may_occur.ensures ∙ ap (λ (y : ExtentExpr). may_with has (expr_tree y)) c.deref-in-InField.ensures ∙ sym (may_with-in_field has c.args.expr.now c.in-InField.x c.in-InField.field-1 c.in-InField.is)
 
 pub may_occur-returns-in-Ordered : goal.may_occur-returns-in-Ordered
 may_occur-returns-in-Ordered t c =
     let has = may_have (source_of c.args.part.now) c.args.range in
-    c.each_may.ensures ∙ ap (λ xs. may_each has (expr_trees (map expr_tree xs))) c.deref-in-Ordered.ensures.value ∙ sym (may-all has c.args.expr.now c.in-Ordered.all c.in-Ordered.is)
+    c.each_may.ensures ∙ ap (λ xs. may_each_with has (expr_trees (map expr_tree xs))) c.deref-in-Ordered.ensures.value ∙ sym (may_with-all has c.args.expr.now c.in-Ordered.all c.in-Ordered.is)

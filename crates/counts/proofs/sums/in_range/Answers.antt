@@ -3,7 +3,6 @@ use Rattle.std.proofs.lemmas.Result.{err_from_is_err_and}
 use Rattle.ri_base.specs.Expression.{expr_tree}
 use Rattle.disk_index.specs.Parts.{Source, size, source_of}
 use Rattle.disk_index.specs.Presence.{may_have}
-use Rattle.counts.specs.Presence.{may}
 use Rattle.counts.specs.Sums.{counted_tokens, occurrences}
 use Rattle.counts.proofs.ReadingLemmas.{cache-backed, part-backed, reads-same, reads-then}
 use Rattle.counts.proofs.SumsLemmas.{counted-next, few-next, first-grows, first-last, range-skipped, tokens-within}
@@ -17,8 +16,8 @@ returns-then-not-may_occur-clause-exact g c = λ backed cached.
     let m = c.args.marked.now in
     let x = expr_tree c.args.expr.now in
     let not : c.may_occur.result ≡ false = search rules in
-    let here : may (may_have (source_of c.part-part.result.now) c.args.range) x ≡ c.may_occur.result = sym c.may_occur.ensures in
-    let none : may (may_have m.source c.args.range) x ≡ false = subst (λ (p : Source). may (may_have p c.args.range) x ≡ false) c.part-part.ensures.part (here ∙ not) in
+    let here : may_with (may_have (source_of c.part-part.result.now) c.args.range) x ≡ c.may_occur.result = sym c.may_occur.ensures in
+    let none : may_with (may_have m.source c.args.range) x ≡ false = subst (λ (p : Source). may_with (may_have p c.args.range) x ≡ false) c.part-part.ensures.part (here ∙ not) in
     let same = range-skipped told m c.args.range x (option_copied c.args.context) c.part-part.ensures.whole backed none in
     omega (arith, same)
 

@@ -1,11 +1,11 @@
-use Rattle.std.proofs.Common.{refl, arith}
+use Rattle.std.proofs.Common.{refl, true, arith}
 use Rattle.std.proofs.lemmas.Result.{IfOk-weaker}
 use Rattle.ri_base.specs.Expression.{expr_tree}
 use Rattle.ri_base.specs.declared.expression.ExtentExpr.{ExtentExpr}
 use Rattle.extent_lists.proofs.KeepsLemmas.{Keeps-then}
 use Rattle.range_masks.specs.May.{may}
-use Rattle.range_masks.proofs.MaskLemmas.{IsMask-all, IsMask-each, IsMask-each_more, IsMask-each_none, IsMask-none, IsMask-some, IsMask-some_more}
-use Rattle.range_masks.proofs.MayLemmas.{IsMask-any, IsMask-band, IsMask-in_field, IsMask-ordered, IsMask-syn, IsMask-unordered, IsMask-word}
+use Rattle.range_masks.proofs.MaskLemmas.{IsMask-all, IsMask-each, IsMask-each_more, IsMask-each_none, IsMask-none, IsMask-same, IsMask-some, IsMask-some_more}
+use Rattle.range_masks.proofs.MayLemmas.{may-any, may-band, may-in_field, may-ordered, may-syn, may-unordered, may-word}
 use Rattle.range_masks.proofs.expression.+masks.Goals as goal
 
 pub mask_of_each-loop-x-init : goal.mask_of_each-loop-x-init
@@ -49,27 +49,27 @@ pub mask_of_some-returns-clause-exact : goal.mask_of_some-returns-clause-exact
 mask_of_some-returns-clause-exact g t c = λ sound. IsMask-some _ _ (λ (x : ExtentExpr). may (expr_tree x)) c.args.all.now c.loop-x.x-index _ c.loop-x-test.false (c.loop-x.invariant.exact sound)
 
 pub mask_of-returns-in-Word-clause-exact : goal.mask_of-returns-in-Word-clause-exact
-mask_of-returns-in-Word-clause-exact g t c = λ sound. IfOk-weaker _ _ _ (λ m h. IsMask-word _ _ c.args.expr.now m c.in-Word.term c.in-Word.is h) (c.term_mask.ensures.exact sound)
+mask_of-returns-in-Word-clause-exact g t c = λ sound. IfOk-weaker _ _ _ (λ m h. IsMask-same _ _ _ _ m (λ d. may-word c.args.expr.now d c.in-Word.term c.in-Word.is) h) (c.term_mask.ensures.exact sound)
 
 pub mask_of-returns-in-Ordered-clause-exact : goal.mask_of-returns-in-Ordered-clause-exact
 mask_of-returns-in-Ordered-clause-exact g t c = λ sound.
-    IfOk-weaker _ _ _ (λ m h. IsMask-ordered _ _ c.args.expr.now m _ c.in-Ordered.all c.in-Ordered.is h) (rw c.deref.ensures.value at (c.mask_of_each.ensures.exact sound))
+    IfOk-weaker _ _ _ (λ m h. IsMask-same _ _ _ _ m (λ d. may-ordered c.args.expr.now d _ c.in-Ordered.all c.in-Ordered.is) h) (rw c.deref.ensures.value at (c.mask_of_each.ensures.exact sound))
 
 pub mask_of-returns-in-Unordered-clause-exact : goal.mask_of-returns-in-Unordered-clause-exact
 mask_of-returns-in-Unordered-clause-exact g t c = λ sound.
-    IfOk-weaker _ _ _ (λ m h. IsMask-unordered _ _ c.args.expr.now m _ c.in-Unordered.all c.in-Unordered.is h) (rw c.deref-in-Unordered.ensures.value at (c.mask_of_each-in-Unordered.ensures.exact sound))
+    IfOk-weaker _ _ _ (λ m h. IsMask-same _ _ _ _ m (λ d. may-unordered c.args.expr.now d _ c.in-Unordered.all c.in-Unordered.is) h) (rw c.deref-in-Unordered.ensures.value at (c.mask_of_each-in-Unordered.ensures.exact sound))
 
 pub mask_of-returns-in-Syn-clause-exact : goal.mask_of-returns-in-Syn-clause-exact
 mask_of-returns-in-Syn-clause-exact g t c = λ sound.
-    IfOk-weaker _ _ _ (λ m h. IsMask-syn _ _ c.args.expr.now m c.in-Syn.all c.in-Syn.is h) (rw c.deref-in-Syn.ensures.value at (c.mask_of_some.ensures.exact sound))
+    IfOk-weaker _ _ _ (λ m h. IsMask-same _ _ _ _ m (λ d. may-syn c.args.expr.now d c.in-Syn.all c.in-Syn.is) h) (rw c.deref-in-Syn.ensures.value at (c.mask_of_some.ensures.exact sound))
 
 pub mask_of-returns-in-Any-clause-exact : goal.mask_of-returns-in-Any-clause-exact
-mask_of-returns-in-Any-clause-exact g t c = λ sound. IsMask-any _ _ c.args.expr.now _ c.in-Any.is
+mask_of-returns-in-Any-clause-exact g t c = λ sound. IsMask-same _ _ (λ d. true) _ _ (λ d. may-any c.args.expr.now d _ c.in-Any.is) (IsMask-all _ _)
 
 pub mask_of-returns-in-Band-clause-exact : goal.mask_of-returns-in-Band-clause-exact
 mask_of-returns-in-Band-clause-exact g t c = λ sound.
-    IfOk-weaker _ _ _ (λ m h. IsMask-band _ _ c.args.expr.now m c.in-Band.all c.in-Band.is h) (rw c.deref-in-Band.ensures.value at (c.mask_of_each-in-Band.ensures.exact sound))
+    IfOk-weaker _ _ _ (λ m h. IsMask-same _ _ _ _ m (λ d. may-band c.args.expr.now d c.in-Band.all c.in-Band.is) h) (rw c.deref-in-Band.ensures.value at (c.mask_of_each-in-Band.ensures.exact sound))
 
 pub mask_of-returns-in-InField-clause-exact : goal.mask_of-returns-in-InField-clause-exact
 mask_of-returns-in-InField-clause-exact g t c = λ sound.
-    IfOk-weaker _ _ _ (λ m h. IsMask-in_field _ _ c.args.expr.now m c.in-InField.x _ c.in-InField.is h) (rw c.deref-in-InField.ensures at (c.mask_of.ensures.exact sound))
+    IfOk-weaker _ _ _ (λ m h. IsMask-same _ _ _ _ m (λ d. may-in_field c.args.expr.now d c.in-InField.x _ c.in-InField.is) h) (rw c.deref-in-InField.ensures at (c.mask_of.ensures.exact sound))

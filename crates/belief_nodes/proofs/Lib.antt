@@ -1,3 +1,4 @@
+pub mod FirstsLemmas
 pub mod Lists
 pub mod Kept
 pub mod Powers

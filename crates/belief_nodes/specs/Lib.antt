@@ -1,3 +1,4 @@
+pub mod Firsts
 pub mod Fits
 pub mod Fractions
 pub mod Kept

@@ -1,6 +1,7 @@
 //! The belief of a query in one window: the fractions of its leaves, and the key by which windows are ordered.
 #![tactic(auto)]
 
+mod firsts;
 mod greater;
 mod keys;
 mod laws;

@@ -4,10 +4,12 @@ ghost use Rattle.smoothing.specs.Fractions.{Computes};
 ghost use Rattle.belief_nodes.specs.Fractions.{leaf_fraction};
 ghost use Rattle.query_check.specs.Leaves.{leaf_tree};
 ghost use Rattle.query_check.specs.Trees.{scaled_tree};
+ghost use Rattle.belief_nodes.specs.Firsts.{AreFirsts};
 ghost use Rattle.belief_nodes.specs.Kept.{IsNetwork};
 ghost use Rattle.belief_nodes.specs.Leaves.{AreLeafStats, HasPrior, IsLeafCount};
 ghost use Rattle.belief_nodes.specs.Priors.{prior_at, prior_fraction};
 
+use crate::firsts::firsts_of;
 use crate::keys::key_of;
 use crate::{BeliefNode, LeafCount};
 use query_check::{Checked, LeafKind, Tree};
@@ -19,10 +21,12 @@ use std::alloc::Global;
 #[derive(Drop)]
 pub struct Network {
     leaves: Vec<LeafKind>,
+    firsts: Vec<usize>,
     range: Range,
     stats: Vec<LeafStats>,
     tree: Tree,
     ghost kept: { IsNetwork (map leaf_tree leaves.items) stats.items (scaled_tree tree) },
+    ghost equal: { AreFirsts (map leaf_tree leaves.items) firsts.items },
 }
 
 impl Network {
@@ -38,12 +42,14 @@ impl Network {
         ensures { IfOk result (λ network. network_tree network ≡ network_of checked.now stats.now) }
     {
         let leaves = clone_leaves(alloc, &checked.leaves)?;
+        let firsts = firsts_of(alloc, &leaves)?;
         let range = checked.range.clone_in(alloc)?;
         let tree = checked.tree.clone_in(alloc)?;
         let mut kept = Vec::with_capacity(alloc, stats.len())?;
         kept.extend_from_slice(stats)?;
         Ok(Network {
             leaves,
+            firsts,
             range,
             stats: kept,
             tree,
@@ -55,6 +61,13 @@ impl Network {
         ensures { map leaf_tree result.now ≡ (network_tree self.now).leaves }
     {
         &self.leaves
+    }
+
+    /// Of each leaf the number of an equal one: of an earlier one, or its own.
+    pub fn firsts(&self) -> &[usize]
+        ensures { AreFirsts (network_tree self.now).leaves result.now }
+    {
+        &self.firsts
     }
 
     /// What is scored: documents, the fields of a name, or passages.

@@ -2,5 +2,4 @@ pub mod KeptLemmas
 pub mod OccurrenceLemmas
 pub mod PresenceLemmas
 pub mod ReadingLemmas
-pub mod SameLemmas
 pub mod SumsLemmas

@@ -2,8 +2,8 @@
 ghost use Rattle.std.specs.Prelude.{◌≡◌, IfOk, IfSome, option_copied};
 ghost use Rattle.ri_base.specs.Expression.{expr_tree};
 
-use crate::same::{same_expr, same_name};
 use ri_base::{ExtentExpr, LeafStats, Name, NoMemory};
+use same_expressions::{same_expr, same_name};
 use std::alloc::Global;
 
 /// Where sums are kept: the generation of the documents, and a number that the expression and its context give.

@@ -10,12 +10,12 @@ ghost use Rattle.counts.specs.Kept.{AreSums, IsKept, IsNew, Kept, all_kept};
 ghost use Rattle.counts.specs.Reading.{IsFaultOf};
 ghost use Rattle.counts.specs.Sums.{AreBounded, sums};
 
-use crate::fingerprint::fingerprint;
 use crate::kept_sum::{KeptSum, SumKey};
 use crate::sums::sums_of;
 use disk_index::{BlockCache, Snapshot};
 use lru::LruCache;
 use ri_base::{ExtentExpr, LeafStats, Name, NoMemory, SegFault};
+use same_expressions::fingerprint;
 use std::alloc::Global;
 use std::marker::Model;
 use std::num::NonZeroUsize;

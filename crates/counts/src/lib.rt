@@ -1,13 +1,11 @@
 //! How often expressions occur in the documents of a snapshot, and in how many of their tokens: two sums, which are kept.
 #![tactic(auto)]
 
-mod fingerprint;
 mod kept_sum;
 mod leaf;
 mod lengths;
 mod occurrences;
 mod presence;
-mod same;
 mod sums;
 
 pub use leaf::Counts;

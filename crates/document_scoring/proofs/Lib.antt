@@ -1,4 +1,5 @@
 pub mod CountLemmas
 pub mod CounterLemmas
 pub mod FilterLemmas
+pub mod FirstsLemmas
 pub mod ScoringLemmas

@@ -1,19 +1,20 @@
 // What is found of the leaves of a query in a document.
-ghost use Rattle.std.specs.Prelude.{◌≡◌, ◌<◌, length, map, All, Err, IfErr, IfOk, IfSome};
+ghost use Rattle.std.specs.Prelude.{◌≡◌, ◌<◌, length, map, slice_index_or, take, All, Err, IfErr, IfOk, IfSome};
 ghost use Rattle.ri_base.specs.Collection.{document_at};
 ghost use Rattle.ri_base.specs.Expression.{expr_tree};
 ghost use Rattle.ri_base.specs.Faults.{IsOutside};
 ghost use Rattle.ri_base.specs.Keeps.{Keeps, Rose};
 ghost use Rattle.ri_base.specs.Pair.{Pair};
 ghost use Rattle.field_extents.specs.Extents.{AreInOrder};
-ghost use Rattle.query_check.specs.Leaves.{leaf_tree};
+ghost use Rattle.query_check.specs.Leaves.{leaf_tree, prior};
+ghost use Rattle.belief_nodes.specs.Firsts.{AreFirsts, IsFirst};
 ghost use Rattle.document_scoring.specs.Counters.{IsFewer, IsFound, found_count};
 ghost use Rattle.document_scoring.specs.Counts.{count_in, counted};
 
 use extent_evaluation::{extents, extents_have_one_list};
 use field_extents::inside;
 use query_check::LeafKind;
-use ri_base::{ExtentExpr, Extents, Name, Postings, SegFault};
+use ri_base::{ExtentExpr, Extents, Name, NoMemory, Postings, SegFault};
 use std::alloc::{AllocError, Global};
 
 /// The extents of a leaf in a document that count.
@@ -25,6 +26,26 @@ pub enum LeafExtents<'a> {
     Inside(Extents, &'a Name),
     /// None, of a prior.
     Prior,
+}
+
+/// Equal extents.
+fn copy_of(alloc: Global, extents: &Extents) -> Result<Extents, NoMemory>
+    ensures { IfOk result (λ copy. copy ≡ extents.now) }
+{
+    Ok(Extents::of(extents.as_slice().to_vec(alloc)?))
+}
+
+impl<'a> LeafExtents<'a> {
+    /// Equal extents of a leaf.
+    fn clone_in(&self, alloc: Global) -> Result<LeafExtents<'a>, NoMemory>
+        ensures { IfOk result (λ found. found ≡ self.now) }
+    {
+        match self {
+            LeafExtents::Plain(found) => Ok(LeafExtents::Plain(copy_of(alloc, found)?)),
+            LeafExtents::Inside(found, name) => Ok(LeafExtents::Inside(copy_of(alloc, found)?, name)),
+            LeafExtents::Prior => Ok(LeafExtents::Prior),
+        }
+    }
 }
 
 /// The extents of an expression that count: all, or with a context those in some field of that name.
@@ -78,14 +99,47 @@ pub fn found_of<'a, P: Postings>(
     }
 }
 
-/// What is found of all leaves in a document.
+/// What is found of the leaf of a number in a document, by what was found of those before it: what was found of an equal one, or what
+/// the part tells.
+fn found_at<'a, P: Postings>(
+    alloc: Global,
+    leaves: &'a [LeafKind],
+    number: usize,
+    first: usize,
+    before: &[LeafExtents<'a>],
+    part: &mut P,
+    id: u32,
+) -> Result<LeafExtents<'a>, SegFault>
+    requires id { id < length (P.documents part.old) }
+    requires number { number < length leaves.now }
+    requires first { IsFirst (map leaf_tree leaves.now) number first }
+    requires each { length before.now ≡ number }
+    requires before { All (IsFound (document_at (P.documents part.old) id).fields) before.now }
+    ensures keeps { Keeps P.documents P.faults P.sound P.quiet part.old part.new }
+    ensures exact { P.sound part.old
+        → ((w : Pair) → map (found_count (document_at (P.documents part.old) id).fields w) before.now ≡ map (count_in (document_at (P.documents part.old) id) w) (take number (map leaf_tree leaves.now)))
+        → IfOk result (λ found. (w : Pair) → found_count (document_at (P.documents part.old) id).fields w found ≡ count_in (document_at (P.documents part.old) id) w (slice_index_or (map leaf_tree leaves.now) number (prior 0))) }
+    ensures found { IfOk result (IsFound (document_at (P.documents part.old) id).fields) }
+    ensures honest { P.sound part.old → IfErr result IsOutside }
+    ensures store { result ≡ Err SegFault.Store → Rose (P.faults part.old) (P.faults part.new) }
+{
+    if first < number {
+        return Ok(before[first].clone_in(alloc)?);
+    }
+    found_of(alloc, &leaves[number], part, id)
+}
+
+/// What is found of all leaves in a document, of which `firsts` has the numbers of equal ones. A leaf that stands twice is looked up
+/// once.
 pub fn all_found<'a, P: Postings>(
     alloc: Global,
     leaves: &'a [LeafKind],
+    firsts: &[usize],
     part: &mut P,
     id: u32,
 ) -> Result<Vec<LeafExtents<'a>>, SegFault>
     requires id { id < length (P.documents part.old) }
+    requires firsts { AreFirsts (map leaf_tree leaves.now) firsts.now }
     ensures keeps { Keeps P.documents P.faults P.sound P.quiet part.old part.new }
     ensures exact { P.sound part.old → IfOk result
         (λ v. (w : Pair) → map (found_count (document_at (P.documents part.old) id).fields w) v.items ≡ map (count_in (document_at (P.documents part.old) id) w) (map leaf_tree leaves.now)) }
@@ -95,8 +149,8 @@ pub fn all_found<'a, P: Postings>(
     ensures store { result ≡ Err SegFault.Store → Rose (P.faults part.old) (P.faults part.new) }
 {
     let mut all = Vec::with_capacity(alloc, leaves.len())?;
-    for leaf in leaves {
-        let found = found_of(alloc, leaf, part, id)?;
+    for number in 0..leaves.len() {
+        let found = found_at(alloc, leaves, number, firsts[number], &all, part, id)?;
         all.push(found).map_err(AllocError::from)?;
     }
     Ok(all)

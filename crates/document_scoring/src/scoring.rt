@@ -189,7 +189,7 @@ pub fn score_document<P: Postings, F: Fn(u32, u32, u64, u64) -> Fraction>(
     if !all_pass(alloc, filters, part, id)? {
         return Ok(());
     }
-    let found = all_found(alloc, network.leaves(), part, id)?;
+    let found = all_found(alloc, network.leaves(), network.firsts(), part, id)?;
     score_found(
         alloc,
         network,

@@ -1,34 +1,57 @@
-use Rattle.std.proofs.Common.{arith, rules, ◌≡◌, ◌+◌, ◌++◌, ◌∷◌, [], map, ap, sym, ◌∙◌}
-use Rattle.std.proofs.lemmas.List.{length_push, take_all}
+use Rattle.std.proofs.Common.{arith, rules, ◌≡◌, ◌<◌, ◌+◌, ◌++◌, ◌∷◌, [], List, get_or, length, map, take, ap, sym, subst, ◌∙◌}
+use Rattle.std.proofs.lemmas.List.{get_or_read, length-map, length_push, take_all}
 use Rattle.std.proofs.lemmas.List.Elements.{All-push}
-use Rattle.std.proofs.lemmas.Simd.{map-map}
 use Rattle.ri_base.specs.Collection.{document_at}
-use Rattle.query_check.specs.Leaves.{leaf_tree}
-use Rattle.query_check.specs.declared.leaf_kind.LeafKind.{LeafKind}
+use Rattle.ri_base.specs.Documents.{Document}
+use Rattle.ri_base.specs.Pair.{Pair}
+use Rattle.query_check.specs.Leaves.{LeafTree, leaf_tree, prior}
+use Rattle.belief_nodes.specs.Firsts.{IsFirst}
 use Rattle.document_scoring.specs.Counters.{IsFound, found_count}
 use Rattle.document_scoring.specs.Counts.{count_in}
+use Rattle.document_scoring.specs.declared.found.LeafExtents.{LeafExtents}
 use Rattle.document_scoring.proofs.CountLemmas.{IsFound-stays, found_stays, next_same}
+use Rattle.document_scoring.proofs.FirstsLemmas.{default, so_far_read}
 use Rattle.document_scoring.proofs.found.all_found.Goals as goal
 
-pub loop-leaf-preserved : goal.loop-leaf-preserved
-loop-leaf-preserved g c =
+pub found_at-requires-clause-first : goal.found_at-requires-clause-first
+found_at-requires-clause-first g c =
+    let leaves = map leaf_tree c.args.leaves.now in
+    let firsts = c.args.firsts.now in
+    let i = c.loop-number.number in
+    let long = length-map c.args.leaves.now leaf_tree in
+    let each = c.requires.firsts.each in
+    let lt : i < length firsts = omega (arith, c.loop-number-test.true, each, long) in
+    subst (λ f. IsFirst leaves i f) (sym (get_or_read firsts i c.index-firsts-number.result lt c.index-firsts-number.is i)) (c.requires.firsts.first i (omega (arith, c.loop-number-test.true, long)))
+
+pub found_at-requires-clause-before : goal.found_at-requires-clause-before
+found_at-requires-clause-before g c = rw (sym c.loop-number.invariant.keeps.documents_stay) at c.loop-number.invariant.found
+
+pub loop-number-preserved : goal.loop-number-preserved
+loop-number-preserved g c =
     let docs = g.P.Postings.documents c.args.part.now in
-    let read = g.P.Postings.documents c.loop-leaf.part in
+    let read = g.P.Postings.documents c.loop-number.part in
     let d = document_at docs c.args.id in
-    let stay = c.loop-leaf.invariant.keeps.documents_stay in
-    let pushed : c.push.new.self.items ≡ c.loop-leaf.all.items ++ c.in_ok-found.found ∷ [] = search rules in
+    let stay = c.loop-number.invariant.keeps.documents_stay in
+    let leaves = map leaf_tree c.args.leaves.now in
+    let i = c.loop-number.number in
+    let leaf = get_or leaves i (prior 0) in
+    let found = c.in_ok-found.found in
+    let all = c.loop-number.all.items in
+    let long = length-map c.args.leaves.now leaf_tree in
+    let inside : i < length leaves = omega (arith, c.loop-number-test.true, long) in
+    let pushed : c.push.new.self.items ≡ all ++ found ∷ [] = search rules in
     record {
       keeps = search rules;
-      so_far = λ sound w. rw pushed (next_same (found_count d.fields w) (λ (leaf : LeafKind). count_in d w (leaf_tree leaf)) c.loop-leaf.all.items c.args.leaves.now c.loop-leaf.leaf-index c.in_ok-found.found c.leaf-item.result c.loop-leaf-test.true c.leaf-item.is
-          (c.loop-leaf.invariant.so_far sound w)
-          (found_stays docs read c.args.id w (leaf_tree c.leaf-item.result) c.in_ok-found.found stay (c.in_ok-found.ensures.exact (c.loop-leaf.invariant.keeps.sound_stays sound) w)));
-      each = rw pushed (length_push c.loop-leaf.all.items c.in_ok-found.found ∙ ap (λ n. n + 1) c.loop-leaf.invariant.each);
-      found = rw pushed (All-push (IsFound d.fields) c.loop-leaf.all.items c.in_ok-found.found c.loop-leaf.invariant.found (IsFound-stays docs read c.args.id c.in_ok-found.found stay c.in_ok-found.ensures.found));
+      so_far = λ sound w.
+          rw pushed (next_same (found_count d.fields w) (count_in d w) all leaves i found leaf inside (default leaves i (prior 0) leaf inside) (c.loop-number.invariant.so_far sound w)
+          (found_stays docs read c.args.id w leaf found stay
+          (c.in_ok-found.ensures.exact (c.loop-number.invariant.keeps.sound_stays sound) (so_far_read docs read c.args.id leaves i all (sym stay) (c.loop-number.invariant.so_far sound)) w)));
+      each = rw pushed (length_push all found ∙ ap (λ n. n + 1) c.loop-number.invariant.each);
+      found = rw pushed (All-push (IsFound d.fields) all found c.loop-number.invariant.found (IsFound-stays docs read c.args.id found stay c.in_ok-found.ensures.found));
     }
 
 pub returns-clause-exact : goal.returns-clause-exact
 returns-clause-exact g c = λ sound w.
     let d = document_at (g.P.Postings.documents c.args.part.now) c.args.id in
-    c.loop-leaf.invariant.so_far sound w
-    ∙ ap (map (λ (leaf : LeafKind). count_in d w (leaf_tree leaf))) (take_all c.loop-leaf.leaf-index c.args.leaves.now (omega arith))
-    ∙ sym (map-map (count_in d w) leaf_tree c.args.leaves.now)
+    let long = length-map c.args.leaves.now leaf_tree in
+    c.loop-number.invariant.so_far sound w ∙ ap (map (count_in d w)) (take_all c.loop-number.number (map leaf_tree c.args.leaves.now) (omega (arith, c.loop-number-test.false, long)))

@@ -3,17 +3,16 @@ use Rattle.ri_base.specs.Collection.{document_at}
 use Rattle.ri_base.specs.Keeps.{Keeps}
 use Rattle.ri_base.specs.Pair.{Pair}
 use Rattle.query_check.specs.Leaves.{leaf_tree}
-use Rattle.query_check.specs.declared.leaf_kind.LeafKind.{LeafKind}
 use Rattle.document_scoring.specs.Counters.{IsFound, found_count}
 use Rattle.document_scoring.specs.Counts.{count_in}
 use Rattle.document_scoring.proofs.found.all_found.Given as goal
 
-abbrev pub invariant-loop-leaf : goal.invariant-loop-leaf
-invariant-loop-leaf g l = record {
+abbrev pub invariant-loop-number : goal.invariant-loop-number
+invariant-loop-number g l = record {
   keeps : Keeps g.P.Postings.documents g.P.Postings.faults g.P.Postings.sound g.P.Postings.quiet l.fn.part l.part;
   so_far : g.P.Postings.sound l.fn.part → (w : Pair)
       → map (found_count (document_at (g.P.Postings.documents l.fn.part) l.id).fields w) l.all.items
-      ≡ map (λ (leaf : LeafKind). count_in (document_at (g.P.Postings.documents l.fn.part) l.id) w (leaf_tree leaf)) (take l.leaf-index l.leaves);
-  each : length l.all.items ≡ l.leaf-index;
+      ≡ map (count_in (document_at (g.P.Postings.documents l.fn.part) l.id) w) (take l.number (map leaf_tree l.leaves));
+  each : length l.all.items ≡ l.number;
   found : All (IsFound (document_at (g.P.Postings.documents l.fn.part) l.id).fields) l.all.items;
 }

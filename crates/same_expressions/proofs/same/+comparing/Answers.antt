@@ -1,7 +1,7 @@
 use Rattle.std.proofs.Common.{◌≡◌, map, ap, sym, ◌∙◌, rules}
 use Rattle.ri_base.specs.Expression.{expr_tree}
-use Rattle.counts.proofs.SameLemmas.{same-band, same-in_field, same-ordered, same-syn, same-unordered}
-use Rattle.counts.proofs.same.+comparing.Goals as goal
+use Rattle.same_expressions.proofs.SameLemmas.{same-band, same-in_field, same-ordered, same-syn, same-unordered}
+use Rattle.same_expressions.proofs.same.+comparing.Goals as goal
 
 pub same_expr-returns-then-m-n : goal.same_expr-returns-then-m-n
 same_expr-returns-then-m-n t c = λ yes.

@@ -1,0 +1,19 @@
+use Rattle.std.proofs.Common.{◌≡◌, ◌<◌, get_or, length, map, take, sym, ap, ◌∙◌, arith}
+use Rattle.ri_base.specs.Collection.{document_at}
+use Rattle.query_check.specs.Leaves.{leaf_tree, prior}
+use Rattle.document_scoring.specs.Counters.{IsFound}
+use Rattle.document_scoring.proofs.FirstsLemmas.{copied, read}
+use Rattle.document_scoring.proofs.found.found_at.Goals as goal
+
+-- ---- an equal one was found before
+
+pub returns-then-first-number-clause-exact : goal.returns-then-first-number-clause-exact
+returns-then-first-number-clause-exact g c = λ sound so_far w.
+    copied (document_at (g.P.Postings.documents c.args.part.now) c.args.id) w (map leaf_tree c.args.leaves.now) c.args.before.now c.args.number c.args.first c.index-before-first.result _ c.if-first-number.true c.requires.number c.requires.each
+    (c.requires.first.same (prior 0)) c.index-before-first.is c.in_ok-clone_in.ensures (so_far w)
+
+-- ---- the part tells
+
+pub returns-clause-exact : goal.returns-clause-exact
+returns-clause-exact g c = λ sound so_far.
+    read (document_at (g.P.Postings.documents c.args.part.now) c.args.id) c.args.leaves.now c.args.number c.index-leaves-number.result c.found_of.result c.requires.number c.index-leaves-number.is (c.found_of.ensures.exact sound)

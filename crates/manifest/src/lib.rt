@@ -14,4 +14,4 @@ pub use prior::PriorRows;
 pub use prior_reading::read_prior;
 pub use prior_writing::prior_bytes;
 pub use reading::read_manifest;
-pub use writing::manifest_bytes;
+pub use writing::{listing_bytes, manifest_bytes};

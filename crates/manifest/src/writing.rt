@@ -4,6 +4,7 @@ ghost use Rattle.std.specs.Int.{w32, w64, to_le_bytes};
 ghost use Rattle.std.specs.List.{All, flat_map};
 ghost use Rattle.manifest.specs.Files.{magic, manifest};
 ghost use Rattle.manifest.specs.Fits.{IsManifest};
+ghost use Rattle.manifest.specs.Listing.{listing};
 ghost use Rattle.manifest.specs.Spelling.{manifest_text, spelled_marks, spelled_opening, spelled_prior, spelled_priors, spelled_segment, spelled_segments, spelled_stale};
 
 use crate::manifest::{Manifest, PriorEntry, SegEntry};
@@ -79,17 +80,36 @@ fn put_opening(out: &mut Vec<u8>, next: u64) -> Result<(), NoMemory>
     put_u64(out, next)
 }
 
-#[tactic(auto, using(crate::proofs::WritingLemmas::few_segments, crate::proofs::WritingLemmas::few_marks, crate::proofs::WritingLemmas::few_priors))]
+/// The bytes of the manifest that lists these files.
+pub fn listing_bytes(
+    alloc: Global,
+    next: u64,
+    segments: &[SegEntry],
+    stale: &[u64],
+    priors: &[PriorEntry],
+) -> Result<Bytes, NoMemory>
+    requires { IsManifest (listing next segments.now stale.now priors.now) }
+    ensures { IfOk result (λ b. b ≡ manifest_text (listing next segments.now stale.now priors.now)) }
+{
+    let mut out = Vec::new(alloc);
+    put_opening(&mut out, next)?;
+    put_segments(&mut out, segments)?;
+    put_stale(&mut out, stale)?;
+    put_priors(&mut out, priors)?;
+    Ok(Bytes::of(out))
+}
+
 fn text_of(alloc: Global, m: &Manifest) -> Result<Bytes, NoMemory>
     requires { IsManifest m.now }
     ensures { IfOk result (λ b. b ≡ manifest_text m.now) }
 {
-    let mut out = Vec::new(alloc);
-    put_opening(&mut out, m.next)?;
-    put_segments(&mut out, m.segments.as_slice())?;
-    put_stale(&mut out, m.stale.as_slice())?;
-    put_priors(&mut out, m.priors.as_slice())?;
-    Ok(Bytes::of(out))
+    listing_bytes(
+        alloc,
+        m.next,
+        m.segments.as_slice(),
+        m.stale.as_slice(),
+        m.priors.as_slice(),
+    )
 }
 
 /// The bytes of the manifest.

@@ -10,10 +10,12 @@ use Rattle.ri_base.specs.Query.{FilterTree}
 use Rattle.ri_base.specs.Ratio.{ratio_of}
 use Rattle.ri_base.specs.declared.hit.Hit.{Hit}
 use Rattle.smoothing.specs.declared.rule.RuleKind.{RuleKind}
+use Rattle.query_check.specs.Check.{CheckedTree}
 use Rattle.belief_nodes.specs.Keys.{key_at}
 use Rattle.belief_nodes.specs.Network.{NetworkTree}
 use Rattle.belief_nodes.specs.Priors.{Prior}
 use Rattle.document_scoring.specs.Candidates.{Candidate, candidates}
+use Rattle.document_scoring.specs.Counts.{stats_of}
 
 -- what a hit is of a candidate
 abbrev pub candidate_of : Hit → Candidate
@@ -33,3 +35,13 @@ pub record IsRankingBy (kind : RuleKind) (priors : List Prior) (filters : List F
 -- the answer of at most k hits: the first k of a ranking
 abbrev pub IsAnswerBy : RuleKind → List Prior → List FilterTree → NetworkTree → List Document → ℕ → List Hit → Type 0
 IsAnswerBy kind priors filters network docs k hits = (ranking : List Hit) × IsRankingBy kind priors filters network docs ranking × (hits ≡ take k ranking)
+
+-- ---- with the statistics of just these documents
+
+-- the network of a query over a list of documents
+abbrev pub query_network : CheckedTree → List Document → NetworkTree
+query_network q docs = record { leaves = q.leaves; range = q.range; stats = map (stats_of docs) q.leaves; tree = q.tree }
+
+-- what may be shown of the documents for the query
+abbrev pub query_candidates : RuleKind → List Prior → CheckedTree → List Document → List Candidate
+query_candidates kind priors q docs = candidates kind priors q.filters (query_network q docs) docs

@@ -12,11 +12,14 @@ use Rattle.ri_base.specs.Faults.{IsOutside}
 use Rattle.ri_base.specs.declared.seg_fault.SegFault.{SegFault}
 use Rattle.store_ends.specs.Files.{Files}
 use Rattle.manifest.specs.Files.{numbers_of}
+use Rattle.manifest.specs.Fits.{FitsDocs, IsManifest}
+use Rattle.manifest.specs.Listing.{FitEntries}
 use Rattle.manifest.specs.declared.manifest.Manifest.{Manifest}
 use Rattle.manifest.specs.declared.manifest.PriorEntry.{PriorEntry}
 use Rattle.manifest.specs.declared.manifest.SegEntry.{SegEntry}
+use Rattle.manifest.proofs.ListingLaws.{listing-of}
 use Rattle.disk_index.specs.Kept.{kept_of}
-use Rattle.disk_index.specs.Parts.{IsPartBacked, reads, size}
+use Rattle.disk_index.specs.Parts.{IsPartBacked, OnDisk, reads, size}
 use Rattle.disk_index.specs.Reads.{IsBacked, HasSegment}
 use Rattle.disk_index.proofs.RebuiltLemmas.{reads-backed, reads-length}
 use Rattle.disk_index.specs.Snapshots as snapshots
@@ -31,9 +34,10 @@ use Rattle.holdings.specs.declared.refusals.PartsFault.TheVariants.{TooManyDocs,
 use Rattle.holdings.proofs.LiveLemmas.{docnos-live, flat_map-push, tokens-reads}
 use Rattle.holdings.proofs.SumLemmas.{AreCounted-closed}
 use Rattle.repository.specs.Names.{manifest_name}
-use Rattle.repository.specs.Opening.{IsAcrossFault, IsEntryFault, IsEntryOpened, IsOpeningFault, IsPartOf, IsRepositoryOpened, of_all, of_entry, of_outside}
+use Rattle.repository.specs.Entries.{IsOnDisk}
+use Rattle.repository.specs.Opening.{AreEntriesHeld, IsAcrossFault, IsEntryFault, IsEntryOpened, IsOpeningFault, IsPartOf, IsRepositoryOpened, of_all, of_entry, of_outside}
 use Rattle.repository.specs.Stands.{AreHeld, Collection, HasManifest, IsListed, IsPriorListed, Stands, live_listed, marks_from}
-use Rattle.repository.specs.States.{IsBacked as IsRepositoryBacked, ReadsAs, State, numbers_in, part_numbers}
+use Rattle.repository.specs.States.{HasDocs, IsBacked as IsRepositoryBacked, IsNumbered, IsSized, ReadsAs, State, numbers_in, part_numbers}
 use Rattle.repository.proofs.ManifestLemmas.{HasManifest-same}
 
 -- ---- one entry
@@ -85,7 +89,29 @@ writable-opened told [] (m ∷ ms) opened = absurd opened
 writable-opened told (e ∷ es) [] opened = absurd opened
 writable-opened told (e ∷ es) (m ∷ ms) opened = All-cons CanWrite m ms (subst IsWritable (sym opened.0.source) tt) (writable-opened told es ms opened.1)
 
-numbers-opened : (told : Option Files) (es : List SegEntry) (ms : List Marked) → AllZip (IsEntryOpened told) es ms → numbers_of es ≡ part_numbers ms
+abbrev IsStored : Marked → Type 0
+IsStored m = IsOnDisk m.source
+
+parts-stored : (told : Option Files) (es : List SegEntry) (ms : List Marked) → AllZip (IsEntryOpened told) es ms → All IsStored ms
+parts-stored told [] [] opened = All-nil IsStored
+parts-stored told [] (m ∷ ms) opened = absurd opened
+parts-stored told (e ∷ es) [] opened = absurd opened
+parts-stored told (e ∷ es) (m ∷ ms) opened = All-cons IsStored m ms (subst IsOnDisk (sym opened.0.source) tt) (parts-stored told es ms opened.1)
+
+-- all documents are in files
+pub stored-opened : (told : Option Files) (limits : Limits) (es : List SegEntry) (held : Contents) → AreEntriesHeld told limits es held → All (λ (m : Marked). IsOnDisk m.source) held.parts.closed × (held.parts.filling ≡ [])
+stored-opened told limits es held h =
+    (subst (λ (x : Contents). All IsStored x.parts.closed) (sym h.same) (parts-stored told es h.parts h.opened), ap (λ (x : Contents). x.parts.filling) h.same)
+
+pub sized-opened : (told : Option Files) (es : List SegEntry) (ms : List Marked) → AllZip (IsEntryOpened told) es ms → FitEntries es → All IsSized ms
+sized-opened told [] [] opened fit = All-nil IsSized
+sized-opened told [] (m ∷ ms) opened fit = absurd opened
+sized-opened told (e ∷ es) [] opened fit = absurd opened
+sized-opened told (e ∷ es) (m ∷ ms) opened fit =
+    let here : HasDocs (OnDisk opened.0.kept) = subst FitsDocs (sym opened.0.count) fit.0.0 in
+    All-cons IsSized m ms (subst HasDocs (sym opened.0.source) here) (sized-opened told es ms opened.1 fit.1)
+
+pub numbers-opened : (told : Option Files) (es : List SegEntry) (ms : List Marked) → AllZip (IsEntryOpened told) es ms → numbers_of es ≡ part_numbers ms
 numbers-opened told [] [] opened = refl
 numbers-opened told [] (m ∷ ms) opened = absurd opened
 numbers-opened told (e ∷ es) [] opened = absurd opened
@@ -208,3 +234,17 @@ opening-fault f limits told list fault is has why =
         | inr across ↦ of_all list there (subst (λ (o : Option Files). IsAcrossFault o limits list.segments fault) is across)
       ]
     ]
+
+-- ---- what was opened can be listed
+
+pub numbered-opened : (told : Option Files) (limits : Limits) (list : Manifest) (s : State) → IsManifest list → AreEntriesHeld told limits list.segments s.held → list.next ≡ s.next → list.stale ≡ s.stale → list.priors ≡ s.priors
+    → IsNumbered s
+numbered-opened told limits list s form held next stale priors = record {
+  list = list;
+  form = form;
+  next_is = next;
+  numbers_are = numbers-opened told list.segments held.parts held.opened ∙ sym (ap (λ (x : Contents). part_numbers x.parts.closed) held.same);
+  stale_are = stale;
+  priors_are = priors;
+  sized = subst (λ (x : Contents). All IsSized x.parts.closed) (sym held.same) (sized-opened told list.segments held.parts held.opened (listing-of list form).segments_fit);
+}

@@ -16,8 +16,9 @@ use Rattle.holdings.proofs.LiveLemmas.{flat_map-push}
 use Rattle.holdings.proofs.RoomLemmas.{live-sealed}
 use Rattle.holdings.proofs.SumLemmas.{documents-sealed, tokens-sealed}
 use Rattle.repository.specs.Stands.{Collection}
-use Rattle.repository.specs.States.{IsBacked, ReadsAs, State, numbers_in, part_numbers}
+use Rattle.repository.specs.States.{IsBacked, IsNumbered, IsSized, ReadsAs, State, numbers_in, part_numbers}
 use Rattle.repository.specs.Steps.{with_document, with_held, without_docno}
+use Rattle.repository.proofs.SaveLemmas.{numbers-sealed, sized-sealed}
 
 module _ (told : Option Files) (s : State) (h : Contents) (c : Collection) (reads : ReadsAs told s c) where
   pub reads-added : (d : Document) → ((t : Option Files) → live t h.parts ≡ live t s.held.parts ++ d ∷ []) → documents_held (all_parts h.parts) ≡ documents_held (all_parts s.held.parts) + 1
@@ -107,10 +108,49 @@ pub backed-call : {A E : Type 0} (told : Option Files) (s : State) (r : Result A
 backed-call told s (Ok a) h now done kept into backed = subst (λ (x : Contents). IsBacked told (with_held s x)) (sym done) (into backed)
 backed-call told s (Err e) h now done kept into backed = subst (λ (x : Contents). IsBacked told (with_held s x)) (sym kept) (backed-held told s s.held backed refl backed.parts)
 
--- ---- the part that is being filled is closed
+-- ---- what is held can be listed
 
-pub numbers-sealed : (p : Parts) → part_numbers (sealed p).closed ≡ part_numbers p.closed
-numbers-sealed p = numbers-closes p (sealed p).closed (closes-by p p.filling)
+numbered-held : (s : State) (h : Contents) → IsNumbered s → part_numbers h.parts.closed ≡ part_numbers s.held.parts.closed → All IsSized h.parts.closed → IsNumbered (with_held s h)
+numbered-held s h n numbers sized = record {
+  list = n.list;
+  form = n.form;
+  next_is = n.next_is;
+  numbers_are = n.numbers_are ∙ sym numbers;
+  stale_are = n.stale_are;
+  priors_are = n.priors_are;
+  sized = sized;
+}
+
+numbers-with : (p : Parts) (d : Document) → part_numbers (parts.with_document p d).closed ≡ part_numbers p.closed
+numbers-with p d = by (has_room p d)
+  where
+    by : (b : Bool) → part_numbers (cond b p (sealed p)).closed ≡ part_numbers p.closed
+    by true = refl
+    by false = numbers-sealed p
+
+sized-with : (p : Parts) (d : Document) → All IsSized p.closed → All IsSized (parts.with_document p d).closed
+sized-with p d sized = by (has_room p d)
+  where
+    by : (b : Bool) → All IsSized (cond b p (sealed p)).closed
+    by true = sized
+    by false = sized-sealed p sized
+
+-- over a call that adds, whatever it answers
+pub numbered-added : {A E : Type 0} (s : State) (d : Document) (r : Result A E) (h : Contents) → OnOk r (h ≡ added s.held d) → OnErr r (h ≡ s.held) → IsNumbered s → IsNumbered (with_held s h)
+numbered-added s d (Ok a) h done kept n =
+    subst (λ (x : Contents). IsNumbered (with_held s x)) (sym done) (numbered-held s (added s.held d) n (numbers-with s.held.parts d) (sized-with s.held.parts d n.sized))
+numbered-added s d (Err e) h done kept n = subst (λ (x : Contents). IsNumbered (with_held s x)) (sym kept) (numbered-held s s.held n refl n.sized)
+
+sized-marked : (k : List ℕ) (ms : List Marked) → All IsSized ms → All IsSized (map (marked_with k) ms)
+sized-marked k [] all = All-nil IsSized
+sized-marked k (m ∷ ms) all = All-cons IsSized (marked_with k m) (map (marked_with k) ms) (All-head IsSized m ms all) (sized-marked k ms (All-tail IsSized m ms all))
+
+pub numbered-deleted : {A E : Type 0} (s : State) (k : List ℕ) (r : Result A E) (h : Contents) → OnOk r (h ≡ deleted s.held k) → OnErr r (h ≡ s.held) → IsNumbered s → IsNumbered (with_held s h)
+numbered-deleted s k (Ok a) h done kept n =
+    subst (λ (x : Contents). IsNumbered (with_held s x)) (sym done) (numbered-held s (deleted s.held k) n (numbers-marked k s.held.parts.closed) (sized-marked k s.held.parts.closed n.sized))
+numbered-deleted s k (Err e) h done kept n = subst (λ (x : Contents). IsNumbered (with_held s x)) (sym kept) (numbered-held s s.held n refl n.sized)
+
+-- ---- the part that is being filled is closed
 
 pub backed-closed : (told : Option Files) (s : State) → IsBacked told s → IsBacked told (with_held s (all_closed s.held))
 backed-closed told s backed = backed-closes told s (all_closed s.held) (closes-by s.held.parts s.held.parts.filling) backed
@@ -122,6 +162,9 @@ reads-closed told s c reads = record {
   tokens_are = tokens-sealed s.held.parts ∙ reads.tokens_are;
   priors_are = reads.priors_are;
 }
+
+pub numbered-closed : (s : State) → IsNumbered s → IsNumbered (with_held s (all_closed s.held))
+numbered-closed s n = numbered-held s (all_closed s.held) n (numbers-sealed s.held.parts) (sized-sealed s.held.parts n.sized)
 
 -- over a call that closes it or leaves all as it was, whatever it answers
 pub closed-call : {A E : Type 0} (P : State → Type 0) (s : State) (r : Result A E) (h : Contents) → OnOk r (h ≡ all_closed s.held) → OnErr r ((h ≡ s.held) ⊎ (h ≡ all_closed s.held)) → P s → P (with_held s (all_closed s.held))

@@ -1,6 +1,11 @@
+pub mod Entries
 pub mod Names
+pub mod Numbers
 pub mod Opening
 pub mod Priors
+pub mod Saved
+pub mod Stale
 pub mod Stands
 pub mod States
 pub mod Steps
+pub mod Writes

@@ -36,6 +36,7 @@ pub record IsEntryOpened (told : Option Files) (e : SegEntry) (m : Marked) : Typ
   pub kept : Kept
   pub source : m.source ≡ OnDisk kept
   pub number : kept.number ≡ e.number
+  pub count : length kept.outlines ≡ e.docs
   pub marks : m.marks ≡ marks_from 0 (length kept.outlines) e.marks
   pub opened : (files : Files) → told ≡ Some files → IsOpened (file_of files e.number) e.docs kept
   pub exact : (docs : List Document) → HasSegment told e.number docs → length docs ≡ e.docs → kept ≡ kept_of e.number docs

@@ -1,11 +1,13 @@
 -- What a repository holds, and what it reads as together with the files.
-use Rattle.std.specs.Prelude.{◌≡◌, ℕ, Bool, List, [], ◌∷◌, Option}
+use Rattle.std.specs.Prelude.{◌≡◌, ◌≤◌, ℕ, Bool, List, [], ◌∷◌, ◌++◌, Option, length}
 use Rattle.std.specs.List.{All, AllZip, flat_map}
 use Rattle.store_ends.specs.Files.{Files}
 use Rattle.manifest.specs.Files.{numbers_of}
+use Rattle.manifest.specs.Fits.{FitsDocs, IsManifest}
+use Rattle.manifest.specs.Listing.{prior_numbers}
 use Rattle.manifest.specs.declared.manifest.Manifest.{Manifest}
 use Rattle.manifest.specs.declared.manifest.PriorEntry.{PriorEntry}
-use Rattle.disk_index.specs.Parts.{InMemory, IsPartBacked, OnDisk, Source}
+use Rattle.disk_index.specs.Parts.{InMemory, IsPartBacked, OnDisk, Source, size}
 use Rattle.disk_index.specs.Snapshots.{Marked, documents_held}
 use Rattle.holdings.specs.Contents.{Contents}
 use Rattle.holdings.specs.MarkedParts.{tokens_held}
@@ -34,6 +36,33 @@ numbers_in (OnDisk kept) = kept.number ∷ []
 
 abbrev pub part_numbers : List Marked → List ℕ
 part_numbers parts = flat_map (λ m. numbers_in m.source) parts
+
+-- the numbers of all files that its manifest lists
+abbrev pub listed_numbers : State → List ℕ
+listed_numbers s = part_numbers s.held.parts.closed ++ (s.stale ++ prior_numbers s.priors)
+
+-- the numbers of those that it reads
+abbrev pub kept_numbers : State → List ℕ
+kept_numbers s = part_numbers s.held.parts.closed ++ prior_numbers s.priors
+
+-- A part in memory has a document, and one on disk as many as a segment has that a manifest lists.
+abbrev pub HasDocs : Source → Type 0
+HasDocs (InMemory docs) = 1 ≤ length docs
+HasDocs (OnDisk kept) = FitsDocs (size (OnDisk kept))
+
+abbrev pub IsSized : Marked → Type 0
+IsSized m = HasDocs m.source
+
+-- What it holds can be listed: there are entries whose numbers are those of its parts on disk, and which make a manifest with the
+-- number of its next file, its stale files and its priors.
+pub record IsNumbered (s : State) : Type 0 where
+  pub list : Manifest
+  pub form : IsManifest list
+  pub next_is : list.next ≡ s.next
+  pub numbers_are : numbers_of list.segments ≡ part_numbers s.held.parts.closed
+  pub stale_are : list.stale ≡ s.stale
+  pub priors_are : list.priors ≡ s.priors
+  pub sized : All IsSized s.held.parts.closed
 
 -- The manifest is one of this state: it lists its parts on disk, its stale files and its priors. Each part on disk has its file, and
 -- the file of each prior has its rows.

@@ -1,14 +1,15 @@
-// Reading files, and replacing the manifest's.
-ghost use Rattle.std.specs.Prelude.{◌≡◌, ◌≤◌, Err, Some, length, is_some, IfOk, IfErr, IfSome, OnOk};
+// Reading and changing files.
+ghost use Rattle.std.specs.Prelude.{◌≡◌, ◌≤◌, Err, Some, None, length, is_some, IsAscii, IfOk, IfErr, IfSome, OnOk};
 ghost use Rattle.std.specs.Option.{option_map};
 ghost use Rattle.ri_base.specs.Faults.{IsOutside};
 ghost use Rattle.ri_base.specs.Keeps.{Rose};
 ghost use Rattle.store_ends.specs.Causes.{HasOutCause};
-ghost use Rattle.store_ends.specs.Files.{Files, IsQuiet, Leaves, OldOrNew, with_file};
+ghost use Rattle.store_ends.specs.Files.{AnyState, Files, IsQuiet, Leaves, OldOrNew, with_file};
+ghost use Rattle.disk_index.specs.Names.{segment_name};
 ghost use Rattle.repository.specs.Names.{manifest_name, prior_name};
 
 use crate::names::prior_name;
-use disk_index::{as_text, store_fault};
+use disk_index::{as_text, segment_name, store_fault};
 use ri_base::SegFault;
 use ri_ends::OutFault;
 use std::alloc::Global;
@@ -85,6 +86,7 @@ pub fn prior_file<T: Store>(
 #[tactic(auto, unfolding(crate::specs::Names::manifest_name))]
 pub fn replace_manifest<T: Store>(store: &mut T, manifest: &[u8]) -> Result<(), SegFault>
     ensures done { OnOk result (T.files store.new ≡ option_map (with_file manifest_name (Some manifest.now)) (T.files store.old)) }
+    ensures changed { OldOrNew manifest_name (Some manifest.now) (T.files store.old) (T.files store.new) }
     ensures stops { Leaves (T.since store.old) (T.since store.new) (OldOrNew manifest_name (Some manifest.now) (T.files store.old)) }
     ensures outside { IfErr result IsOutside }
     ensures later { T.faults store.old ≤ T.faults store.new }
@@ -94,4 +96,79 @@ pub fn replace_manifest<T: Store>(store: &mut T, manifest: &[u8]) -> Result<(), 
         Ok(()) => Ok(()),
         Err(fault) => Err(store_fault(fault)),
     }
+}
+
+/// Makes the file of the segment of this number hold these bytes. A stop within it leaves any bytes, or no such file.
+pub fn put_segment<T: Store>(store: &mut T, number: u64, bytes: &[u8]) -> Result<(), SegFault>
+    ensures done { OnOk result (T.files store.new ≡ option_map (with_file (segment_name number) (Some bytes.now)) (T.files store.old)) }
+    ensures changed { AnyState (segment_name number) (T.files store.old) (T.files store.new) }
+    ensures stops { Leaves (T.since store.old) (T.since store.new) (AnyState (segment_name number) (T.files store.old)) }
+    ensures outside { IfErr result IsOutside }
+    ensures later { T.faults store.old ≤ T.faults store.new }
+    ensures store { result ≡ Err SegFault.Store → Rose (T.faults store.old) (T.faults store.new) }
+{
+    let name = segment_name(number);
+    match store.put(as_text(&name), bytes) {
+        Ok(()) => Ok(()),
+        Err(fault) => Err(store_fault(fault)),
+    }
+}
+
+/// The same for the file of the prior of this number.
+pub fn put_prior<T: Store>(store: &mut T, number: u64, bytes: &[u8]) -> Result<(), SegFault>
+    ensures done { OnOk result (T.files store.new ≡ option_map (with_file (prior_name number) (Some bytes.now)) (T.files store.old)) }
+    ensures changed { AnyState (prior_name number) (T.files store.old) (T.files store.new) }
+    ensures stops { Leaves (T.since store.old) (T.since store.new) (AnyState (prior_name number) (T.files store.old)) }
+    ensures outside { IfErr result IsOutside }
+    ensures later { T.faults store.old ≤ T.faults store.new }
+    ensures store { result ≡ Err SegFault.Store → Rose (T.faults store.old) (T.faults store.new) }
+{
+    let file = prior_name(number);
+    match store.put(as_text(&file), bytes) {
+        Ok(()) => Ok(()),
+        Err(fault) => Err(store_fault(fault)),
+    }
+}
+
+/// Leaves no file of this name.
+fn remove_file<T: Store>(store: &mut T, name: &[u8]) -> Result<(), SegFault>
+    requires ascii { IsAscii name.now }
+    requires short { length name.now ≤ 30 }
+    ensures done { OnOk result (T.files store.new ≡ option_map (with_file name.now None) (T.files store.old)) }
+    ensures changed { OldOrNew name.now None (T.files store.old) (T.files store.new) }
+    ensures stops { Leaves (T.since store.old) (T.since store.new) (OldOrNew name.now None (T.files store.old)) }
+    ensures outside { IfErr result IsOutside }
+    ensures later { T.faults store.old ≤ T.faults store.new }
+    ensures store { result ≡ Err SegFault.Store → Rose (T.faults store.old) (T.faults store.new) }
+{
+    match store.remove(as_text(name)) {
+        Ok(()) => Ok(()),
+        Err(fault) => Err(store_fault(fault)),
+    }
+}
+
+/// Leaves no file of the segment of this number.
+pub fn remove_segment<T: Store>(store: &mut T, number: u64) -> Result<(), SegFault>
+    ensures done { OnOk result (T.files store.new ≡ option_map (with_file (segment_name number) None) (T.files store.old)) }
+    ensures changed { OldOrNew (segment_name number) None (T.files store.old) (T.files store.new) }
+    ensures stops { Leaves (T.since store.old) (T.since store.new) (OldOrNew (segment_name number) None (T.files store.old)) }
+    ensures outside { IfErr result IsOutside }
+    ensures later { T.faults store.old ≤ T.faults store.new }
+    ensures store { result ≡ Err SegFault.Store → Rose (T.faults store.old) (T.faults store.new) }
+{
+    let name = segment_name(number);
+    remove_file(store, &name)
+}
+
+/// Leaves no file of the prior of this number.
+pub fn remove_prior<T: Store>(store: &mut T, number: u64) -> Result<(), SegFault>
+    ensures done { OnOk result (T.files store.new ≡ option_map (with_file (prior_name number) None) (T.files store.old)) }
+    ensures changed { OldOrNew (prior_name number) None (T.files store.old) (T.files store.new) }
+    ensures stops { Leaves (T.since store.old) (T.since store.new) (OldOrNew (prior_name number) None (T.files store.old)) }
+    ensures outside { IfErr result IsOutside }
+    ensures later { T.faults store.old ≤ T.faults store.new }
+    ensures store { result ≡ Err SegFault.Store → Rose (T.faults store.old) (T.faults store.new) }
+{
+    let name = prior_name(number);
+    remove_file(store, &name)
 }

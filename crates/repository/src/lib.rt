@@ -4,11 +4,17 @@
 mod across;
 mod creation;
 mod files;
+mod listing;
 mod names;
+mod numbers;
 mod opening;
 mod priors;
+mod removal;
 mod repository;
+mod saving;
 mod segments;
+mod stale;
+mod stored;
 
 pub use creation::create;
 pub use repository::Repository;

@@ -5,6 +5,7 @@ ghost use Rattle.ri_base.specs.Documents.{Document};
 ghost use Rattle.ri_base.specs.Faults.{IsOutside};
 ghost use Rattle.ri_base.specs.Keeps.{Rose};
 ghost use Rattle.store_ends.specs.Files.{Files, IsQuiet};
+ghost use Rattle.manifest.specs.Fits.{IsManifest};
 ghost use Rattle.manifest.specs.declared.manifest.Manifest.{Manifest};
 ghost use Rattle.repository.specs.Names.{manifest_name};
 ghost use Rattle.repository.specs.Opening.{IsManifestFault};
@@ -20,6 +21,7 @@ use store_ends::Store;
 pub fn find_manifest<T: Store>(alloc: Global, store: &mut T) -> Result<Option<Manifest>, SegFault>
     ensures there { (f : Files) → T.files store.old ≡ Some f → IfOk result (λ found. is_some found ≡ is_some (f manifest_name)) }
     ensures found { (f : Files) → T.files store.old ≡ Some f → IfOk result (λ found. IfSome found (HasManifest (T.files store.old))) }
+    ensures form { IfOk result (λ found. IfSome found IsManifest) }
     ensures honest { (list : Manifest) → HasManifest (T.files store.old) list → IfErr result IsOutside }
     ensures fault { (f : Files) → T.files store.old ≡ Some f → IfErr result (λ fault. IsOutside fault ⊎ IsManifestFault f fault) }
     ensures quiet { IsQuiet T.files T.layers T.clock T.since T.longest T.held store.old store.new }

@@ -1,11 +1,13 @@
 // A repository.
-ghost use Rattle.std.specs.Prelude.{◌≡◌, ◌≤◌, ◌<◌, ◌⊎◌, ◌↔◌, List, Option, Some, Err, false, true, length, slice_index_or, is_some, IfOk, IfErr, IfSome, IsErr, IsSomeAnd, OnErr, OnOk};
+ghost use Rattle.std.specs.Prelude.{◌≡◌, ◌≤◌, ◌<◌, ◌⊎◌, ◌↔◌, [], ℕ, List, Option, Some, Err, false, true, length, not, slice_index_or, is_some, IfOk, IfErr, IfSome, IsErr, IsSomeAnd, IsTrue, OnErr, OnOk};
 ghost use Rattle.std.specs.List.{AllZip, IsDistinct};
 ghost use Rattle.std.specs.Str.{bytes_eq};
 ghost use Rattle.ri_base.specs.Documents.{Document};
 ghost use Rattle.ri_base.specs.Faults.{IsOutside};
 ghost use Rattle.ri_base.specs.Keeps.{Rose};
 ghost use Rattle.store_ends.specs.Files.{Files, IsQuiet};
+ghost use Rattle.manifest.specs.Entries.{length_name, with_numbers};
+ghost use Rattle.manifest.specs.Fits.{IsManifest};
 ghost use Rattle.manifest.specs.declared.manifest.PriorEntry.{PriorEntry};
 ghost use Rattle.disk_index.specs.Snapshots as snapshots;
 ghost use Rattle.disk_index.specs.Snapshots.{AreBacked};
@@ -13,19 +15,27 @@ ghost use Rattle.holdings.specs.Contents.{Answers, added, all_closed, answer, de
 ghost use Rattle.holdings.specs.MarkedParts.{docnos_of};
 ghost use Rattle.holdings.specs.Parts.{is_live, live, sealed};
 ghost use Rattle.repository.specs.Names.{manifest_name};
+ghost use Rattle.repository.specs.Numbers.{IsNewNumber};
 ghost use Rattle.repository.specs.Opening.{IsAcrossFault, IsEntryFault, IsFresh, IsOpeningFault, IsRepositoryOpened};
-ghost use Rattle.repository.specs.Priors.{IsPriorFault};
+ghost use Rattle.repository.specs.Priors.{AreStored, IsPriorFault, is_full, is_same, prior_set, with_prior};
+ghost use Rattle.repository.specs.Saved.{IsUnlisted};
 ghost use Rattle.repository.specs.Stands.{AreHeld, Collection, HasManifest, IsListed, IsPriorListed, Prior, Stands};
-ghost use Rattle.repository.specs.States.{IsBacked, ReadsAs, part_numbers};
+ghost use Rattle.repository.specs.States.{IsBacked, ReadsAs, kept_numbers, listed_numbers, part_numbers};
 ghost use Rattle.repository.specs.Steps.{with_document, with_held, without_docno};
+ghost use Rattle.repository.specs.Writes.{AreGone, IsSavedAs, Wrote, Writes};
 
+use crate::listing::list_files;
+use crate::numbers::Numbers;
 use crate::opening::find_manifest;
-use crate::priors::read_rows;
+use crate::priors::{is_full, list_prior, put_rows, read_rows};
+use crate::removal::remove_files;
+use crate::saving::save;
 use crate::segments::hold_entries;
+use crate::stored::are_on_disk;
 use disk_index::Snapshot;
 use holdings::{AddRefusal, Holdings, Limits, NoSuchDoc};
 use manifest::{Manifest, PriorEntry, PriorRows};
-use ri_base::{Doc, Docno, NoMemory, SegFault};
+use ri_base::{Doc, Docno, Name, NoMemory, SegFault};
 use std::alloc::Global;
 use std::marker::Model;
 use store_ends::Store;
@@ -41,11 +51,14 @@ pub struct Repository {
 }
 
 impl Model for Repository {
-    ghost use Rattle.repository.specs.States.{State};
+    ghost use Rattle.std.specs.Prelude.{◌≡◌, true};
+    ghost use Rattle.repository.specs.States.{IsNumbered, State};
 
     ghost Value = { State };
 
     ghost view = { λ r. record { held = r.held; next = r.next; stale = r.stale.items; priors = r.priors.items; usable = r.usable } };
+
+    ghost invariant = { λ r. r.usable ≡ true → IsNumbered (record { held = r.held; next = r.next; stale = r.stale.items; priors = r.priors.items; usable = r.usable }) };
 }
 
 impl Repository {
@@ -65,6 +78,7 @@ impl Repository {
 
         // Whatever the files are: what is opened was read from them by the grammar, and a fault is that of what was read.
         ensures fresh { IfOk result (λ found. IfSome found (IsFresh limits)) }
+        ensures stored { IfOk result (λ found. IfSome found (λ r. AreStored r)) }
         ensures opened { (f : Files) → T.files store.old ≡ Some f → IfOk result (λ found. IfSome found (IsRepositoryOpened (T.files store.old) limits)) }
         ensures fault { (f : Files) → T.files store.old ≡ Some f → IfErr result (IsOpeningFault f limits) }
 
@@ -125,6 +139,75 @@ impl Repository {
         self.held.snapshot(alloc)
     }
 
+    /// Writes each part that is in memory alone, and then the manifest with all marks. The live documents stay. After an error it must be
+    /// opened again.
+    pub fn flush<T: Store>(&mut self, alloc: Global, store: &mut T) -> Result<(), SegFault>
+        requires { self.old.usable ≡ true }
+
+        // At each moment the files stand for what they stood for, or for what it reads as; files that are listed stay.
+        ensures writes { Writes T.files T.since (IsUnlisted (listed_numbers self.old)) (λ c. c) self.old store.old store.new }
+
+        // It reads as before, and the files stand for just that.
+        ensures wrote { OnOk result (Wrote (λ c. c) (T.files store.old) (T.files store.new) self.old self.new) }
+        ensures saved { OnOk result (IsSavedAs self.old self.new self.old.stale) }
+        ensures usable { OnOk result (self.new.usable ≡ true) }
+        ensures broken { OnErr result (self.new.usable ≡ false) }
+        ensures outside { IfErr result IsOutside }
+        ensures later { T.faults store.old ≤ T.faults store.new }
+        ensures store { result ≡ Err SegFault.Store → Rose (T.faults store.old) (T.faults store.new) }
+    {
+        self.usable = false;
+        let after = save(
+            alloc,
+            store,
+            &mut self.held,
+            self.next,
+            &self.stale,
+            &self.priors,
+        )?;
+        self.next = after;
+        let parts = self.held.closed_parts();
+        list_files(alloc, store, after, parts, &self.stale, &self.priors)?;
+        self.usable = true;
+        Ok(())
+    }
+
+    /// Removes the stale files, and then writes what `flush` writes, with a manifest that lists none. A snapshot that reads one of these
+    /// files isn't backed any more. After an error it must be opened again.
+    pub fn sweep<T: Store>(&mut self, alloc: Global, store: &mut T) -> Result<(), SegFault>
+        requires { self.old.usable ≡ true }
+
+        // At each moment the files stand for what they stood for, or for what it reads as; those of segments and priors stay.
+        ensures writes { Writes T.files T.since (IsUnlisted (kept_numbers self.old)) (λ c. c) self.old store.old store.new }
+
+        // It reads as before, and the files stand for just that.
+        ensures wrote { OnOk result (Wrote (λ c. c) (T.files store.old) (T.files store.new) self.old self.new) }
+        ensures saved { OnOk result (IsSavedAs self.old self.new []) }
+        ensures gone { OnOk result (AreGone self.old.stale (T.files store.new)) }
+        ensures usable { OnOk result (self.new.usable ≡ true) }
+        ensures broken { OnErr result (self.new.usable ≡ false) }
+        ensures outside { IfErr result IsOutside }
+        ensures later { T.faults store.old ≤ T.faults store.new }
+        ensures store { result ≡ Err SegFault.Store → Rose (T.faults store.old) (T.faults store.new) }
+    {
+        self.usable = false;
+        remove_files(store, &self.stale)?;
+        let after = save(
+            alloc,
+            store,
+            &mut self.held,
+            self.next,
+            &self.stale,
+            &self.priors,
+        )?;
+        self.next = after;
+        self.stale.clear();
+        let parts = self.held.closed_parts();
+        list_files(alloc, store, after, parts, &self.stale, &self.priors)?;
+        self.usable = true;
+        Ok(())
+    }
+
     /// How many documents are live.
     pub fn live_count(&self) -> u64
         ensures { (told : Option Files) → result ≡ length (live told self.now.held.parts) }
@@ -177,6 +260,103 @@ impl Repository {
         &self.priors[i as usize]
     }
 
+    /// Whether all documents are in files, as they are once they are flushed.
+    #[tactic(auto, using(crate::proofs::StoredLemmas::none_filling, crate::proofs::StoredLemmas::filling_none))]
+    pub fn is_stored(&self) -> bool
+        ensures yes { IsTrue result → AreStored self.now }
+        ensures no { AreStored self.now → IsTrue result }
+    {
+        !self.held.is_filling() && are_on_disk(self.held.closed_parts())
+    }
+
+    /// Makes these the rows of the prior of this name; a new one stands behind the others. They are written as a new file, and then the
+    /// manifest is replaced. The answer is false, and nothing changes, where the name is new and there are as many priors as there
+    /// may be. All documents are in files, as they are once they are flushed. The name isn't `length`. After an error the repository
+    /// must be opened again.
+    pub fn set_prior<T: Store>(
+        &mut self,
+        alloc: Global,
+        store: &mut T,
+        name: Name,
+        rows: &PriorRows,
+    ) -> Result<bool, SegFault>
+        requires usable { self.old.usable ≡ true }
+        requires stored { AreStored self.old }
+        requires name { is_same name length_name ≡ false }
+        ensures answer { IfOk result (λ done. done ≡ not (is_full self.old.priors name)) }
+        ensures refused { IfOk result (λ done. done ≡ false → (self.new ≡ self.old) × IsQuiet T.files T.layers T.clock T.since T.longest T.held store.old store.new) }
+        ensures set { IfOk result (λ done. IsTrue done → (n : ℕ) × IsNewNumber self.old.next (with_numbers [] (listed_numbers self.old)) n × (self.new ≡ prior_set self.old name n)) }
+        ensures wrote { IfOk result (λ done. IsTrue done → Wrote (λ c. with_prior c name rows.now) (T.files store.old) (T.files store.new) self.old self.new) }
+        ensures writes { Writes T.files T.since (IsUnlisted (listed_numbers self.old)) (λ c. with_prior c name rows.now) self.old store.old store.new }
+        ensures usable { OnOk result (self.new.usable ≡ true) }
+        ensures broken { OnErr result (self.new.usable ≡ false) }
+        ensures outside { IfErr result IsOutside }
+        ensures later { T.faults store.old ≤ T.faults store.new }
+        ensures store { result ≡ Err SegFault.Store → Rose (T.faults store.old) (T.faults store.new) }
+    {
+        if self.is_full(&name) {
+            return Ok(false);
+        }
+        self.replace_prior(alloc, store, name, rows)?;
+        Ok(true)
+    }
+
+    /// Whether the name is new and there are as many priors as there may be.
+    fn is_full(&self, name: &Name) -> bool
+        ensures { result ≡ is_full self.now.priors name.now }
+    {
+        is_full(&self.priors, name)
+    }
+
+    /// The same where there is room for the prior.
+    fn replace_prior<T: Store>(
+        &mut self,
+        alloc: Global,
+        store: &mut T,
+        name: Name,
+        rows: &PriorRows,
+    ) -> Result<(), SegFault>
+        requires usable { self.old.usable ≡ true }
+        requires stored { AreStored self.old }
+        requires name { is_same name length_name ≡ false }
+        requires room { is_full self.old.priors name ≡ false }
+        ensures set { OnOk result ((n : ℕ) × IsNewNumber self.old.next (with_numbers [] (listed_numbers self.old)) n × (self.new ≡ prior_set self.old name n)) }
+        ensures wrote { OnOk result (Wrote (λ c. with_prior c name rows.now) (T.files store.old) (T.files store.new) self.old self.new) }
+        ensures writes { Writes T.files T.since (IsUnlisted (listed_numbers self.old)) (λ c. with_prior c name rows.now) self.old store.old store.new }
+        ensures broken { OnErr result (self.new.usable ≡ false) }
+        ensures outside { IfErr result IsOutside }
+        ensures later { T.faults store.old ≤ T.faults store.new }
+        ensures store { result ≡ Err SegFault.Store → Rose (T.faults store.old) (T.faults store.new) }
+    {
+        let _form = name.as_bytes();
+        let taken = self.taken_numbers(alloc);
+        self.usable = false;
+        let mut numbers = taken?;
+        let number = put_rows(alloc, store, &mut numbers, rows)?;
+        list_prior(&mut self.stale, &mut self.priors, name, number)?;
+        let after = numbers.next();
+        self.next = after;
+        let parts = self.held.closed_parts();
+        list_files(alloc, store, after, parts, &self.stale, &self.priors)?;
+        self.usable = true;
+        Ok(())
+    }
+
+    /// The numbers that its files take.
+    fn taken_numbers(&self, alloc: Global) -> Result<Numbers, NoMemory>
+        requires { self.now.usable ≡ true }
+        ensures next { IfOk result (λ n. n.next ≡ self.now.next) }
+        ensures numbers { IfOk result (λ n. n.numbers ≡ with_numbers [] (listed_numbers self.now)) }
+    {
+        Numbers::of(
+            alloc,
+            self.next,
+            self.held.closed_parts(),
+            &self.stale,
+            &self.priors,
+        )
+    }
+
     /// Whether it may be used. Where a change of its files failed it must be opened again.
     pub fn usable(&self) -> bool
         ensures { result ≡ self.now.usable }
@@ -192,7 +372,9 @@ fn of_manifest<T: Store>(
     limits: Limits,
     list: Manifest,
 ) -> Result<Repository, SegFault>
+    requires { IsManifest list }
     ensures fresh { IfOk result (IsFresh limits) }
+    ensures stored { IfOk result (λ r. AreStored r) }
     ensures opened { HasManifest (T.files store.old) list → IfOk result (IsRepositoryOpened (T.files store.old) limits) }
     ensures honest { (segments : List (List Document)) (c : Collection) → AllZip (IsListed (T.files store.old)) list.segments segments → AreHeld limits list.segments segments c
         → IfErr result IsOutside }

@@ -46,13 +46,15 @@ pub fn docno(alloc: Global, text: &str) -> Option<Docno> {
     Docno::new(alloc, text.as_bytes()).ok()?
 }
 
-/// So many words, at most ten.
+static LETTERS: [u8; 10] = *b"abcdefghij";
+
+/// So many words, at most ten, each a letter.
 fn words(alloc: Global, count: usize) -> Option<Terms>
     ensures { IfSome result (λ words. length words ≤ 10) }
 {
     let mut words = Terms::new(alloc);
-    for _ in 0..count {
-        let word = Term::new(alloc, b"a").ok()??;
+    for letter in &LETTERS[..count.min(10)] {
+        let word = Term::new(alloc, &[*letter]).ok()??;
         words.push(word).ok()?;
     }
     if words.len() <= 10 { Some(words) } else { None }

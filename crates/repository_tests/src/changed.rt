@@ -22,7 +22,7 @@ fn of_segment(alloc: Global) -> Option<Repository> {
     opened(alloc, &mut store)
 }
 
-fn add(alloc: Global, repository: &mut Repository, name: &str, count: usize) -> Answer
+pub fn add(alloc: Global, repository: &mut Repository, name: &str, count: usize) -> Answer
     requires { repository.old.usable ≡ true }
 {
     match doc(alloc, name, count) {
@@ -31,7 +31,7 @@ fn add(alloc: Global, repository: &mut Repository, name: &str, count: usize) -> 
     }
 }
 
-fn delete(alloc: Global, repository: &mut Repository, name: &str) -> Answer
+pub fn delete(alloc: Global, repository: &mut Repository, name: &str) -> Answer
     requires { repository.old.usable ≡ true }
 {
     match docno(alloc, name) {

@@ -27,6 +27,25 @@ pub static TWO: [u8; 65] = [
     0, 0, 0, 0, 0, 0, 0, 0, 0,
 ];
 
+/// The one that lists nothing, with the greatest number for the next file.
+pub static AT_END: [u8; 33] = [
+    0x69, 0x6e, 0x64, 0x72, 0x69, 0x6d, 0x61, 0x6e, 1, 0, 0, 0, 0xff, 0xff, 0xff, 0xff, 0xff, 0xff,
+    0xff, 0xff, 0, 0, 0, 0, 0, 0, 0, 0, 0, 0, 0, 0, 0,
+];
+
+/// Segment 1 of two documents, and the stale number 2. The next file has number 3.
+pub static STALE: [u8; 57] = [
+    0x69, 0x6e, 0x64, 0x72, 0x69, 0x6d, 0x61, 0x6e, 1, 0, 0, 0, 3, 0, 0, 0, 0, 0, 0, 0, 1, 0, 0, 0,
+    1, 0, 0, 0, 0, 0, 0, 0, 2, 0, 0, 0, 0, 0, 0, 0, 1, 0, 0, 0, 0, 0, 0, 0, 2, 0, 0, 0, 0, 0, 0, 0,
+    0,
+];
+
+/// The same without the stale number.
+pub static SWEPT: [u8; 49] = [
+    0x69, 0x6e, 0x64, 0x72, 0x69, 0x6d, 0x61, 0x6e, 1, 0, 0, 0, 3, 0, 0, 0, 0, 0, 0, 0, 1, 0, 0, 0,
+    1, 0, 0, 0, 0, 0, 0, 0, 2, 0, 0, 0, 0, 0, 0, 0, 0, 0, 0, 0, 0, 0, 0, 0, 0,
+];
+
 /// `d1` with the tokens `a b`, and `d2` with the token `a`.
 pub static SEGMENT: [u8; 155] = [
     0x69, 0x6e, 0x64, 0x72, 0x69, 0x73, 0x65, 0x67, 1, 0, 0, 0, 2, 0, 0, 0, 3, 0, 0, 0, 0, 0, 0, 0,
@@ -65,11 +84,19 @@ pub fn fails_at(alloc: Global, call: u64, left: Left) -> Result<Vec<StoreFail>, 
     Ok(fails)
 }
 
-/// Whether the manifest has these bytes. Where there is none it has no bytes.
-pub fn is_manifest(store: &mut MemStore, wanted: &[u8]) -> bool {
-    let mut bytes = [0; 64];
-    match store.read_at("manifest", 0, &mut bytes) {
+/// Whether the file has these bytes. Where there is none it has no bytes.
+pub fn has_bytes<S: Store>(store: &mut S, name: &str, wanted: &[u8]) -> bool {
+    if name.len() > 30 {
+        return false;
+    }
+    let mut bytes = [0; 160];
+    match store.read_at(name, 0, &mut bytes) {
         Ok(count) => &bytes[..count] == wanted,
         Err(_) => false,
     }
+}
+
+/// The same of the manifest.
+pub fn is_manifest(store: &mut MemStore, wanted: &[u8]) -> bool {
+    has_bytes(store, "manifest", wanted)
 }

@@ -8,10 +8,20 @@ mod begun;
 #[cfg(test)]
 mod changed;
 #[cfg(test)]
+mod contents;
+#[cfg(test)]
+mod deeds;
+#[cfg(test)]
 mod files;
+#[cfg(test)]
+mod flushed;
 #[cfg(test)]
 mod held;
 #[cfg(test)]
 mod opened;
+#[cfg(test)]
+mod stays;
+#[cfg(test)]
+mod stops;
 
 fn main() {}

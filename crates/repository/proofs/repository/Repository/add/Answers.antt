@@ -1,8 +1,14 @@
 use Rattle.std.proofs.Common.{subst, sym}
 use Rattle.holdings.specs.Contents.{added}
 use Rattle.repository.specs.States.{IsBacked, State}
-use Rattle.repository.proofs.StepLemmas.{backed-added, backed-call}
+use Rattle.repository.proofs.StepLemmas.{backed-added, backed-call, numbered-added}
 use Rattle.repository.proofs.repository.Repository.add.Goals as goal
+
+pub invariant_of-self : goal.invariant_of-self
+invariant_of-self c = λ usable.
+    let s = c.self.inside in
+    let view : State = record { held = s.held; next = s.next; stale = s.stale.items; priors = s.priors.items; usable = s.usable } in
+    numbered-added view c.args.doc.now c.add.result c.add.new.self c.add.ensures.added c.add.ensures.kept (c.self.invariant usable)
 
 pub returns-clause-backed : goal.returns-clause-backed
 returns-clause-backed c = λ told backed.

@@ -1,7 +1,14 @@
 use Rattle.std.proofs.Common.{subst, sym}
-use Rattle.repository.specs.States.{IsBacked, ReadsAs, State}
-use Rattle.repository.proofs.StepLemmas.{backed-closed, closed-call, reads-closed}
+use Rattle.repository.specs.States.{IsBacked, IsNumbered, ReadsAs, State}
+use Rattle.repository.proofs.StepLemmas.{backed-closed, closed-call, numbered-closed, reads-closed}
 use Rattle.repository.proofs.repository.Repository.snapshot.Goals as goal
+
+pub invariant_of-self : goal.invariant_of-self
+invariant_of-self c = λ usable.
+    let s = c.self.inside in
+    let view : State = record { held = s.held; next = s.next; stale = s.stale.items; priors = s.priors.items; usable = s.usable } in
+    let numbered = c.self.invariant usable in
+    closed-call IsNumbered view c.snapshot.result c.snapshot.new.self c.snapshot.ensures.closed c.snapshot.ensures.left numbered (numbered-closed view numbered)
 
 pub returns-clause-reads : goal.returns-clause-reads
 returns-clause-reads c = λ told col reads.

@@ -1,0 +1,10 @@
+pub mod Answers
+pub mod Asked
+pub mod Backed
+pub mod Keeping
+pub mod Places
+pub mod Plugs
+pub mod Scanned
+pub mod State
+pub mod Step
+pub mod Told

@@ -1,0 +1,13 @@
+//! A desk over a repository: queries in steps and a merge in turns while documents come and go.
+#![tactic(auto)]
+
+mod asking;
+mod desk;
+mod explaining;
+mod query;
+mod reply;
+mod scanning;
+
+pub use desk::Desk;
+pub use query::OpenQuery;
+pub use reply::{CheckKind, Refusal, Reply};

@@ -1,0 +1,103 @@
+-- Where the files of numbers are removed.
+use Rattle.std.proofs.Common.{◌≡◌, ◌<◌, ◌+◌, ◌^◌, ℕ, zero, suc, Bool, true, false, List, [], ◌∷◌, get_or, take, length, Option, Some, None, refl, sym, ap, subst, ◌∙◌, arith}
+use Rattle.std.specs.List.{All}
+use Rattle.std.specs.Option.{option_map}
+use Rattle.std.specs.Prelude.{bytes_eq, if◌then◌else◌}
+use Rattle.std.proofs.lemmas.List.Elements.{All-more, All-weaker}
+use Rattle.store_ends.specs.Files.{Files, Leaves, OldOrNew, SameWhere, with_file}
+use Rattle.store_ends.proofs.Files.{Leaves-same, Leaves-then, SameWhere-fewer, SameWhere-same, SameWhere-step, SameWhere-then, with_file-other, with_file-same}
+use Rattle.disk_index.specs.Names.{segment_name}
+use Rattle.repository.specs.Names.{manifest_name, prior_name}
+use Rattle.repository.specs.Numbers.{is_among}
+use Rattle.repository.specs.Writes.{AreGone, IsGone, IsOther}
+use Rattle.repository.proofs.NameLemmas.{prior_name-manifest, segment_name-manifest, segment_name-prior}
+use Rattle.repository.proofs.NumberLemmas.{among-own, among-right}
+
+-- the number whose files may change
+abbrev pub IsThat : ℕ → ℕ → Type 0
+IsThat number n = n ≡ number
+
+own-segment : (number : ℕ) → number < 2 ^ 64 → IsOther (IsThat number) (segment_name number) → ⊥
+own-segment number small other = (other number small refl).0 refl
+
+own-prior : (number : ℕ) → number < 2 ^ 64 → IsOther (IsThat number) (prior_name number) → ⊥
+own-prior number small other = (other number small refl).1 refl
+
+pub segment-removed : (number : ℕ) (a b : Option Files) → number < 2 ^ 64 → OldOrNew (segment_name number) None a b → SameWhere (IsOther (IsThat number)) a b
+segment-removed number a b small step = SameWhere-step (IsOther (IsThat number)) (segment_name number) None a a b (own-segment number small) (SameWhere-same (IsOther (IsThat number)) a) step
+
+pub prior-removed : (number : ℕ) (a b c : Option Files) → number < 2 ^ 64 → SameWhere (IsOther (IsThat number)) a b → OldOrNew (prior_name number) None b c → SameWhere (IsOther (IsThat number)) a c
+prior-removed number a b c small same step = SameWhere-step (IsOther (IsThat number)) (prior_name number) None a b c (own-prior number small) same step
+
+pub segment-stops : (number : ℕ) (past since : ℕ → Files → Type 0) (a : Option Files) → number < 2 ^ 64 → Leaves past since (OldOrNew (segment_name number) None a) → Leaves past since (SameWhere (IsOther (IsThat number)) a)
+segment-stops number past since a small leaves =
+    Leaves-then past past since (SameWhere (IsOther (IsThat number)) a) (OldOrNew (segment_name number) None a) (Leaves-same past (SameWhere (IsOther (IsThat number)) a)) leaves (λ f step. segment-removed number a f small step)
+
+pub prior-stops : (number : ℕ) (past mid since : ℕ → Files → Type 0) (a b : Option Files) → number < 2 ^ 64 → SameWhere (IsOther (IsThat number)) a b → Leaves past mid (SameWhere (IsOther (IsThat number)) a)
+    → Leaves mid since (OldOrNew (prior_name number) None b) → Leaves past since (SameWhere (IsOther (IsThat number)) a)
+prior-stops number past mid since a b small same first second =
+    Leaves-then past mid since (SameWhere (IsOther (IsThat number)) a) (OldOrNew (prior_name number) None b) first second (λ f step. prior-removed number a b f small same step)
+
+-- ---- one of several numbers
+
+abbrev pub IsAmong : List ℕ → ℕ → Type 0
+IsAmong ns n = is_among n ns ≡ true
+
+pub among-at : (ns : List ℕ) (i d : ℕ) → i < length ns → is_among (get_or ns i d) ns ≡ true
+among-at [] i d within = absurd (omega (arith, within))
+among-at (n ∷ ns) zero d within = among-own n ns
+among-at (n ∷ ns) (suc i) d within = among-right (get_or ns i d) n ns (among-at ns i d (omega (arith, within)))
+
+one-removed : (ns : List ℕ) (i : ℕ) (a b : Option Files) → i < length ns → SameWhere (IsOther (IsThat (get_or ns i 0))) a b → SameWhere (IsOther (IsAmong ns)) a b
+one-removed ns i a b within same =
+    SameWhere-fewer (IsOther (IsThat (get_or ns i 0))) (IsOther (IsAmong ns)) a b (λ name other n fits e. other n fits (ap (λ (m : ℕ). is_among m ns) e ∙ among-at ns i 0 within)) same
+
+pub more-removed : (ns : List ℕ) (i : ℕ) (a b c : Option Files) → i < length ns → SameWhere (IsOther (IsAmong ns)) a b → SameWhere (IsOther (IsThat (get_or ns i 0))) b c → SameWhere (IsOther (IsAmong ns)) a c
+more-removed ns i a b c within first second = SameWhere-then (IsOther (IsAmong ns)) a b c first (one-removed ns i b c within second)
+
+pub more-stops : (ns : List ℕ) (i : ℕ) (past mid since : ℕ → Files → Type 0) (a b : Option Files) → i < length ns → SameWhere (IsOther (IsAmong ns)) a b → Leaves past mid (SameWhere (IsOther (IsAmong ns)) a)
+    → Leaves mid since (SameWhere (IsOther (IsThat (get_or ns i 0))) b) → Leaves past since (SameWhere (IsOther (IsAmong ns)) a)
+more-stops ns i past mid since a b within same first second =
+    Leaves-then past mid since (SameWhere (IsOther (IsAmong ns)) a) (SameWhere (IsOther (IsThat (get_or ns i 0))) b) first second (λ f now. more-removed ns i a b f within same now)
+
+-- ---- gone
+
+none-there : (name other : List ℕ) (f : Files) (b : Bool) → f other ≡ None → (if b then None else f other) ≡ None
+none-there name other f true gone = refl
+none-there name other f false gone = gone
+
+pub gone-still : (name : List ℕ) (n : ℕ) (b c : Option Files) → c ≡ option_map (with_file name None) b → IsGone n b → IsGone n c
+gone-still name n None c e gone = subst (IsGone n) (sym e) tt
+gone-still name n (Some f) c e gone =
+    subst (IsGone n) (sym e) (none-there name (segment_name n) f (bytes_eq (segment_name n) name) gone.0, none-there name (prior_name n) f (bytes_eq (prior_name n) name) gone.1)
+
+pub gone-both : (n : ℕ) (a b c : Option Files) → b ≡ option_map (with_file (segment_name n) None) a → c ≡ option_map (with_file (prior_name n) None) b → IsGone n c
+gone-both n None b c first second = subst (IsGone n) (sym (second ∙ ap (option_map (with_file (prior_name n) None)) first)) tt
+gone-both n (Some f) b c first second =
+    let g = with_file (segment_name n) None f in
+    subst (IsGone n) (sym (second ∙ ap (option_map (with_file (prior_name n) None)) first))
+    (with_file-other (prior_name n) (segment_name n) None g (λ e. segment_name-prior n n e) ∙ with_file-same (segment_name n) None f, with_file-same (prior_name n) None g)
+
+-- one number more
+pub gone-more : (ns : List ℕ) (i : ℕ) (b c : Option Files) → i < length ns → ((n : ℕ) → IsGone n b → IsGone n c) → IsGone (get_or ns i 0) c → AreGone (take i ns) b → AreGone (take (i + 1) ns) c
+gone-more ns i b c within still here gone = All-more (λ n. IsGone n c) ns i 0 within (All-weaker (λ n. IsGone n b) (λ n. IsGone n c) still (take i ns) gone) here
+
+-- the manifest is no file of a number
+pub gone-listed : (ns bytes : List ℕ) (b c : Option Files) → c ≡ option_map (with_file manifest_name (Some bytes)) b → AreGone ns b → AreGone ns c
+gone-listed ns bytes b c put gone = All-weaker (λ n. IsGone n b) (λ n. IsGone n c) (λ n. one n b put) ns gone
+  where
+    one : (n : ℕ) (x : Option Files) → c ≡ option_map (with_file manifest_name (Some bytes)) x → IsGone n x → IsGone n c
+    one n None e g = subst (IsGone n) (sym e) tt
+    one n (Some f) e g =
+        subst (IsGone n) (sym e)
+        (with_file-other manifest_name (segment_name n) (Some bytes) f (λ m. segment_name-manifest n (sym m)) ∙ g.0, with_file-other manifest_name (prior_name n) (Some bytes) f (λ m. prior_name-manifest n (sym m)) ∙ g.1)
+
+-- nor are those of other numbers
+pub gone-same : (P : List ℕ → Type 0) (ns : List ℕ) (a b : Option Files) → SameWhere P a b → All (λ n. P (segment_name n) × P (prior_name n)) ns → AreGone ns a → AreGone ns b
+gone-same P ns a b same names gone = λ k d within. by (get_or ns k d) a b same (names k d within) (gone k d within)
+  where
+    by : (n : ℕ) (x y : Option Files) → SameWhere P x y → P (segment_name n) × P (prior_name n) → IsGone n x → IsGone n y
+    by n None None s p g = tt
+    by n None (Some h) s p g = absurd s
+    by n (Some f) None s p g = absurd s
+    by n (Some f) (Some h) s p g = (s (segment_name n) p.0 ∙ g.0, s (prior_name n) p.1 ∙ g.1)

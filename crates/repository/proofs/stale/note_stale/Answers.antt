@@ -1,0 +1,9 @@
+use Rattle.std.proofs.Common.{◌∙◌, ap}
+use Rattle.std.specs.List.{insert}
+use Rattle.repository.proofs.StaleLemmas.{insert-among}
+use Rattle.repository.proofs.stale.note_stale.Goals as goal
+
+pub returns-clause-done : goal.returns-clause-done
+returns-clause-done c =
+    let ns = c.args.stale.now.items in
+    c.in_ok-insert.ensures.items ∙ ap (λ i. insert ns i c.args.number) c.place_among-place.ensures.place ∙ insert-among c.args.number ns

@@ -1,0 +1,185 @@
+// Each call of the store fails in each way where files are written.
+use crate::answers::Answer;
+use crate::contents::{Content, FIRST, Kept, PRIOR_THREE, PRIOR_TWO, store_with};
+use crate::deeds::{DONE, Deed, Row, Told, answers_so, opened, told};
+use crate::files::{SEGMENT, fails_at};
+use holdings::Limits;
+use repository::Repository;
+use std::alloc::Global;
+use store_ends::{Left, MemStore};
+
+/// What a call that fails leaves: the file as it was, as it is to be, without bytes, or with the first half of a segment.
+#[derive(Clone, Copy)]
+enum Way {
+    Old,
+    New,
+    Empty,
+    Half,
+}
+
+static WAYS: [Way; 4] = [Way::Old, Way::New, Way::Empty, Way::Half];
+
+fn left_by(alloc: Global, way: Way) -> Option<Left> {
+    match way {
+        Way::Old => Some(Left::Old),
+        Way::New => Some(Left::New),
+        Way::Empty => Some(Left::Torn(Vec::new(alloc))),
+        Way::Half => Some(Left::Torn(SEGMENT[..77].to_vec(alloc).ok()?)),
+    }
+}
+
+/// Files, what is done with their repository, the first call of the store in it behind the opening, how many calls it makes, and
+/// what the old and the new collection answer.
+struct Case {
+    files: &'static [Kept],
+    deeds: &'static [Deed],
+    first: u64,
+    calls: u64,
+    old: &'static [Row],
+    new: &'static [Row],
+}
+
+static CASES: [Case; 4] = [
+    Case {
+        files: &[("manifest", Content::One), (FIRST, Content::Segment)],
+        deeds: &[
+            Deed::Add("d3", 1),
+            Deed::Delete("d1"),
+            Deed::Flush,
+            Deed::Count,
+        ],
+        first: 7,
+        calls: 2,
+        old: &[
+            (Deed::Count, Told::Live(2)),
+            (Deed::Delete("d1"), DONE),
+            (Deed::Delete("d3"), Told::Of(Answer::Absent)),
+        ],
+        new: &[
+            (Deed::Count, Told::Live(2)),
+            (Deed::Delete("d1"), Told::Of(Answer::Absent)),
+            (Deed::Delete("d3"), DONE),
+        ],
+    },
+    Case {
+        files: &[("manifest", Content::One), (FIRST, Content::Segment)],
+        deeds: &[Deed::Prior("home", Content::Half), Deed::Count],
+        first: 7,
+        calls: 2,
+        old: &[
+            (Deed::Count, Told::Live(2)),
+            (Deed::Belief(0), Told::Refused),
+        ],
+        new: &[
+            (Deed::Count, Told::Live(2)),
+            (Deed::Belief(0), Told::Belief(1, 2)),
+        ],
+    },
+    Case {
+        files: &[
+            ("manifest", Content::Home),
+            (FIRST, Content::Segment),
+            (PRIOR_TWO, Content::Half),
+        ],
+        deeds: &[Deed::Prior("home", Content::Third), Deed::Count],
+        first: 7,
+        calls: 2,
+        old: &[
+            (Deed::Count, Told::Live(2)),
+            (Deed::Belief(0), Told::Belief(1, 2)),
+        ],
+        new: &[
+            (Deed::Count, Told::Live(2)),
+            (Deed::Belief(0), Told::Belief(1, 3)),
+        ],
+    },
+    Case {
+        files: &[
+            ("manifest", Content::Stale),
+            (FIRST, Content::Segment),
+            (PRIOR_TWO, Content::Half),
+            (PRIOR_THREE, Content::Third),
+        ],
+        deeds: &[Deed::Sweep, Deed::Count],
+        first: 7,
+        calls: 3,
+        old: &[
+            (Deed::Count, Told::Live(2)),
+            (Deed::Belief(0), Told::Belief(1, 3)),
+        ],
+        new: &[
+            (Deed::Count, Told::Live(2)),
+            (Deed::Belief(0), Told::Belief(1, 3)),
+        ],
+    },
+];
+
+/// What the last of these is answered.
+fn last_of(
+    alloc: Global,
+    store: &mut MemStore,
+    repository: &mut Repository,
+    deeds: &[Deed],
+) -> Option<Told> {
+    let mut last = None;
+    for deed in deeds {
+        last = told(alloc, store, repository, *deed);
+    }
+    last
+}
+
+/// The same, of the repository of these files.
+fn last_told(alloc: Global, store: &mut MemStore, deeds: &[Deed]) -> Option<Told> {
+    let mut repository = opened(alloc, store, Limits::real())?;
+    last_of(alloc, store, &mut repository, deeds)
+}
+
+/// Whether the repository is no longer usable, and whether the files open as the old collection and as the new one.
+fn seen(alloc: Global, store: &mut MemStore, case: &Case) -> (bool, bool, bool) {
+    (
+        last_told(alloc, store, case.deeds) == Some(Told::Unusable),
+        answers_so(alloc, store, Limits::real(), case.old),
+        answers_so(alloc, store, Limits::real(), case.new),
+    )
+}
+
+/// A store with these files, in which this call fails in this way.
+fn failing(alloc: Global, files: &[Kept], call: u64, way: Way) -> Option<MemStore> {
+    let left = left_by(alloc, way)?;
+    let fails = fails_at(alloc, call, left).ok()?;
+    store_with(alloc, files, fails)
+}
+
+fn seen_behind(alloc: Global, case: &Case, call: u64, way: Way) -> Option<(bool, bool, bool)> {
+    let mut store = failing(alloc, case.files, call, way)?;
+    Some(seen(alloc, &mut store, case))
+}
+
+/// Whether this call of a case, in whichever way it fails, leaves the old collection or the new one.
+fn leaves_either(alloc: Global, case: &Case, call: u64) -> bool {
+    for way in &WAYS {
+        match seen_behind(alloc, case, call, *way) {
+            Some((true, old, new)) if old || new => {}
+            _ => return false,
+        }
+    }
+    true
+}
+
+/// Whether the new collection is left where no call fails; none has the number 0.
+fn leaves_new(alloc: Global, case: &Case) -> bool {
+    matches!(
+        seen_behind(alloc, case, 0, Way::Old),
+        Some((false, _, true))
+    )
+}
+
+#[test]
+fn each_call_fails_in_each_way(rt: HostRuntime) {
+    for case in &CASES {
+        for call in case.first..case.first.saturating_add(case.calls) {
+            assert!(rt; leaves_either(rt.alloc(), case, call), "{call}");
+        }
+        assert!(rt; leaves_new(rt.alloc(), case));
+    }
+}

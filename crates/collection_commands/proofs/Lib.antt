@@ -1,2 +1,5 @@
+pub mod ChangeLemmas
+pub mod CommitLemmas
 pub mod DeletionLemmas
 pub mod Following
+pub mod RowLemmas

@@ -14,9 +14,13 @@ flushed_text live = codes "flushed " ++ decimal live ++ 10 ∷ []
 abbrev pub flushed_piece : Collection → Plain
 flushed_piece c = told_piece (flushed_text (length c.live))
 
+-- the piece at which the files come to stand for a collection
+abbrev pub flush_pieces : Collection → List (Piece Collection)
+flush_pieces c = with_flush c (flushed_piece c) ∷ []
+
 -- these pieces, none of which is a flush point, and then a flush of this collection
 abbrev pub then_flushed : List Plain → Collection → List (Piece Collection)
-then_flushed pieces c = unflushed pieces ++ with_flush c (flushed_piece c) ∷ []
+then_flushed pieces c = unflushed pieces ++ flush_pieces c
 
 -- all that `delete` does with an input
 abbrev pub delete_pieces : Collection → List ℕ → List (Piece Collection)

@@ -1,2 +1,6 @@
+pub mod Ahead
+pub mod Creation
 pub mod Deletions
 pub mod Flushing
+pub mod PriorSetting
+pub mod RowRefusals

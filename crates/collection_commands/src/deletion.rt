@@ -32,6 +32,7 @@ fn delete(alloc: Global, repository: &mut Repository, docno: Docno) -> Result<Re
     ensures reply { (told : Option Files) (c : Collection) → ReadsAs told repository.old c → IfOk result (λ reply. reply ≡ line_piece c (DocnoLine.Docno docno)) }
     ensures reads { (told : Option Files) (c : Collection) → ReadsAs told repository.old c → OnOk result (ReadsAs told repository.new (behind_line c (DocnoLine.Docno docno))) }
     ensures backed { (told : Option Files) → IsBacked told repository.old → IsBacked told repository.new }
+    ensures limits { repository.new.held.limits ≡ repository.old.held.limits }
     ensures usable { repository.new.usable ≡ true }
 {
     match repository.delete(&docno) {
@@ -46,6 +47,7 @@ fn take_line(alloc: Global, repository: &mut Repository, line: DocnoLine) -> Res
     ensures reply { (told : Option Files) (c : Collection) → ReadsAs told repository.old c → IfOk result (λ reply. reply ≡ line_piece c line) }
     ensures reads { (told : Option Files) (c : Collection) → ReadsAs told repository.old c → OnOk result (ReadsAs told repository.new (behind_line c line)) }
     ensures backed { (told : Option Files) → IsBacked told repository.old → IsBacked told repository.new }
+    ensures limits { repository.new.held.limits ≡ repository.old.held.limits }
     ensures usable { repository.new.usable ≡ true }
 {
     match line {
@@ -69,6 +71,7 @@ pub fn write_line<K: Sink>(
     ensures finished { (told : Option Files) (c : Collection) → ReadsAs told repository.old c → OnOk result (AllWritten (line_piece c line ∷ []) (K.taken sink.old) (K.taken sink.new)) }
     ensures broken { (told : Option Files) (c : Collection) → ReadsAs told repository.old c → IfErr result (λ fault. IsCut fault (line_piece c line ∷ []) (K.taken sink.old) (K.taken sink.new)) }
     ensures backed { (told : Option Files) → IsBacked told repository.old → IsBacked told repository.new }
+    ensures limits { repository.new.held.limits ≡ repository.old.held.limits }
     ensures usable { repository.new.usable ≡ true }
     ensures no_read { IsErrOf result Fault.Read → ⊥ }
     ensures later { K.faults sink.old ≤ K.faults sink.new }

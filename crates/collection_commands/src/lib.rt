@@ -1,9 +1,20 @@
-//! What the commands that change a collection do with their input.
+//! The commands that change a collection: what they do with their input, and what the files stand for behind it.
 #![tactic(auto)]
 
+mod commits;
+mod create_command;
+mod delete_command;
 mod deletion;
 mod flushed;
 mod lines;
+mod prior_command;
+mod rows;
+#[cfg(test)]
+mod tests;
 
+pub use commits::commit;
+pub use create_command::create_repository;
+pub use delete_command::delete;
 pub use flushed::flushed_reply;
 pub use lines::take_docnos;
+pub use prior_command::set_prior;

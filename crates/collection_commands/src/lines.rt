@@ -34,6 +34,7 @@ pub fn take_docnos<S: Source, K: Sink>(
     ensures finished { (told : Option Files) (c : Collection) → ReadsAs told repository.old c → OnOk result (IfSome (S.left source.old) (λ bytes. AllWritten (line_pieces c (docnos_at 0 bytes)) (K.taken sink.old) (K.taken sink.new))) }
     ensures broken { (told : Option Files) (c : Collection) → ReadsAs told repository.old c → IfErr result (λ fault. IfSome (S.left source.old) (λ bytes. IsCut fault (line_pieces c (docnos_at 0 bytes)) (K.taken sink.old) (K.taken sink.new))) }
     ensures backed { (told : Option Files) → IsBacked told repository.old → IsBacked told repository.new }
+    ensures limits { repository.new.held.limits ≡ repository.old.held.limits }
     ensures usable { repository.new.usable ≡ true }
 
     ensures read { IsErrOf result Fault.Read → Rose (S.faults source.old) (S.faults source.new) }

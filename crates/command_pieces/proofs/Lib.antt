@@ -1,3 +1,4 @@
+pub mod Commands
 pub mod Cut
 pub mod Ending
 pub mod Joining

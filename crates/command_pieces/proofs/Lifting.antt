@@ -68,7 +68,7 @@ broken-lifted fault.Memory stands kept ps before now f b s = between-lifted stan
 
 -- ---- a piece that is a flush point: the files stand for c by the time it is written
 
-flushed_by : {C : Type 0} (kept c : C) (p : Plain) → kept_behind kept (with_flush c p ∷ []) ≡ c
+pub flushed_by : {C : Type 0} (kept c : C) (p : Plain) → kept_behind kept (with_flush c p ∷ []) ≡ c
 unfolding kept_behind
 flushed_by kept c p = refl
 

@@ -1,3 +1,4 @@
+pub mod CommandFaults
 pub mod Faults
 pub mod Lines
 pub mod Pieces

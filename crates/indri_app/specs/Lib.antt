@@ -1,8 +1,7 @@
-pub mod Answer
+pub mod Asked
 pub mod Command
-pub mod CommandPieces
-pub mod Priors
+pub mod LastLines
+pub mod Opened
 pub mod Runs
-pub mod Shown
 pub mod Status
-pub mod Told
+pub mod Texts

@@ -17,6 +17,7 @@ pub mod RemovalLemmas
 pub mod SaveLemmas
 pub mod SetLemmas
 pub mod StaleLemmas
+pub mod RealLemmas
 pub mod StepLemmas
 pub mod StoredLemmas
 pub mod SweepLemmas

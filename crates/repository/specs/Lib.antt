@@ -5,6 +5,7 @@ pub mod Opening
 pub mod Priors
 pub mod Saved
 pub mod Stale
+pub mod RealLimits
 pub mod Stands
 pub mod States
 pub mod Steps

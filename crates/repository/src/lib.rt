@@ -17,4 +17,5 @@ mod stale;
 mod stored;
 
 pub use creation::create;
+pub use names::prior_name;
 pub use repository::Repository;

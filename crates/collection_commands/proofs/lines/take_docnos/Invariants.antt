@@ -18,6 +18,7 @@ invariant-docnos g l = (done : List DocnoLine) × record {
   refused : (told : Option Files) (c : Collection) → ReadsAs told l.fn.repository c → l.some_refused ≡ some_refused (line_pieces c done);
   written : (told : Option Files) (c : Collection) → ReadsAs told l.fn.repository c → AllWritten (line_pieces c done) (g.K.Sink.taken l.fn.sink) (g.K.Sink.taken l.sink);
   backed : (told : Option Files) → IsBacked told l.fn.repository → IsBacked told l.repository;
+  limits : l.repository.held.limits ≡ l.fn.repository.held.limits;
   usable : l.repository.usable ≡ true;
   fits : most_of l.lines.ahead (g.S.Source.can_give l.source) < 2 ^ 64;
   layers : g.S.Source.layers l.source ≡ g.S.Source.layers l.fn.source;

@@ -1,0 +1,61 @@
+-- Items that change a repository in memory alone, and behind them its flush.
+use Rattle.std.proofs.Common.{◌≡◌, ℕ, Bool, List, Option, None, Some, refl, sym, ◌∙◌}
+use Rattle.std.specs.Option.{IfSome}
+use Rattle.store_ends.specs.Files.{Files, Leaves}
+use Rattle.store_ends.proofs.Files.{Leaves-same}
+use Rattle.command_pieces.specs.CommandFaults.{IsBrokenBy, of_items}
+use Rattle.command_pieces.specs.Faults.{IsCut}
+use Rattle.command_pieces.specs.Pieces.{Finished, StandsAlong, some_refused}
+use Rattle.command_pieces.specs.Written.{AllWritten, Plain}
+use Rattle.command_pieces.specs.declared.command_fault.CommandFault.{CommandFault}
+use Rattle.command_pieces.specs.declared.fault.Fault.{Fault}
+use Rattle.command_pieces.proofs.Commands.{Along-changed, Finished-changed, by-changed, by-unchanged, refused-changed}
+use Rattle.repository.specs.RealLimits.{StandsFor}
+use Rattle.repository.specs.Stands.{Collection}
+use Rattle.repository.specs.RealLimits.{AreReal}
+use Rattle.repository.specs.States.{IsBacked, ReadsAs, State}
+use Rattle.collection_commands.specs.Ahead.{IsAhead}
+use Rattle.collection_commands.specs.Flushing.{flush_pieces, flushed_piece, then_flushed}
+
+-- By the bytes of the input: what is written of its items, and the collection behind them.
+module _ (pieces : List ℕ → List Plain) (behind : List ℕ → Collection) (kept : Collection) where
+  pub changed-refused : (left : Option (List ℕ)) (noted : Bool) → IfSome left (λ bytes. noted ≡ some_refused (pieces bytes)) → IfSome left (λ bytes. some_refused (then_flushed (pieces bytes) (behind bytes)) ≡ noted)
+  changed-refused None noted e = tt
+  changed-refused (Some bytes) noted e = refused-changed (behind bytes) (pieces bytes) (flushed_piece (behind bytes)) refl ∙ sym e
+
+  pub changed-finished : (left : Option (List ℕ)) (before mid now : Option (List ℕ)) (f g : Option Files) → IfSome left (λ bytes. AllWritten (pieces bytes) before mid) → StandsFor kept f
+      → IfSome left (λ bytes. Finished StandsFor kept (flush_pieces (behind bytes)) mid now g) → IfSome left (λ bytes. Finished StandsFor kept (then_flushed (pieces bytes) (behind bytes)) before now g)
+  changed-finished None before mid now f g a s b = tt
+  changed-finished (Some bytes) before mid now f g a s b = Finished-changed StandsFor kept (behind bytes) (pieces bytes) (flushed_piece (behind bytes)) before mid now f g a s b
+
+  pub changed-broken : (e : CommandFault) (left : Option (List ℕ)) (before mid now : Option (List ℕ)) (f g : Option Files) → IfSome left (λ bytes. AllWritten (pieces bytes) before mid) → StandsFor kept f
+      → IfSome left (λ bytes. IsBrokenBy e StandsFor kept (flush_pieces (behind bytes)) mid now g) → IfSome left (λ bytes. IsBrokenBy e StandsFor kept (then_flushed (pieces bytes) (behind bytes)) before now g)
+  changed-broken e None before mid now f g a s b = tt
+  changed-broken e (Some bytes) before mid now f g a s b = by-changed e StandsFor kept (behind bytes) (pieces bytes) (flushed_piece (behind bytes)) before mid now f g a s b
+
+  pub unchanged-broken : (e : Fault) (left : Option (List ℕ)) (before now : Option (List ℕ)) (f : Option Files) → IfSome left (λ bytes. IsCut e (pieces bytes) before now) → StandsFor kept f
+      → IfSome left (λ bytes. IsBrokenBy (of_items e) StandsFor kept (then_flushed (pieces bytes) (behind bytes)) before now f)
+  unchanged-broken e None before now f b s = tt
+  unchanged-broken e (Some bytes) before now f b s = by-unchanged e StandsFor kept (behind bytes) (pieces bytes) (flushed_piece (behind bytes)) before now f b s
+
+  pub changed-stops : (left : Option (List ℕ)) (past since : ℕ → Files → Type 0) → IfSome left (λ bytes. Leaves past since (StandsAlong StandsFor kept (flush_pieces (behind bytes))))
+      → IfSome left (λ bytes. Leaves past since (StandsAlong StandsFor kept (then_flushed (pieces bytes) (behind bytes))))
+  changed-stops None past since leaves = tt
+  changed-stops (Some bytes) past since leaves = Along-changed past since StandsFor kept (behind bytes) (pieces bytes) (flushed_piece (behind bytes)) leaves
+
+-- the repository behind the items
+pub ahead-some : (behind : List ℕ → Collection) (told : Option Files) (s : State) (kept : Collection) (left : Option (List ℕ)) → IsBacked told s → AreReal s.held.limits → StandsFor kept told → IfSome left (λ bytes. ReadsAs told s (behind bytes))
+    → IfSome left (λ bytes. IsAhead told s kept (behind bytes))
+ahead-some behind told s kept None backed real stands reads = tt
+ahead-some behind told s kept (Some bytes) backed real stands reads = record { backed = backed; real = real; stands = stands; reads = reads }
+
+-- what holds of each collection that it may read as
+pub for-some : (X : Collection → Type 0) (behind : List ℕ → Collection) (told : Option Files) (s : State) (kept : Collection) (left : Option (List ℕ)) → IfSome left (λ bytes. IsAhead told s kept (behind bytes)) → ((c : Collection) → IsAhead told s kept c → X c)
+    → IfSome left (λ bytes. X (behind bytes))
+for-some X behind told s kept None ahead all = tt
+for-some X behind told s kept (Some bytes) ahead all = all (behind bytes) ahead
+
+-- the files aren't touched
+pub some-quiet : (behind : List ℕ → Collection) (kept : Collection) (left : Option (List ℕ)) (past : ℕ → Files → Type 0) → IfSome left (λ bytes. Leaves past past (StandsAlong StandsFor kept (flush_pieces (behind bytes))))
+some-quiet behind kept None past = tt
+some-quiet behind kept (Some bytes) past = Leaves-same past _

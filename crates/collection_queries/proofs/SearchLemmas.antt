@@ -1,0 +1,44 @@
+-- A search that has passed all documents.
+use Rattle.std.proofs.Common.{◌≡◌, ◌+◌, ℕ, List, Option, true, length, map, refl, ap, ◌∙◌, arith}
+use Rattle.std.specs.Prelude.{min}
+use Rattle.ri_base.specs.Documents.{Document}
+use Rattle.ri_base.specs.declared.hit.Hit.{Hit}
+use Rattle.ri_base.specs.declared.hit.LeafStats.{LeafStats}
+use Rattle.store_ends.specs.Files.{Files}
+use Rattle.smoothing.specs.declared.rule.RuleKind.{RuleKind}
+use Rattle.query_check.specs.Answers.{whole_checked}
+use Rattle.query_check.specs.Check.{CheckedTree}
+use Rattle.belief_nodes.specs.Network.{network_tree}
+use Rattle.belief_nodes.specs.Priors.{Prior}
+use Rattle.disk_index.specs.Snapshots.{Marked, live}
+use Rattle.document_scoring.specs.Counts.{stats_of}
+use Rattle.ranker.specs.Searches.{IsAnswerOf, IsSameSearch, filters_of, searched}
+use Rattle.ranker.specs.declared.search.Search.{Search}
+use Rattle.collection_queries.specs.Ranking.{IsAnswer}
+use Rattle.collection_queries.specs.Searching.{HasSearched}
+use Rattle.collection_queries.proofs.RankingLemmas.{IsAnswer-by}
+
+-- a new search that was stepped by all documents
+pub has-searched : (parts : List Marked) (q : CheckedTree) (stats : List LeafStats) (most docs : ℕ) (s t : Search) → s.snapshot ≡ parts → whole_checked s.checked ≡ q
+    → network_tree s.network ≡ record { leaves = q.leaves; range = q.range; stats = stats; tree = q.tree } → s.most ≡ most → s.at.credit ≡ 0
+    → ((told : Option Files) → docs ≡ length (live told parts)) → ((told : Option Files) → t.at.credit ≡ min (s.at.credit + docs) (length (searched told s))) → IsSameSearch s t → t.usable ≡ true
+    → HasSearched parts q stats most t
+has-searched parts q stats most docs s t snapshot checked network many none all credit same usable = record {
+  snapshot = same.snapshot ∙ snapshot;
+  checked = same.checked ∙ checked;
+  network = same.network ∙ network;
+  most_is = same.most ∙ many;
+  usable = usable;
+  all = λ told.
+      let here : length (searched told s) ≡ length (live told parts) = ap (λ ms. length (live told ms)) snapshot in
+      let there : length (searched told t) ≡ length (searched told s) = ap (λ ms. length (live told ms)) same.snapshot in
+      let count = all told in
+      let now = credit told in
+      grind (arith, here, there, count, now, none);
+}
+
+-- the answer of such a search, where the statistics are those of its documents
+pub search-answer : (kind : RuleKind) (priors : List Prior) (s : Search) (docs : List Document) (hits : List Hit) → network_tree s.network ≡ record { leaves = (whole_checked s.checked).leaves; range = (whole_checked s.checked).range; stats = (network_tree s.network).stats; tree = (whole_checked s.checked).tree }
+    → (network_tree s.network).stats ≡ map (stats_of docs) (whole_checked s.checked).leaves → IsAnswerOf kind priors s docs hits → IsAnswer kind priors (whole_checked s.checked) docs s.most hits
+search-answer kind priors s docs hits network summed h =
+    IsAnswer-by kind priors (whole_checked s.checked) (filters_of s) (network_tree s.network) (network_tree s.network).stats docs s.most hits refl network summed h

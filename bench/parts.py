@@ -1,22 +1,28 @@
 #!/usr/bin/env python3
-"""Measures the opening of a segment and the counting of words over it, as LLVM builds the calls. It stands apart from the gate.
+"""Measures the opening of a segment, and counts and searches over it, as LLVM builds the calls. It stands apart from the gate.
 
 usage: bench/parts.py [--rounds N] [--mega N] [--documents N] [--program FILE]
 
-The program that is measured is file_counts. It opens the segment of a folder, or counts a word over it, once for each line that
-it is sent. `rt run` in crates/file_counts builds it, and proves it first.
+The program that is measured is file_counts. It opens the segment of a folder, or counts a word or searches for a query over it,
+once for each line that it is sent. `rt run` in crates/file_counts builds it, and proves it first.
 
     usual words     a segment of 20 MB, which --mega changes; the word n comes about one n-th as often as the word 1
     documents       60,000 short documents, which --documents changes
+    searched        as many, with three words of a tenth of them each and one of 500
 
 A row of an opening has MB of what is read in a second of processor time, the best of the rounds, and the peak of memory for
 each byte of that. Only the header, the documents and the dictionary may be read. A row of a word has how many bytes are read
 where it is counted first, which must be its blocks, each by one read, and how many where it is counted again, which must be
 none. What the system counted for the process is compared, less the line that it was sent.
 
+A row of a search has the time of the best of the rounds, once its words are counted and its blocks are kept, by one step of all
+documents and by steps of one. The exponent is the logarithm of how much more time a word of 500 documents takes among four times as
+many documents, over that of 4.
+
 The status is 1 where a row is beyond its bound, or where the program reads or says something else than it must.
 """
 import argparse
+import math
 import os
 import struct
 import sys
@@ -32,6 +38,10 @@ PEAK = 4
 NAME = "seg-0000000000000001"
 COMMON, WORDS = 97, 5003
 TOKENS = 8
+
+TENTHS, RARE, FEW = (1, 2, 3), 4, 500
+SEARCHED = {"absent": 0.1, f"w{RARE}": 3, " ".join(f"w{word}" for word in TENTHS): 60}
+STEPS, SEARCH_EXPONENT = 1.3, 0.3
 
 
 @dataclass(frozen=True)
@@ -67,7 +77,16 @@ def tokens_of(document):
     return [0, *(1 + (document * k) % COMMON for k in range(1, 4)), *(COMMON + 1 + (document * k) % WORDS for k in range(1, TOKENS - 3))]
 
 
-def postings_of(documents):
+def searched_tokens(documents):
+    """The same of documents for searches."""
+    def tokens_of(document):
+        tokens = [word for word in TENTHS if (document * 7919 + word * 104729) // 16 % 10 == 0]
+        tokens += [RARE] if document % max(documents // FEW, 1) == 0 else []
+        return tokens + [100 + (document * k) % WORDS for k in range(1, TOKENS - len(tokens) + 1)]
+    return tokens_of
+
+
+def postings_of(documents, tokens_of):
     """Of each word the places in each document, by documents."""
     found = defaultdict(dict)
     for document in range(documents):
@@ -85,10 +104,10 @@ def blocks_of(postings):
     return {key: number(1, len(entries)) + b"".join(entries) for key, entries in sorted(ranges.items())}
 
 
-def segment(documents):
+def segment(documents, tokens_of=tokens_of):
     """The segment of so many documents, and of each word how often it occurs and its blocks."""
     outlines = b"".join(number(1, len(name)) + name + number(4, TOKENS) + number(2, 0) for name in (b"d%d" % i for i in range(documents)))
-    found = {word: (sum(map(len, postings.values())), blocks_of(postings)) for word, postings in sorted(postings_of(documents).items())}
+    found = {word: (sum(map(len, postings.values())), blocks_of(postings)) for word, postings in sorted(postings_of(documents, tokens_of).items())}
     dictionary_at = 64 + len(outlines)
     blocks_at = dictionary_at + sum(1 + len(word) + 4 + 16 * len(blocks) for word, (_, blocks) in found.items())
     place, dictionary, content = blocks_at, [], []
@@ -159,6 +178,36 @@ class Table:
         )
         print(f"{'count, ' + word:<24}", "   ".join(cells), flush=True)
 
+    def seconds(self, folder, documents, step, query):
+        """The time of a search by steps of so many documents, once its words are counted and its blocks are kept."""
+        with Reader(self.program, "search", folder, documents, step) as run:
+            first = run.ask(query)
+            again = [run.ask(query) for _ in range(self.rounds)]
+        for one in again:
+            self.wanted("said", one.said, first.said)
+        return first.said, min(one.seconds for one in again)
+
+    def searched(self, documents):
+        folders = {}
+        for count in (documents, documents // 4):
+            folders[count] = self.made(f"searched {count}")
+            (folders[count] / NAME).write_bytes(segment(count, searched_tokens(count))[0])
+        for query, bound in SEARCHED.items():
+            said, whole = self.seconds(folders[documents], documents, documents, query)
+            said_by_one, by_one = self.seconds(folders[documents], documents, 1, query)
+            self.wanted("said by steps of one", said_by_one, said)
+            ratio = by_one / whole
+            steps = f"{1000 * by_one:6.2f} ms by steps of one, {ratio:4.2f} times"
+            cells = (
+                said,
+                self.bounded(f"{1000 * whole:6.3f} ms", 1000 * whole <= bound, f"at most {bound} ms"),
+                self.bounded(steps, ratio <= STEPS, f"at most {STEPS}") if bound == max(SEARCHED.values()) else steps,
+            )
+            print(f"{'search, ' + query:<24}", "   ".join(cells), flush=True)
+        times = [self.seconds(folders[count], count, count, f"w{RARE}")[1] for count in (documents, documents // 4)]
+        exponent = math.log(times[0] / times[1]) / math.log(4)
+        print(f"{'search, exponent':<24}", self.bounded(f"{exponent:4.2f}", exponent <= SEARCH_EXPONENT, f"at most {SEARCH_EXPONENT}"), flush=True)
+
     def usual_words(self, size):
         spread, each = COLLECTIONS["usual words"]
         folder, documents = self.made("usual"), size // each
@@ -178,7 +227,7 @@ class Table:
 
 
 def main():
-    parser = argparse.ArgumentParser(description="Measures the opening of a segment and the counting of words over it.")
+    parser = argparse.ArgumentParser(description="Measures the opening of a segment, and counts and searches over it.")
     parser.add_argument("--rounds", type=int, default=5, help="a time is the best of so many (5)")
     parser.add_argument("--mega", type=int, default=20, help="the size of the segment of usual words in MB (20)")
     parser.add_argument("--documents", type=int, default=60_000, help="how many short documents there are (60,000)")
@@ -192,6 +241,7 @@ def main():
         table = Table(chosen.program.resolve(), chosen.rounds, Path(folder))
         table.usual_words(chosen.mega * MEGA)
         table.documents(chosen.documents)
+        table.searched(chosen.documents)
     sys.exit(0 if table.is_within else 1)
 
 

@@ -1,20 +1,24 @@
-//! Writes, reads or opens a segment again and again, or counts words over it, so that this can be measured. It does so once for
-//! each line of standard input, and says in a line what came of it.
+//! Writes, reads or opens a segment again and again, counts words over it or searches it, so that this can be measured. It does so
+//! once for each line of standard input, and says in a line what came of it.
 //!
 //! - `write N SPREAD`: the segment of N documents, whose words are told by SPREAD. A line that isn't empty is the name of a
 //!   file, to which the bytes go.
 //! - `read FILE`: the segment in this file.
 //! - `open FOLDER N`: the segment 1 of N documents in this folder.
 //! - `count FOLDER N`: that segment, which is opened once. Each line is a word that is counted.
+//! - `search FOLDER N STEP`: the same, and each line is a query that is searched for by steps of STEP documents.
 #![tactic(auto)]
 
 mod documents;
 mod parts;
+mod queries;
+mod searches;
 
 use anyhow::{Context, Result, bail};
 use documents::sealed_of;
 use parts::{Counted, docs_once_open};
 use ri_base::{Doc, FileName, Postings, SegFault};
+use searches::found;
 use seg_codec::{read_segment, seg_bytes};
 use std::alloc::Global;
 use std::{env, fs};
@@ -103,6 +107,24 @@ fn count_words(rt: &HostRuntime, folder: &str, docs: u32) -> Result<()> {
     Ok(())
 }
 
+/// The first 1,000 results of each query are searched for.
+fn search(rt: &HostRuntime, folder: &str, docs: u32, step: u64) -> Result<()> {
+    let mut store = FolderStore::new(rt, folder)?;
+    let mut counted = Counted::new(rt.alloc(), &mut store, docs)?;
+    println!(rt; "{folder}")?;
+    for line in rt.lines(rt.alloc()) {
+        let text = line?;
+        let count = found(rt.alloc(), &mut counted, text.as_str(), 1000, step, &mut store)?;
+        println!(rt; "{count} results")?;
+    }
+    Ok(())
+}
+
+/// The number that stands next among the words.
+fn number_of(word: Option<String>) -> Result<u64> {
+    Ok(word.context("no number")?.parse::<u64>()?)
+}
+
 fn main(rt: HostRuntime) -> Result<()> {
     let mut words = env::args(&rt)?.skip(1);
     let command = words.next().context("no command")?;
@@ -115,6 +137,7 @@ fn main(rt: HostRuntime) -> Result<()> {
         "write" => write_segments(&rt, word.parse::<u32>()?, number.parse::<u64>()?),
         "open" => open_segments(&rt, &word, number.parse::<u32>()?),
         "count" => count_words(&rt, &word, number.parse::<u32>()?),
+        "search" => search(&rt, &word, number.parse::<u32>()?, number_of(words.next())?),
         _ => bail!("no such command"),
     }
 }

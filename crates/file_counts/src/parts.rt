@@ -1,9 +1,9 @@
-// A segment that is opened, and words that are counted over its documents.
+// A segment that is opened, and what is counted over its documents.
 use anyhow::{Context, Result, bail};
 use counts::Counts;
 use deletion_list::DelList;
 use disk_index::{BlockCache, DiskIndex, MarkedPart, Part, Snapshot, fits_snapshot};
-use ri_base::{ExtentExpr, LeafStats, Term};
+use ri_base::{ExtentExpr, LeafStats, Name, Term};
 use std::alloc::{AllocError, Global};
 use std::num::NonZeroUsize;
 use std::rc::Rc;
@@ -74,18 +74,30 @@ impl Counted {
         })
     }
 
-    fn leaf<T: Store>(
+    /// How often an expression occurs, and in how many words, or in how many that stand in fields of a name.
+    pub fn leaf<T: Store>(
         &mut self,
         alloc: Global,
         store: &mut T,
-        word: &ExtentExpr,
+        expr: &ExtentExpr,
+        context: Option<&Name>,
     ) -> Result<LeafStats> {
         let snapshot = &self.snapshot;
         let blocks = &mut self.blocks;
         Ok(
             self.sums
-                .leaf(alloc, word, None, snapshot, 0, store, blocks)?,
+                .leaf(alloc, expr, context, snapshot, 0, store, blocks)?,
         )
+    }
+
+    /// The same snapshot once more.
+    pub fn shared(&self, alloc: Global) -> Result<Snapshot> {
+        Ok(Snapshot::of(alloc, self.snapshot.parts())?)
+    }
+
+    /// The blocks that are kept.
+    pub fn blocks(&mut self) -> &mut BlockCache {
+        &mut self.blocks
     }
 
     /// How often a word occurs, and in how many words.
@@ -96,6 +108,6 @@ impl Counted {
         text: &str,
     ) -> Result<LeafStats> {
         let word = word_of(alloc, text)?;
-        self.leaf(alloc, store, &word)
+        self.leaf(alloc, store, &word, None)
     }
 }

@@ -1,3 +1,4 @@
+pub mod AheadLemmas
 pub mod HeldLemmas
 pub mod PassedLemmas
 pub mod PlaceLemmas

@@ -1,11 +1,13 @@
 -- Live documents that are passed one by one.
-use Rattle.std.proofs.Common.{◌≡◌, ◌<◌, ℕ, zero, suc, ◌+◌, Bool, true, false, List, [], ◌∷◌, ◌++◌, cond, length, take, get_or, refl, sym, ap, subst, ◌∙◌, arith, append_assoc, append-nil}
+use Rattle.std.proofs.Common.{◌≡◌, ◌<◌, ◌≤◌, ℕ, zero, suc, ◌+◌, ◌-◌, Bool, true, false, List, [], ◌∷◌, ◌++◌, cond, not, length, take, get_or, refl, sym, ap, subst, ◌∙◌, arith, append_assoc, append-nil}
+use Rattle.std.specs.Int.{from_bool}
 use Rattle.ri_base.specs.Collection.{document_at}
 use Rattle.ri_base.specs.Documents.{Document}
 use Rattle.ri_base.specs.Query.{FilterTree}
 use Rattle.smoothing.specs.declared.rule.RuleKind.{RuleKind}
 use Rattle.belief_nodes.specs.Network.{NetworkTree}
 use Rattle.belief_nodes.specs.Priors.{Prior}
+use Rattle.deletion_list.specs.Marks.{marked_count}
 use Rattle.disk_index.specs.Snapshots.{unmarked}
 use Rattle.range_masks.specs.May.{query_may}
 use Rattle.document_scoring.specs.declared.scoring.Row.{Row}
@@ -32,6 +34,12 @@ ids-dead marks i lt dead = ids-more marks i lt ∙ ap (λ (b : Bool). live_ids m
 
 pub ids-live : (marks : List Bool) (i : ℕ) → i < length marks → get_or marks i false ≡ false → live_ids marks (i + 1) ≡ live_ids marks i + 1
 ids-live marks i lt live = ids-more marks i lt ∙ ap (λ (b : Bool). live_ids marks i + cond b 0 1) live
+
+-- one id more, and the count of live ones among it
+pub ids-counted : (marks : List Bool) (i : ℕ) (marked : Bool) → i < length marks → marked ≡ get_or marks i false
+    → (live_ids marks (i + 1) ≡ live_ids marks i + from_bool (not marked)) × (from_bool (not marked) ≤ 1)
+ids-counted marks i true lt is = (ids-dead marks i lt (sym is), omega arith)
+ids-counted marks i false lt is = (ids-live marks i lt (sym is), omega arith)
 
 -- ---- documents
 
@@ -98,6 +106,39 @@ module _ (kind : RuleKind) (priors : List Prior) (filters : List FilterTree) (ne
         → Advances kind priors filters network (unmarked (take i docs) marks) (unmarked (take (i + 1) docs) marks) few few
     Advances-unseen lt whole live none =
         Advances-live few lt whole live (λ before most h. HoldsFirst-skipped kind priors filters network before (document_at docs i) most few none h)
+
+  -- documents behind others that have nothing to show
+  unseen : (docs : List Document) (marks : List Bool) (few : Few Row) (n i j : ℕ) → j ≡ i + n → j ≤ length docs → length marks ≡ length docs
+      → ((id : ℕ) → i ≤ id → id < j → query_may filters network.leaves (document_at docs id) ≡ false)
+      → Advances kind priors filters network (unmarked (take i docs) marks) (unmarked (take j docs) marks) few few
+  unseen docs marks few zero i j far le whole none =
+      let same : i ≡ j = omega (arith, far) in
+      subst (λ k. Advances kind priors filters network (unmarked (take i docs) marks) (unmarked (take k docs) marks) few few) same (Advances-same (unmarked (take i docs) marks) few)
+  unseen docs marks few (suc n) i j far le whole none =
+      Advances-then (unmarked (take i docs) marks) (unmarked (take (i + 1) docs) marks) (unmarked (take j docs) marks) few few few (one (get_or marks i false) refl)
+      (unseen docs marks few n (i + 1) j (omega (arith, far)) le whole (λ id low high. none id (omega (arith, low)) high))
+    where
+      one : (b : Bool) → get_or marks i false ≡ b → Advances kind priors filters network (unmarked (take i docs) marks) (unmarked (take (i + 1) docs) marks) few few
+      one true dead = Advances-dead docs marks i few (omega (arith, far, le)) whole dead
+      one false live = Advances-unseen docs marks i few (omega (arith, far, le)) whole live (none i (omega arith) (omega (arith, far)))
+
+  pub Advances-bare : (docs : List Document) (marks : List Bool) (few : Few Row) (i j : ℕ) → i ≤ j → j ≤ length docs → length marks ≡ length docs
+      → ((id : ℕ) → i ≤ id → id < j → query_may filters network.leaves (document_at docs id) ≡ false)
+      → Advances kind priors filters network (unmarked (take i docs) marks) (unmarked (take j docs) marks) few few
+  Advances-bare docs marks few i j up le whole none = unseen docs marks few (j - i) i j (omega (arith, up)) le whole none
+
+-- ---- ids of which none is marked, and all ids
+
+pub ids-each : (marks : List Bool) (i : ℕ) → marked_count marks ≡ 0 → i ≤ length marks → live_ids marks i ≡ i
+ids-each marks zero none le = refl
+ids-each [] (suc i) none le = absurd (omega (arith, le))
+ids-each (true ∷ marks) (suc i) none le = absurd (omega (arith, none))
+ids-each (false ∷ marks) (suc i) none le = let rest = ids-each marks i none (omega (arith, le)) in omega (arith, rest)
+
+pub ids-all : (marks : List Bool) → live_ids marks (length marks) + marked_count marks ≡ length marks
+ids-all [] = omega arith
+ids-all (true ∷ marks) = let rest = ids-all marks in omega (arith, rest)
+ids-all (false ∷ marks) = let rest = ids-all marks in omega (arith, rest)
 
 -- by what was read, and what the priors told, before
 pub Advances-read : (kind : RuleKind) (told priors : List Prior) (filters : List FilterTree) (network : NetworkTree) (read docs : List Document) (marks : List Bool) (i j : ℕ) (few next : Few Row) → told ≡ priors → read ≡ docs

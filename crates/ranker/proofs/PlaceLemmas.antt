@@ -8,6 +8,7 @@ use Rattle.ri_base.specs.Documents.{Document}
 use Rattle.ri_base.specs.Query.{FilterTree}
 use Rattle.store_ends.specs.Files.{Files}
 use Rattle.smoothing.specs.declared.rule.RuleKind.{RuleKind}
+use Rattle.query_check.specs.Leaves.{LeafTree}
 use Rattle.belief_nodes.specs.Network.{NetworkTree}
 use Rattle.belief_nodes.specs.Priors.{Prior}
 use Rattle.disk_index.specs.Cache.{CacheKeeps, KeptBlock}
@@ -18,9 +19,10 @@ use Rattle.disk_index.proofs.RebuiltLemmas.{reads-length}
 use Rattle.document_scoring.specs.declared.scoring.Row.{Row}
 use Rattle.first_few.specs.First.{Few}
 use Rattle.ranker.specs.First.{Advances, HoldsFirst}
-use Rattle.ranker.specs.Passed.{IsPassed, IsPlace, behind, live_before, live_ids, part_at, passed}
+use Rattle.ranker.specs.Passed.{IsAhead, IsAheadAt, IsPassed, IsPlace, behind, live_before, live_ids, nothing_known, part_at, passed}
 use Rattle.ranker.specs.declared.place.Passed.{Passed}
 use Rattle.ranker.specs.declared.place.Place.{Place}
+use Rattle.ranker.proofs.AheadLemmas.{IsAhead-nothing}
 use Rattle.ranker.proofs.PassedLemmas.{unmarked-ids}
 
 -- ---- documents before a place stand before all others
@@ -109,7 +111,7 @@ module _ (parts : List Marked) (at : Place) (to : Passed) (most : ℕ) where
           let more = go.docs in
           omega (arith, first, last, here, more)
 
-      by : (b : Bool) → nat_lt to.docs most ≡ b → IsPlace parts (if b then record { part = at.part + 1; id = 0; credit = at.credit + to.docs } else record { part = at.part; id = to.id; credit = at.credit + to.docs })
+      by : (b : Bool) → nat_lt to.docs most ≡ b → IsPlace parts (if b then record { part = at.part + 1; id = 0; credit = at.credit + to.docs; ahead = nothing_known } else record { part = at.part; id = to.id; credit = at.credit + to.docs; ahead = to.ahead })
       by true e =
           let fewer : to.docs < most = grind (arith, nat_tests) in
           let done : to.id ≡ size (part_at parts at.part).source = end fewer in
@@ -144,7 +146,7 @@ module _ (parts : List Marked) (at : Place) (to : Passed) (most : ℕ) where
         on = Advances-behind (live told (take at.part parts)) (live_before told (part_at parts at.part) at.id) (live_before told (part_at parts at.part) to.id) h
 
         by : (b : Bool) → nat_lt to.docs most ≡ b
-            → Advances kind priors filters network (passed told parts at) (passed told parts (if b then record { part = at.part + 1; id = 0; credit = at.credit + to.docs } else record { part = at.part; id = to.id; credit = at.credit + to.docs })) few next
+            → Advances kind priors filters network (passed told parts at) (passed told parts (if b then record { part = at.part + 1; id = 0; credit = at.credit + to.docs; ahead = nothing_known } else record { part = at.part; id = to.id; credit = at.credit + to.docs; ahead = to.ahead })) few next
         by true e =
             let fewer : to.docs < most = grind (arith, nat_tests) in
             subst (λ (ds : List Document). Advances kind priors filters network (before told parts at.part at.id) ds few next) (sym (before-next told parts at.part to.id lt (end fewer))) on
@@ -156,6 +158,19 @@ module _ (parts : List Marked) (at : Place) (to : Passed) (most : ℕ) where
     Advances-place m is =
         subst (λ (p : Marked). at.part < length parts → (to.docs < most → to.id ≡ size p.source) → Advances kind priors filters network (live_before told p at.id) (live_before told p to.id) few next
         → Advances kind priors filters network (passed told parts at) (passed told parts (behind at to most)) few next) is advanced
+
+-- what is known at the place behind documents of its part
+pub IsAheadAt-behind : (filters : List FilterTree) (leaves : List LeafTree) (told : Option Files) (parts : List Marked) (at : Place) (to : Passed) (most : ℕ) (m : Marked) → part_at parts at.part ≡ m
+    → IsAhead filters leaves (reads told m.source) to.id to.ahead → IsAheadAt filters leaves told parts (behind at to most)
+IsAheadAt-behind filters leaves told parts at to most m is h = by (nat_lt to.docs most)
+  where
+    by : (b : Bool) → IsAheadAt filters leaves told parts (if b then record { part = at.part + 1; id = 0; credit = at.credit + to.docs; ahead = nothing_known } else record { part = at.part; id = to.id; credit = at.credit + to.docs; ahead = to.ahead })
+    by true = IsAhead-nothing filters leaves (reads told (part_at parts (at.part + 1)).source) 0
+    by false = subst (λ (p : Marked). IsAhead filters leaves (reads told p.source) to.id to.ahead) (sym is) h
+
+-- by the files as they were before
+pub IsAheadAt-later : (filters : List FilterTree) (leaves : List LeafTree) (here told : Option Files) (parts : List Marked) (at : Place) → here ≡ told → IsAheadAt filters leaves here parts at → IsAheadAt filters leaves told parts at
+IsAheadAt-later filters leaves here told parts at same h = subst (λ (f : Option Files). IsAheadAt filters leaves f parts at) same h
 
 -- by the files as they were, and what the priors told, before
 pub Advances-later : (kind : RuleKind) (was priors : List Prior) (filters : List FilterTree) (network : NetworkTree) (here told : Option Files) (parts : List Marked) (a b : Place) (few next : Few Row) → was ≡ priors → here ≡ told
@@ -189,14 +204,14 @@ part_of p = p.part
 pub credit-behind : (at : Place) (to : Passed) (most : ℕ) → (behind at to most).credit ≡ at.credit + to.docs
 credit-behind at to most = by (nat_lt to.docs most)
   where
-    by : (b : Bool) → credit_of (if b then record { part = at.part + 1; id = 0; credit = at.credit + to.docs } else record { part = at.part; id = to.id; credit = at.credit + to.docs }) ≡ at.credit + to.docs
+    by : (b : Bool) → credit_of (if b then record { part = at.part + 1; id = 0; credit = at.credit + to.docs; ahead = nothing_known } else record { part = at.part; id = to.id; credit = at.credit + to.docs; ahead = to.ahead }) ≡ at.credit + to.docs
     by true = refl
     by false = refl
 
 pub part-behind : (at : Place) (to : Passed) (most : ℕ) → (behind at to most).part ≡ (if nat_lt to.docs most then at.part + 1 else at.part)
 part-behind at to most = by (nat_lt to.docs most)
   where
-    by : (b : Bool) → part_of (if b then record { part = at.part + 1; id = 0; credit = at.credit + to.docs } else record { part = at.part; id = to.id; credit = at.credit + to.docs }) ≡ (if b then at.part + 1 else at.part)
+    by : (b : Bool) → part_of (if b then record { part = at.part + 1; id = 0; credit = at.credit + to.docs; ahead = nothing_known } else record { part = at.part; id = to.id; credit = at.credit + to.docs; ahead = to.ahead }) ≡ (if b then at.part + 1 else at.part)
     by true = refl
     by false = refl
 

@@ -1,9 +1,15 @@
 -- How far a search has come.
-use Rattle.std.specs.Prelude.{◌≡◌, ◌≤◌, ◌+◌, if◌then◌else◌, nat_lt, ℕ, zero, suc, Bool, true, false, List, [], ◌∷◌, ◌++◌, Option, length, take, slice_index_or}
+use Rattle.std.specs.Prelude.{◌≡◌, ◌<◌, ◌≤◌, ◌+◌, ◌%◌, if◌then◌else◌, nat_lt, ℕ, zero, suc, Bool, true, false, List, [], ◌∷◌, ◌++◌, Option, length, take, slice_index_or}
+use Rattle.std.specs.Int.{bit_at}
+use Rattle.ri_base.specs.Collection.{document_at}
 use Rattle.ri_base.specs.Documents.{Document}
+use Rattle.ri_base.specs.Query.{FilterTree}
 use Rattle.store_ends.specs.Files.{Files}
+use Rattle.query_check.specs.Leaves.{LeafTree}
 use Rattle.disk_index.specs.Parts.{InMemory, reads, size}
 use Rattle.disk_index.specs.Snapshots.{Marked, live, unmarked}
+use Rattle.range_masks.specs.May.{query_may}
+use Rattle.ranker.specs.declared.place.Ahead.{Ahead}
 use Rattle.ranker.specs.declared.place.Passed.{Passed}
 use Rattle.ranker.specs.declared.place.Place.{Place}
 
@@ -20,6 +26,13 @@ pub record IsPassed (marks : List Bool) (id most : ℕ) (to : Passed) : Type 0 w
   pub docs : live_ids marks to.id ≡ live_ids marks id + to.docs
   pub few : to.docs ≤ most
 
+-- From an id of a part on, before the end of what is known, no document whose bit isn't set may have something to show.
+pub record IsAhead (filters : List FilterTree) (leaves : List LeafTree) (docs : List Document) (id : ℕ) (ahead : Ahead) : Type 0 where
+  pub none : (i : ℕ) → id ≤ i → i < ahead.end → bit_at ahead.mask (i % 64) ≡ 0 → query_may filters leaves (document_at docs i) ≡ false
+
+abbrev pub nothing_known : Ahead
+nothing_known = record { end = 0; mask = 0 }
+
 -- the live documents of a part before an id
 abbrev pub live_before : Option Files → Marked → ℕ → List Document
 live_before told m id = unmarked (take id (reads told m.source)) m.marks
@@ -32,6 +45,10 @@ part_at parts part = slice_index_or parts part (record { source = InMemory []; m
 abbrev pub passed : Option Files → List Marked → Place → List Document
 passed told parts at = live told (take at.part parts) ++ live_before told (part_at parts at.part) at.id
 
+-- what is known at a place is so of the documents of its part, as they read by these files
+abbrev pub IsAheadAt : List FilterTree → List LeafTree → Option Files → List Marked → Place → Type 0
+IsAheadAt filters leaves told parts at = IsAhead filters leaves (reads told (part_at parts at.part).source) at.id at.ahead
+
 -- a place in these parts, and how many live documents stand before it
 pub record IsPlace (parts : List Marked) (at : Place) : Type 0 where
   pub part : at.part ≤ length parts
@@ -40,4 +57,4 @@ pub record IsPlace (parts : List Marked) (at : Place) : Type 0 where
 
 -- the place behind documents of its part: the next part begins where they are fewer than were asked for
 abbrev pub behind : Place → Passed → ℕ → Place
-behind at to most = if nat_lt to.docs most then record { part = at.part + 1; id = 0; credit = at.credit + to.docs } else record { part = at.part; id = to.id; credit = at.credit + to.docs }
+behind at to most = if nat_lt to.docs most then record { part = at.part + 1; id = 0; credit = at.credit + to.docs; ahead = nothing_known } else record { part = at.part; id = to.id; credit = at.credit + to.docs; ahead = to.ahead }

@@ -10,7 +10,7 @@ use Rattle.belief_nodes.specs.Network.{network_tree}
 use Rattle.belief_nodes.specs.Priors.{Prior}
 use Rattle.disk_index.specs.Snapshots.{live}
 use Rattle.ranker.specs.Held.{IsHeld}
-use Rattle.ranker.specs.Passed.{passed}
+use Rattle.ranker.specs.Passed.{IsAheadAt, passed}
 use Rattle.ranker.specs.Ranking.{IsAnswerBy}
 use Rattle.ranker.specs.declared.search.Search.{Search}
 
@@ -21,9 +21,11 @@ searched told s = live told s.snapshot
 abbrev pub filters_of : Search → List FilterTree
 filters_of s = map filter_tree s.checked.filters.items
 
--- What it has taken so far is that of the documents that it passed, as they read by these files.
-abbrev pub IsTaken : RuleKind → List Prior → Option Files → Search → Type 0
-IsTaken kind priors told s = IsHeld kind priors (filters_of s) (network_tree s.network) (passed told s.snapshot s.at) s.most s.held
+-- What it has taken so far is that of the documents that it passed, and what it knows of those that come next is so, as they read by
+-- these files.
+pub record IsTaken (kind : RuleKind) (priors : List Prior) (told : Option Files) (s : Search) : Type 0 where
+  pub held : IsHeld kind priors (filters_of s) (network_tree s.network) (passed told s.snapshot s.at) s.most s.held
+  pub ahead : IsAheadAt (filters_of s) (network_tree s.network).leaves told s.snapshot s.at
 
 -- the answer of the search over these documents
 abbrev pub IsAnswerOf : RuleKind → List Prior → Search → List Document → List Hit → Type 0

@@ -12,7 +12,7 @@ ghost use Rattle.belief_nodes.specs.Priors.{Prior};
 ghost use Rattle.disk_index.specs.Cache.{CacheKeeps, IsCacheBacked};
 ghost use Rattle.disk_index.specs.Snapshots.{AreBacked, IsFileAmong, IsSnapshot, live};
 ghost use Rattle.ranker.specs.Held.{IsHeld, is_open};
-ghost use Rattle.ranker.specs.Passed.{IsPlace, passed};
+ghost use Rattle.ranker.specs.Passed.{IsAheadAt, IsPlace, passed};
 
 use crate::held::Held;
 use crate::place::Place;
@@ -49,7 +49,9 @@ pub fn advance<T: Store, F: Fn(u32, u32, u64, u64) -> Fraction>(
     requires place { IsPlace parts.now at.old }
     requires count { (told : Option Files) → count ≡ length (live told parts.now) }
     requires open { is_open held.old ≡ nat_lt at.old.credit count }
-    ensures taken { AreBacked (T.files store.old) parts.now → IsCacheBacked (T.files store.old) cache.old → OnOk result ((most : ℕ)
+    ensures ahead { AreBacked (T.files store.old) parts.now → IsCacheBacked (T.files store.old) cache.old → IsAheadAt (map filter_tree filters.now) (network_tree network.now).leaves (T.files store.old) parts.now at.old → OnOk result
+        (IsAheadAt (map filter_tree filters.now) (network_tree network.now).leaves (T.files store.old) parts.now at.new) }
+    ensures taken { AreBacked (T.files store.old) parts.now → IsCacheBacked (T.files store.old) cache.old → IsAheadAt (map filter_tree filters.now) (network_tree network.now).leaves (T.files store.old) parts.now at.old → OnOk result ((most : ℕ)
         → IsHeld rule.now.kind (map (λ plug. meaning plug) plugs.old) (map filter_tree filters.now) (network_tree network.now) (passed (T.files store.old) parts.now at.old) most held.old
         → IsHeld rule.now.kind (map (λ plug. meaning plug) plugs.old) (map filter_tree filters.now) (network_tree network.now) (passed (T.files store.old) parts.now at.new) most held.new) }
     ensures open { OnOk result (is_open held.new ≡ nat_lt at.new.credit count) }

@@ -2,6 +2,7 @@
 #![tactic(auto)]
 
 mod advance;
+mod ahead;
 mod documents;
 mod held;
 mod hits;
@@ -10,9 +11,10 @@ mod place;
 mod ranges;
 mod search;
 mod snapshots;
+mod unseen;
 
 pub use held::Held;
 pub use hits::hits_of;
-pub use place::{Passed, Place};
+pub use place::{Ahead, Passed, Place};
 pub use ranges::end_of;
 pub use search::Search;

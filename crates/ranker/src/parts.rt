@@ -1,4 +1,4 @@
-// Parts with their marks, range by range.
+// Parts with their marks, one stretch of documents behind the other.
 ghost use Rattle.std.specs.Prelude.{◌≡◌, ◌<◌, ◌≤◌, true, length, map, take, All, Err, IfErr, IfOk};
 ghost use Rattle.ri_base.specs.Faults.{IsOutside};
 ghost use Rattle.ri_base.specs.Keeps.{Keeps, Rose};
@@ -8,23 +8,24 @@ ghost use Rattle.belief_nodes.specs.Leaves.{HasPrior};
 ghost use Rattle.belief_nodes.specs.Network.{network_tree};
 ghost use Rattle.disk_index.specs.Snapshots.{unmarked};
 ghost use Rattle.ranker.specs.First.{Advances};
-ghost use Rattle.ranker.specs.Passed.{IsPassed};
+ghost use Rattle.ranker.specs.Passed.{IsAhead, IsPassed};
 
+use crate::ahead::ahead_of;
 use crate::documents::pass_document;
-use crate::place::Passed;
-use crate::ranges::end_of;
+use crate::place::{Ahead, Passed};
+use crate::unseen::pass_unseen;
 use belief_nodes::{BeliefNode, Network};
 use deletion_list::DelList;
 use document_scoring::Row;
 use first_few::FirstFew;
-use range_masks::{TermMasks, has_id, query_mask};
+use range_masks::{TermMasks, has_id};
 use ri_base::{Filter, Fraction, SegFault};
 use smoothing::Rule;
 use std::alloc::Global;
 
-/// Passes the documents of the range of an id from this id on, at most so many live ones. Those are looked at that are live and may
-/// have candidates by the mask of the range.
-fn pass_range<P: TermMasks, F: Fn(u32, u32, u64, u64) -> Fraction>(
+/// Passes the documents from an id on up to the end of what is known, at most so many live ones. Those are looked at that are live and
+/// whose bit is set.
+fn pass_masked<P: TermMasks, F: Fn(u32, u32, u64, u64) -> Fraction>(
     alloc: Global,
     filters: &[Filter],
     network: &Network,
@@ -33,6 +34,7 @@ fn pass_range<P: TermMasks, F: Fn(u32, u32, u64, u64) -> Fraction>(
     part: &mut P,
     marks: &DelList,
     id: u32,
+    ahead: Ahead,
     most: u64,
     first: &mut FirstFew<Row>,
 ) -> Result<Passed, SegFault>
@@ -41,18 +43,19 @@ fn pass_range<P: TermMasks, F: Fn(u32, u32, u64, u64) -> Fraction>(
     requires marks { length marks.now ≡ length (P.documents part.old) }
     requires shown { is_range (network_tree network.now).range ≡ true }
     requires plugs { All (HasPrior (length plugs.old)) (network_tree network.now).leaves }
+    requires end { id < ahead.end }
     ensures keeps { Keeps P.documents P.faults P.sound P.quiet part.old part.new }
-    ensures first { P.sound part.old → IfOk result (λ to.
+    ensures first { P.sound part.old → IsAhead (map filter_tree filters.now) (network_tree network.now).leaves (P.documents part.old) id ahead → IfOk result (λ to.
         Advances rule.now.kind (map (λ plug. meaning plug) plugs.old) (map filter_tree filters.now) (network_tree network.now) (unmarked (take id (P.documents part.old)) marks.now) (unmarked (take to.id (P.documents part.old)) marks.now) first.old first.new) }
+    ensures ahead { P.sound part.old → IsAhead (map filter_tree filters.now) (network_tree network.now).leaves (P.documents part.old) id ahead → IfOk result (λ to.
+        IsAhead (map filter_tree filters.now) (network_tree network.now).leaves (P.documents part.old) to.id to.ahead) }
     ensures passed { IfOk result (IsPassed marks.now id most) }
     ensures forward { IfOk result (λ to. 0 < most → id < to.id) }
     ensures stay { map (λ plug. meaning plug) plugs.new ≡ map (λ plug. meaning plug) plugs.old }
     ensures honest { P.sound part.old → IfErr result IsOutside }
     ensures store { result ≡ Err SegFault.Store → Rose (P.faults part.old) (P.faults part.new) }
 {
-    let range = id / 64;
-    let mask = query_mask(alloc, filters, network.leaves(), part, range)?;
-    let end = end_of(range, part.docs());
+    let end = ahead.end.min(part.docs());
     let mut at = id;
     let mut docs = 0;
     while at < end && docs < most {
@@ -64,14 +67,58 @@ fn pass_range<P: TermMasks, F: Fn(u32, u32, u64, u64) -> Fraction>(
             plugs,
             part,
             marks,
-            has_id(mask, at),
+            has_id(ahead.mask, at),
             at,
             first,
         )?;
         docs += passed;
         at += 1;
     }
-    Ok(Passed { id: at, docs })
+    Ok(Passed {
+        id: at,
+        docs,
+        ahead,
+    })
+}
+
+/// Passes documents from an id on, at most so many live ones: up to the end of what is known of the id, or, where nothing is, of what
+/// is found out. Where no bit is set no document is looked at.
+fn pass_on<P: TermMasks, F: Fn(u32, u32, u64, u64) -> Fraction>(
+    alloc: Global,
+    filters: &[Filter],
+    network: &Network,
+    rule: &Rule<F>,
+    plugs: &mut [Box<dyn BeliefNode>],
+    part: &mut P,
+    marks: &DelList,
+    id: u32,
+    ahead: Ahead,
+    most: u64,
+    first: &mut FirstFew<Row>,
+) -> Result<Passed, SegFault>
+    requires rule { Computes F.pre F.post rule.now.kind rule.now.f }
+    requires id { id < length (P.documents part.old) }
+    requires marks { length marks.now ≡ length (P.documents part.old) }
+    requires shown { is_range (network_tree network.now).range ≡ true }
+    requires plugs { All (HasPrior (length plugs.old)) (network_tree network.now).leaves }
+    ensures keeps { Keeps P.documents P.faults P.sound P.quiet part.old part.new }
+    ensures first { P.sound part.old → IsAhead (map filter_tree filters.now) (network_tree network.now).leaves (P.documents part.old) id ahead → IfOk result (λ to.
+        Advances rule.now.kind (map (λ plug. meaning plug) plugs.old) (map filter_tree filters.now) (network_tree network.now) (unmarked (take id (P.documents part.old)) marks.now) (unmarked (take to.id (P.documents part.old)) marks.now) first.old first.new) }
+    ensures ahead { P.sound part.old → IsAhead (map filter_tree filters.now) (network_tree network.now).leaves (P.documents part.old) id ahead → IfOk result (λ to.
+        IsAhead (map filter_tree filters.now) (network_tree network.now).leaves (P.documents part.old) to.id to.ahead) }
+    ensures passed { IfOk result (IsPassed marks.now id most) }
+    ensures forward { IfOk result (λ to. 0 < most → id < to.id) }
+    ensures stay { map (λ plug. meaning plug) plugs.new ≡ map (λ plug. meaning plug) plugs.old }
+    ensures honest { P.sound part.old → IfErr result IsOutside }
+    ensures store { result ≡ Err SegFault.Store → Rose (P.faults part.old) (P.faults part.new) }
+{
+    let ahead = ahead_of(alloc, filters, network, part, id, ahead)?;
+    if ahead.mask == 0 {
+        return Ok(pass_unseen(marks, ahead, id, most));
+    }
+    pass_masked(
+        alloc, filters, network, rule, plugs, part, marks, id, ahead, most, first,
+    )
 }
 
 /// Passes the documents of a part from an id on, at most so many live ones.
@@ -84,6 +131,7 @@ pub fn pass_part<P: TermMasks, F: Fn(u32, u32, u64, u64) -> Fraction>(
     part: &mut P,
     marks: &DelList,
     id: u32,
+    ahead: Ahead,
     most: u64,
     first: &mut FirstFew<Row>,
 ) -> Result<Passed, SegFault>
@@ -93,8 +141,10 @@ pub fn pass_part<P: TermMasks, F: Fn(u32, u32, u64, u64) -> Fraction>(
     requires shown { is_range (network_tree network.now).range ≡ true }
     requires plugs { All (HasPrior (length plugs.old)) (network_tree network.now).leaves }
     ensures keeps { Keeps P.documents P.faults P.sound P.quiet part.old part.new }
-    ensures first { P.sound part.old → IfOk result (λ to.
+    ensures first { P.sound part.old → IsAhead (map filter_tree filters.now) (network_tree network.now).leaves (P.documents part.old) id ahead → IfOk result (λ to.
         Advances rule.now.kind (map (λ plug. meaning plug) plugs.old) (map filter_tree filters.now) (network_tree network.now) (unmarked (take id (P.documents part.old)) marks.now) (unmarked (take to.id (P.documents part.old)) marks.now) first.old first.new) }
+    ensures ahead { P.sound part.old → IsAhead (map filter_tree filters.now) (network_tree network.now).leaves (P.documents part.old) id ahead → IfOk result (λ to.
+        IsAhead (map filter_tree filters.now) (network_tree network.now).leaves (P.documents part.old) to.id to.ahead) }
     ensures passed { IfOk result (IsPassed marks.now id most) }
     ensures end { IfOk result (λ to. to.docs < most → to.id ≡ length marks.now) }
     ensures stay { map (λ plug. meaning plug) plugs.new ≡ map (λ plug. meaning plug) plugs.old }
@@ -104,8 +154,9 @@ pub fn pass_part<P: TermMasks, F: Fn(u32, u32, u64, u64) -> Fraction>(
     let size = part.docs();
     let mut at = id;
     let mut docs = 0;
+    let mut known = ahead;
     while at < size && docs < most {
-        let to = pass_range(
+        let to = pass_on(
             alloc,
             filters,
             network,
@@ -114,11 +165,17 @@ pub fn pass_part<P: TermMasks, F: Fn(u32, u32, u64, u64) -> Fraction>(
             part,
             marks,
             at,
+            known,
             most - docs,
             first,
         )?;
         docs += to.docs;
         at = to.id;
+        known = to.ahead;
     }
-    Ok(Passed { id: at, docs })
+    Ok(Passed {
+        id: at,
+        docs,
+        ahead: known,
+    })
 }

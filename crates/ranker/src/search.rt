@@ -9,7 +9,7 @@ ghost use Rattle.ranker.specs.Passed.{IsPlace};
 
 use crate::advance::{advance, first_held};
 use crate::held::Held;
-use crate::place::Place;
+use crate::place::{Ahead, Place};
 use belief_nodes::{BeliefNode, Network};
 use disk_index::{BlockCache, Snapshot};
 use query_check::Checked;
@@ -78,6 +78,7 @@ impl Search {
                 part: 0,
                 id: 0,
                 credit: 0,
+                ahead: Ahead::nothing(),
             },
             held,
             usable: true,

@@ -8,13 +8,13 @@ ghost use Rattle.smoothing.specs.Fractions.{Computes};
 ghost use Rattle.belief_nodes.specs.Leaves.{HasPrior};
 ghost use Rattle.belief_nodes.specs.Network.{network_tree};
 ghost use Rattle.disk_index.specs.Cache.{CacheKeeps, IsCacheBacked};
-ghost use Rattle.disk_index.specs.Parts.{IsFileOf, IsPartBacked, size};
+ghost use Rattle.disk_index.specs.Parts.{IsFileOf, IsPartBacked, reads, size};
 ghost use Rattle.disk_index.specs.Snapshots.{AreBacked, IsFileAmong, IsSnapshot, live};
 ghost use Rattle.ranker.specs.First.{Advances};
-ghost use Rattle.ranker.specs.Passed.{IsPassed, IsPlace, behind, live_before, passed};
+ghost use Rattle.ranker.specs.Passed.{IsAhead, IsAheadAt, IsPassed, IsPlace, behind, live_before, passed};
 
 use crate::parts::pass_part;
-use crate::place::{Passed, Place};
+use crate::place::{Ahead, Passed, Place};
 use belief_nodes::{BeliefNode, Network};
 use disk_index::{BlockCache, MarkedPart, PartReader};
 use document_scoring::Row;
@@ -24,7 +24,7 @@ use smoothing::Rule;
 use std::alloc::Global;
 use store_ends::Store;
 
-/// Passes the documents of a part from an id on, at most so many live ones.
+/// Passes the documents of a part from an id on, of which so much is known, at most so many live ones.
 fn pass_marked<T: Store, F: Fn(u32, u32, u64, u64) -> Fraction>(
     alloc: Global,
     filters: &[Filter],
@@ -35,6 +35,7 @@ fn pass_marked<T: Store, F: Fn(u32, u32, u64, u64) -> Fraction>(
     store: &mut T,
     cache: &mut BlockCache,
     id: u32,
+    ahead: Ahead,
     most: u64,
     first: &mut FirstFew<Row>,
 ) -> Result<Passed, SegFault>
@@ -42,8 +43,12 @@ fn pass_marked<T: Store, F: Fn(u32, u32, u64, u64) -> Fraction>(
     requires id { id ≤ size marked.now.source }
     requires shown { is_range (network_tree network.now).range ≡ true }
     requires plugs { All (HasPrior (length plugs.old)) (network_tree network.now).leaves }
-    ensures first { IsPartBacked (T.files store.old) marked.now.source → IsCacheBacked (T.files store.old) cache.old → IfOk result (λ to.
+    ensures first { IsPartBacked (T.files store.old) marked.now.source → IsCacheBacked (T.files store.old) cache.old
+        → IsAhead (map filter_tree filters.now) (network_tree network.now).leaves (reads (T.files store.old) marked.now.source) id ahead → IfOk result (λ to.
         Advances rule.now.kind (map (λ plug. meaning plug) plugs.old) (map filter_tree filters.now) (network_tree network.now) (live_before (T.files store.old) marked.now id) (live_before (T.files store.old) marked.now to.id) first.old first.new) }
+    ensures ahead { IsPartBacked (T.files store.old) marked.now.source → IsCacheBacked (T.files store.old) cache.old
+        → IsAhead (map filter_tree filters.now) (network_tree network.now).leaves (reads (T.files store.old) marked.now.source) id ahead → IfOk result (λ to.
+        IsAhead (map filter_tree filters.now) (network_tree network.now).leaves (reads (T.files store.old) marked.now.source) to.id to.ahead) }
     ensures passed { IfOk result (IsPassed marked.now.marks id most) }
     ensures end { IfOk result (λ to. to.docs < most → to.id ≡ size marked.now.source) }
     ensures whole { length marked.now.marks ≡ size marked.now.source }
@@ -64,6 +69,7 @@ fn pass_marked<T: Store, F: Fn(u32, u32, u64, u64) -> Fraction>(
         &mut reader,
         marked.marks(),
         id,
+        ahead,
         most,
         first,
     )
@@ -82,12 +88,14 @@ fn place_behind(at: Place, to: Passed, most: u64) -> Place
             part: at.part + 1,
             id: 0,
             credit,
+            ahead: Ahead::nothing(),
         };
     }
     Place {
         part: at.part,
         id: to.id,
         credit,
+        ahead: to.ahead,
     }
 }
 
@@ -111,8 +119,10 @@ fn pass_next<T: Store, F: Fn(u32, u32, u64, u64) -> Fraction>(
     requires few { IsSnapshot parts.now }
     requires place { IsPlace parts.now at.old }
     requires some { at.old.part < length parts.now }
-    ensures first { AreBacked (T.files store.old) parts.now → IsCacheBacked (T.files store.old) cache.old → OnOk result
+    ensures first { AreBacked (T.files store.old) parts.now → IsCacheBacked (T.files store.old) cache.old → IsAheadAt (map filter_tree filters.now) (network_tree network.now).leaves (T.files store.old) parts.now at.old → OnOk result
         (Advances rule.now.kind (map (λ plug. meaning plug) plugs.old) (map filter_tree filters.now) (network_tree network.now) (passed (T.files store.old) parts.now at.old) (passed (T.files store.old) parts.now at.new) first.old first.new) }
+    ensures ahead { AreBacked (T.files store.old) parts.now → IsCacheBacked (T.files store.old) cache.old → IsAheadAt (map filter_tree filters.now) (network_tree network.now).leaves (T.files store.old) parts.now at.old → OnOk result
+        (IsAheadAt (map filter_tree filters.now) (network_tree network.now).leaves (T.files store.old) parts.now at.new) }
     ensures place { IsPlace parts.now at.new }
     ensures docs { IfOk result (λ docs. (at.new.credit ≡ at.old.credit + docs) × (docs ≤ most)) }
     ensures next { IfOk result (λ docs. at.new.part ≡ (if nat_lt docs most then at.old.part + 1 else at.old.part)) }
@@ -125,7 +135,7 @@ fn pass_next<T: Store, F: Fn(u32, u32, u64, u64) -> Fraction>(
 {
     let marked = &parts[at.part];
     let to = pass_marked(
-        alloc, filters, network, rule, plugs, marked, store, cache, at.id, most, first,
+        alloc, filters, network, rule, plugs, marked, store, cache, at.id, at.ahead, most, first,
     )?;
     *at = place_behind(*at, to, most);
     Ok(to.docs)
@@ -150,8 +160,10 @@ pub fn pass_parts<T: Store, F: Fn(u32, u32, u64, u64) -> Fraction>(
     requires plugs { All (HasPrior (length plugs.old)) (network_tree network.now).leaves }
     requires few { IsSnapshot parts.now }
     requires place { IsPlace parts.now at.old }
-    ensures first { AreBacked (T.files store.old) parts.now → IsCacheBacked (T.files store.old) cache.old → OnOk result
+    ensures first { AreBacked (T.files store.old) parts.now → IsCacheBacked (T.files store.old) cache.old → IsAheadAt (map filter_tree filters.now) (network_tree network.now).leaves (T.files store.old) parts.now at.old → OnOk result
         (Advances rule.now.kind (map (λ plug. meaning plug) plugs.old) (map filter_tree filters.now) (network_tree network.now) (passed (T.files store.old) parts.now at.old) (passed (T.files store.old) parts.now at.new) first.old first.new) }
+    ensures ahead { AreBacked (T.files store.old) parts.now → IsCacheBacked (T.files store.old) cache.old → IsAheadAt (map filter_tree filters.now) (network_tree network.now).leaves (T.files store.old) parts.now at.old → OnOk result
+        (IsAheadAt (map filter_tree filters.now) (network_tree network.now).leaves (T.files store.old) parts.now at.new) }
     ensures place { IsPlace parts.now at.new }
     ensures credit { OnOk result ((told : Option Files) → at.new.credit ≡ min (at.old.credit + docs) (length (live told parts.now))) }
     ensures stay { map (λ plug. meaning plug) plugs.new ≡ map (λ plug. meaning plug) plugs.old }

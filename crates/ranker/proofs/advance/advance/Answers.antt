@@ -23,14 +23,14 @@ pub returns-clause-credit : goal.returns-clause-credit
 returns-clause-credit g c = c.in_ok-pass_parts.ensures.credit None ∙ ap (min (c.args.at.now.credit + c.args.docs)) (sym (c.requires.count None))
 
 pub returns-then-at-count-clause-taken : goal.returns-then-at-count-clause-taken
-returns-then-at-count-clause-taken g c = λ backed cached most h.
+returns-then-at-count-clause-taken g c = λ backed cached known most h.
     let told = g.T.Store.files c.args.store.now in
     let parts = c.args.parts.now in
     IsHeld-on c.args.rule.now.kind (map (λ b. (goal.BeliefNode-dyn g (b.vtable, b.value)).meaning b.value) c.args.plugs.now) (map filter_tree c.args.filters.now) (network_tree c.args.network.now) (passed told parts c.args.at.now) (passed told parts c.pass_parts.new.at) most
-    c.args.held.now c.in-Open.first c.pass_parts.new.first c.in-Open.is (c.in_ok-pass_parts.ensures.first backed cached) h
+    c.args.held.now c.in-Open.first c.pass_parts.new.first c.in-Open.is (c.in_ok-pass_parts.ensures.first backed cached known) h
 
 pub returns-clause-taken : goal.returns-clause-taken
-returns-clause-taken g c = λ backed cached most h.
+returns-clause-taken g c = λ backed cached known most h.
     let told = g.T.Store.files c.args.store.now in
     let parts = c.args.parts.now in
     let kind = c.args.rule.now.kind in
@@ -39,4 +39,4 @@ returns-clause-taken g c = λ backed cached most h.
     let network = network_tree c.args.network.now in
     c.in_ok-end.ensures.held kind priors filters network (passed told parts c.pass_parts.new.at) most
     (IsHeld-on kind priors filters network (passed told parts c.args.at.now) (passed told parts c.pass_parts.new.at) most
-    c.args.held.now c.in-Open.first c.pass_parts.new.first c.in-Open.is (c.in_ok-pass_parts.ensures.first backed cached) h)
+    c.args.held.now c.in-Open.first c.pass_parts.new.first c.in-Open.is (c.in_ok-pass_parts.ensures.first backed cached known) h)

@@ -1,8 +1,10 @@
-use Rattle.std.proofs.Common.{map, take, refl, ◌∙◌, arith}
+use Rattle.std.proofs.Common.{map, take, refl, sym, ◌∙◌, arith}
 use Rattle.ri_base.specs.Query.{filter_tree}
 use Rattle.belief_nodes.specs.Network.{network_tree}
 use Rattle.disk_index.specs.Snapshots.{unmarked}
 use Rattle.extent_lists.proofs.KeepsLemmas.{Keeps-then}
+use Rattle.ranker.specs.Passed.{IsAhead}
+use Rattle.ranker.proofs.AheadLemmas.{IsAhead-read}
 use Rattle.ranker.proofs.PassedLemmas.{Advances-read, Advances-same, Advances-then}
 use Rattle.ranker.proofs.parts.pass_part.Goals as goal
 
@@ -10,7 +12,8 @@ pub loop-at-init : goal.loop-at-init
 loop-at-init g c = record {
   keeps = record { documents_stay = refl; no_fault_lost = omega arith; sound_stays = λ u. u; stays_quiet = g.met.P.Postings.quiet_same _ };
   stay = refl;
-  so_far = λ sound. Advances-same _ _ _ _ _ _;
+  so_far = λ sound known. Advances-same _ _ _ _ _ _;
+  ahead = λ sound known. known;
   ids = omega arith;
   inside = omega (arith, c.requires.id, c.docs-size.ensures);
   few = omega arith;
@@ -29,13 +32,16 @@ loop-at-preserved g c =
     let to = c.in_ok-to.to in
     let keeps = c.loop-at.invariant.keeps in
     let passed = c.in_ok-to.ensures.passed in
+    let here : g.P.Postings.sound c.args.part.now → IsAhead filters network.leaves docs c.args.id c.args.ahead → IsAhead filters network.leaves read at c.loop-at.known =
+    λ sound known. IsAhead-read filters network.leaves docs read at c.loop-at.known (sym keeps.documents_stay) (c.loop-at.invariant.ahead sound known) in
     record {
-      keeps = Keeps-then _ _ _ _ g.met.P.Postings.quiet_then _ _ _ keeps c.pass_range.ensures.keeps;
-      stay = c.pass_range.ensures.stay ∙ c.loop-at.invariant.stay;
-      so_far = λ sound.
-          Advances-then kind priors filters network (unmarked (take c.args.id docs) marks) (unmarked (take at docs) marks) (unmarked (take to.id docs) marks) c.args.first.now c.loop-at.first c.pass_range.new.first
-          (c.loop-at.invariant.so_far sound)
-          (Advances-read kind _ priors filters network read docs marks at to.id c.loop-at.first c.pass_range.new.first c.loop-at.invariant.stay keeps.documents_stay (c.in_ok-to.ensures.first (keeps.sound_stays sound)));
+      keeps = Keeps-then _ _ _ _ g.met.P.Postings.quiet_then _ _ _ keeps c.pass_on.ensures.keeps;
+      stay = c.pass_on.ensures.stay ∙ c.loop-at.invariant.stay;
+      so_far = λ sound known.
+          Advances-then kind priors filters network (unmarked (take c.args.id docs) marks) (unmarked (take at docs) marks) (unmarked (take to.id docs) marks) c.args.first.now c.loop-at.first c.pass_on.new.first
+          (c.loop-at.invariant.so_far sound known)
+          (Advances-read kind _ priors filters network read docs marks at to.id c.loop-at.first c.pass_on.new.first c.loop-at.invariant.stay keeps.documents_stay (c.in_ok-to.ensures.first (keeps.sound_stays sound) (here sound known)));
+      ahead = λ sound known. IsAhead-read filters network.leaves read docs to.id to.ahead keeps.documents_stay (c.in_ok-to.ensures.ahead (keeps.sound_stays sound) (here sound known));
       ids = omega (arith, c.loop-at.invariant.ids, passed.docs);
       inside = omega (arith, passed.inside, c.requires.marks, c.docs-size.ensures);
       few = omega (arith, c.loop-at.invariant.few, passed.few);

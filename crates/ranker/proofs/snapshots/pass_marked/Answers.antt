@@ -1,4 +1,4 @@
-use Rattle.std.proofs.Common.{◌≡◌, Bool, IfOk, List, Option, length, map, take, ap, subst, ◌∙◌, arith}
+use Rattle.std.proofs.Common.{◌≡◌, Bool, IfOk, List, Option, length, map, take, ap, subst, sym, ◌∙◌, arith}
 use Rattle.ri_base.specs.Documents.{Document}
 use Rattle.ri_base.specs.Query.{filter_tree}
 use Rattle.store_ends.specs.Files.{Files}
@@ -7,7 +7,9 @@ use Rattle.disk_index.specs.Parts.{reads, size, source_of}
 use Rattle.disk_index.specs.Snapshots.{unmarked}
 use Rattle.disk_index.proofs.RebuiltLemmas.{reads-length}
 use Rattle.ranker.specs.First.{Advances}
+use Rattle.ranker.specs.Passed.{IsAhead}
 use Rattle.ranker.specs.declared.place.Passed.{Passed}
+use Rattle.ranker.proofs.AheadLemmas.{IsAhead-read}
 use Rattle.ranker.proofs.ReadingLemmas.{sound-of}
 use Rattle.ranker.proofs.snapshots.pass_marked.Goals as goal
 
@@ -29,7 +31,7 @@ returns-clause-honest g c = λ part cached.
     (ap g.T.Store.files c.new-reader.ensures.store) (ap source_of c.new-reader.ensures.part ∙ c.part.ensures.part) c.new-reader.ensures.cache part cached)
 
 pub returns-clause-first : goal.returns-clause-first
-returns-clause-first g c = λ part cached.
+returns-clause-first g c = λ part cached known.
     let told = g.T.Store.files c.args.store.now in
     let here = g.T.Store.files c.new-reader.result.store.now in
     let m = c.args.marked.now in
@@ -44,4 +46,19 @@ returns-clause-first g c = λ part cached.
     let there = sound-of told here m.source own c.args.cache.now c.new-reader.result.cache.now same_told same_part c.new-reader.ensures.cache part cached in
     subst (λ (ds : List Document). IfOk c.pass_part.result (λ (to : Passed). Advances kind priors filters network (unmarked (take c.args.id ds) m.marks) (unmarked (take to.id ds) m.marks) c.args.first.now c.pass_part.new.first)) docs
     (subst (λ (ms : List Bool). IfOk c.pass_part.result (λ (to : Passed). Advances kind priors filters network (unmarked (take c.args.id (reads here own)) ms) (unmarked (take to.id (reads here own)) ms) c.args.first.now c.pass_part.new.first)) c.marks.ensures.marks
-    (c.pass_part.ensures.first there))
+    (c.pass_part.ensures.first there (IsAhead-read filters network.leaves (reads told m.source) (reads here own) c.args.id c.args.ahead (sym docs) known)))
+
+pub returns-clause-ahead : goal.returns-clause-ahead
+returns-clause-ahead g c = λ part cached known.
+    let told = g.T.Store.files c.args.store.now in
+    let here = g.T.Store.files c.new-reader.result.store.now in
+    let m = c.args.marked.now in
+    let own = source_of c.new-reader.result.part.now in
+    let filters = map filter_tree c.args.filters.now in
+    let leaves = (network_tree c.args.network.now).leaves in
+    let same_told : here ≡ told = ap g.T.Store.files c.new-reader.ensures.store in
+    let same_part : own ≡ m.source = ap source_of c.new-reader.ensures.part ∙ c.part.ensures.part in
+    let docs : reads here own ≡ reads told m.source = ap (λ (t : Option Files). reads t own) same_told ∙ ap (reads told) same_part in
+    let there = sound-of told here m.source own c.args.cache.now c.new-reader.result.cache.now same_told same_part c.new-reader.ensures.cache part cached in
+    subst (λ (ds : List Document). IfOk c.pass_part.result (λ (to : Passed). IsAhead filters leaves ds to.id to.ahead)) docs
+    (c.pass_part.ensures.ahead there (IsAhead-read filters leaves (reads told m.source) (reads here own) c.args.id c.args.ahead (sym docs) known))

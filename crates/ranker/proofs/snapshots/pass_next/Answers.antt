@@ -3,12 +3,12 @@ use Rattle.std.proofs.lemmas.List.Elements.{All-contains, Contains-get_or}
 use Rattle.std.proofs.lemmas.Result.{err_from_is_err_and}
 use Rattle.ri_base.specs.Query.{filter_tree}
 use Rattle.belief_nodes.specs.Network.{network_tree}
-use Rattle.disk_index.specs.Parts.{IsPartBacked, size}
+use Rattle.disk_index.specs.Parts.{IsPartBacked, reads, size}
 use Rattle.disk_index.specs.Snapshots.{Marked}
 use Rattle.ranker.specs.First.{Advances}
-use Rattle.ranker.specs.Passed.{IsPlace, behind, passed}
+use Rattle.ranker.specs.Passed.{IsAhead, IsAheadAt, IsPlace, behind, passed}
 use Rattle.ranker.specs.declared.place.Place.{Place}
-use Rattle.ranker.proofs.PlaceLemmas.{Advances-place, IsPlace-behind, blocks-among, credit-behind, credit-few, part-behind, part-is}
+use Rattle.ranker.proofs.PlaceLemmas.{Advances-place, IsAheadAt-behind, IsPlace-behind, blocks-among, credit-behind, credit-few, part-behind, part-is}
 use Rattle.ranker.proofs.snapshots.pass_next.Goals as goal
 
 pub pass_marked-requires-clause-id : goal.pass_marked-requires-clause-id
@@ -28,7 +28,7 @@ place_behind-requires-clause-credit g c =
     omega (arith, few, credit-behind at to c.args.most)
 
 pub returns-clause-first : goal.returns-clause-first
-returns-clause-first g c = λ backed cached.
+returns-clause-first g c = λ backed cached known.
     let told = g.T.Store.files c.args.store.now in
     let parts = c.args.parts.now in
     let at = c.args.at.now in
@@ -42,7 +42,24 @@ returns-clause-first g c = λ backed cached.
     let filters = map filter_tree c.args.filters.now in
     let network = network_tree c.args.network.now in
     subst (λ (p : Place). Advances kind priors filters network (passed told parts at) (passed told parts p) c.args.first.now c.pass_marked.new.first) (sym c.place_behind.ensures)
-    (Advances-place parts at to c.args.most kind priors filters network told c.args.first.now c.pass_marked.new.first m is c.requires.some c.in_ok-to.ensures.end (c.in_ok-to.ensures.first own cached))
+    (Advances-place parts at to c.args.most kind priors filters network told c.args.first.now c.pass_marked.new.first m is c.requires.some c.in_ok-to.ensures.end
+    (c.in_ok-to.ensures.first own cached (subst (λ (p : Marked). IsAhead filters network.leaves (reads told p.source) at.id at.ahead) is known)))
+
+pub returns-clause-ahead : goal.returns-clause-ahead
+returns-clause-ahead g c = λ backed cached known.
+    let told = g.T.Store.files c.args.store.now in
+    let parts = c.args.parts.now in
+    let at = c.args.at.now in
+    let to = c.in_ok-to.to in
+    let m = c.index-parts-at.result in
+    let filters = map filter_tree c.args.filters.now in
+    let leaves = (network_tree c.args.network.now).leaves in
+    let is = part-is parts at.part m c.requires.some c.index-parts-at.is in
+    let there : Contains parts m = subst (Contains parts) (sym c.index-parts-at.is) (Contains-get_or parts at.part m c.requires.some) in
+    let own : IsPartBacked told m.source = All-contains (λ (p : Marked). IsPartBacked told p.source) parts m backed there in
+    subst (λ (p : Place). IsAheadAt filters leaves told parts p) (sym c.place_behind.ensures)
+    (IsAheadAt-behind filters leaves told parts at to c.args.most m is
+    (c.in_ok-to.ensures.ahead own cached (subst (λ (p : Marked). IsAhead filters leaves (reads told p.source) at.id at.ahead) is known)))
 
 pub returns-clause-place : goal.returns-clause-place
 returns-clause-place g c =

@@ -8,13 +8,14 @@ use Rattle.disk_index.specs.QuietLaws.{CacheKeeps-after, CacheKeeps-same, IsCach
 use Rattle.disk_index.specs.Snapshots.{AreBacked, IsFileAmong}
 use Rattle.ranker.specs.Passed.{passed}
 use Rattle.ranker.proofs.PassedLemmas.{Advances-same, Advances-then}
-use Rattle.ranker.proofs.PlaceLemmas.{Advances-later, credit-min}
+use Rattle.ranker.proofs.PlaceLemmas.{Advances-later, IsAheadAt-later, credit-min}
 use Rattle.ranker.proofs.snapshots.pass_parts.Goals as goal
 
 pub loop-left-init : goal.loop-left-init
 loop-left-init g c = record {
   stay = refl;
-  so_far = λ backed cached. Advances-same _ _ _ _ _ _;
+  so_far = λ backed cached known. Advances-same _ _ _ _ _ _;
+  ahead = λ backed cached known. known;
   place = c.requires.place;
   credit = refl;
   cache = CacheKeeps-same (g.T.Store.files c.args.store.now) (IsFileAmong c.args.parts.now) c.args.cache.now;
@@ -36,12 +37,19 @@ loop-left-preserved g c =
     let docs = c.in_ok-passed.ensures.docs in
     record {
       stay = c.pass_next.ensures.stay ∙ inv.stay;
-      so_far = λ backed cached.
+      so_far = λ backed cached known.
           let there : AreBacked here parts = subst (λ (f : Option Files). AreBacked f parts) (sym same) backed in
           let blocks : IsCacheBacked here c.loop-left.cache =
           subst (λ (f : Option Files). IsCacheBacked f c.loop-left.cache) (sym same) (IsCacheBacked-kept told (IsFileAmong parts) c.args.cache.now c.loop-left.cache inv.cache cached) in
-          Advances-then kind priors filters network (passed told parts c.args.at.now) (passed told parts c.loop-left.at) (passed told parts c.pass_next.new.at) c.args.first.now c.loop-left.first c.pass_next.new.first (inv.so_far backed cached)
-          (Advances-later kind _ priors filters network here told parts c.loop-left.at c.pass_next.new.at c.loop-left.first c.pass_next.new.first inv.stay same (c.in_ok-passed.ensures.first there blocks));
+          Advances-then kind priors filters network (passed told parts c.args.at.now) (passed told parts c.loop-left.at) (passed told parts c.pass_next.new.at) c.args.first.now c.loop-left.first c.pass_next.new.first (inv.so_far backed cached known)
+          (Advances-later kind _ priors filters network here told parts c.loop-left.at c.pass_next.new.at c.loop-left.first c.pass_next.new.first inv.stay same
+          (c.in_ok-passed.ensures.first there blocks (IsAheadAt-later filters network.leaves told here parts c.loop-left.at (sym same) (inv.ahead backed cached known))));
+      ahead = λ backed cached known.
+          let there : AreBacked here parts = subst (λ (f : Option Files). AreBacked f parts) (sym same) backed in
+          let blocks : IsCacheBacked here c.loop-left.cache =
+          subst (λ (f : Option Files). IsCacheBacked f c.loop-left.cache) (sym same) (IsCacheBacked-kept told (IsFileAmong parts) c.args.cache.now c.loop-left.cache inv.cache cached) in
+          IsAheadAt-later filters network.leaves here told parts c.pass_next.new.at same
+          (c.in_ok-passed.ensures.ahead there blocks (IsAheadAt-later filters network.leaves told here parts c.loop-left.at (sym same) (inv.ahead backed cached known)));
       place = c.pass_next.ensures.place;
       credit = omega (arith, docs, inv.credit);
       cache = CacheKeeps-after told here (IsFileAmong parts) c.args.cache.now c.loop-left.cache c.pass_next.new.cache same inv.cache c.pass_next.ensures.cache;

@@ -5,14 +5,18 @@ use Rattle.belief_nodes.specs.Network.{network_tree}
 use Rattle.disk_index.specs.Cache.{CacheKeeps, IsCacheBacked}
 use Rattle.disk_index.specs.Snapshots.{AreBacked, IsFileAmong}
 use Rattle.ranker.specs.First.{Advances}
-use Rattle.ranker.specs.Passed.{IsPlace, passed}
+use Rattle.ranker.specs.Passed.{IsAheadAt, IsPlace, passed}
 use Rattle.ranker.proofs.snapshots.pass_parts.Given as goal
 
 abbrev pub invariant-loop-left : goal.invariant-loop-left
 invariant-loop-left g l = record {
   stay : map (λ b. (goal.BeliefNode-dyn g (b.vtable, b.value)).meaning b.value) l.plugs ≡ map (λ b. (goal.BeliefNode-dyn g (b.vtable, b.value)).meaning b.value) l.fn.plugs;
   so_far : AreBacked (g.T.Store.files l.fn.store) l.parts → IsCacheBacked (g.T.Store.files l.fn.store) l.fn.cache
+      → IsAheadAt (map filter_tree l.filters) (network_tree l.network).leaves (g.T.Store.files l.fn.store) l.parts l.fn.at
       → Advances l.rule.kind (map (λ b. (goal.BeliefNode-dyn g (b.vtable, b.value)).meaning b.value) l.fn.plugs) (map filter_tree l.filters) (network_tree l.network) (passed (g.T.Store.files l.fn.store) l.parts l.fn.at) (passed (g.T.Store.files l.fn.store) l.parts l.at) l.fn.first l.first;
+  ahead : AreBacked (g.T.Store.files l.fn.store) l.parts → IsCacheBacked (g.T.Store.files l.fn.store) l.fn.cache
+      → IsAheadAt (map filter_tree l.filters) (network_tree l.network).leaves (g.T.Store.files l.fn.store) l.parts l.fn.at
+      → IsAheadAt (map filter_tree l.filters) (network_tree l.network).leaves (g.T.Store.files l.fn.store) l.parts l.at;
   place : IsPlace l.parts l.at;
   credit : l.at.credit + l.left ≡ l.fn.at.credit + l.docs;
   cache : CacheKeeps (g.T.Store.files l.fn.store) (IsFileAmong l.parts) l.fn.cache l.cache;

@@ -19,4 +19,4 @@ returns-in-Ended-clause-answer c = λ kind priors told h.
     let s = c.args.self.now in
     let few : s.at.credit ≤ length (searched told s) = credit-le told s.snapshot s.at s.place in
     let all : s.at.credit ≡ length (searched told s) = ended-credit s.held c.in-Ended.hits s.at.credit (length (searched told s)) c.in-Ended.is (s.open c.requires.usable told) few in
-    IsHeld-answer kind priors (filters_of s) (network_tree s.network) (passed told s.snapshot s.at) (searched told s) s.most s.held c.in-Ended.hits c.in-Ended.is (passed-all told s.snapshot s.at (sym (s.place.credit told) ∙ all)) h
+    IsHeld-answer kind priors (filters_of s) (network_tree s.network) (passed told s.snapshot s.at) (searched told s) s.most s.held c.in-Ended.hits c.in-Ended.is (passed-all told s.snapshot s.at (sym (s.place.credit told) ∙ all)) h.held

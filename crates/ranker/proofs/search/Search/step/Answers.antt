@@ -11,4 +11,7 @@ pub returns-clause-same : goal.returns-clause-same
 returns-clause-same g c = record { snapshot = refl; checked = refl; network = refl; most = refl }
 
 pub returns-clause-taken : goal.returns-clause-taken
-returns-clause-taken g c = λ backed cached h. (rw c.deref.ensures.value at (rw c.parts.ensures.parts at c.in_ok-advance.ensures.taken)) backed cached c.args.self.now.most h
+returns-clause-taken g c = λ backed cached h. record {
+  held = (rw c.deref.ensures.value at (rw c.parts.ensures.parts at c.in_ok-advance.ensures.taken)) backed cached h.ahead c.args.self.now.most h.held;
+  ahead = (rw c.deref.ensures.value at (rw c.parts.ensures.parts at c.in_ok-advance.ensures.ahead)) backed cached h.ahead;
+}

@@ -42,6 +42,7 @@ pub fn create<T: Store>(alloc: Global, store: &mut T) -> Result<bool, SegFault>
 
     // A stop leaves the files as they were, or with the manifest that lists nothing.
     ensures stops { Leaves (T.since store.old) (T.since store.new) (OldOrNew manifest_name (Some (manifest_text empty_manifest)) (T.files store.old)) }
+    ensures changed { OldOrNew manifest_name (Some (manifest_text empty_manifest)) (T.files store.old) (T.files store.new) }
 
     // Files with that manifest stand for a collection in which nothing is, within any limits.
     ensures stands { (f : Files) (limits : Limits) → T.files store.old ≡ Some f → IfOk result (λ made. IsTrue made → Stands limits (T.files store.new) empty_collection) }

@@ -5,6 +5,7 @@ ghost use Rattle.std.specs.Str.{bytes_eq};
 ghost use Rattle.ri_base.specs.Documents.{Document};
 ghost use Rattle.ri_base.specs.Faults.{IsOutside};
 ghost use Rattle.ri_base.specs.Keeps.{Rose};
+ghost use Rattle.ri_base.specs.declared.limits.TheConstants.{MAX_PRIORS};
 ghost use Rattle.store_ends.specs.Files.{Files, GoesOn, IsQuiet};
 ghost use Rattle.manifest.specs.Entries.{length_name, with_numbers};
 ghost use Rattle.manifest.specs.Fits.{IsManifest};
@@ -226,7 +227,8 @@ impl Repository {
 
     /// Its priors, in the order of the manifest.
     pub fn priors(&self) -> &[PriorEntry]
-        ensures { result.now ≡ self.now.priors }
+        ensures list { result.now ≡ self.now.priors }
+        ensures few { self.now.usable ≡ true → length self.now.priors ≤ MAX_PRIORS }
     {
         &self.priors
     }

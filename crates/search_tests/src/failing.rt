@@ -29,10 +29,12 @@ const CALLS: u64 = 12;
 
 fn failing_at(alloc: Global, call: u64) -> Option<Vec<StoreFail>> {
     let mut fails = Vec::new(alloc);
-    fails.push(StoreFail {
-        call,
-        left: Left::Old,
-    }).ok()?;
+    fails
+        .push(StoreFail {
+            call,
+            left: Left::Old,
+        })
+        .ok()?;
     Some(fails)
 }
 

@@ -1,9 +1,7 @@
 // Parts of these documents, with a mark for each dead one.
 use crate::documents::{bytes_of, is_dead, sealed};
 use deletion_list::DelList;
-use disk_index::{
-    BlockCache, DiskIndex, MarkedPart, Part, Snapshot, fits_snapshot, segment_name,
-};
+use disk_index::{BlockCache, DiskIndex, MarkedPart, Part, Snapshot, fits_snapshot, segment_name};
 use ri_base::Sealed;
 use std::alloc::{AllocError, Global};
 use std::num::NonZeroUsize;
@@ -42,7 +40,9 @@ fn store_of(alloc: Global, pieces: &[Piece], fails: Vec<StoreFail>) -> Option<Me
     let mut files = Vec::new(alloc);
     for number in 0..pieces.len() {
         if pieces[number].is_on_disk {
-            files.push(file_of(alloc, number as u64, pieces[number])?).ok()?;
+            files
+                .push(file_of(alloc, number as u64, pieces[number])?)
+                .ok()?;
         }
     }
     Some(MemStore::new(alloc, files, fails))

@@ -1,14 +1,14 @@
 -- The lists of a manifest where a prior is set.
-use Rattle.std.proofs.Common.{◌≡◌, ◌≤◌, ◌<◌, ◌+◌, ◌^◌, ◌&&◌, ◌||◌, not, ℕ, suc, cond, Bool, true, false, List, [], ◌∷◌, ◌++◌, Option, None, Some, length, map, nat_le, refl, sym, ap, subst, ◌∙◌, arith}
+use Rattle.std.proofs.Common.{◌≡◌, ◌≤◌, ◌<◌, ◌+◌, ◌^◌, ◌&&◌, ◌||◌, not, ℕ, suc, cond, Bool, true, false, List, [], ◌∷◌, ◌++◌, Option, None, Some, length, nat_le, refl, sym, ap, subst, ◌∙◌, arith}
 use Rattle.std.specs.Bool.{nat_eq}
 use Rattle.std.specs.Cmp.Lexicographic.{pointwise}
 use Rattle.std.specs.List.{All, list_any}
-use Rattle.std.proofs.lemmas.Bool.{and_parts, le-leb, leb-true, leb-false}
+use Rattle.std.proofs.lemmas.Bool.{and_parts, le-leb, leb-false}
 use Rattle.std.proofs.lemmas.List.Folds.{list_any-append}
-use Rattle.ri_base.specs.Text.{is_name, is_name_byte, starts_with_letter}
+use Rattle.ri_base.specs.Text.{is_name, starts_with_letter}
 use Rattle.ri_base.specs.declared.limits.TheConstants.{MAX_PRIORS}
 use Rattle.ri_base.specs.declared.text.TheConstants.{NAME_BYTES}
-use Rattle.manifest.specs.Entries.{is_prior_name, length_name, with_numbers}
+use Rattle.manifest.specs.Entries.{length_name, with_numbers}
 use Rattle.manifest.specs.Files.{numbers_of}
 use Rattle.manifest.specs.Fits.{FitsName}
 use Rattle.manifest.specs.Listing.{AreNamed, AreNumbered, AreRising, IsListing, all_numbers, listing, prior_numbers}

@@ -1,6 +1,6 @@
 -- A number is put among others that rise.
-use Rattle.std.proofs.Common.{◌≡◌, ◌≤◌, ◌<◌, ◌+◌, ℕ, suc, cond, Bool, true, false, not, List, [], ◌∷◌, Option, None, Some, length, nat_le, refl, ap, ◌∙◌, arith}
-use Rattle.std.specs.List.{insert, position, position_or_len}
+use Rattle.std.proofs.Common.{◌≡◌, ◌≤◌, ◌<◌, ◌+◌, ℕ, suc, cond, Bool, true, false, not, List, [], ◌∷◌, None, Some, length, nat_le, refl, ap, ◌∙◌, arith}
+use Rattle.std.specs.List.{insert, position}
 use Rattle.std.proofs.Math.Dec.{ltb}
 use Rattle.std.proofs.lemmas.Bool.{leb-false, leb-true, ltb-false}
 use Rattle.std.proofs.lemmas.Grind.{common_steps}

@@ -1,5 +1,5 @@
 -- Whether a part is being filled.
-use Rattle.std.proofs.Common.{◌≡◌, Bool, false, List, [], ◌∷◌, length, nat_lt, refl, ap, ◌∙◌, arith}
+use Rattle.std.proofs.Common.{◌≡◌, false, List, [], ◌∷◌, length, nat_lt, refl, ap, arith}
 use Rattle.std.proofs.lemmas.Bool.{ltb-false}
 use Rattle.ri_base.specs.Documents.{Document}
 

@@ -1,4 +1,4 @@
-use Rattle.std.proofs.Common.{◌≡◌, ◌∙◌, sym}
+use Rattle.std.proofs.Common.{◌∙◌, sym}
 use Rattle.repository.proofs.StaleLemmas.{place-none, place-some}
 use Rattle.repository.proofs.stale.place_among.Goals as goal
 

@@ -11,9 +11,9 @@ abbrev pub invariant-loop-at : goal.invariant-loop-at
 invariant-loop-at g l = record {
   keeps : Keeps g.P.Postings.documents g.P.Postings.faults g.P.Postings.sound g.P.Postings.quiet l.fn.part l.part;
   stay : map (λ b. (goal.BeliefNode-dyn g (b.vtable, b.value)).meaning b.value) l.plugs ≡ map (λ b. (goal.BeliefNode-dyn g (b.vtable, b.value)).meaning b.value) l.fn.plugs;
-  so_far : g.P.Postings.sound l.fn.part → IsAhead (map filter_tree l.filters) (network_tree l.network).leaves (g.P.Postings.documents l.fn.part) l.id l.ahead
+  so_far : g.P.Postings.sound l.fn.part → IsAhead (map filter_tree l.filters) (network_tree l.network).leaves (g.P.Postings.documents l.fn.part) l.id l.fn.ahead
       → Advances l.rule.kind (map (λ b. (goal.BeliefNode-dyn g (b.vtable, b.value)).meaning b.value) l.fn.plugs) (map filter_tree l.filters) (network_tree l.network) (unmarked (take l.id (g.P.Postings.documents l.fn.part)) l.marks) (unmarked (take l.at (g.P.Postings.documents l.fn.part)) l.marks) l.fn.first l.first;
-  ahead : g.P.Postings.sound l.fn.part → IsAhead (map filter_tree l.filters) (network_tree l.network).leaves (g.P.Postings.documents l.fn.part) l.id l.ahead
+  ahead : g.P.Postings.sound l.fn.part → IsAhead (map filter_tree l.filters) (network_tree l.network).leaves (g.P.Postings.documents l.fn.part) l.id l.fn.ahead
       → IsAhead (map filter_tree l.filters) (network_tree l.network).leaves (g.P.Postings.documents l.fn.part) l.at l.known;
   ids : live_ids l.marks l.at ≡ live_ids l.marks l.id + l.docs;
   inside : l.at ≤ l.size;

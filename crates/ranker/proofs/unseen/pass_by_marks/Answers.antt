@@ -6,10 +6,10 @@ pub loop-at-preserved : goal.loop-at-preserved
 loop-at-preserved c =
     let next = ids-counted c.args.marks.now c.loop-at.at c.is_marked.result (omega (arith, c.loop-at-test.true, c.requires.end)) c.is_marked.ensures in
     record {
-      ids = omega (arith, c.loop-at.invariant.ids, next.0, c.from.ensures);
-      from = omega (arith, c.loop-at.invariant.from, next.1, c.from.ensures);
+      ids = omega (arith, c.loop-at.invariant.ids, next.0, c.from-docs.ensures);
+      from = omega (arith, c.loop-at.invariant.from, next.1, c.from-docs.ensures);
       inside = omega (arith, c.loop-at-test.true);
-      few = omega (arith, c.loop-at.invariant.few, c.loop-at-test.true, next.1, c.from.ensures);
+      few = omega (arith, c.loop-at.invariant.few, c.loop-at-test.true, next.1, c.from-docs.ensures);
     }
 
 pub returns-after-loop-at-clause-passed : goal.returns-after-loop-at-clause-passed

@@ -204,14 +204,16 @@ priors-replaced b c [] (p ∷ ps) others all = absurd all
 priors-replaced b c (e ∷ es) [] others all = absurd all
 priors-replaced b c (e ∷ es) (p ∷ ps) others all =
     let l = all.0 in
-    let t = SameWhere-told IsNotManifest b c l.files others l.is_told in
-    (record {
-      files = t.0;
-      is_told = t.1;
-      name = l.name;
-      file = SameWhere-at IsNotManifest b c l.files t.0 (prior_name e.number) others l.is_told t.1 (λ m. prior_name-manifest e.number (sym m)) ∙ l.file;
-      form = l.form;
-    }, priors-replaced b c es ps others all.1)
+    let t = SameWhere-told IsNotManifest b c l.files others l.is_told in (
+      record {
+        files = t.0;
+        is_told = t.1;
+        name = l.name;
+        file = SameWhere-at IsNotManifest b c l.files t.0 (prior_name e.number) others l.is_told t.1 (λ m. prior_name-manifest e.number (sym m)) ∙ l.file;
+        form = l.form;
+      },
+      priors-replaced b c es ps others all.1,
+    )
 
 -- ---- nothing is being filled
 
@@ -253,7 +255,6 @@ state_of k after stale priors = record { held = k; next = after; stale = stale; 
 module _ (a b c : Option Files) (s : State) (k : Contents) (after : ℕ) (stale others : List ℕ) (own : ℕ → Type 0) (clear : (n : ℕ) → own n → is_among n (kept_numbers s) ≡ false)
     (same : SameWhere (IsOther own) a b) (saved : AllSaved b others s.next after s.held k) (form : IsListing after (entries_for k.parts.closed) stale s.priors) (fit : AreFit k)
     (put : c ≡ option_map (with_file manifest_name (Some (listed_text k after stale s.priors))) b) where
-
   abbrev closed-now : List Marked
   closed-now = (sealed s.held.parts).closed
 

@@ -72,14 +72,16 @@ module _ (own : ℕ → Type 0) (kept : List ℕ) (clear : (n : ℕ) → own n �
     priors-same (e ∷ es) (p ∷ ps) within all =
         let w = within e.number (among-own e.number (prior_numbers es)) in
         let l = all.0 in
-        let t = SameWhere-told (IsOther own) a b l.files same l.is_told in
-        (record {
-          files = t.0;
-          is_told = t.1;
-          name = l.name;
-          file = SameWhere-at (IsOther own) a b l.files t.0 (prior_name e.number) same l.is_told t.1 (other-prior e.number w.1 w.0) ∙ l.file;
-          form = l.form;
-        }, priors-same es ps (within-tail kept e.number (prior_numbers es) within) all.1)
+        let t = SameWhere-told (IsOther own) a b l.files same l.is_told in (
+          record {
+            files = t.0;
+            is_told = t.1;
+            name = l.name;
+            file = SameWhere-at (IsOther own) a b l.files t.0 (prior_name e.number) same l.is_told t.1 (other-prior e.number w.1 w.0) ∙ l.file;
+            form = l.form;
+          },
+          priors-same es ps (within-tail kept e.number (prior_numbers es) within) all.1,
+        )
 
     pub manifest-same : (list : Manifest) → HasManifest a list → HasManifest b list
     manifest-same list has =
@@ -99,15 +101,17 @@ module _ (told : Option Files) (s : State) (backed : IsBacked told s) where
 
   pub parts-within : AreWithin (kept_numbers s) (part_numbers s.held.parts.closed)
   parts-within = λ j among.
-      let there : is_among j (numbers_of backed.list.segments) ≡ true = ap (is_among j) backed.numbers_are ∙ among in
-      (among-left j (part_numbers s.held.parts.closed) (prior_numbers s.priors) among,
-        all-small j (among-left j (numbers_of backed.list.segments) (backed.list.stale ++ prior_numbers backed.list.priors) there))
+      let there : is_among j (numbers_of backed.list.segments) ≡ true = ap (is_among j) backed.numbers_are ∙ among in (
+        among-left j (part_numbers s.held.parts.closed) (prior_numbers s.priors) among,
+        all-small j (among-left j (numbers_of backed.list.segments) (backed.list.stale ++ prior_numbers backed.list.priors) there),
+      )
 
   pub priors-within : AreWithin (kept_numbers s) (prior_numbers s.priors)
   priors-within = λ j among.
-      let there : is_among j (prior_numbers backed.list.priors) ≡ true = ap (λ (ps : List PriorEntry). is_among j (prior_numbers ps)) backed.priors_are ∙ among in
-      (among-behind j (part_numbers s.held.parts.closed) (prior_numbers s.priors) among,
-        all-small j (among-behind j (numbers_of backed.list.segments) (backed.list.stale ++ prior_numbers backed.list.priors) (among-behind j backed.list.stale (prior_numbers backed.list.priors) there)))
+      let there : is_among j (prior_numbers backed.list.priors) ≡ true = ap (λ (ps : List PriorEntry). is_among j (prior_numbers ps)) backed.priors_are ∙ among in (
+        among-behind j (part_numbers s.held.parts.closed) (prior_numbers s.priors) among,
+        all-small j (among-behind j (numbers_of backed.list.segments) (backed.list.stale ++ prior_numbers backed.list.priors) (among-behind j backed.list.stale (prior_numbers backed.list.priors) there)),
+      )
 
   -- files stand for what they stood for
   pub stands-same : (own : ℕ → Type 0) → ((n : ℕ) → own n → is_among n (kept_numbers s) ≡ false) → (limits : Limits) (c : Collection) (now : Option Files) → SameWhere (IsOther own) told now → Stands limits told c

@@ -36,6 +36,7 @@ is-mark docs low id a b = ap (λ x. x && nat_lt id docs) (le low id a) ∙ lt id
   where
     le : (m n : ℕ) → m ≤ n → nat_le m n ≡ true
     le m n h = grind (arith, nat_tests)
+
     lt : (m n : ℕ) → m < n → nat_lt m n ≡ true
     lt m n h = grind (arith, nat_tests)
 

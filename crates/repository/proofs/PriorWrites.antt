@@ -165,4 +165,4 @@ pub writes-set : {S : Type 0} (files : S → Option Files) (since : S → ℕ �
 writes-set files since s name n t prior_fits stored fit form x y put same first z bytes text changed second =
     writes-listed files since s (λ d. with_prior d name t) x y same first z bytes changed second
     (λ d f backed read is.
-      set-stands (files x) (files y) (Some f) s name n t prior_fits stored fit put same form (is ∙ ap (λ (b : List ℕ). option_map (with_file manifest_name (Some b)) (files y)) text) backed d read)
+    set-stands (files x) (files y) (Some f) s name n t prior_fits stored fit put same form (is ∙ ap (λ (b : List ℕ). option_map (with_file manifest_name (Some b)) (files y)) text) backed d read)

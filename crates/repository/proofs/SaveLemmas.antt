@@ -198,13 +198,14 @@ saves-one b c s t h k i n kept docs within at is number part some small below ri
       there = λ others a.
           let apart : is_among kept.number (part_numbers h.parts.closed ++ others) ≡ false =
           free-of (is_among kept.number (part_numbers h.parts.closed ++ others)) (λ e. clash (is_among n s.numbers) (ap (λ (m : ℕ). is_among m s.numbers) (sym number) ∙ a.1 kept.number e) free) in
-          subst (λ (ms : List Marked). AreThere t (part_numbers ms ++ others)) (sym closed)
-          ((numbered-moved t.next kept h.parts.closed i docs others within (omega (arith, number, some)) (omega (arith, number, below)) at
-            (none-of kept.number (part_numbers h.parts.closed ++ others) apart) (numbered-higher s.next t.next (part_numbers h.parts.closed ++ others) rises a.0)),
+          subst (λ (ms : List Marked). AreThere t (part_numbers ms ++ others)) (sym closed) (
+            (numbered-moved t.next kept h.parts.closed i docs others within (omega (arith, number, some)) (omega (arith, number, below)) at
+                (none-of kept.number (part_numbers h.parts.closed ++ others) apart) (numbered-higher s.next t.next (part_numbers h.parts.closed ++ others) rises a.0)),
             (λ m e. elim (among-moved kept docs h.parts.closed i others m e) [
               | inl same ↦ ap (λ (j : ℕ). is_among j t.numbers) same ∙ among
               | inr old ↦ more m (a.1 m old)
-            ]));
+            ]),
+          );
     }
 
 -- a part that was looked at, and found in memory

@@ -49,7 +49,9 @@ pub fn read_rows<T: Store>(
 fn place_of(priors: &[PriorEntry], name: &[u8]) -> Option<usize>
     ensures { result ≡ position (λ e. is_same name.now e.name) priors.now }
 {
-    priors.iter().position(|entry| name == entry.name.as_bytes())
+    priors
+        .iter()
+        .position(|entry| name == entry.name.as_bytes())
 }
 
 /// Whether a prior has this name.

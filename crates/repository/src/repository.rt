@@ -294,18 +294,18 @@ impl Repository {
         ensures later { T.faults store.old ≤ T.faults store.new }
         ensures store { result ≡ Err SegFault.Store → Rose (T.faults store.old) (T.faults store.new) }
     {
-        if self.is_full(&name) {
+        if !self.has_room_for(&name) {
             return Ok(false);
         }
         self.replace_prior(alloc, store, name, rows)?;
         Ok(true)
     }
 
-    /// Whether the name is new and there are as many priors as there may be.
-    fn is_full(&self, name: &Name) -> bool
-        ensures { result ≡ is_full self.now.priors name.now }
+    /// Whether there is room for a prior of this name: one has the name, or there are fewer priors than there may be.
+    pub fn has_room_for(&self, name: &Name) -> bool
+        ensures { result ≡ not (is_full self.now.priors name.now) }
     {
-        is_full(&self.priors, name)
+        !is_full(&self.priors, name)
     }
 
     /// The same where there is room for the prior.

@@ -140,9 +140,11 @@ returns-clause-set g c =
       parts_are = refl;
       stale_are = c.in_ok-list_prior.ensures.stale ∙ ap (λ (x : State). with_old x.stale (number_named x.priors c.args.name)) c.self.view_is;
       priors_are = c.in_ok-list_prior.ensures.priors ∙ ap (λ (x : State). with_entry x.priors c.args.name n) c.self.view_is;
-    } in
-    (n, new-number s k n takes c.in_ok-number.ensures.new,
-      state-is s c.args.name n c.next-after.result s.held.parts.closed c.list_prior.new.stale.items c.list_prior.new.priors.items is c.self.inside.held (ap (λ (x : State). x.held) c.self.view_is))
+    } in (
+      n,
+      new-number s k n takes c.in_ok-number.ensures.new,
+      state-is s c.args.name n c.next-after.result s.held.parts.closed c.list_prior.new.stale.items c.list_prior.new.priors.items is c.self.inside.held (ap (λ (x : State). x.held) c.self.view_is),
+    )
 
 pub returns-clause-wrote : goal.returns-clause-wrote
 returns-clause-wrote g c =

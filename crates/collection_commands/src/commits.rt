@@ -11,6 +11,7 @@ ghost use Rattle.collection_commands.specs.Ahead.{IsAhead};
 ghost use Rattle.collection_commands.specs.Flushing.{flush_pieces};
 
 use crate::flushed::flushed_reply;
+use crate::sweeping::sweep;
 use command_pieces::CommandFault;
 use repository::Repository;
 use ri_ends::Sink;
@@ -81,8 +82,8 @@ pub fn commit<K: Sink, T: Store>(
         Ok(()) => {}
         Err(fault) => return Err(fault),
     }
-    match repository.sweep(alloc, store) {
+    match sweep(alloc, repository, store) {
         Ok(()) => Ok(()),
-        Err(fault) => Err(CommandFault::of_files(fault)),
+        Err(fault) => Err(fault),
     }
 }

@@ -8,7 +8,9 @@ mod deletion;
 mod flushed;
 mod lines;
 mod prior_command;
+mod prior_setting;
 mod rows;
+mod sweeping;
 #[cfg(test)]
 mod tests;
 

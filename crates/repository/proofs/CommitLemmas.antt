@@ -42,7 +42,7 @@ use Rattle.repository.specs.Writes.{IsBeside, IsEither, IsOther, IsSavedAs, Wrot
 use Rattle.repository.proofs.FrameLemmas.{AreWithin, has-same, parts-within, priors-same, priors-within, stands-same}
 use Rattle.repository.proofs.ListedLemmas.{IsStored, listing-now, marks-back, numbers-entries}
 use Rattle.repository.proofs.NameLemmas.{prior_name-manifest, segment_name-manifest}
-use Rattle.repository.proofs.SaveLemmas.{numbers-sealed}
+use Rattle.repository.proofs.SaveLemmas.{numbers-kept, numbers-sealed}
 use Rattle.repository.proofs.NumberLemmas.{among-behind, among-either, among-left, among-own, clash, free-of}
 
 -- ---- the manifest is replaced
@@ -444,6 +444,7 @@ pub saved-as : (b : Option Files) (s : State) (k : Contents) (after : ℕ) (stal
 saved-as b s k after stale others saved = record {
   on_disk = saved.on_disk;
   none_filling = ap (λ (x : Contents). x.parts.filling) saved.rest ∙ filling-by s.held.parts s.held.parts.filling refl;
+  listed = λ n e. numbers-kept b saved.taken (sealed s.held.parts).closed k.parts.closed saved.parts n (ap (is_among n) (numbers-sealed s.held.parts) ∙ e);
   docnos = saved.docnos;
   limits = ap (λ (x : Contents). x.limits) saved.rest;
   generation = ap (λ (x : Contents). x.generation) saved.rest;

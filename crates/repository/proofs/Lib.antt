@@ -4,6 +4,7 @@ pub mod EntryLemmas
 pub mod FirstLemmas
 pub mod FlushLemmas
 pub mod FrameLemmas
+pub mod GoingLemmas
 pub mod ListedLemmas
 pub mod ManifestLemmas
 pub mod MarkLemmas

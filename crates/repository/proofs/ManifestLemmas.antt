@@ -82,6 +82,13 @@ Leaves-created limits past mid since a b bytes no_more files text leaves =
     let started = Leaves-started limits mid since a exact in
     record { each = λ t f s. elim (started.each t f s) [ inl before ↦ inl (no_more t f before) | inr new ↦ inr new ] }
 
+-- the files behind it
+pub changed-created : (a b c : Option Files) (bytes : List ℕ) → b ≡ a → bytes ≡ manifest_text empty_manifest → OldOrNew manifest_name (Some bytes) b c
+    → OldOrNew manifest_name (Some (manifest_text empty_manifest)) a c
+changed-created a b c bytes files text changed =
+    let exact = subst (λ (l : List ℕ). OldOrNew manifest_name (Some l) b c) text changed in
+    subst (λ (o : Option Files). OldOrNew manifest_name (Some (manifest_text empty_manifest)) o c) files exact
+
 -- ---- what a store tells of the manifest
 
 pub told_there : (told : Option Files) (f : Files) (name other : List ℕ) (n : Option ℕ) → told ≡ Some f → name ≡ other → IfSome told (λ g. n ≡ option_map length (g name)) → is_some n ≡ is_some (f other)

@@ -35,7 +35,7 @@ use Rattle.repository.specs.States.{HasDocs, IsSized, numbers_in, part_numbers}
 use Rattle.repository.specs.Writes.{IsOther}
 use Rattle.repository.proofs.FrameLemmas.{other-segment}
 use Rattle.repository.proofs.ListedLemmas.{IsStored}
-use Rattle.repository.proofs.NumberLemmas.{among-either, among-kept, among-left, among-new, among-right, clash, free-of, none-of, numbered-higher, numbered-moved}
+use Rattle.repository.proofs.NumberLemmas.{among-behind, among-either, among-kept, among-left, among-new, among-right, clash, free-of, none-of, numbered-higher, numbered-moved}
 
 -- ---- files
 
@@ -239,6 +239,22 @@ first-stored told taken (suc i) (p ∷ ps) (q ∷ qs) saved first here within =
     subst (λ (n : ℕ). All IsStored (take n (q ∷ qs))) (one-more i)
     (All-cons IsStored q (take (i + 1) qs) (source-stored told taken p.source q.source saved.0.1 (All-head IsStored p (take i ps) first))
     (first-stored told taken i ps qs saved.1 (All-tail IsStored p (take i ps) first) here (omega (arith, within))))
+
+-- ---- numbers of files that are there stay
+
+numbers-stay : (told : Option Files) (taken : List ℕ) (p q : Source) → SavedSource told taken p q → (n : ℕ) → is_among n (numbers_in p) ≡ true → is_among n (numbers_in q) ≡ true
+numbers-stay told taken (InMemory docs) q saved n e = absurd (clash false e refl)
+numbers-stay told taken (OnDisk k) (InMemory docs) saved n e = absurd saved
+numbers-stay told taken (OnDisk k) (OnDisk j) saved n e = subst (λ (x : Kept). is_among n (x.number ∷ []) ≡ true) (sym saved) e
+
+pub numbers-kept : (told : Option Files) (taken : List ℕ) (ps qs : List Marked) → AllZip (IsSaved told taken) ps qs → (n : ℕ) → is_among n (part_numbers ps) ≡ true → is_among n (part_numbers qs) ≡ true
+numbers-kept told taken [] [] saved n e = e
+numbers-kept told taken [] (q ∷ qs) saved n e = absurd saved
+numbers-kept told taken (p ∷ ps) [] saved n e = absurd saved
+numbers-kept told taken (p ∷ ps) (q ∷ qs) saved n e = elim (among-either n (numbers_in p.source) (part_numbers ps) e) [
+  | inl own ↦ among-left n (numbers_in q.source) (part_numbers qs) (numbers-stay told taken p.source q.source saved.0.1 n own)
+  | inr rest ↦ among-behind n (numbers_in q.source) (part_numbers qs) (numbers-kept told taken ps qs saved.1 n rest)
+]
 
 -- ---- how many documents
 

@@ -1,5 +1,5 @@
 -- What a call that writes does to the files, and what they stand for while it goes on and once it is done.
-use Rattle.std.specs.Prelude.{◌≡◌, ◌≤◌, ◌<◌, ◌⊎◌, ◌^◌, ℕ, List, [], Option, Some, None}
+use Rattle.std.specs.Prelude.{◌≡◌, ◌≤◌, ◌<◌, ◌⊎◌, ◌^◌, ℕ, true, List, [], Option, Some, None}
 use Rattle.std.specs.List.{All}
 use Rattle.store_ends.specs.Files.{Files, Leaves, SameWhere}
 use Rattle.disk_index.specs.Names.{segment_name}
@@ -8,8 +8,9 @@ use Rattle.holdings.specs.Parts.{all_parts}
 use Rattle.holdings.specs.declared.limits.Limits.{Limits}
 use Rattle.repository.specs.Entries.{IsOnDisk}
 use Rattle.repository.specs.Names.{manifest_name, prior_name}
+use Rattle.repository.specs.Numbers.{is_among}
 use Rattle.repository.specs.Stands.{Collection, Stands}
-use Rattle.repository.specs.States.{IsBacked, ReadsAs, State}
+use Rattle.repository.specs.States.{IsBacked, ReadsAs, State, part_numbers}
 
 -- the name is that of no file of these numbers
 abbrev pub IsOther : (ℕ → Type 0) → List ℕ → Type 0
@@ -45,10 +46,11 @@ pub record Wrote (into : Collection → Collection) (before now : Option Files) 
   pub stands : (d : Collection) → IsBacked before s → ReadsAs before s d → Stands t.held.limits now (into d)
   pub backed : IsBacked before s → IsBacked now t
 
--- All that was held is in files that are listed; of the priors nothing changes.
+-- All that was held is in files that are listed, those of before among them; of the priors nothing changes.
 pub record IsSavedAs (s t : State) (left : List ℕ) : Type 0 where
   pub on_disk : All (λ m. IsOnDisk m.source) t.held.parts.closed
   pub none_filling : t.held.parts.filling ≡ []
+  pub listed : (n : ℕ) → is_among n (part_numbers s.held.parts.closed) ≡ true → is_among n (part_numbers t.held.parts.closed) ≡ true
   pub docnos : docnos_of (all_parts t.held.parts) ≡ docnos_of (all_parts s.held.parts)
   pub limits : t.held.limits ≡ s.held.limits
   pub generation : t.held.generation ≡ s.held.generation

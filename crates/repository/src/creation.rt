@@ -3,7 +3,7 @@ ghost use Rattle.std.specs.Prelude.{◌≡◌, ◌≤◌, Err, Some, false, is_s
 ghost use Rattle.std.specs.Option.{option_map};
 ghost use Rattle.ri_base.specs.Faults.{IsOutside};
 ghost use Rattle.ri_base.specs.Keeps.{Rose};
-ghost use Rattle.store_ends.specs.Files.{Files, IsQuiet, Leaves, OldOrNew, with_file};
+ghost use Rattle.store_ends.specs.Files.{Files, GoesOn, IsQuiet, Leaves, OldOrNew, with_file};
 ghost use Rattle.manifest.specs.Spelling.{manifest_text};
 ghost use Rattle.holdings.specs.declared.limits.Limits.{Limits};
 ghost use Rattle.repository.specs.Names.{manifest_name};
@@ -42,11 +42,13 @@ pub fn create<T: Store>(alloc: Global, store: &mut T) -> Result<bool, SegFault>
 
     // A stop leaves the files as they were, or with the manifest that lists nothing.
     ensures stops { Leaves (T.since store.old) (T.since store.new) (OldOrNew manifest_name (Some (manifest_text empty_manifest)) (T.files store.old)) }
+    ensures changed { OldOrNew manifest_name (Some (manifest_text empty_manifest)) (T.files store.old) (T.files store.new) }
 
     // Files with that manifest stand for a collection in which nothing is, within any limits.
     ensures stands { (f : Files) (limits : Limits) → T.files store.old ≡ Some f → IfOk result (λ made. IsTrue made → Stands limits (T.files store.new) empty_collection) }
     ensures started { (limits : Limits) → Leaves (T.since store.old) (T.since store.new) (IsStarted limits (T.files store.old)) }
 
+    ensures goes_on { GoesOn T.layers T.clock T.longest T.held store.old store.new }
     ensures outside { IfErr result IsOutside }
     ensures later { T.faults store.old ≤ T.faults store.new }
     ensures store { result ≡ Err SegFault.Store → Rose (T.faults store.old) (T.faults store.new) }

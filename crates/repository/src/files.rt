@@ -4,7 +4,7 @@ ghost use Rattle.std.specs.Option.{option_map};
 ghost use Rattle.ri_base.specs.Faults.{IsOutside};
 ghost use Rattle.ri_base.specs.Keeps.{Rose};
 ghost use Rattle.store_ends.specs.Causes.{HasOutCause};
-ghost use Rattle.store_ends.specs.Files.{AnyState, Files, IsQuiet, Leaves, OldOrNew, with_file};
+ghost use Rattle.store_ends.specs.Files.{AnyState, Files, GoesOn, IsQuiet, Leaves, OldOrNew, with_file};
 ghost use Rattle.disk_index.specs.Names.{segment_name};
 ghost use Rattle.repository.specs.Names.{manifest_name, prior_name};
 
@@ -88,6 +88,7 @@ pub fn replace_manifest<T: Store>(store: &mut T, manifest: &[u8]) -> Result<(), 
     ensures done { OnOk result (T.files store.new ≡ option_map (with_file manifest_name (Some manifest.now)) (T.files store.old)) }
     ensures changed { OldOrNew manifest_name (Some manifest.now) (T.files store.old) (T.files store.new) }
     ensures stops { Leaves (T.since store.old) (T.since store.new) (OldOrNew manifest_name (Some manifest.now) (T.files store.old)) }
+    ensures goes_on { GoesOn T.layers T.clock T.longest T.held store.old store.new }
     ensures outside { IfErr result IsOutside }
     ensures later { T.faults store.old ≤ T.faults store.new }
     ensures store { result ≡ Err SegFault.Store → Rose (T.faults store.old) (T.faults store.new) }
@@ -103,6 +104,7 @@ pub fn put_segment<T: Store>(store: &mut T, number: u64, bytes: &[u8]) -> Result
     ensures done { OnOk result (T.files store.new ≡ option_map (with_file (segment_name number) (Some bytes.now)) (T.files store.old)) }
     ensures changed { AnyState (segment_name number) (T.files store.old) (T.files store.new) }
     ensures stops { Leaves (T.since store.old) (T.since store.new) (AnyState (segment_name number) (T.files store.old)) }
+    ensures goes_on { GoesOn T.layers T.clock T.longest T.held store.old store.new }
     ensures outside { IfErr result IsOutside }
     ensures later { T.faults store.old ≤ T.faults store.new }
     ensures store { result ≡ Err SegFault.Store → Rose (T.faults store.old) (T.faults store.new) }
@@ -119,6 +121,7 @@ pub fn put_prior<T: Store>(store: &mut T, number: u64, bytes: &[u8]) -> Result<(
     ensures done { OnOk result (T.files store.new ≡ option_map (with_file (prior_name number) (Some bytes.now)) (T.files store.old)) }
     ensures changed { AnyState (prior_name number) (T.files store.old) (T.files store.new) }
     ensures stops { Leaves (T.since store.old) (T.since store.new) (AnyState (prior_name number) (T.files store.old)) }
+    ensures goes_on { GoesOn T.layers T.clock T.longest T.held store.old store.new }
     ensures outside { IfErr result IsOutside }
     ensures later { T.faults store.old ≤ T.faults store.new }
     ensures store { result ≡ Err SegFault.Store → Rose (T.faults store.old) (T.faults store.new) }
@@ -137,6 +140,7 @@ fn remove_file<T: Store>(store: &mut T, name: &[u8]) -> Result<(), SegFault>
     ensures done { OnOk result (T.files store.new ≡ option_map (with_file name.now None) (T.files store.old)) }
     ensures changed { OldOrNew name.now None (T.files store.old) (T.files store.new) }
     ensures stops { Leaves (T.since store.old) (T.since store.new) (OldOrNew name.now None (T.files store.old)) }
+    ensures goes_on { GoesOn T.layers T.clock T.longest T.held store.old store.new }
     ensures outside { IfErr result IsOutside }
     ensures later { T.faults store.old ≤ T.faults store.new }
     ensures store { result ≡ Err SegFault.Store → Rose (T.faults store.old) (T.faults store.new) }
@@ -152,6 +156,7 @@ pub fn remove_segment<T: Store>(store: &mut T, number: u64) -> Result<(), SegFau
     ensures done { OnOk result (T.files store.new ≡ option_map (with_file (segment_name number) None) (T.files store.old)) }
     ensures changed { OldOrNew (segment_name number) None (T.files store.old) (T.files store.new) }
     ensures stops { Leaves (T.since store.old) (T.since store.new) (OldOrNew (segment_name number) None (T.files store.old)) }
+    ensures goes_on { GoesOn T.layers T.clock T.longest T.held store.old store.new }
     ensures outside { IfErr result IsOutside }
     ensures later { T.faults store.old ≤ T.faults store.new }
     ensures store { result ≡ Err SegFault.Store → Rose (T.faults store.old) (T.faults store.new) }
@@ -165,6 +170,7 @@ pub fn remove_prior<T: Store>(store: &mut T, number: u64) -> Result<(), SegFault
     ensures done { OnOk result (T.files store.new ≡ option_map (with_file (prior_name number) None) (T.files store.old)) }
     ensures changed { OldOrNew (prior_name number) None (T.files store.old) (T.files store.new) }
     ensures stops { Leaves (T.since store.old) (T.since store.new) (OldOrNew (prior_name number) None (T.files store.old)) }
+    ensures goes_on { GoesOn T.layers T.clock T.longest T.held store.old store.new }
     ensures outside { IfErr result IsOutside }
     ensures later { T.faults store.old ≤ T.faults store.new }
     ensures store { result ≡ Err SegFault.Store → Rose (T.faults store.old) (T.faults store.new) }

@@ -4,7 +4,7 @@ ghost use Rattle.std.specs.List.{All};
 ghost use Rattle.std.specs.Option.{option_map};
 ghost use Rattle.ri_base.specs.Faults.{IsOutside};
 ghost use Rattle.ri_base.specs.Keeps.{Rose};
-ghost use Rattle.store_ends.specs.Files.{Leaves, OldOrNew, with_file};
+ghost use Rattle.store_ends.specs.Files.{GoesOn, Leaves, OldOrNew, with_file};
 ghost use Rattle.manifest.specs.Listing.{IsListing, listing};
 ghost use Rattle.manifest.specs.Spelling.{manifest_text};
 ghost use Rattle.repository.specs.Entries.{IsOnDisk, entries_for, entry_for, marked_from};
@@ -91,6 +91,7 @@ pub fn list_files<T: Store>(
     ensures changed { OldOrNew manifest_name (Some (manifest_text (listing next (entries_for parts.now) stale.now priors.now))) (T.files store.old) (T.files store.new) }
     ensures stops { Leaves (T.since store.old) (T.since store.new)
         (OldOrNew manifest_name (Some (manifest_text (listing next (entries_for parts.now) stale.now priors.now))) (T.files store.old)) }
+    ensures goes_on { GoesOn T.layers T.clock T.longest T.held store.old store.new }
     ensures outside { IfErr result IsOutside }
     ensures later { T.faults store.old ≤ T.faults store.new }
     ensures store { result ≡ Err SegFault.Store → Rose (T.faults store.old) (T.faults store.new) }

@@ -3,7 +3,7 @@ ghost use Rattle.std.specs.Prelude.{◌≡◌, ◌≤◌, ◌<◌, Some, Err, po
 ghost use Rattle.std.specs.Option.{option_map};
 ghost use Rattle.ri_base.specs.Faults.{IsOutside};
 ghost use Rattle.ri_base.specs.Keeps.{Rose};
-ghost use Rattle.store_ends.specs.Files.{Files, IsQuiet, Leaves, SameWhere, with_file};
+ghost use Rattle.store_ends.specs.Files.{Files, GoesOn, IsQuiet, Leaves, SameWhere, with_file};
 ghost use Rattle.manifest.specs.PriorFits.{IsPrior};
 ghost use Rattle.manifest.specs.Priors.{prior_text};
 ghost use Rattle.manifest.specs.declared.manifest.PriorEntry.{PriorEntry};
@@ -120,6 +120,7 @@ pub fn put_rows<T: Store>(
     ensures same { SameWhere (IsOther (IsUnlisted numbers.old.numbers)) (T.files store.old) (T.files store.new) }
     ensures stops { Leaves (T.since store.old) (T.since store.new) (SameWhere (IsOther (IsUnlisted numbers.old.numbers)) (T.files store.old)) }
     ensures form { IsPrior rows.now }
+    ensures goes_on { GoesOn T.layers T.clock T.longest T.held store.old store.new }
     ensures outside { IfErr result IsOutside }
     ensures later { T.faults store.old ≤ T.faults store.new }
     ensures store { result ≡ Err SegFault.Store → Rose (T.faults store.old) (T.faults store.new) }

@@ -2,7 +2,7 @@
 ghost use Rattle.std.specs.Prelude.{◌≡◌, ◌≤◌, ℕ, Err, true, IfErr, OnOk};
 ghost use Rattle.ri_base.specs.Faults.{IsOutside};
 ghost use Rattle.ri_base.specs.Keeps.{Rose};
-ghost use Rattle.store_ends.specs.Files.{Leaves, SameWhere};
+ghost use Rattle.store_ends.specs.Files.{GoesOn, Leaves, SameWhere};
 ghost use Rattle.repository.specs.Numbers.{is_among};
 ghost use Rattle.repository.specs.Writes.{AreGone, IsGone, IsOther};
 
@@ -16,6 +16,7 @@ fn remove_number<T: Store>(store: &mut T, number: u64) -> Result<(), SegFault>
     ensures still { OnOk result ((n : ℕ) → IsGone n (T.files store.old) → IsGone n (T.files store.new)) }
     ensures same { SameWhere (IsOther (λ n. n ≡ number)) (T.files store.old) (T.files store.new) }
     ensures stops { Leaves (T.since store.old) (T.since store.new) (SameWhere (IsOther (λ n. n ≡ number)) (T.files store.old)) }
+    ensures goes_on { GoesOn T.layers T.clock T.longest T.held store.old store.new }
     ensures outside { IfErr result IsOutside }
     ensures later { T.faults store.old ≤ T.faults store.new }
     ensures store { result ≡ Err SegFault.Store → Rose (T.faults store.old) (T.faults store.new) }
@@ -30,6 +31,7 @@ pub fn remove_files<T: Store>(store: &mut T, numbers: &[u64]) -> Result<(), SegF
     ensures gone { OnOk result (AreGone numbers.now (T.files store.new)) }
     ensures same { SameWhere (IsOther (λ n. is_among n numbers.now ≡ true)) (T.files store.old) (T.files store.new) }
     ensures stops { Leaves (T.since store.old) (T.since store.new) (SameWhere (IsOther (λ n. is_among n numbers.now ≡ true)) (T.files store.old)) }
+    ensures goes_on { GoesOn T.layers T.clock T.longest T.held store.old store.new }
     ensures outside { IfErr result IsOutside }
     ensures later { T.faults store.old ≤ T.faults store.new }
     ensures store { result ≡ Err SegFault.Store → Rose (T.faults store.old) (T.faults store.new) }

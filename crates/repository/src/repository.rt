@@ -5,7 +5,7 @@ ghost use Rattle.std.specs.Str.{bytes_eq};
 ghost use Rattle.ri_base.specs.Documents.{Document};
 ghost use Rattle.ri_base.specs.Faults.{IsOutside};
 ghost use Rattle.ri_base.specs.Keeps.{Rose};
-ghost use Rattle.store_ends.specs.Files.{Files, IsQuiet};
+ghost use Rattle.store_ends.specs.Files.{Files, GoesOn, IsQuiet};
 ghost use Rattle.manifest.specs.Entries.{length_name, with_numbers};
 ghost use Rattle.manifest.specs.Fits.{IsManifest};
 ghost use Rattle.manifest.specs.declared.manifest.PriorEntry.{PriorEntry};
@@ -152,6 +152,7 @@ impl Repository {
         ensures saved { OnOk result (IsSavedAs self.old self.new self.old.stale) }
         ensures usable { OnOk result (self.new.usable ≡ true) }
         ensures broken { OnErr result (self.new.usable ≡ false) }
+        ensures goes_on { GoesOn T.layers T.clock T.longest T.held store.old store.new }
         ensures outside { IfErr result IsOutside }
         ensures later { T.faults store.old ≤ T.faults store.new }
         ensures store { result ≡ Err SegFault.Store → Rose (T.faults store.old) (T.faults store.new) }
@@ -186,6 +187,7 @@ impl Repository {
         ensures gone { OnOk result (AreGone self.old.stale (T.files store.new)) }
         ensures usable { OnOk result (self.new.usable ≡ true) }
         ensures broken { OnErr result (self.new.usable ≡ false) }
+        ensures goes_on { GoesOn T.layers T.clock T.longest T.held store.old store.new }
         ensures outside { IfErr result IsOutside }
         ensures later { T.faults store.old ≤ T.faults store.new }
         ensures store { result ≡ Err SegFault.Store → Rose (T.faults store.old) (T.faults store.new) }
@@ -290,6 +292,7 @@ impl Repository {
         ensures writes { Writes T.files T.since (IsUnlisted (listed_numbers self.old)) (λ c. with_prior c name rows.now) self.old store.old store.new }
         ensures usable { OnOk result (self.new.usable ≡ true) }
         ensures broken { OnErr result (self.new.usable ≡ false) }
+        ensures goes_on { GoesOn T.layers T.clock T.longest T.held store.old store.new }
         ensures outside { IfErr result IsOutside }
         ensures later { T.faults store.old ≤ T.faults store.new }
         ensures store { result ≡ Err SegFault.Store → Rose (T.faults store.old) (T.faults store.new) }
@@ -324,6 +327,7 @@ impl Repository {
         ensures wrote { OnOk result (Wrote (λ c. with_prior c name rows.now) (T.files store.old) (T.files store.new) self.old self.new) }
         ensures writes { Writes T.files T.since (IsUnlisted (listed_numbers self.old)) (λ c. with_prior c name rows.now) self.old store.old store.new }
         ensures broken { OnErr result (self.new.usable ≡ false) }
+        ensures goes_on { GoesOn T.layers T.clock T.longest T.held store.old store.new }
         ensures outside { IfErr result IsOutside }
         ensures later { T.faults store.old ≤ T.faults store.new }
         ensures store { result ≡ Err SegFault.Store → Rose (T.faults store.old) (T.faults store.new) }

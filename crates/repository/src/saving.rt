@@ -6,7 +6,7 @@ ghost use Rattle.ri_base.specs.Collection.{name_count};
 ghost use Rattle.ri_base.specs.Faults.{IsOutside};
 ghost use Rattle.ri_base.specs.Keeps.{Rose};
 ghost use Rattle.ri_base.specs.declared.limits.TheConstants.{MAX_PART_DOCS, MAX_PART_NAMES};
-ghost use Rattle.store_ends.specs.Files.{AnyState, Leaves, SameWhere, with_file};
+ghost use Rattle.store_ends.specs.Files.{AnyState, GoesOn, Leaves, SameWhere, with_file};
 ghost use Rattle.manifest.specs.Listing.{AreNumbered, prior_numbers};
 ghost use Rattle.seg_codec.specs.Part.{IsPart};
 ghost use Rattle.seg_codec.specs.Segment.{segment};
@@ -43,6 +43,7 @@ fn write_segment<T: Store>(
     ensures done { OnOk result (T.files store.new ≡ option_map (with_file (segment_name number) (Some (segment sealed.now))) (T.files store.old)) }
     ensures changed { AnyState (segment_name number) (T.files store.old) (T.files store.new) }
     ensures stops { Leaves (T.since store.old) (T.since store.new) (AnyState (segment_name number) (T.files store.old)) }
+    ensures goes_on { GoesOn T.layers T.clock T.longest T.held store.old store.new }
     ensures outside { IfErr result IsOutside }
     ensures later { T.faults store.old ≤ T.faults store.new }
     ensures store { result ≡ Err SegFault.Store → Rose (T.faults store.old) (T.faults store.new) }
@@ -67,6 +68,7 @@ fn write_part<T: Store>(
     ensures on_disk { OnOk result (IsOnDisk (slice_index_or held.new.parts.closed place (filled [] [])).source) }
     ensures same { SameWhere (IsOther (IsUnlisted numbers.old.numbers)) (T.files store.old) (T.files store.new) }
     ensures stops { Leaves (T.since store.old) (T.since store.new) (SameWhere (IsOther (IsUnlisted numbers.old.numbers)) (T.files store.old)) }
+    ensures goes_on { GoesOn T.layers T.clock T.longest T.held store.old store.new }
     ensures outside { IfErr result IsOutside }
     ensures later { T.faults store.old ≤ T.faults store.new }
     ensures store { result ≡ Err SegFault.Store → Rose (T.faults store.old) (T.faults store.new) }
@@ -94,6 +96,7 @@ fn write_parts<T: Store>(
     ensures on_disk { OnOk result (All (λ m. IsOnDisk m.source) held.new.parts.closed) }
     ensures same { SameWhere (IsOther (IsUnlisted numbers.old.numbers)) (T.files store.old) (T.files store.new) }
     ensures stops { Leaves (T.since store.old) (T.since store.new) (SameWhere (IsOther (IsUnlisted numbers.old.numbers)) (T.files store.old)) }
+    ensures goes_on { GoesOn T.layers T.clock T.longest T.held store.old store.new }
     ensures outside { IfErr result IsOutside }
     ensures later { T.faults store.old ≤ T.faults store.new }
     ensures store { result ≡ Err SegFault.Store → Rose (T.faults store.old) (T.faults store.new) }
@@ -120,6 +123,7 @@ pub fn save<T: Store>(
     ensures same { SameWhere (IsOther (IsUnlisted (part_numbers held.old.parts.closed ++ (stale.now ++ prior_numbers priors.now)))) (T.files store.old) (T.files store.new) }
     ensures stops { Leaves (T.since store.old) (T.since store.new)
         (SameWhere (IsOther (IsUnlisted (part_numbers held.old.parts.closed ++ (stale.now ++ prior_numbers priors.now)))) (T.files store.old)) }
+    ensures goes_on { GoesOn T.layers T.clock T.longest T.held store.old store.new }
     ensures outside { IfErr result IsOutside }
     ensures later { T.faults store.old ≤ T.faults store.new }
     ensures store { result ≡ Err SegFault.Store → Rose (T.faults store.old) (T.faults store.new) }

@@ -1,8 +1,6 @@
 // Documents and priors that stay, in memory and in a folder.
 use crate::answers::Answer;
-use crate::contents::{
-    Content, FIRST, Kept, PRIOR_THREE, PRIOR_TWO, SECOND, are_left, store_with,
-};
+use crate::contents::{Content, FIRST, Kept, PRIOR_THREE, PRIOR_TWO, SECOND, are_left, store_with};
 use crate::deeds::{DONE, Deed, Row, Told, answers_so};
 use crate::files::has_bytes;
 use holdings::Limits;
@@ -54,10 +52,7 @@ static STEPS: [(&[Row], &[Kept]); 5] = [
         ],
     ),
     (
-        &[
-            (Deed::Sweep, DONE),
-            (Deed::Belief(0), Told::Belief(1, 3)),
-        ],
+        &[(Deed::Sweep, DONE), (Deed::Belief(0), Told::Belief(1, 3))],
         &[
             ("manifest", Content::Swept),
             (FIRST, Content::Segment),
@@ -141,10 +136,7 @@ fn in_a_folder(rt: HostRuntime) -> Result<(), Fail> {
 static RUNS: [(&[Kept], &[Row], &[Kept]); 3] = [
     (
         &[("manifest", Content::One), (FIRST, Content::Segment)],
-        &[
-            (Deed::Delete("d1"), DONE),
-            (Deed::Flush, DONE),
-        ],
+        &[(Deed::Delete("d1"), DONE), (Deed::Flush, DONE)],
         &[("manifest", Content::Marked), (FIRST, Content::Segment)],
     ),
     (

@@ -28,10 +28,11 @@ fn left_by(alloc: Global, way: Way) -> Option<Left> {
     }
 }
 
-/// Files, what is done with their repository, the first call of the store in it behind the opening, how many calls it makes, and
-/// what the old and the new collection answer.
+/// Files, whether a part has two documents at most, what is done with their repository, the first call of the store in it behind the
+/// opening, how many calls it makes, and what the old and the new collection answer.
 struct Case {
     files: &'static [Kept],
+    small_parts: bool,
     deeds: &'static [Deed],
     first: u64,
     calls: u64,
@@ -39,9 +40,10 @@ struct Case {
     new: &'static [Row],
 }
 
-static CASES: [Case; 4] = [
+static CASES: [Case; 6] = [
     Case {
         files: &[("manifest", Content::One), (FIRST, Content::Segment)],
+        small_parts: false,
         deeds: &[
             Deed::Add("d3", 1),
             Deed::Delete("d1"),
@@ -63,6 +65,7 @@ static CASES: [Case; 4] = [
     },
     Case {
         files: &[("manifest", Content::One), (FIRST, Content::Segment)],
+        small_parts: false,
         deeds: &[Deed::Prior("home", Content::Half), Deed::Count],
         first: 7,
         calls: 2,
@@ -81,6 +84,7 @@ static CASES: [Case; 4] = [
             (FIRST, Content::Segment),
             (PRIOR_TWO, Content::Half),
         ],
+        small_parts: false,
         deeds: &[Deed::Prior("home", Content::Third), Deed::Count],
         first: 7,
         calls: 2,
@@ -100,6 +104,7 @@ static CASES: [Case; 4] = [
             (PRIOR_TWO, Content::Half),
             (PRIOR_THREE, Content::Third),
         ],
+        small_parts: false,
         deeds: &[Deed::Sweep, Deed::Count],
         first: 7,
         calls: 3,
@@ -112,7 +117,68 @@ static CASES: [Case; 4] = [
             (Deed::Belief(0), Told::Belief(1, 3)),
         ],
     },
+    Case {
+        files: &[("manifest", Content::One), (FIRST, Content::Segment)],
+        small_parts: true,
+        deeds: &[
+            Deed::Add("d3", 1),
+            Deed::Add("d4", 1),
+            Deed::Add("d5", 1),
+            Deed::Delete("d1"),
+            Deed::Flush,
+            Deed::Count,
+        ],
+        first: 7,
+        calls: 3,
+        old: &[
+            (Deed::Count, Told::Live(2)),
+            (Deed::Delete("d1"), DONE),
+            (Deed::Delete("d3"), Told::Of(Answer::Absent)),
+        ],
+        new: &[
+            (Deed::Count, Told::Live(4)),
+            (Deed::Delete("d1"), Told::Of(Answer::Absent)),
+            (Deed::Delete("d5"), DONE),
+        ],
+    },
+    Case {
+        files: &[
+            ("manifest", Content::Stale),
+            (FIRST, Content::Segment),
+            (PRIOR_TWO, Content::Half),
+            (PRIOR_THREE, Content::Third),
+        ],
+        small_parts: false,
+        deeds: &[Deed::Add("d3", 1), Deed::Sweep, Deed::Count],
+        first: 7,
+        calls: 4,
+        old: &[
+            (Deed::Count, Told::Live(2)),
+            (Deed::Belief(0), Told::Belief(1, 3)),
+        ],
+        new: &[
+            (Deed::Count, Told::Live(3)),
+            (Deed::Belief(0), Told::Belief(1, 3)),
+        ],
+    },
 ];
+
+/// Two documents a part, a hundred documents and tokens at most.
+fn few() -> Limits {
+    Limits {
+        part_docs: 2,
+        held_docs: 100,
+        held_tokens: 100,
+    }
+}
+
+fn limits_of(case: &Case) -> Limits {
+    if case.small_parts {
+        few()
+    } else {
+        Limits::real()
+    }
+}
 
 /// What the last of these is answered.
 fn last_of(
@@ -128,18 +194,18 @@ fn last_of(
     last
 }
 
-/// The same, of the repository of these files.
-fn last_told(alloc: Global, store: &mut MemStore, deeds: &[Deed]) -> Option<Told> {
-    let mut repository = opened(alloc, store, Limits::real())?;
-    last_of(alloc, store, &mut repository, deeds)
+/// The same, of the repository of the case.
+fn last_told(alloc: Global, store: &mut MemStore, case: &Case) -> Option<Told> {
+    let mut repository = opened(alloc, store, limits_of(case))?;
+    last_of(alloc, store, &mut repository, case.deeds)
 }
 
 /// Whether the repository is no longer usable, and whether the files open as the old collection and as the new one.
 fn seen(alloc: Global, store: &mut MemStore, case: &Case) -> (bool, bool, bool) {
     (
-        last_told(alloc, store, case.deeds) == Some(Told::Unusable),
-        answers_so(alloc, store, Limits::real(), case.old),
-        answers_so(alloc, store, Limits::real(), case.new),
+        last_told(alloc, store, case) == Some(Told::Unusable),
+        answers_so(alloc, store, limits_of(case), case.old),
+        answers_so(alloc, store, limits_of(case), case.new),
     )
 }
 

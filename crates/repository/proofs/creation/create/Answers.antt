@@ -4,12 +4,20 @@ use Rattle.store_ends.specs.Files.{Files, with_file}
 use Rattle.manifest.specs.Spelling.{manifest_text}
 use Rattle.repository.specs.Names.{manifest_name}
 use Rattle.repository.specs.Stands.{empty_manifest}
-use Rattle.repository.proofs.ManifestLemmas.{Leaves-created, Stands-made}
+use Rattle.repository.proofs.ManifestLemmas.{Leaves-created, Stands-made, changed-created}
 use Rattle.repository.proofs.creation.create.Goals as goal
 
 pub returns-in_err-replace_manifest-clause-started : goal.returns-in_err-replace_manifest-clause-started
 returns-in_err-replace_manifest-clause-started g c = λ limits.
     Leaves-created limits _ _ _ _ _ c.as_slice.result.now c.has_manifest.ensures.quiet.no_more c.has_manifest.ensures.quiet.same_files (c.as_slice.ensures ∙ c.in_ok-bytes.ensures) c.replace_manifest.ensures.stops
+
+pub returns-in_err-replace_manifest-clause-changed : goal.returns-in_err-replace_manifest-clause-changed
+returns-in_err-replace_manifest-clause-changed g c =
+    changed-created _ _ _ c.as_slice.result.now c.has_manifest.ensures.quiet.same_files (c.as_slice.ensures ∙ c.in_ok-bytes.ensures) c.replace_manifest.ensures.changed
+
+pub returns-clause-changed : goal.returns-clause-changed
+returns-clause-changed g c =
+    changed-created _ _ _ c.as_slice.result.now c.has_manifest.ensures.quiet.same_files (c.as_slice.ensures ∙ c.in_ok-bytes.ensures) c.replace_manifest.ensures.changed
 
 pub returns-clause-stands : goal.returns-clause-stands
 returns-clause-stands g c = λ f limits told _.

@@ -8,6 +8,7 @@ use Rattle.disk_index.specs.Snapshots.{Marked}
 use Rattle.store_ends.specs.Files.{SameWhere}
 use Rattle.repository.specs.Saved.{IsSaved, IsUnlisted}
 use Rattle.repository.specs.Writes.{IsOther}
+use Rattle.repository.proofs.GoingLemmas.{going-same, going-then}
 use Rattle.repository.proofs.ListedLemmas.{IsStored}
 use Rattle.repository.proofs.SaveLemmas.{first-stored, leaves-then, others-then, saves-none, saves-then}
 use Rattle.repository.proofs.saving.write_parts.Goals as goal
@@ -18,6 +19,7 @@ loop-place-init g c = record {
   first = All-nil IsStored;
   same = SameWhere-same (IsOther (IsUnlisted c.args.numbers.now.numbers)) (g.T.Store.files c.args.store.now);
   stops = Leaves-same (g.T.Store.since c.args.store.now) (SameWhere (IsOther (IsUnlisted c.args.numbers.now.numbers)) (g.T.Store.files c.args.store.now));
+  goes_on = going-same g.T.Store.layers g.T.Store.clock g.T.Store.longest g.T.Store.held c.args.store.now;
   later = omega arith;
 }
 
@@ -42,6 +44,7 @@ loop-place-preserved g c =
           (omega (arith, long, longer, count, c.loop-place-test.true));
       same = others-then c.args.numbers.now.numbers c.loop-place.numbers.numbers _ _ _ inv.saved.taken inv.same c.write_part.ensures.same;
       stops = leaves-then _ _ _ c.args.numbers.now.numbers c.loop-place.numbers.numbers _ _ inv.saved.taken inv.same inv.stops c.write_part.ensures.stops;
+      goes_on = going-then g.T.Store.layers g.T.Store.clock g.T.Store.longest g.T.Store.held c.args.store.now c.loop-place.store c.write_part.new.store inv.goes_on c.write_part.ensures.goes_on;
       later = (let a = inv.later in let b = c.write_part.ensures.later in omega (arith, a, b));
     }
 

@@ -1,4 +1,3 @@
-pub mod Firsts
 pub mod Fits
 pub mod Fractions
 pub mod Kept

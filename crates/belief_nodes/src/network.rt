@@ -4,7 +4,6 @@ ghost use Rattle.smoothing.specs.Fractions.{Computes};
 ghost use Rattle.belief_nodes.specs.Fractions.{leaf_fraction};
 ghost use Rattle.query_check.specs.Leaves.{leaf_tree};
 ghost use Rattle.query_check.specs.Trees.{scaled_tree};
-ghost use Rattle.belief_nodes.specs.Firsts.{AreFirsts};
 ghost use Rattle.belief_nodes.specs.Kept.{IsNetwork};
 ghost use Rattle.belief_nodes.specs.Leaves.{AreLeafStats, HasPrior, IsLeafCount};
 ghost use Rattle.belief_nodes.specs.Priors.{prior_at, prior_fraction};
@@ -26,7 +25,7 @@ pub struct Network {
     stats: Vec<LeafStats>,
     tree: Tree,
     ghost kept: { IsNetwork (map leaf_tree leaves.items) stats.items (scaled_tree tree) },
-    ghost equal: { AreFirsts (map leaf_tree leaves.items) firsts.items },
+    ghost each: { length firsts.items ≡ length leaves.items },
 }
 
 impl Network {
@@ -63,9 +62,9 @@ impl Network {
         &self.leaves
     }
 
-    /// Of each leaf the number of an equal one: of an earlier one, or its own.
+    /// Of each leaf the number of an equal one: of an earlier one, or its own. Who uses it compares the two.
     pub fn firsts(&self) -> &[usize]
-        ensures { AreFirsts (network_tree self.now).leaves result.now }
+        ensures { length result.now ≡ length (network_tree self.now).leaves }
     {
         &self.firsts
     }

@@ -1,6 +1,6 @@
 -- What is found of a leaf that stood before.
 use Rattle.std.proofs.Common.{◌≡◌, ◌<◌, ℕ, zero, suc, List, [], ◌∷◌, Result, IfOk, length, map, take, get_or, refl, sym, ap, subst, ◌∙◌, arith}
-use Rattle.std.proofs.lemmas.List.{get_or-map, get_or-take, length-map}
+use Rattle.std.proofs.lemmas.List.{get_or-map, get_or-take, length-map, length-take}
 use Rattle.ri_base.specs.Collection.{document_at}
 use Rattle.ri_base.specs.Documents.{Document}
 use Rattle.ri_base.specs.Pair.{Pair}
@@ -12,20 +12,27 @@ use Rattle.document_scoring.specs.Counters.{found_count}
 use Rattle.document_scoring.specs.Counts.{count_in}
 use Rattle.document_scoring.specs.declared.found.LeafExtents.{LeafExtents}
 
+within : (number : ℕ) (trees : List LeafTree) (first : ℕ) → first < number → number < length trees → first < length (take number trees)
+within number trees first lt inside = let long = length-take number trees in omega (arith, lt, inside, long)
+
 module _ (d : Document) where
   -- the counts of a leaf that is the same are the same
-  pub copied : (w : Pair) (leaves : List LeafTree) (before : List LeafExtents) (number first : ℕ) (x copy : LeafExtents) → first < number → number < length leaves → length before ≡ number
-      → get_or leaves first (prior 0) ≡ get_or leaves number (prior 0) → x ≡ get_or before first x → copy ≡ x
-      → map (found_count d.fields w) before ≡ map (count_in d w) (take number leaves)
-      → found_count d.fields w copy ≡ count_in d w (get_or leaves number (prior 0))
-  copied w leaves before number first x copy lt inside each same at is so_far =
+  pub copied : (w : Pair) (leaves : List LeafKind) (before : List LeafExtents) (number first : ℕ) (early late : LeafKind) (x copy : LeafExtents) → first < number → number < length leaves → length before ≡ number
+      → early ≡ get_or leaves first early → late ≡ get_or leaves number late → leaf_tree early ≡ leaf_tree late → x ≡ get_or before first x → copy ≡ x
+      → map (found_count d.fields w) before ≡ map (count_in d w) (take number (map leaf_tree leaves))
+      → found_count d.fields w copy ≡ count_in d w (get_or (map leaf_tree leaves) number (prior 0))
+  copied w leaves before number first early late x copy lt inside each at_early at_late same at is so_far =
       let f : LeafExtents → LeafCount = found_count d.fields w in
       let g : LeafTree → LeafCount = count_in d w in
-      let zero : LeafCount = f x in
-      let here : f x ≡ get_or (map f before) first zero = ap f at ∙ sym (get_or-map f before first x zero (omega (arith, lt, each))) in
-      let there : get_or (map g (take number leaves)) first zero ≡ g (get_or (take number leaves) first (prior 0)) = get_or-map g (take number leaves) first (prior 0) zero (omega (arith, lt, inside)) in
-      let front : get_or (take number leaves) first (prior 0) ≡ get_or leaves first (prior 0) = get_or-take leaves number first (prior 0) lt in
-      ap f is ∙ here ∙ ap (λ ns. get_or ns first zero) so_far ∙ there ∙ ap g (front ∙ same)
+      let trees : List LeafTree = map leaf_tree leaves in
+      let other : LeafCount = f x in
+      let long = length-map leaves leaf_tree in
+      let here : f x ≡ get_or (map f before) first other = ap f at ∙ sym (get_or-map f before first x other (omega (arith, lt, each))) in
+      let there : get_or (map g (take number trees)) first other ≡ g (get_or (take number trees) first (prior 0)) = get_or-map g (take number trees) first (prior 0) other (within number trees first lt (omega (arith, inside, long))) in
+      let front : get_or (take number trees) first (prior 0) ≡ get_or trees first (prior 0) = get_or-take trees number first (prior 0) lt in
+      let early_is : get_or trees first (prior 0) ≡ leaf_tree early = get_or-map leaf_tree leaves first early (prior 0) (omega (arith, lt, inside)) ∙ ap leaf_tree (sym at_early) in
+      let late_is : get_or trees number (prior 0) ≡ leaf_tree late = get_or-map leaf_tree leaves number late (prior 0) inside ∙ ap leaf_tree (sym at_late) in
+      ap f is ∙ here ∙ ap (λ ns. get_or ns first other) so_far ∙ there ∙ ap g (front ∙ early_is ∙ same ∙ sym late_is)
 
   pub read : (leaves : List LeafKind) (number : ℕ) (leaf : LeafKind) (result : Result LeafExtents SegFault) → number < length leaves → leaf ≡ get_or leaves number leaf
       → IfOk result (λ found. (w : Pair) → found_count d.fields w found ≡ count_in d w (leaf_tree leaf))

@@ -7,10 +7,10 @@ ghost use Rattle.ri_base.specs.Keeps.{Keeps, Rose};
 ghost use Rattle.ri_base.specs.Pair.{Pair};
 ghost use Rattle.field_extents.specs.Extents.{AreInOrder};
 ghost use Rattle.query_check.specs.Leaves.{leaf_tree, prior};
-ghost use Rattle.belief_nodes.specs.Firsts.{AreFirsts, IsFirst};
 ghost use Rattle.document_scoring.specs.Counters.{IsFewer, IsFound, found_count};
 ghost use Rattle.document_scoring.specs.Counts.{count_in, counted};
 
+use belief_nodes::same_leaf;
 use extent_evaluation::{extents, extents_have_one_list};
 use field_extents::inside;
 use query_check::LeafKind;
@@ -99,8 +99,8 @@ pub fn found_of<'a, P: Postings>(
     }
 }
 
-/// What is found of the leaf of a number in a document, by what was found of those before it: what was found of an equal one, or what
-/// the part tells.
+/// What is found of the leaf of a number in a document, by what was found of those before it: what was found of the first one, where
+/// that is before it and the same, or what the part tells.
 fn found_at<'a, P: Postings>(
     alloc: Global,
     leaves: &'a [LeafKind],
@@ -112,7 +112,6 @@ fn found_at<'a, P: Postings>(
 ) -> Result<LeafExtents<'a>, SegFault>
     requires id { id < length (P.documents part.old) }
     requires number { number < length leaves.now }
-    requires first { IsFirst (map leaf_tree leaves.now) number first }
     requires each { length before.now ≡ number }
     requires before { All (IsFound (document_at (P.documents part.old) id).fields) before.now }
     ensures keeps { Keeps P.documents P.faults P.sound P.quiet part.old part.new }
@@ -123,10 +122,11 @@ fn found_at<'a, P: Postings>(
     ensures honest { P.sound part.old → IfErr result IsOutside }
     ensures store { result ≡ Err SegFault.Store → Rose (P.faults part.old) (P.faults part.new) }
 {
-    if first < number {
+    let leaf = &leaves[number];
+    if first < number && same_leaf(&leaves[first], leaf) {
         return Ok(before[first].clone_in(alloc)?);
     }
-    found_of(alloc, &leaves[number], part, id)
+    found_of(alloc, leaf, part, id)
 }
 
 /// What is found of all leaves in a document, of which `firsts` has the numbers of equal ones. A leaf that stands twice is looked up
@@ -139,7 +139,7 @@ pub fn all_found<'a, P: Postings>(
     id: u32,
 ) -> Result<Vec<LeafExtents<'a>>, SegFault>
     requires id { id < length (P.documents part.old) }
-    requires firsts { AreFirsts (map leaf_tree leaves.now) firsts.now }
+    requires firsts { length firsts.now ≡ length leaves.now }
     ensures keeps { Keeps P.documents P.faults P.sound P.quiet part.old part.new }
     ensures exact { P.sound part.old → IfOk result
         (λ v. (w : Pair) → map (found_count (document_at (P.documents part.old) id).fields w) v.items ≡ map (count_in (document_at (P.documents part.old) id) w) (map leaf_tree leaves.now)) }

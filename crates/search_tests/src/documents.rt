@@ -6,7 +6,7 @@ ghost use Rattle.ri_base.specs.Documents.{AreFields};
 ghost use Rattle.ri_base.specs.declared.limits.TheConstants.{MAX_PART_DOCS, MAX_PART_NAMES};
 
 use memory_index::MemIndex;
-use ri_base::{Bytes, Doc, Docno, FieldSpan, Name, Sealed, Spans, Term, Terms};
+use ri_base::{Doc, Docno, FieldSpan, Name, Sealed, Spans, Term, Terms};
 use seg_codec::seg_bytes;
 use std::alloc::Global;
 
@@ -14,8 +14,11 @@ static WORDS: [&str; 9] = [
     "a b c", "a b", "c a a b", "b c", "a b c", "c c a", "c", "b a c a b", "a",
 ];
 
-/// Of 130 documents two have the word `e`.
+/// Of the first 130 documents two have the word `e`. Those from 200 on have all the same words.
 fn words_of(number: u32) -> &'static str {
+    if number >= 200 {
+        return "a b";
+    }
     if number == 69 || number == 129 {
         return "a e";
     }
@@ -110,7 +113,8 @@ pub fn sealed(alloc: Global, from: u32, to: u32, is_live_alone: bool) -> Option<
 }
 
 /// The bytes of their segment.
-pub fn bytes_of(alloc: Global, from: u32, to: u32) -> Option<Bytes> {
+pub fn bytes_of(alloc: Global, from: u32, to: u32) -> Option<Vec<u8>> {
     let sealed = sealed(alloc, from, to, false)?;
-    seg_bytes(alloc, &sealed).ok()
+    let bytes = seg_bytes(alloc, &sealed).ok()?;
+    bytes.as_slice().to_vec(alloc).ok()
 }

@@ -4,9 +4,17 @@
 #[cfg(test)]
 mod documents;
 #[cfg(test)]
+mod failing;
+#[cfg(test)]
+mod orders;
+#[cfg(test)]
 mod parts;
 #[cfg(test)]
 mod queries;
+#[cfg(test)]
+mod searches;
+#[cfg(test)]
+mod stats;
 #[cfg(test)]
 mod steps;
 

@@ -1,50 +1,64 @@
 // Parts of these documents, with a mark for each dead one.
 use crate::documents::{bytes_of, is_dead, sealed};
 use deletion_list::DelList;
-use disk_index::{BlockCache, DiskIndex, MarkedPart, Part, Snapshot, fits_snapshot};
+use disk_index::{
+    BlockCache, DiskIndex, MarkedPart, Part, Snapshot, fits_snapshot, segment_name,
+};
 use ri_base::Sealed;
 use std::alloc::{AllocError, Global};
 use std::num::NonZeroUsize;
 use std::rc::Rc;
-use store_ends::{MemStore, Store};
+use store_ends::{MemStore, StoreFail};
 
-/// In which parts the documents lie.
+/// The documents of a part: those from a number on, up to another, in a file or in memory.
 #[derive(Clone, Copy)]
-pub enum Layout {
-    /// All in one part in memory.
-    Memory,
-    /// All in one part on disk.
-    Disk,
-    /// A third each in two parts on disk, and the others in one in memory.
-    Both,
+pub struct Piece {
+    pub is_on_disk: bool,
+    pub from: u32,
+    pub to: u32,
 }
 
-/// What a test opens: a snapshot with the store and the cache that it is read by, and its live documents in one index.
+/// What a test opens: a snapshot with the store and the cache that it is read by.
 #[derive(Drop)]
 pub struct Opened {
     pub snapshot: Snapshot,
     pub store: MemStore,
     pub cache: BlockCache,
-    pub live: Sealed,
 }
 
-fn part_in_memory(alloc: Global, from: u32, to: u32) -> Option<Part> {
-    let sealed = sealed(alloc, from, to, false)?;
+fn part_in_memory(alloc: Global, sealed: Sealed) -> Option<Part> {
     Some(Part::Memory(Rc::new(alloc, sealed).map_err(AllocError::from).ok()?))
 }
 
-/// Whether the segment is written.
-fn write(alloc: Global, store: &mut MemStore, name: &str, from: u32, to: u32) -> bool {
-    match bytes_of(alloc, from, to) {
-        Some(bytes) => name.len() <= 64 && store.put(name, bytes.as_slice()).is_ok(),
-        None => false,
+/// The name and the bytes of the segment of this number.
+fn file_of(alloc: Global, number: u64, piece: Piece) -> Option<(Vec<u8>, Vec<u8>)> {
+    let bytes = bytes_of(alloc, piece.from, piece.to)?;
+    let name = segment_name(number).to_vec(alloc).ok()?;
+    Some((name, bytes))
+}
+
+/// A store with a file for each of these pieces that is on disk, in which these calls fail.
+fn store_of(alloc: Global, pieces: &[Piece], fails: Vec<StoreFail>) -> Option<MemStore> {
+    let mut files = Vec::new(alloc);
+    for number in 0..pieces.len() {
+        if pieces[number].is_on_disk {
+            files.push(file_of(alloc, number as u64, pieces[number])?).ok()?;
+        }
     }
+    Some(MemStore::new(alloc, files, fails))
 }
 
 /// The segment of this number, of so many documents.
 fn part_on_disk(alloc: Global, store: &mut MemStore, number: u64, docs: u32) -> Option<Part> {
     let index = DiskIndex::open(alloc, store, number, docs).ok()?;
     Some(Part::Disk(Rc::new(alloc, index).map_err(AllocError::from).ok()?))
+}
+
+fn part_of(alloc: Global, store: &mut MemStore, number: u64, piece: Piece) -> Option<Part> {
+    if piece.is_on_disk {
+        return part_on_disk(alloc, store, number, piece.to.saturating_sub(piece.from));
+    }
+    part_in_memory(alloc, sealed(alloc, piece.from, piece.to, false)?)
 }
 
 fn unmarked(alloc: Global, part: Part) -> Option<MarkedPart> {
@@ -71,27 +85,14 @@ fn marked(alloc: Global, part: Part, from: u32) -> Option<MarkedPart> {
     Some(marked)
 }
 
-fn marked_in_memory(alloc: Global, from: u32, to: u32) -> Option<MarkedPart> {
-    let part = part_in_memory(alloc, from, to)?;
-    marked(alloc, part, from)
-}
-
-static NAMES: [&str; 2] = ["seg-0000000000000000", "seg-0000000000000001"];
-
-/// The segment of this number, 0 or 1, which is written first.
-fn marked_on_disk(
-    alloc: Global,
-    store: &mut MemStore,
-    number: usize,
-    from: u32,
-    to: u32,
-) -> Option<MarkedPart> {
-    let number = number.min(1);
-    if !write(alloc, store, NAMES[number], from, to) {
-        return None;
+/// A part for each of these pieces.
+fn marked_parts(alloc: Global, store: &mut MemStore, pieces: &[Piece]) -> Option<Vec<MarkedPart>> {
+    let mut parts = Vec::new(alloc);
+    for number in 0..pieces.len() {
+        let part = part_of(alloc, store, number as u64, pieces[number])?;
+        parts.push(marked(alloc, part, pieces[number].from)?).ok()?;
     }
-    let part = part_on_disk(alloc, store, number as u64, to.saturating_sub(from))?;
-    marked(alloc, part, from)
+    Some(parts)
 }
 
 fn snapshot_of(alloc: Global, parts: &[MarkedPart]) -> Option<Snapshot> {
@@ -101,46 +102,30 @@ fn snapshot_of(alloc: Global, parts: &[MarkedPart]) -> Option<Snapshot> {
     Snapshot::of(alloc, parts).ok()
 }
 
-fn in_memory(alloc: Global, docs: u32) -> Option<Snapshot> {
-    let parts = [marked_in_memory(alloc, 0, docs)?];
-    snapshot_of(alloc, &parts)
-}
-
-fn on_disk(alloc: Global, store: &mut MemStore, docs: u32) -> Option<Snapshot> {
-    let parts = [marked_on_disk(alloc, store, 0, 0, docs)?];
-    snapshot_of(alloc, &parts)
-}
-
-fn in_three(alloc: Global, store: &mut MemStore, docs: u32) -> Option<Snapshot> {
-    let third = docs / 3;
-    let parts = [
-        marked_on_disk(alloc, store, 0, 0, third)?,
-        marked_on_disk(alloc, store, 1, third, third * 2)?,
-        marked_in_memory(alloc, third * 2, docs)?,
-    ];
-    snapshot_of(alloc, &parts)
-}
-
-fn snapshot(alloc: Global, store: &mut MemStore, layout: Layout, docs: u32) -> Option<Snapshot> {
-    match layout {
-        Layout::Memory => in_memory(alloc, docs),
-        Layout::Disk => on_disk(alloc, store, docs),
-        Layout::Both => in_three(alloc, store, docs),
-    }
-}
-
-/// So many documents in these parts.
-pub fn in_parts(alloc: Global, layout: Layout, docs: u32) -> Option<Opened> {
-    let mut store = MemStore::new(alloc, Vec::new(alloc), Vec::new(alloc));
-    let snapshot = snapshot(alloc, &mut store, layout, docs)?;
+fn opened_with(alloc: Global, snapshot: Snapshot, store: MemStore) -> Option<Opened> {
     let cache = BlockCache::new(alloc, NonZeroUsize::MIN).ok()?;
-    let live = sealed(alloc, 0, docs, true)?;
     Some(Opened {
         snapshot,
         store,
         cache,
-        live,
     })
+}
+
+/// A snapshot of these pieces. In its store these calls fail.
+pub fn opened(alloc: Global, pieces: &[Piece], fails: Vec<StoreFail>) -> Option<Opened> {
+    let mut store = store_of(alloc, pieces, fails)?;
+    let parts = marked_parts(alloc, &mut store, pieces)?;
+    let snapshot = snapshot_of(alloc, &parts)?;
+    opened_with(alloc, snapshot, store)
+}
+
+/// The live documents from a number on, up to another, in one part in memory without marks.
+pub fn live_alone(alloc: Global, from: u32, to: u32) -> Option<Opened> {
+    let part = part_in_memory(alloc, sealed(alloc, from, to, true)?)?;
+    let parts = [unmarked(alloc, part)?];
+    let snapshot = snapshot_of(alloc, &parts)?;
+    let store = MemStore::new(alloc, Vec::new(alloc), Vec::new(alloc));
+    opened_with(alloc, snapshot, store)
 }
 
 /// The same snapshot once more.

@@ -1,29 +1,26 @@
-// Searches in steps, compared with the ranking of the live documents in one index.
-ghost use Rattle.std.specs.Prelude.{◌≡◌, ◌≤◌, true, length, All, IfSome};
+// Searches in steps, compared with one over the live documents alone, in memory, that passes them in one step.
+ghost use Rattle.std.specs.Prelude.{◌≡◌, All};
 ghost use Rattle.ri_base.specs.Ratio.{ratio_of};
 ghost use Rattle.smoothing.specs.Counts.{AreCounts};
 ghost use Rattle.smoothing.specs.Fractions.{Computes, dirichlet};
 ghost use Rattle.belief_nodes.specs.Leaves.{HasPrior};
 ghost use Rattle.belief_nodes.specs.Network.{network_tree};
 
-use crate::parts::{Layout, Opened, in_parts, shared};
-use crate::queries::query;
-use belief_nodes::BeliefNode;
-use disk_index::{BlockCache, Snapshot};
-use full_ranking::{all_stats, rank};
+use crate::parts::{Opened, Piece, live_alone, opened};
+use crate::searches::{begin, hits_of, step, whole_search};
 use ranker::Search;
-use ri_base::{Fraction, Hit, Hits, Sealed};
+use ri_base::{Fraction, Hit};
 use smoothing::{Rule, RuleKind, dirichlet_fraction};
 use std::alloc::Global;
-use store_ends::MemStore;
 
-/// Ties, a word of few documents, one of none, fields, passages and filters.
-static QUERIES: [&str; 11] = [
+/// Ties, a word of few documents, one of none, a word that stands twice, fields, passages and filters.
+static QUERIES: [&str; 12] = [
     "a",
     "b",
     "e",
     "x",
     "a b",
+    "#weight(1 a 2 a)",
     "#1(a b)",
     "#combine(a.t e)",
     "#combine[t](a b)",
@@ -52,63 +49,10 @@ fn are_same(hits: &[Hit], wanted: &[Hit]) -> bool {
     true
 }
 
-/// All results of the ranking of the live documents.
-fn all_hits<F: Fn(u32, u32, u64, u64) -> Fraction>(
-    alloc: Global,
-    text: &str,
-    rule: &Rule<F>,
-    live: &mut Sealed,
-) -> Option<Hits>
-    requires { Computes F.pre F.post rule.now.kind rule.now.f }
-    ensures { IfSome result (λ hits. length hits ≤ 10000) }
-{
-    let checked = query(alloc, text)?;
-    let mut plugs: Vec<Box<dyn BeliefNode>> = Vec::new(alloc);
-    rank(alloc, &checked, rule, &mut plugs, live, 10000).ok()
-}
-
-/// A search for a query, with the statistics of the live documents, that has passed none yet.
-fn begin(
-    alloc: Global,
-    snapshot: Snapshot,
-    text: &str,
-    live: &mut Sealed,
-    most: u32,
-) -> Option<Search>
-    ensures { IfSome result (λ s. All (HasPrior 0) (network_tree s.network).leaves) }
-{
-    let checked = query(alloc, text)?;
-    let stats = all_stats(alloc, &checked.leaves, live).ok()?;
-    Search::new(alloc, snapshot, checked, &stats, most).ok()
-}
-
-/// Whether all documents are passed by now; nothing where the step fails.
-fn step<F: Fn(u32, u32, u64, u64) -> Fraction>(
-    alloc: Global,
-    search: &mut Search,
-    docs: u64,
-    rule: &Rule<F>,
-    store: &mut MemStore,
-    cache: &mut BlockCache,
-) -> Option<bool>
-    requires rule { Computes F.pre F.post rule.now.kind rule.now.f }
-    requires plugs { All (HasPrior 0) (network_tree search.old.network).leaves }
-    ensures plugs { All (HasPrior 0) (network_tree search.new.network).leaves }
-{
-    if !search.usable() {
-        return None;
-    }
-    let mut plugs: Vec<Box<dyn BeliefNode>> = Vec::new(alloc);
-    search.step(alloc, docs, rule, &mut plugs, store, cache).ok()
-}
-
 /// Whether the search has these results.
 fn has_results(search: &Search, wanted: &[Hit]) -> bool {
-    if !search.usable() {
-        return false;
-    }
-    match search.results() {
-        Some(hits) => are_same(hits.as_slice(), wanted),
+    match hits_of(search) {
+        Some(hits) => are_same(hits, wanted),
         None => false,
     }
 }
@@ -122,19 +66,18 @@ fn goes_on(search: &Search) -> bool {
 fn ends_with<F: Fn(u32, u32, u64, u64) -> Fraction>(
     alloc: Global,
     search: &mut Search,
+    opened: &mut Opened,
     docs: u64,
     rule: &Rule<F>,
-    store: &mut MemStore,
-    cache: &mut BlockCache,
     wanted: &[Hit],
 ) -> bool
     requires rule { Computes F.pre F.post rule.now.kind rule.now.f }
     requires plugs { All (HasPrior 0) (network_tree search.old.network).leaves }
 {
     for _ in 0..200 {
-        match step(alloc, search, docs, rule, store, cache) {
-            Some(true) => return has_results(search, wanted),
-            Some(false) if goes_on(search) => {}
+        match step(alloc, search, opened, docs, rule) {
+            Some(Ok(true)) => return has_results(search, wanted),
+            Some(Ok(false)) if goes_on(search) => {}
             _ => return false,
         }
     }
@@ -142,7 +85,7 @@ fn ends_with<F: Fn(u32, u32, u64, u64) -> Fraction>(
 }
 
 /// The same of a search for a query, for at most so many results.
-fn is_right<F: Fn(u32, u32, u64, u64) -> Fraction>(
+pub fn is_right<F: Fn(u32, u32, u64, u64) -> Fraction>(
     alloc: Global,
     opened: &mut Opened,
     text: &str,
@@ -150,20 +93,13 @@ fn is_right<F: Fn(u32, u32, u64, u64) -> Fraction>(
     docs: u64,
     rule: &Rule<F>,
     wanted: &[Hit],
-) -> Option<bool>
+) -> bool
     requires { Computes F.pre F.post rule.now.kind rule.now.f }
 {
-    let snapshot = shared(alloc, &opened.snapshot)?;
-    let mut search = begin(alloc, snapshot, text, &mut opened.live, most)?;
-    Some(ends_with(
-        alloc,
-        &mut search,
-        docs,
-        rule,
-        &mut opened.store,
-        &mut opened.cache,
-        wanted,
-    ))
+    match begin(alloc, opened, text, most) {
+        Some(mut search) => ends_with(alloc, &mut search, opened, docs, rule, wanted),
+        None => false,
+    }
 }
 
 /// The first of the steps that gives other results, if one does.
@@ -178,54 +114,72 @@ fn wrong_step<F: Fn(u32, u32, u64, u64) -> Fraction>(
     requires { Computes F.pre F.post rule.now.kind rule.now.f }
 {
     for docs in &STEPS {
-        if is_right(alloc, opened, text, most, *docs, rule, wanted) != Some(true) {
+        if !is_right(alloc, opened, text, most, *docs, rule, wanted) {
             return Some(*docs);
         }
     }
     None
 }
 
-/// For at most how many results and by which step a query has other results than the ranking has, if one has: for one, for as many as
+/// For at most how many results and by which step a query has others than the first of these, if one has: for one, for as many as
 /// there are, and for one more.
-fn wrong_results<F: Fn(u32, u32, u64, u64) -> Fraction>(
+fn wrong_front<F: Fn(u32, u32, u64, u64) -> Fraction>(
     alloc: Global,
     opened: &mut Opened,
     text: &str,
     rule: &Rule<F>,
+    all: &[Hit],
 ) -> Option<(u32, u64)>
     requires { Computes F.pre F.post rule.now.kind rule.now.f }
 {
-    let Some(all) = all_hits(alloc, text, rule, &mut opened.live) else {
-        return Some((0, 0));
-    };
-    let count = all.len() as u32;
+    let count = all.len().min(1000) as u32;
     for most in [1, count, count.saturating_add(1)] {
         let shown = all.len().min(most as usize);
-        if let Some(docs) = wrong_step(alloc, opened, text, most, rule, &all.as_slice()[..shown]) {
+        if let Some(docs) = wrong_step(alloc, opened, text, most, rule, &all[..shown]) {
             return Some((most, docs));
         }
     }
     None
 }
 
-/// The same of the first query that has other results, if one has.
+/// The same, compared with the results over the live documents alone.
+fn wrong_results<F: Fn(u32, u32, u64, u64) -> Fraction>(
+    alloc: Global,
+    opened: &mut Opened,
+    live: &mut Opened,
+    text: &str,
+    rule: &Rule<F>,
+) -> Option<(u32, u64)>
+    requires { Computes F.pre F.post rule.now.kind rule.now.f }
+{
+    let Some(search) = whole_search(alloc, live, text, 1000, rule) else {
+        return Some((0, 0));
+    };
+    match hits_of(&search) {
+        Some(all) => wrong_front(alloc, opened, text, rule, all),
+        None => Some((0, 0)),
+    }
+}
+
+/// The same of the first query that has others, if one has.
 fn wrong_query<F: Fn(u32, u32, u64, u64) -> Fraction>(
     alloc: Global,
     opened: &mut Opened,
+    live: &mut Opened,
     rule: &Rule<F>,
 ) -> Option<(usize, u32, u64)>
     requires { Computes F.pre F.post rule.now.kind rule.now.f }
 {
     for (i, text) in QUERIES.iter().enumerate() {
-        if let Some((most, docs)) = wrong_results(alloc, opened, text, rule) {
+        if let Some((most, docs)) = wrong_results(alloc, opened, live, text, rule) {
             return Some((i, most, docs));
         }
     }
     None
 }
 
-/// The same of so many documents in these parts.
-fn wrong_of(alloc: Global, layout: Layout, docs: u32) -> Option<(usize, u32, u64)> {
+/// The same of these pieces, which have the documents from a number on, up to another.
+fn wrong_of(alloc: Global, pieces: &[Piece], from: u32, to: u32) -> Option<(usize, u32, u64)> {
     let rule = Rule::new(
         RuleKind::Dirichlet { mu: 1 },
         |tf, len, cf, total| -> Fraction
@@ -233,34 +187,87 @@ fn wrong_of(alloc: Global, layout: Layout, docs: u32) -> Option<(usize, u32, u64
             ensures { ratio_of result ≡ dirichlet 1 tf len cf total }
         { dirichlet_fraction(1, tf, len, cf, total) },
     );
-    match in_parts(alloc, layout, docs) {
-        Some(mut opened) => wrong_query(alloc, &mut opened, &rule),
-        None => Some((QUERIES.len(), 0, 0)),
+    let Some(mut live) = live_alone(alloc, from, to) else {
+        return Some((QUERIES.len(), 0, 0));
+    };
+    match opened(alloc, pieces, Vec::new(alloc)) {
+        Some(mut opened) => wrong_query(alloc, &mut opened, &mut live, &rule),
+        None => Some((QUERIES.len(), 0, 1)),
     }
 }
 
+static MEMORY: [Piece; 1] = [Piece {
+    is_on_disk: false,
+    from: 0,
+    to: 9,
+}];
+
 #[test]
 fn over_a_part_in_memory(rt: HostRuntime) {
-    assert_eq!(rt; wrong_of(rt.alloc(), Layout::Memory, 9), None);
+    assert_eq!(rt; wrong_of(rt.alloc(), &MEMORY, 0, 9), None);
 }
+
+static DISK: [Piece; 1] = [Piece {
+    is_on_disk: true,
+    from: 0,
+    to: 9,
+}];
 
 #[test]
 fn over_a_part_on_disk(rt: HostRuntime) {
-    assert_eq!(rt; wrong_of(rt.alloc(), Layout::Disk, 9), None);
+    assert_eq!(rt; wrong_of(rt.alloc(), &DISK, 0, 9), None);
 }
+
+static BOTH: [Piece; 3] = [
+    Piece {
+        is_on_disk: true,
+        from: 0,
+        to: 3,
+    },
+    Piece {
+        is_on_disk: true,
+        from: 3,
+        to: 6,
+    },
+    Piece {
+        is_on_disk: false,
+        from: 6,
+        to: 9,
+    },
+];
 
 #[test]
 fn over_parts_of_both_kinds(rt: HostRuntime) {
-    assert_eq!(rt; wrong_of(rt.alloc(), Layout::Both, 9), None);
+    assert_eq!(rt; wrong_of(rt.alloc(), &BOTH, 0, 9), None);
 }
+
+static RANGES: [Piece; 1] = [Piece {
+    is_on_disk: true,
+    from: 0,
+    to: 130,
+}];
+
+/// 130 documents that all have the same words.
+static EQUAL: [Piece; 2] = [
+    Piece {
+        is_on_disk: false,
+        from: 200,
+        to: 265,
+    },
+    Piece {
+        is_on_disk: true,
+        from: 265,
+        to: 330,
+    },
+];
 
 #[test]
 fn over_several_ranges(rt: HostRuntime) {
-    assert_eq!(rt; wrong_of(rt.alloc(), Layout::Memory, 130), None);
-    assert_eq!(rt; wrong_of(rt.alloc(), Layout::Both, 130), None);
+    assert_eq!(rt; wrong_of(rt.alloc(), &RANGES, 0, 130), None);
+    assert_eq!(rt; wrong_of(rt.alloc(), &EQUAL, 200, 330), None);
 }
 
 #[test]
 fn over_no_document(rt: HostRuntime) {
-    assert_eq!(rt; wrong_of(rt.alloc(), Layout::Memory, 0), None);
+    assert_eq!(rt; wrong_of(rt.alloc(), &[], 0, 0), None);
 }

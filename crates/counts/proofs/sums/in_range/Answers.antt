@@ -1,6 +1,7 @@
 use Rattle.std.proofs.Common.{◌≡◌, ◌<◌, ◌+◌, ◌*◌, option_copied, false, sym, ap, subst, ◌∙◌, rules, arith}
 use Rattle.std.proofs.lemmas.Result.{err_from_is_err_and}
 use Rattle.ri_base.specs.Expression.{expr_tree}
+use Rattle.extent_lists.specs.Presence.{may_with}
 use Rattle.disk_index.specs.Parts.{Source, size, source_of}
 use Rattle.disk_index.specs.Presence.{may_have}
 use Rattle.counts.specs.Sums.{counted_tokens, occurrences}

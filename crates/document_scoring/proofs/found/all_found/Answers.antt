@@ -1,27 +1,16 @@
 use Rattle.std.proofs.Common.{arith, rules, ◌≡◌, ◌<◌, ◌+◌, ◌++◌, ◌∷◌, [], List, get_or, length, map, take, ap, sym, subst, ◌∙◌}
-use Rattle.std.proofs.lemmas.List.{get_or_read, length-map, length_push, take_all}
+use Rattle.std.proofs.lemmas.List.{length-map, length_push, take_all}
 use Rattle.std.proofs.lemmas.List.Elements.{All-push}
 use Rattle.ri_base.specs.Collection.{document_at}
 use Rattle.ri_base.specs.Documents.{Document}
 use Rattle.ri_base.specs.Pair.{Pair}
 use Rattle.query_check.specs.Leaves.{LeafTree, leaf_tree, prior}
-use Rattle.belief_nodes.specs.Firsts.{IsFirst}
 use Rattle.document_scoring.specs.Counters.{IsFound, found_count}
 use Rattle.document_scoring.specs.Counts.{count_in}
 use Rattle.document_scoring.specs.declared.found.LeafExtents.{LeafExtents}
 use Rattle.document_scoring.proofs.CountLemmas.{IsFound-stays, found_stays, next_same}
 use Rattle.document_scoring.proofs.FirstsLemmas.{default, so_far_read}
 use Rattle.document_scoring.proofs.found.all_found.Goals as goal
-
-pub found_at-requires-clause-first : goal.found_at-requires-clause-first
-found_at-requires-clause-first g c =
-    let leaves = map leaf_tree c.args.leaves.now in
-    let firsts = c.args.firsts.now in
-    let i = c.loop-number.number in
-    let long = length-map c.args.leaves.now leaf_tree in
-    let each = c.requires.firsts.each in
-    let lt : i < length firsts = omega (arith, c.loop-number-test.true, each, long) in
-    subst (λ f. IsFirst leaves i f) (sym (get_or_read firsts i c.index-firsts-number.result lt c.index-firsts-number.is i)) (c.requires.firsts.first i (omega (arith, c.loop-number-test.true, long)))
 
 pub found_at-requires-clause-before : goal.found_at-requires-clause-before
 found_at-requires-clause-before g c = rw (sym c.loop-number.invariant.keeps.documents_stay) at c.loop-number.invariant.found

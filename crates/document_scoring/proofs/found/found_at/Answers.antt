@@ -7,10 +7,11 @@ use Rattle.document_scoring.proofs.found.found_at.Goals as goal
 
 -- ---- an equal one was found before
 
-pub returns-then-first-number-clause-exact : goal.returns-then-first-number-clause-exact
-returns-then-first-number-clause-exact g c = λ sound so_far w.
-    copied (document_at (g.P.Postings.documents c.args.part.now) c.args.id) w (map leaf_tree c.args.leaves.now) c.args.before.now c.args.number c.args.first c.index-before-first.result _ c.if-first-number.true c.requires.number c.requires.each
-    (c.requires.first.same (prior 0)) c.index-before-first.is c.in_ok-clone_in.ensures (so_far w)
+pub returns-then-same_leaf-clause-exact : goal.returns-then-same_leaf-clause-exact
+returns-then-same_leaf-clause-exact g c = λ sound so_far w.
+    let d = document_at (g.P.Postings.documents c.args.part.now) c.args.id in
+    copied d w c.args.leaves.now c.args.before.now c.args.number c.args.first c.index-leaves-first.result c.index-leaves-number.result c.index-before-first.result _ c.if-first-number.true c.requires.number c.requires.each
+    c.index-leaves-first.is c.index-leaves-number.is (c.same_leaf.ensures c.if-same_leaf.true) c.index-before-first.is c.in_ok-clone_in.ensures (so_far w)
 
 -- ---- the part tells
 

@@ -11,12 +11,11 @@ use Rattle.command_pieces.specs.declared.command_fault.CommandFault.{CommandFaul
 use Rattle.command_pieces.specs.declared.command_fault.CommandFault.TheVariants as fault
 use Rattle.command_pieces.proofs.Ending.{with-line}
 use Rattle.command_pieces.proofs.Joining.{StoppedBetween-none}
-use Rattle.manifest.specs.Priors.{PriorTable}
-use Rattle.prior_lines.specs.Rows.{prior_rows}
 use Rattle.repository.specs.RealLimits.{StandsFor}
 use Rattle.repository.specs.Stands.{Collection}
-use Rattle.collection_commands.specs.PriorSetting.{IsTableOf, prior_pieces}
-use Rattle.indri_app.specs.Command.{AreBegun, ArePieces}
+use Rattle.collection_commands.specs.PriorSetting.{IsPriorBroken, name_refusal}
+use Rattle.collection_commands.specs.PriorSetting as setting
+use Rattle.indri_app.specs.Command.{AreBegun, AreBegunBy, ArePieces}
 use Rattle.indri_app.specs.LastLines.{IsClosed, read_line, store_line}
 use Rattle.indri_app.specs.Opened.{IsWant}
 use Rattle.indri_app.specs.Runs.{IsBegun, IsDone, IsEnded, RunsTo, StopsAlong}
@@ -31,7 +30,7 @@ module _ (told : Option Files) (asks : Asks) (c : Collection) (bytes : List ℕ)
   still pieces mid now are s e = (pieces, are, subst (λ t. StoppedBetween StandsFor c pieces start t files) (sym e) s)
 
   -- what is told of a command of these pieces
-  pub closed : (why : CommandFault) (s : Status) (pieces : List (Piece Collection)) (mid now : Option (List ℕ)) (b : ℕ) → a ≤ b → AreBegun told asks c bytes pieces → IsBrokenBy why StandsFor c pieces start mid files → IsClosed why s mid now b z
+  pub closed : (why : CommandFault) (s : Status) (pieces : List (Piece Collection)) (mid now : Option (List ℕ)) (b : ℕ) → a ≤ b → AreBegunBy why told asks c bytes pieces → IsBrokenBy why StandsFor c pieces start mid files → IsClosed why s mid now b z
       → RunsTo s told asks c bytes start now files a z
   closed fault.Read s pieces mid now b h are broken ends = elim ends [
     | inl (e, l) ↦ as-status s status.ReadFault now e (pieces, are, with-line read_line StandsFor c pieces start mid now files a b z h broken l)
@@ -88,12 +87,22 @@ done-by told asks c pieces left start now files (Err why) are some finished = tt
 done-by told asks c pieces None start now files (Ok refused) are some finished = tt
 done-by told asks c pieces (Some bytes) start now files (Ok refused) are some finished = (pieces bytes, are bytes, some, finished)
 
+any-begun : (why : CommandFault) (told : Option Files) (asks : Asks) (c : Collection) (bytes : List ℕ) (pieces : List (Piece Collection)) → ArePieces told asks c bytes pieces → AreBegunBy why told asks c bytes pieces
+any-begun fault.Read told asks c bytes pieces are = inr are
+any-begun fault.Write told asks c bytes pieces are = are
+any-begun fault.Store told asks c bytes pieces are = inr are
+any-begun (fault.Malformed f p place) told asks c bytes pieces are = inr are
+any-begun (fault.Missing f) told asks c bytes pieces are = inr are
+any-begun fault.NoRepository told asks c bytes pieces are = inr are
+any-begun fault.Exists told asks c bytes pieces are = inr are
+any-begun fault.Memory told asks c bytes pieces are = inr are
+
 pub begun-by : (told : Option Files) (asks : Asks) (c : Collection) (pieces : List ℕ → List (Piece Collection)) (left start now : Option (List ℕ)) (files : Option Files) (answer : Result Bool CommandFault)
     → ((bytes : List ℕ) → ArePieces told asks c bytes (pieces bytes)) → IfErr answer (λ why. IfSome left (λ bytes. IsBrokenBy why StandsFor c (pieces bytes) start now files))
     → IfErr answer (λ why. IfSome left (λ bytes. IsBegun why told asks c bytes start now files))
 begun-by told asks c pieces left start now files (Ok refused) are broken = tt
 begun-by told asks c pieces None start now files (Err why) are broken = tt
-begun-by told asks c pieces (Some bytes) start now files (Err why) are broken = (pieces bytes, inr (are bytes), broken)
+begun-by told asks c pieces (Some bytes) start now files (Err why) are broken = (pieces bytes, any-begun why told asks c bytes (pieces bytes) (are bytes), broken)
 
 pub stops-by : (told : Option Files) (asks : Asks) (c : Collection) (pieces : List ℕ → List (Piece Collection)) (left : Option (List ℕ)) (past since : ℕ → Files → Type 0)
     → ((bytes : List ℕ) → ArePieces told asks c bytes (pieces bytes)) → IfSome left (λ bytes. Leaves past since (StandsAlong StandsFor c (pieces bytes))) → IfSome left (λ bytes. StopsAlong told asks c bytes past since)
@@ -102,31 +111,22 @@ stops-by told asks c pieces (Some bytes) past since are leaves = (pieces bytes, 
 
 -- ---- a prior, whose pieces need a table of the rows
 
-pub prior-done : (told : Option Files) (name : List ℕ) (c : Collection) (left start now : Option (List ℕ)) (files : Option Files) (answer : Result Bool CommandFault)
-    → IfOk answer (λ refused. IfSome left (λ bytes. (table : PriorTable) × IsTableOf (prior_rows bytes) table × (some_refused (prior_pieces c name bytes table) ≡ refused) × Finished StandsFor c (prior_pieces c name bytes table) start now files))
-    → IfOk answer (λ refused. IfSome left (λ bytes. IsDone told (prior name) c bytes refused start now files))
-prior-done told name c left start now files (Err why) h = tt
-prior-done told name c None start now files (Ok refused) h = tt
-prior-done told name c (Some bytes) start now files (Ok refused) h = (prior_pieces c name bytes h.0, (h.0, h.1, refl), h.2, h.3)
+prior-any : (why : CommandFault) (told : Option Files) (name : List ℕ) (c : Collection) (bytes : List ℕ) (pieces : List (Piece Collection)) → setting.AreBegun why (name_refusal c name) c name bytes pieces → AreBegunBy why told (prior name) c bytes pieces
+prior-any fault.Read told name c bytes pieces are = inl are
+prior-any fault.Write told name c bytes pieces are = are
+prior-any fault.Store told name c bytes pieces are = inr are
+prior-any (fault.Malformed f p place) told name c bytes pieces are = inr are
+prior-any (fault.Missing f) told name c bytes pieces are = inr are
+prior-any fault.NoRepository told name c bytes pieces are = inr are
+prior-any fault.Exists told name c bytes pieces are = inr are
+prior-any fault.Memory told name c bytes pieces are = are
 
 pub prior-begun : (told : Option Files) (name : List ℕ) (c : Collection) (left start now : Option (List ℕ)) (files : Option Files) (answer : Result Bool CommandFault)
-    → IfErr answer (λ why. IfSome left (λ bytes. IsBrokenBy why StandsFor c [] start now files ⊎ ((table : PriorTable) × IsTableOf (prior_rows bytes) table × IsBrokenBy why StandsFor c (prior_pieces c name bytes table) start now files)))
+    → IfErr answer (λ why. IfSome left (λ bytes. IsPriorBroken (name_refusal c name) why c name bytes start now files))
     → IfErr answer (λ why. IfSome left (λ bytes. IsBegun why told (prior name) c bytes start now files))
 prior-begun told name c left start now files (Ok refused) h = tt
 prior-begun told name c None start now files (Err why) h = tt
-prior-begun told name c (Some bytes) start now files (Err why) h = elim h [
-  | inl none ↦ ([], inl refl, none)
-  | inr (table, is, broken) ↦ (prior_pieces c name bytes table, inr (table, is, refl), broken)
-]
-
-pub prior-stops : (told : Option Files) (name : List ℕ) (c : Collection) (left : Option (List ℕ)) (past since : ℕ → Files → Type 0)
-    → IfSome left (λ bytes. Leaves past since (StandsAlong StandsFor c []) ⊎ ((table : PriorTable) × IsTableOf (prior_rows bytes) table × Leaves past since (StandsAlong StandsFor c (prior_pieces c name bytes table))))
-    → IfSome left (λ bytes. StopsAlong told (prior name) c bytes past since)
-prior-stops told name c None past since h = tt
-prior-stops told name c (Some bytes) past since h = elim h [
-  | inl none ↦ ([], inl refl, none)
-  | inr (table, is, leaves) ↦ (prior_pieces c name bytes table, inr (table, is, refl), leaves)
-]
+prior-begun told name c (Some bytes) start now files (Err why) (pieces, are, broken) = (pieces, prior-any why told name c bytes pieces are, broken)
 
 -- ---- what a stop leaves where nothing is changed
 

@@ -12,7 +12,7 @@ use Rattle.repository.specs.Names.{manifest_name}
 use Rattle.indri_app.specs.Changes.{IsFoundFirst, IsOverFault}
 use Rattle.indri_app.specs.LastLines.{IsClosed, absent_line, exists_line, malformed_line, missing_line, status_of}
 use Rattle.indri_app.specs.Opened.{IsAbsentFault}
-use Rattle.indri_app.specs.Runs.{HasDone, IsAbsentStatus, IsEnded, TellsDamage}
+use Rattle.indri_app.specs.Runs.{HasDone, IsAbsentStatus, IsEnded, IsUntouched, TellsDamage}
 use Rattle.indri_app.specs.declared.status.Status.{Status}
 use Rattle.indri_app.specs.declared.status.Status.TheVariants as status
 
@@ -54,7 +54,7 @@ read-of fault.NoRepository e = absurd cc
 read-of fault.Exists e = absurd cc
 read-of fault.Memory e = absurd cc
 
-read-closed : (why : CommandFault) (s : Status) (mid now : Option (List ℕ)) (b z : ℕ) → IsClosed why s mid now b z → s ≡ status.ReadFault → why ≡ fault.Read
+pub read-closed : (why : CommandFault) (s : Status) (mid now : Option (List ℕ)) (b z : ℕ) → IsClosed why s mid now b z → s ≡ status.ReadFault → why ≡ fault.Read
 read-closed why s mid now b z ends e = elim (closed-status why s mid now b z ends) [ inl w ↦ read-of why (sym e ∙ w) | inr m ↦ absurd cc ]
 
 pub read-ended : (answer : Result Bool CommandFault) (s : Status) (mid now : Option (List ℕ)) (b z : ℕ) → IsEnded answer s mid now b z → s ≡ status.ReadFault → answer ≡ Err fault.Read
@@ -72,7 +72,7 @@ write-of fault.NoRepository e = absurd cc
 write-of fault.Exists e = absurd cc
 write-of fault.Memory e = absurd cc
 
-write-closed : (why : CommandFault) (s : Status) (mid now : Option (List ℕ)) (b z : ℕ) → IsClosed why s mid now b z → s ≡ status.WriteFault → why ≡ fault.Write
+pub write-closed : (why : CommandFault) (s : Status) (mid now : Option (List ℕ)) (b z : ℕ) → IsClosed why s mid now b z → s ≡ status.WriteFault → why ≡ fault.Write
 write-closed why s mid now b z ends e = elim (closed-status why s mid now b z ends) [ inl w ↦ write-of why (sym e ∙ w) | inr m ↦ absurd cc ]
 
 pub write-ended : (answer : Result Bool CommandFault) (s : Status) (mid now : Option (List ℕ)) (b z : ℕ) → IsEnded answer s mid now b z → s ≡ status.WriteFault → answer ≡ Err fault.Write
@@ -90,7 +90,7 @@ store-of fault.NoRepository e = absurd cc
 store-of fault.Exists e = absurd cc
 store-of fault.Memory e = absurd cc
 
-store-closed : (why : CommandFault) (s : Status) (mid now : Option (List ℕ)) (b z : ℕ) → IsClosed why s mid now b z → s ≡ status.StoreFault → why ≡ fault.Store
+pub store-closed : (why : CommandFault) (s : Status) (mid now : Option (List ℕ)) (b z : ℕ) → IsClosed why s mid now b z → s ≡ status.StoreFault → why ≡ fault.Store
 store-closed why s mid now b z ends e = elim (closed-status why s mid now b z ends) [ inl w ↦ store-of why (sym e ∙ w) | inr m ↦ absurd cc ]
 
 pub store-ended : (answer : Result Bool CommandFault) (s : Status) (mid now : Option (List ℕ)) (b z : ℕ) → IsEnded answer s mid now b z → s ≡ status.StoreFault → answer ≡ Err fault.Store
@@ -108,7 +108,7 @@ absent-of fault.NoRepository e = refl
 absent-of fault.Exists e = absurd cc
 absent-of fault.Memory e = absurd cc
 
-absent-closed : (why : CommandFault) (s : Status) (mid now : Option (List ℕ)) (b z : ℕ) → IsClosed why s mid now b z → s ≡ status.NoRepository → why ≡ fault.NoRepository
+pub absent-closed : (why : CommandFault) (s : Status) (mid now : Option (List ℕ)) (b z : ℕ) → IsClosed why s mid now b z → s ≡ status.NoRepository → why ≡ fault.NoRepository
 absent-closed why s mid now b z ends e = elim (closed-status why s mid now b z ends) [ inl w ↦ absent-of why (sym e ∙ w) | inr m ↦ absurd cc ]
 
 pub absent-ended : (answer : Result Bool CommandFault) (s : Status) (mid now : Option (List ℕ)) (b z : ℕ) → IsEnded answer s mid now b z → s ≡ status.NoRepository → answer ≡ Err fault.NoRepository
@@ -126,7 +126,7 @@ exists-of fault.NoRepository e = absurd cc
 exists-of fault.Exists e = refl
 exists-of fault.Memory e = absurd cc
 
-exists-closed : (why : CommandFault) (s : Status) (mid now : Option (List ℕ)) (b z : ℕ) → IsClosed why s mid now b z → s ≡ status.Exists → why ≡ fault.Exists
+pub exists-closed : (why : CommandFault) (s : Status) (mid now : Option (List ℕ)) (b z : ℕ) → IsClosed why s mid now b z → s ≡ status.Exists → why ≡ fault.Exists
 exists-closed why s mid now b z ends e = elim (closed-status why s mid now b z ends) [ inl w ↦ exists-of why (sym e ∙ w) | inr m ↦ absurd cc ]
 
 pub exists-ended : (answer : Result Bool CommandFault) (s : Status) (mid now : Option (List ℕ)) (b z : ℕ) → IsEnded answer s mid now b z → s ≡ status.Exists → answer ≡ Err fault.Exists
@@ -319,3 +319,20 @@ exists-line-closed fault.Memory s mid now b z ends e = let w = exists-closed fau
 -- a command that works on a repository isn't broken off because there is one
 pub exists-not_ended : (answer : Result Bool CommandFault) (s : Status) (mid now : Option (List ℕ)) (b z : ℕ) → IfErr answer IsOverFault → IsEnded answer s mid now b z → s ≡ status.Exists → ⊥
 exists-not_ended answer s mid now b z only ends e = subst (λ (r : Result Bool CommandFault). IfErr r IsOverFault) (exists-ended answer s mid now b z ends e) only
+
+-- there was no manifest, and that was found first
+pub absent-first : (Q : Type 0) (answer : Result Bool CommandFault) → IfErr answer (λ why. IsFoundFirst why → Q) → answer ≡ Err fault.NoRepository → Q
+absent-first Q answer q e = subst (λ (r : Result Bool CommandFault). IfErr r (λ why. IsFoundFirst why → Q)) e q tt
+
+-- a run that needs a manifest is untouched
+pub untouched-ended : (Q : Type 0) (answer : Result Bool CommandFault) (s : Status) (mid now : Option (List ℕ)) (b z : ℕ) → IfErr answer (λ why. IsFoundFirst why → Q) → IfErr answer IsOverFault → IsEnded answer s mid now b z → IsUntouched s → Q
+untouched-ended Q answer s mid now b z q only ends un = elim un [
+  | inl e ↦ absurd (usage-not_ended answer s mid now b z ends e)
+  | inr more ↦ elim more [
+    | inl e ↦ absurd (refused-not_ended answer s mid now b z ends e)
+    | inr last ↦ elim last [
+      | inl e ↦ absent-first Q answer q (absent-ended answer s mid now b z ends e)
+      | inr e ↦ absurd (exists-not_ended answer s mid now b z only ends e)
+    ]
+  ]
+]

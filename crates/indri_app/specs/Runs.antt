@@ -20,7 +20,7 @@ use Rattle.repository.specs.RealLimits.{StandsFor}
 use Rattle.repository.specs.Stands.{Collection}
 use Rattle.collection_commands.specs.Creation.{IsMade, create_pieces}
 use Rattle.collection_queries.specs.Priors.{names_with}
-use Rattle.indri_app.specs.Command.{AreBegun, ArePieces, text_refusal}
+use Rattle.indri_app.specs.Command.{AreBegun, AreBegunBy, ArePieces, text_refusal}
 use Rattle.indri_app.specs.LastLines.{IsClosed, exists_line, last_line, read_line, store_line}
 use Rattle.indri_app.specs.declared.status.Status.{Status}
 use Rattle.indri_app.specs.declared.status.Status.TheVariants.{Done, Exists, Malformed, Memory, NoRepository, QueryRefused, ReadFault, SomeRefused, StoreFault, Usage, WriteFault}
@@ -37,7 +37,7 @@ IsEndedIn line told asks c bytes before now files count_before count_now =
 
 -- A command is broken off at some of its pieces, or at none where they can't be told yet.
 abbrev pub IsBegun : CommandFault → Option Files → Asks → Collection → List ℕ → Option (List ℕ) → Option (List ℕ) → Option Files → Type 0
-IsBegun why told asks c bytes before now files = (pieces : List (Piece Collection)) × AreBegun told asks c bytes pieces × IsBrokenBy why StandsFor c pieces before now files
+IsBegun why told asks c bytes before now files = (pieces : List (Piece Collection)) × AreBegunBy why told asks c bytes pieces × IsBrokenBy why StandsFor c pieces before now files
 
 -- the line of the refusal of the command's text is written, and the files stay
 pub record IsTextRefused (told : Option Files) (asks : Asks) (c : Collection) (before now : Option (List ℕ)) (files : Option Files) : Type 0 where
@@ -53,7 +53,7 @@ RunsTo SomeRefused told asks c bytes before now files count_before count_now = I
 RunsTo ReadFault told asks c bytes before now files count_before count_now = IsEndedIn read_line told asks c bytes before now files count_before count_now
 RunsTo StoreFault told asks c bytes before now files count_before count_now = IsEndedIn store_line told asks c bytes before now files count_before count_now
 RunsTo WriteFault told asks c bytes before now files count_before count_now =
-    ((pieces : List (Piece Collection)) × AreBegun told asks c bytes pieces × BrokenOff StandsFor c pieces before now files)
+    ((pieces : List (Piece Collection)) × ArePieces told asks c bytes pieces × BrokenOff StandsFor c pieces before now files)
     ⊎ ((why : QueryRefusal) × (text_refusal (names_with c.priors) asks ≡ Some why) × WritesFront before now (line_of why) × (files ≡ told))
 RunsTo Memory told asks c bytes before now files count_before count_now =
     (pieces : List (Piece Collection)) × AreBegun told asks c bytes pieces × StoppedBetween StandsFor c pieces before now files

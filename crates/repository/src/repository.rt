@@ -224,9 +224,10 @@ impl Repository {
         self.held.generation()
     }
 
-    /// Its priors, in the order of the manifest.
+    /// Its priors, in the order of the manifest. There are eight at most.
     pub fn priors(&self) -> &[PriorEntry]
-        ensures { result.now ≡ self.now.priors }
+        ensures list { result.now ≡ self.now.priors }
+        ensures few { self.now.usable ≡ true → length self.now.priors ≤ 8 }
     {
         &self.priors
     }

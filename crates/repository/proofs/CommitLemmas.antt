@@ -1,5 +1,5 @@
 -- What files stand for once all parts are saved and the manifest lists them.
-use Rattle.std.proofs.Common.{◌≡◌, ◌≤◌, ◌<◌, ◌+◌, ◌^◌, ◌⊎◌, inl, inr, ℕ, Bool, true, false, List, [], ◌∷◌, ◌++◌, length, map, Option, Some, None, refl, ap, sym, subst, ◌∙◌, arith, append-nil}
+use Rattle.std.proofs.Common.{◌≡◌, ◌≤◌, ◌<◌, ◌^◌, inl, inr, ℕ, Bool, true, false, List, [], ◌∷◌, ◌++◌, length, map, Option, Some, None, refl, ap, sym, subst, ◌∙◌, arith, append-nil}
 use Rattle.std.specs.List.{All, AllZip, IsDistinct}
 use Rattle.std.specs.Option.{option_map}
 use Rattle.std.specs.Prelude.{sum_by}
@@ -12,12 +12,10 @@ use Rattle.store_ends.specs.Files.{Files, Leaves, OldOrNew, SameWhere, with_file
 use Rattle.store_ends.proofs.Files.{SameWhere-at, SameWhere-changed, SameWhere-fewer, SameWhere-same, SameWhere-step, SameWhere-told, with_file-same}
 use Rattle.manifest.specs.Listing.{AreNumbered, AreRising, IsListing, listing, prior_numbers}
 use Rattle.manifest.specs.Spelling.{manifest_text}
-use Rattle.manifest.specs.declared.manifest.Manifest.{Manifest}
 use Rattle.manifest.specs.declared.manifest.PriorEntry.{PriorEntry}
-use Rattle.manifest.specs.declared.manifest.SegEntry.{SegEntry}
 use Rattle.manifest.proofs.ListingLaws.{manifest-of}
 use Rattle.seg_codec.specs.Segment.{segment}
-use Rattle.disk_index.specs.Kept.{Kept, kept_of}
+use Rattle.disk_index.specs.Kept.{Kept}
 use Rattle.disk_index.specs.Names.{segment_name}
 use Rattle.disk_index.specs.Parts.{InMemory, IsPartBacked, OnDisk, Source, reads, size}
 use Rattle.disk_index.specs.Reads.{HasSegment, IsBacked as IsKeptBacked}
@@ -25,7 +23,7 @@ use Rattle.disk_index.specs.Snapshots as snapshots
 use Rattle.disk_index.specs.Snapshots.{Marked, documents_held, unmarked}
 use Rattle.disk_index.specs.declared.limits.TheConstants.{MAX_HELD_DOCS}
 use Rattle.disk_index.proofs.RebuiltLemmas.{reads-backed, reads-length}
-use Rattle.holdings.specs.Contents.{Contents, all_closed}
+use Rattle.holdings.specs.Contents.{Contents}
 use Rattle.holdings.specs.MarkedParts.{IsWhole, docnos_of, filled, tokens_held, tokens_in}
 use Rattle.holdings.specs.Parts.{Parts, all_parts, closed_by, live, sealed}
 use Rattle.holdings.specs.declared.limits.Limits.{Limits}
@@ -35,8 +33,8 @@ use Rattle.holdings.proofs.SumLemmas.{documents-sealed, sum-push, tokens-sealed}
 use Rattle.repository.specs.Entries.{IsOnDisk, entries_for, entry_for, number_in}
 use Rattle.repository.specs.Names.{manifest_name, prior_name}
 use Rattle.repository.specs.Numbers.{is_among}
-use Rattle.repository.specs.Saved.{AllSaved, Holds, IsSaved, SavedSource, with_closed}
-use Rattle.repository.specs.Stands.{AreHeld, Collection, HasManifest, IsListed, IsPriorListed, Prior, Stands, live_listed, marks_from}
+use Rattle.repository.specs.Saved.{AllSaved, Holds, IsSaved, SavedSource}
+use Rattle.repository.specs.Stands.{Collection, HasManifest, IsListed, IsPriorListed, Prior, Stands, live_listed, marks_from}
 use Rattle.repository.specs.States.{IsBacked, IsNumbered, ReadsAs, State, kept_numbers, listed_numbers, numbers_in, part_numbers}
 use Rattle.repository.specs.Writes.{IsBeside, IsEither, IsOther, IsSavedAs, Wrote, Writes}
 use Rattle.repository.proofs.FrameLemmas.{AreWithin, has-same, parts-within, priors-same, priors-within, stands-same}

@@ -1,5 +1,5 @@
 -- Numbers of files are distinct where each is counted once at most.
-use Rattle.std.proofs.Common.{◌≡◌, ◌≤◌, ◌<◌, ◌+◌, ◌==◌, ◌⊎◌, inl, inr, ℕ, cond, Bool, true, false, List, [], ◌∷◌, ◌++◌, Option, None, Some, nat_le, refl, sym, ap, ◌∙◌, arith}
+use Rattle.std.proofs.Common.{◌≡◌, ◌≤◌, ◌<◌, ◌+◌, ◌==◌, ◌⊎◌, inl, inr, ℕ, cond, Bool, true, false, List, [], ◌∷◌, ◌++◌, Option, None, Some, nat_le, refl, sym, ap, ◌∙◌, arith, zero-add}
 use Rattle.std.proofs.lemmas.Bool.{eq-eqb, eqb-true}
 use Rattle.manifest.specs.Files.{numbers_of}
 use Rattle.manifest.specs.Listing.{AreNumbered, IsNoneOf, all_numbers, prior_numbers}
@@ -7,6 +7,7 @@ use Rattle.manifest.specs.declared.manifest.PriorEntry.{PriorEntry}
 use Rattle.manifest.specs.declared.manifest.SegEntry.{SegEntry}
 use Rattle.repository.specs.Priors.{is_same, number_named, with_entry}
 use Rattle.repository.specs.Stale.{with_old, with_stale}
+use Rattle.repository.proofs.NumberLemmas.{clash}
 
 abbrev one : ℕ → ℕ → ℕ
 one k n = cond (k == n) 1 0
@@ -21,10 +22,7 @@ decide k n = by (k == n) refl
   where
     by : (b : Bool) → (k == n) ≡ b → ((k ≡ n) × (one k n ≡ 1)) ⊎ ((k ≡ n → ⊥) × (one k n ≡ 0))
     by true e = inl (eqb-true k n e, ap (λ b. cond b 1 0) e)
-    by false e = inr ((λ same. clash (k == n) e (eq-eqb k n same)), ap (λ b. cond b 1 0) e)
-
-    clash : (b : Bool) → b ≡ false → b ≡ true → ⊥
-    clash b p q = cc
+    by false e = inr ((λ same. clash (k == n) (eq-eqb k n same) e), ap (λ b. cond b 1 0) e)
 
 own : (n : ℕ) → one n n ≡ 1
 own n = ap (λ b. cond b 1 0) (eq-eqb n n refl)
@@ -77,33 +75,34 @@ counted-numbered next ns ms same numbered = once-numbered next ms (λ k. (let on
 -- ---- lists
 
 count-append : (k : ℕ) (xs ys : List ℕ) → count k (xs ++ ys) ≡ count k xs + count k ys
-count-append k [] ys = refl
+count-append k [] ys = sym (zero-add (count k ys))
 count-append k (x ∷ xs) ys = (let rest = count-append k xs ys in omega (arith, rest))
 
 count-stale : (k n : ℕ) (ns : List ℕ) → count k (with_stale ns n) ≡ one k n + count k ns
 count-stale k n [] = refl
-count-stale k n (m ∷ ms) = by (nat_le n m)
+count-stale k n (m ∷ ms) = by (nat_le n m) (count-stale k n ms)
   where
-    by : (b : Bool) → count k (cond b (n ∷ m ∷ ms) (m ∷ with_stale ms n)) ≡ one k n + (one k m + count k ms)
-    by true = refl
-    by false = (let rest = count-stale k n ms in omega (arith, rest))
+    by : (b : Bool) → count k (with_stale ms n) ≡ one k n + count k ms → count k (cond b (n ∷ m ∷ ms) (m ∷ with_stale ms n)) ≡ one k n + (one k m + count k ms)
+    by true rest = refl
+    by false rest = omega (arith, rest)
 
 abbrev one_old : ℕ → Option ℕ → ℕ
 one_old k None = 0
 one_old k (Some n) = one k n
 
 count-old : (k : ℕ) (ns : List ℕ) (old : Option ℕ) → count k (with_old ns old) ≡ one_old k old + count k ns
-count-old k ns None = refl
+count-old k ns None = sym (zero-add (count k ns))
 count-old k ns (Some n) = count-stale k n ns
 
 count-entry : (k n : ℕ) (es : List PriorEntry) (name : List ℕ) → count k (prior_numbers (with_entry es name n)) + one_old k (number_named es name) ≡ one k n + count k (prior_numbers es)
 count-entry k n [] name = omega arith
-count-entry k n (e ∷ es) name = by (is_same name e.name)
+count-entry k n (e ∷ es) name = by (is_same name e.name) (count-entry k n es name)
   where
-    by : (b : Bool) → count k (prior_numbers (cond b (record { name = e.name; number = n } ∷ es) (e ∷ with_entry es name n))) + one_old k (cond b (Some e.number) (number_named es name))
+    by : (b : Bool) → count k (prior_numbers (with_entry es name n)) + one_old k (number_named es name) ≡ one k n + count k (prior_numbers es)
+        → count k (prior_numbers (cond b (record { name = e.name; number = n } ∷ es) (e ∷ with_entry es name n))) + one_old k (cond b (Some e.number) (number_named es name))
         ≡ one k n + (one k e.number + count k (prior_numbers es))
-    by true = omega arith
-    by false = (let rest = count-entry k n es name in omega (arith, rest))
+    by true rest = omega arith
+    by false rest = omega (arith, rest)
 
 -- the numbers of all files where a prior gets the file of a new number, and its old one is stale
 pub numbered-set : (next n : ℕ) (es : List SegEntry) (stale : List ℕ) (ps : List PriorEntry) (name : List ℕ) → AreNumbered next (n ∷ all_numbers es stale ps)
@@ -122,11 +121,11 @@ numbered-set next n es stale ps name numbered = counted-numbered next (n ∷ all
 -- the old number isn't stale yet
 named-counted : (k : ℕ) (es : List PriorEntry) (name : List ℕ) → one_old k (number_named es name) ≤ count k (prior_numbers es)
 named-counted k [] name = omega arith
-named-counted k (e ∷ es) name = by (is_same name e.name)
+named-counted k (e ∷ es) name = by (is_same name e.name) (named-counted k es name)
   where
-    by : (b : Bool) → one_old k (cond b (Some e.number) (number_named es name)) ≤ one k e.number + count k (prior_numbers es)
-    by true = omega arith
-    by false = (let rest = named-counted k es name in omega (arith, rest))
+    by : (b : Bool) → one_old k (number_named es name) ≤ count k (prior_numbers es) → one_old k (cond b (Some e.number) (number_named es name)) ≤ one k e.number + count k (prior_numbers es)
+    by true rest = omega arith
+    by false rest = omega (arith, rest)
 
 pub old-not_stale : (next old : ℕ) (es : List SegEntry) (stale : List ℕ) (ps : List PriorEntry) (name : List ℕ) → AreNumbered next (all_numbers es stale ps) → number_named ps name ≡ Some old → IsNoneOf old stale
 old-not_stale next old es stale ps name numbered is =

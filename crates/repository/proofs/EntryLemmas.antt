@@ -36,6 +36,10 @@ old-first (e ∷ es) name (suc i) d first =
 found : (es : List PriorEntry) (name : List ℕ) (i : ℕ) (d : PriorEntry) → position (has_name name) es ≡ Some i → IsFirst es name i d
 found es name i d is = (let at = position-Some (has_name name) es i d is in record { within = at.0; has = at.1; first = at.2 })
 
+-- what is found among the same entries by the same name
+pub found-at : (es items : List PriorEntry) (name bytes : List ℕ) (o : Option ℕ) → items ≡ es → bytes ≡ name → o ≡ position (has_name bytes) items → position (has_name name) es ≡ o
+found-at es items name bytes o same text is = ap (λ (x : List ℕ). position (has_name x) es) (sym text) ∙ ap (λ (l : List PriorEntry). position (has_name bytes) l) (sym same) ∙ sym is
+
 -- ---- the entry at that place
 
 pub place-within : (es : List PriorEntry) (name : List ℕ) (i : ℕ) (d : PriorEntry) → position (has_name name) es ≡ Some i → i < length es

@@ -1,5 +1,5 @@
 -- A store goes on over calls that stand one behind the other.
-use Rattle.std.proofs.Common.{◌≡◌, ◌≤◌, ℕ, List, Option, refl, ◌∙◌, arith}
+use Rattle.std.proofs.Common.{ℕ, List, Option, refl, ◌∙◌, arith}
 use Rattle.store_ends.specs.Files.{Files, GoesOn}
 
 module _ {S : Type 0} (layers : S → Option (List Files)) (clock : S → ℕ) (longest : S → ℕ) (held : S → List ℕ) where

@@ -1,7 +1,6 @@
 -- The entries of parts on disk are those of a manifest.
-use Rattle.std.proofs.Common.{◌≡◌, ◌≤◌, ◌<◌, ◌+◌, ◌^◌, ◌==◌, ◌||◌, ◌&&◌, ℕ, zero, suc, Bool, true, false, List, [], ◌∷◌, ◌++◌, length, map, cond, get_or, take, nat_le, nat_lt, length-take-le, refl, ap, sym, subst, ◌∙◌, arith}
+use Rattle.std.proofs.Common.{◌≡◌, ◌≤◌, ◌<◌, ◌+◌, ◌^◌, ◌==◌, ◌||◌, ◌&&◌, ℕ, zero, suc, Bool, true, false, List, [], ◌∷◌, ◌++◌, length, cond, get_or, take, nat_le, nat_lt, length-take-le, refl, ap, sym, subst, ◌∙◌, arith}
 use Rattle.std.specs.List.{All, list_any}
-use Rattle.std.specs.Prelude.{sum_by}
 use Rattle.std.proofs.lemmas.Bool.{eq-eqb, ne_eqb}
 use Rattle.std.proofs.lemmas.Bool.Decides.{nat_tests}
 use Rattle.std.proofs.lemmas.List.{length-map, map-append, take_more}
@@ -12,7 +11,6 @@ use Rattle.ri_base.specs.declared.limits.TheConstants.{MAX_PART_DOCS}
 use Rattle.manifest.specs.Files.{numbers_of}
 use Rattle.manifest.specs.Fits.{FitMarks, FitsDocs, FitsMark}
 use Rattle.manifest.specs.Listing.{AreNumbered, AreRising, FitEntries, IsListing, prior_numbers}
-use Rattle.manifest.specs.declared.manifest.Manifest.{Manifest}
 use Rattle.manifest.specs.declared.manifest.PriorEntry.{PriorEntry}
 use Rattle.manifest.proofs.ListingLaws.{listing-of}
 use Rattle.disk_index.specs.Kept.{Kept}

@@ -1,7 +1,6 @@
 -- Which numbers are taken, and that new ones are distinct from them.
-use Rattle.std.proofs.Common.{◌≡◌, ◌≤◌, ◌<◌, ◌+◌, ◌-◌, ◌^◌, ◌||◌, ◌⊎◌, inl, inr, ℕ, zero, suc, Bool, true, false, List, [], ◌∷◌, ◌++◌, length, map, min, get_or, take, refl, ap, sym, subst, ◌∙◌, arith, append_assoc}
+use Rattle.std.proofs.Common.{◌≡◌, ◌≤◌, ◌<◌, ◌+◌, ◌||◌, ◌⊎◌, inl, inr, ℕ, zero, suc, Bool, true, false, List, [], ◌∷◌, ◌++◌, length, get_or, take, refl, ap, sym, subst, ◌∙◌, arith, append_assoc}
 use Rattle.std.specs.Bool.{nat_eq}
-use Rattle.std.specs.List.{list_any}
 use Rattle.std.proofs.lemmas.Bool.{cases_eq}
 use Rattle.std.proofs.lemmas.Bool.Decides.{nat_tests}
 use Rattle.std.proofs.lemmas.List.{map-append, take_more}
@@ -18,7 +17,7 @@ use Rattle.manifest.proofs.ListingLaws.{among-with, is-same, or-group}
 use Rattle.holdings.specs.MarkedParts.{filled}
 use Rattle.holdings.specs.Parts.{with_source}
 use Rattle.holdings.proofs.LiveLemmas.{flat_map-push}
-use Rattle.repository.specs.Numbers.{AreTaken, IsLeastFree, IsNewNumber, Taken, greatest, is_among, next_after}
+use Rattle.repository.specs.Numbers.{AreTaken, IsLeastFree, is_among}
 use Rattle.repository.specs.States.{numbers_in, part_numbers}
 
 -- ---- what is among numbers

@@ -1,21 +1,26 @@
 -- What is read of a prior's file.
-use Rattle.std.proofs.Common.{◌≡◌, ◌<◌, ℕ, zero, suc, get_or, List, [], ◌∷◌, length, Option, Some, None, Result, Ok, Err, refl, sym, ap, subst, ◌∙◌, arith}
+use Rattle.std.proofs.Common.{◌≡◌, ◌≤◌, ◌<◌, ℕ, zero, suc, get_or, List, [], ◌∷◌, length, Option, Some, None, Result, Ok, Err, refl, sym, ap, subst, ◌∙◌, arith}
 use Rattle.std.specs.List.{AllZip}
+use Rattle.std.proofs.lemmas.Bool.{leb-true}
 use Rattle.std.proofs.lemmas.List.{get_or_default}
 use Rattle.ri_base.specs.FieldAnswers.{AnswersPart}
 use Rattle.ri_base.specs.Faults.{IsOutside}
+use Rattle.ri_base.specs.declared.limits.TheConstants.{MAX_PRIORS}
 use Rattle.ri_base.specs.declared.seg_fault.FileName.TheVariants as names
 use Rattle.ri_base.specs.declared.seg_fault.PartName.TheVariants as parts
 use Rattle.ri_base.specs.declared.seg_fault.SegFault.{SegFault}
 use Rattle.ri_base.specs.declared.seg_fault.SegFault.TheVariants.{Malformed, Missing, Store, Memory}
 use Rattle.store_ends.specs.Files.{Files}
+use Rattle.manifest.specs.Listing.{IsListing}
 use Rattle.manifest.specs.PriorFits.{IsPrior}
 use Rattle.manifest.specs.Priors.{PriorTable, prior_file, prior_text}
 use Rattle.manifest.specs.declared.manifest.PriorEntry.{PriorEntry}
+use Rattle.manifest.proofs.ListingLaws.{listing-of}
 use Rattle.manifest.proofs.PriorLaws.{prior_again}
 use Rattle.repository.specs.Names.{prior_name}
 use Rattle.repository.specs.Priors.{IsPriorFault}
 use Rattle.repository.specs.Stands.{IsPriorListed, Prior}
+use Rattle.repository.specs.States.{IsNumbered, State}
 use Rattle.repository.proofs.ManifestLemmas.{some_same}
 
 pub rows-read : (told : Option Files) (f : Files) (e : PriorEntry) (bytes : List ℕ) (t : PriorTable) → told ≡ Some f → Some bytes ≡ f (prior_name e.number) → (bytes ≡ prior_text t) × IsPrior t
@@ -92,3 +97,9 @@ some-prior told [] ps i e listed below at = absurd (omega (arith, below))
 some-prior told (x ∷ es) [] i e listed below at = absurd listed
 some-prior told (x ∷ es) (p ∷ ps) zero e listed below at = (p, subst (λ (y : PriorEntry). IsPriorListed told y p) (sym at) listed.0)
 some-prior told (x ∷ es) (p ∷ ps) (suc i) e listed below at = some-prior told es ps i e listed.1 (omega (arith, below)) at
+
+-- a repository that may be used has few
+pub few-kept : (s : State) → IsNumbered s → length s.priors ≤ MAX_PRIORS
+few-kept s n =
+    let old = subst (λ (ps : List PriorEntry). IsListing n.list.next n.list.segments n.list.stale ps) n.priors_are (listing-of n.list n.form) in
+    leb-true (length s.priors) MAX_PRIORS old.few_priors

@@ -1,5 +1,5 @@
 -- The files of priors where one of them is set.
-use Rattle.std.proofs.Common.{◌≡◌, ◌≤◌, ◌<◌, ◌+◌, ◌-◌, ◌^◌, inl, inr, ℕ, cond, Bool, true, false, List, [], ◌∷◌, Option, Some, None, min, refl, sym, ap, subst, ◌∙◌, arith}
+use Rattle.std.proofs.Common.{◌≡◌, ◌≤◌, ◌<◌, ◌^◌, inl, inr, ℕ, cond, Bool, true, false, List, [], ◌∷◌, Option, Some, refl, sym, ap, subst, ◌∙◌, arith}
 use Rattle.std.specs.List.{AllZip}
 use Rattle.std.specs.Option.{option_map}
 use Rattle.std.proofs.lemmas.Bool.{cases_eq}
@@ -48,11 +48,11 @@ module _ (f : Files) (b : Option Files) (n : ℕ) (t : PriorTable) (is : b ≡ S
   priors-set (e ∷ es) [] name all = absurd all
   priors-set (e ∷ es) (p ∷ ps) name all =
       subst (λ (q : List ℕ). AllZip (IsPriorListed b) (cond (is_same name e.name) (record { name = e.name; number = n } ∷ es) (e ∷ with_entry es name n)) (cond (is_same name q) (record { name = p.name; table = t } ∷ ps) (p ∷ with_rows ps name t)))
-      (sym all.0.name) (by (is_same name e.name))
+      (sym all.0.name) (by (is_same name e.name) (priors-set es ps name all.1))
     where
-      by : (y : Bool) → AllZip (IsPriorListed b) (cond y (record { name = e.name; number = n } ∷ es) (e ∷ with_entry es name n)) (cond y (record { name = p.name; table = t } ∷ ps) (p ∷ with_rows ps name t))
-      by true = (fresh e.name p.name all.0.name, all.1)
-      by false = (all.0, priors-set es ps name all.1)
+      by : (y : Bool) → AllZip (IsPriorListed b) (with_entry es name n) (with_rows ps name t) → AllZip (IsPriorListed b) (cond y (record { name = e.name; number = n } ∷ es) (e ∷ with_entry es name n)) (cond y (record { name = p.name; table = t } ∷ ps) (p ∷ with_rows ps name t))
+      by true rest = (fresh e.name p.name all.0.name, all.1)
+      by false rest = (all.0, rest)
 
 -- the new file has its rows
 pub file-put : (f : Files) (a b : Option Files) (n : ℕ) (t : PriorTable) → a ≡ Some f → b ≡ option_map (with_file (prior_name n) (Some (prior_text t))) a

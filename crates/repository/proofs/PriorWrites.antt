@@ -1,16 +1,15 @@
 -- What a repository reads as once a prior is set, and what the files stand for.
-use Rattle.std.proofs.Common.{◌≡◌, ◌≤◌, ℕ, false, List, [], map, Option, Some, None, refl, sym, ap, subst, ◌∙◌, arith}
-use Rattle.std.specs.List.{All, AllZip, IsDistinct}
+use Rattle.std.proofs.Common.{◌≡◌, ℕ, false, List, [], map, Option, Some, refl, sym, ap, subst, ◌∙◌, arith}
+use Rattle.std.specs.List.{AllZip, IsDistinct}
 use Rattle.std.specs.Option.{option_map}
 use Rattle.std.specs.Str.{bytes_eq}
 use Rattle.ri_base.specs.Documents.{Document}
 use Rattle.store_ends.specs.Files.{Files, Leaves, OldOrNew, SameWhere, with_file}
 use Rattle.store_ends.proofs.Files.{Leaves-same, SameWhere-same, with_file-same}
-use Rattle.manifest.specs.Listing.{IsListing, listing, prior_numbers}
+use Rattle.manifest.specs.Listing.{IsListing, listing}
 use Rattle.manifest.specs.PriorFits.{IsPrior}
 use Rattle.manifest.specs.Priors.{PriorTable, prior_text}
 use Rattle.manifest.specs.Spelling.{manifest_text}
-use Rattle.manifest.specs.declared.manifest.PriorEntry.{PriorEntry}
 use Rattle.manifest.proofs.ListingLaws.{manifest-of}
 use Rattle.disk_index.specs.Parts.{reads}
 use Rattle.disk_index.specs.Snapshots as snapshots
@@ -22,7 +21,7 @@ use Rattle.repository.specs.Numbers.{is_among}
 use Rattle.repository.specs.Priors.{AreStored, prior_set, with_entry, with_prior, with_rows}
 use Rattle.repository.specs.Saved.{IsUnlisted}
 use Rattle.repository.specs.Stands.{Collection, HasManifest, IsPriorListed, Prior, Stands}
-use Rattle.repository.specs.States.{IsBacked, ReadsAs, State, kept_numbers, listed_numbers, part_numbers}
+use Rattle.repository.specs.States.{IsBacked, ReadsAs, State, kept_numbers, listed_numbers}
 use Rattle.repository.specs.Writes.{IsBeside, IsEither, IsOther, Wrote, Writes}
 use Rattle.repository.proofs.CommitLemmas.{AreFit, IsNotManifest, IsThere, all-documents, all-listed, all-live, all-live_listed, all-parts, all-tokens, beside-begun, beside-listed, documents-whole, leaves-begun, leaves-listed, live-whole, parts-there, priors-replaced, replaced-others, stops-begun, stops-listed, tokens-whole, unlisted-clear}
 use Rattle.repository.proofs.FrameLemmas.{parts-within, priors-same, priors-within}

@@ -1,5 +1,5 @@
 -- The limits of every repository are the same.
-use Rattle.std.proofs.Common.{◌≡◌, ◌⊎◌, ℕ, inl, inr, arith, Option}
+use Rattle.std.proofs.Common.{◌⊎◌, inl, inr, arith, Option}
 use Rattle.store_ends.specs.Files.{Files}
 use Rattle.holdings.specs.declared.limits.Limits.{Limits}
 use Rattle.repository.specs.RealLimits.{AreReal, StandsFor}

@@ -1,14 +1,14 @@
 -- The lists of a manifest where a prior is set.
-use Rattle.std.proofs.Common.{◌≡◌, ◌≤◌, ◌<◌, ◌+◌, ◌^◌, ◌&&◌, ◌||◌, not, ℕ, suc, cond, Bool, true, false, List, [], ◌∷◌, ◌++◌, Option, None, Some, length, map, nat_le, refl, sym, ap, subst, ◌∙◌, arith}
+use Rattle.std.proofs.Common.{◌≡◌, ◌≤◌, ◌<◌, ◌+◌, ◌^◌, ◌&&◌, ◌||◌, not, ℕ, suc, cond, Bool, true, false, List, [], ◌∷◌, ◌++◌, Option, None, Some, length, nat_le, refl, sym, ap, subst, ◌∙◌, arith}
 use Rattle.std.specs.Bool.{nat_eq}
 use Rattle.std.specs.Cmp.Lexicographic.{pointwise}
 use Rattle.std.specs.List.{All, list_any}
-use Rattle.std.proofs.lemmas.Bool.{and_parts, le-leb, leb-true, leb-false}
+use Rattle.std.proofs.lemmas.Bool.{and_parts, le-leb, leb-false}
 use Rattle.std.proofs.lemmas.List.Folds.{list_any-append}
-use Rattle.ri_base.specs.Text.{is_name, is_name_byte, starts_with_letter}
-use Rattle.ri_base.specs.declared.limits.TheConstants.{MAX_HELD_DOCS, MAX_PRIORS}
+use Rattle.ri_base.specs.Text.{is_name, starts_with_letter}
+use Rattle.ri_base.specs.declared.limits.TheConstants.{MAX_PRIORS}
 use Rattle.ri_base.specs.declared.text.TheConstants.{NAME_BYTES}
-use Rattle.manifest.specs.Entries.{is_prior_name, length_name, with_numbers}
+use Rattle.manifest.specs.Entries.{length_name, with_numbers}
 use Rattle.manifest.specs.Files.{numbers_of}
 use Rattle.manifest.specs.Fits.{FitsName}
 use Rattle.manifest.specs.Listing.{AreNamed, AreNumbered, AreRising, IsListing, all_numbers, listing, prior_numbers}
@@ -16,6 +16,7 @@ use Rattle.manifest.specs.declared.manifest.PriorEntry.{PriorEntry}
 use Rattle.manifest.specs.declared.manifest.SegEntry.{SegEntry}
 use Rattle.manifest.proofs.ListingLaws.{listing-of, manifest-of}
 use Rattle.disk_index.specs.Snapshots.{documents_held}
+use Rattle.disk_index.specs.declared.limits.TheConstants.{MAX_HELD_DOCS}
 use Rattle.holdings.specs.MarkedParts.{IsWhole}
 use Rattle.repository.specs.Entries.{entries_for}
 use Rattle.repository.specs.Numbers.{IsNewNumber, greatest, is_among, next_after}
@@ -59,28 +60,30 @@ fits-behind names name form other none = (name-fits name form, all-three (is_nam
 named-set : (names : List (List ℕ)) (ps : List PriorEntry) (name : List ℕ) (n : ℕ) → is_name name ≡ true → is_same name length_name ≡ false → list_any (pointwise nat_eq name) names ≡ false → AreNamed names ps
     → AreNamed names (with_entry ps name n)
 named-set names [] name n form other none named = (fits-behind names name form other none, tt)
-named-set names (p ∷ ps) name n form other none named = by (is_same name p.name) refl
+named-set names (p ∷ ps) name n form other none named = by (is_same name p.name) refl (λ none_more. named-set (names ++ p.name ∷ []) ps name n form other none_more named.1)
   where
-    by : (b : Bool) → is_same name p.name ≡ b → AreNamed names (cond b (record { name = p.name; number = n } ∷ ps) (p ∷ with_entry ps name n))
-    by true e = named
-    by false e =
+    by : (b : Bool) → is_same name p.name ≡ b → (list_any (pointwise nat_eq name) (names ++ p.name ∷ []) ≡ false → AreNamed (names ++ p.name ∷ []) (with_entry ps name n))
+        → AreNamed names (cond b (record { name = p.name; number = n } ∷ ps) (p ∷ with_entry ps name n))
+    by true e rest = named
+    by false e rest =
         let none_more : list_any (pointwise nat_eq name) (names ++ p.name ∷ []) ≡ false =
         list_any-append (pointwise nat_eq name) names (p.name ∷ []) ∙ either (list_any (pointwise nat_eq name) names) (is_same name p.name) none e in
-        (named.0, named-set (names ++ p.name ∷ []) ps name n form other none_more named.1)
+        (named.0, rest none_more)
 
 -- ---- how many
 
+one-longer : (b : Bool) (n : ℕ) → suc (cond b n (n + 1)) ≡ cond b (suc n) (suc n + 1)
+one-longer true n = refl
+one-longer false n = omega arith
+
 length-entry : (ps : List PriorEntry) (name : List ℕ) (n : ℕ) → length (with_entry ps name n) ≡ cond (is_named ps name) (length ps) (length ps + 1)
 length-entry [] name n = refl
-length-entry (p ∷ ps) name n = by (is_same name p.name)
+length-entry (p ∷ ps) name n = by (is_same name p.name) (length-entry ps name n)
   where
-    by : (b : Bool) → length (cond b (record { name = p.name; number = n } ∷ ps) (p ∷ with_entry ps name n)) ≡ cond (b || is_named ps name) (suc (length ps)) (suc (length ps) + 1)
-    by true = refl
-    by false = ap suc (length-entry ps name n) ∙ inside (is_named ps name)
-
-    inside : (b : Bool) → suc (cond b (length ps) (length ps + 1)) ≡ cond b (suc (length ps)) (suc (length ps) + 1)
-    inside true = refl
-    inside false = omega arith
+    by : (b : Bool) → length (with_entry ps name n) ≡ cond (is_named ps name) (length ps) (length ps + 1)
+        → length (cond b (record { name = p.name; number = n } ∷ ps) (p ∷ with_entry ps name n)) ≡ cond (b || is_named ps name) (suc (length ps)) (suc (length ps) + 1)
+    by true rest = refl
+    by false rest = ap suc rest ∙ one-longer (is_named ps name) (length ps)
 
 few-set : (ps : List PriorEntry) (name : List ℕ) (n : ℕ) → nat_le (length ps) MAX_PRIORS ≡ true → is_full ps name ≡ false → nat_le (length (with_entry ps name n)) MAX_PRIORS ≡ true
 few-set ps name n few room = ap (λ (m : ℕ). nat_le m MAX_PRIORS) (length-entry ps name n) ∙ by (is_named ps name) room

@@ -1,5 +1,5 @@
 -- Where the stale files are removed, and what is held is saved behind that.
-use Rattle.std.proofs.Common.{◌≡◌, ◌<◌, ◌^◌, inl, inr, ℕ, List, [], ◌++◌, get_or, Option, Some, sym, subst, ◌∙◌, arith}
+use Rattle.std.proofs.Common.{◌≡◌, ◌<◌, ◌^◌, inl, inr, ℕ, true, false, List, [], ◌++◌, get_or, Option, Some, sym, subst, ◌∙◌, arith}
 use Rattle.std.specs.List.{All}
 use Rattle.std.specs.Option.{option_map}
 use Rattle.store_ends.specs.Files.{Files, Leaves, OldOrNew, SameWhere, with_file}

@@ -5,6 +5,7 @@ ghost use Rattle.std.specs.Str.{bytes_eq};
 ghost use Rattle.ri_base.specs.Documents.{Document};
 ghost use Rattle.ri_base.specs.Faults.{IsOutside};
 ghost use Rattle.ri_base.specs.Keeps.{Rose};
+ghost use Rattle.ri_base.specs.declared.limits.TheConstants.{MAX_PRIORS};
 ghost use Rattle.store_ends.specs.Files.{Files, GoesOn, IsQuiet};
 ghost use Rattle.manifest.specs.Entries.{length_name, with_numbers};
 ghost use Rattle.manifest.specs.Fits.{IsManifest};
@@ -224,10 +225,10 @@ impl Repository {
         self.held.generation()
     }
 
-    /// Its priors, in the order of the manifest. There are eight at most.
+    /// Its priors, in the order of the manifest.
     pub fn priors(&self) -> &[PriorEntry]
         ensures list { result.now ≡ self.now.priors }
-        ensures few { self.now.usable ≡ true → length self.now.priors ≤ 8 }
+        ensures few { self.now.usable ≡ true → length self.now.priors ≤ MAX_PRIORS }
     {
         &self.priors
     }

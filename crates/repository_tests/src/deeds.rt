@@ -130,7 +130,7 @@ fn belief<S: Store>(alloc: Global, store: &mut S, repository: &Repository, i: u3
 }
 
 /// What is answered; nothing where memory is short.
-pub fn told<S: Store>(
+pub fn answer_to<S: Store>(
     alloc: Global,
     store: &mut S,
     repository: &mut Repository,
@@ -162,7 +162,7 @@ fn are_told<S: Store>(
     rows: &[Row],
 ) -> bool {
     for (deed, wanted) in rows {
-        if told(alloc, store, repository, *deed) != Some(*wanted) {
+        if answer_to(alloc, store, repository, *deed) != Some(*wanted) {
             return false;
         }
     }

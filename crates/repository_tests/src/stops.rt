@@ -1,7 +1,7 @@
 // Each call of the store fails in each way where files are written.
 use crate::answers::Answer;
 use crate::contents::{Content, FIRST, Kept, PRIOR_THREE, PRIOR_TWO, store_with};
-use crate::deeds::{DONE, Deed, Row, Told, answers_so, opened, told};
+use crate::deeds::{DONE, Deed, Row, Told, answer_to, answers_so, opened};
 use crate::files::{SEGMENT, fails_at};
 use holdings::Limits;
 use repository::Repository;
@@ -189,7 +189,7 @@ fn last_of(
 ) -> Option<Told> {
     let mut last = None;
     for deed in deeds {
-        last = told(alloc, store, repository, *deed);
+        last = answer_to(alloc, store, repository, *deed);
     }
     last
 }

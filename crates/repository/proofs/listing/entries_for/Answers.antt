@@ -1,7 +1,7 @@
 use Rattle.std.proofs.Common.{◌++◌, ◌∷◌, ◌∙◌, [], List, ap, subst, sym, take}
 use Rattle.disk_index.specs.Snapshots.{Marked}
 use Rattle.manifest.specs.declared.manifest.SegEntry.{SegEntry}
-use Rattle.repository.specs.Entries.{IsOnDisk, entries_for, entry_for}
+use Rattle.repository.specs.Entries.{IsOnDisk, entries_for}
 use Rattle.repository.proofs.ListedLemmas.{entries-more}
 use Rattle.repository.proofs.listing.entries_for.Goals as goal
 

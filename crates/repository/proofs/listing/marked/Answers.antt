@@ -1,4 +1,4 @@
-use Rattle.std.proofs.Common.{◌≡◌, ◌<◌, ◌++◌, ◌∷◌, ◌∙◌, [], Bool, List, ℕ, ap, arith, cond, length, take}
+use Rattle.std.proofs.Common.{◌<◌, ◌++◌, ◌∷◌, ◌∙◌, [], Bool, List, ℕ, ap, arith, cond, length, take}
 use Rattle.std.proofs.lemmas.List.{take_all}
 use Rattle.repository.specs.Entries.{marked_from}
 use Rattle.repository.proofs.ListedLemmas.{marked-more}

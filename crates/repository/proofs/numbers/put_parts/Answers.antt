@@ -1,8 +1,7 @@
-use Rattle.std.proofs.Common.{◌∙◌, List, ℕ, ap, sym}
+use Rattle.std.proofs.Common.{◌∙◌, List, ℕ, ap}
 use Rattle.disk_index.specs.Parts.{Source}
-use Rattle.disk_index.specs.Snapshots.{Marked}
 use Rattle.manifest.specs.Entries.{with_numbers}
-use Rattle.repository.specs.States.{numbers_in, part_numbers}
+use Rattle.repository.specs.States.{numbers_in}
 use Rattle.repository.proofs.NumberLemmas.{put-part}
 use Rattle.repository.proofs.numbers.put_parts.Goals as goal
 

@@ -1,5 +1,5 @@
-use Rattle.std.proofs.Common.{◌≡◌, ◌<◌, ◌^◌, ◌∙◌, arith}
-use Rattle.store_ends.proofs.Files.{Leaves-same, SameWhere-same}
+use Rattle.std.proofs.Common.{◌<◌, ◌^◌, arith}
+use Rattle.store_ends.proofs.Files.{SameWhere-same}
 use Rattle.repository.specs.Saved.{IsUnlisted}
 use Rattle.repository.specs.Writes.{IsOther}
 use Rattle.repository.proofs.PriorSetLemmas.{leaves-others, others-stay}

@@ -1,4 +1,4 @@
-use Rattle.std.proofs.Common.{◌≡◌, ◌≤◌, length, take}
+use Rattle.std.proofs.Common.{◌≤◌, take}
 use Rattle.std.specs.List.{All}
 use Rattle.store_ends.specs.Files.{GoesOn, Leaves, SameWhere}
 use Rattle.repository.specs.Entries.{IsOnDisk}

@@ -1,4 +1,4 @@
-use Rattle.std.proofs.Common.{◌∙◌, ap, subst, sym}
+use Rattle.std.proofs.Common.{◌∙◌, List, ap, subst, sym}
 use Rattle.std.specs.List.{All}
 use Rattle.disk_index.specs.Snapshots.{Marked}
 use Rattle.repository.specs.Entries.{IsOnDisk}

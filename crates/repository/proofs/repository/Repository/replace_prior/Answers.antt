@@ -2,9 +2,9 @@ use Rattle.std.proofs.Common.{◌≡◌, ◌≤◌, ◌<◌, ◌∙◌, List, So
 use Rattle.std.specs.List.{All}
 use Rattle.std.specs.Option.{option_map}
 use Rattle.ri_base.specs.Text.{is_name}
-use Rattle.ri_base.specs.declared.limits.TheConstants.{MAX_HELD_DOCS}
 use Rattle.store_ends.specs.Files.{with_file}
 use Rattle.disk_index.specs.Snapshots.{Marked, documents_held}
+use Rattle.disk_index.specs.declared.limits.TheConstants.{MAX_HELD_DOCS}
 use Rattle.holdings.specs.MarkedParts.{IsWhole}
 use Rattle.repository.specs.Entries.{IsOnDisk}
 use Rattle.repository.specs.Names.{manifest_name}
@@ -44,8 +44,8 @@ list_files-requires-clause-form g c =
     c.requires.room (new-number s c.in_ok-numbers.numbers n takes c.in_ok-number.ensures.new) c.in_ok-number.ensures.bounds.0 below in
     listing-is s c.args.name n c.next-after.result c.closed_parts-parts.result.now c.deref.result.now c.deref-2.result.now is form
 
-pub invariant_of-self : goal.invariant_of-self
-invariant_of-self g c = λ usable.
+pub invariant_of-self-2 : goal.invariant_of-self-2
+invariant_of-self-2 g c = λ usable.
     let s = c.args.self.now in
     let n = c.in_ok-number.number in
     let numbered : IsNumbered s = subst IsNumbered c.self.view_is (c.self.invariant (ap (λ (x : State). x.usable) c.self.view_is ∙ c.requires.usable)) in

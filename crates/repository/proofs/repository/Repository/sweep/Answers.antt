@@ -1,4 +1,4 @@
-use Rattle.std.proofs.Common.{◌∙◌, ap, subst, sym}
+use Rattle.std.proofs.Common.{◌∙◌, List, ap, subst, sym}
 use Rattle.std.specs.List.{All}
 use Rattle.manifest.specs.Listing.{listing}
 use Rattle.manifest.specs.Spelling.{manifest_text}

@@ -1,5 +1,4 @@
-use Rattle.std.proofs.Common.{◌≡◌, ◌++◌, ◌∙◌, [], List, ap, subst, sym, true, ℕ}
-use Rattle.manifest.specs.Entries.{with_numbers}
+use Rattle.std.proofs.Common.{◌++◌, ◌∙◌, List, ap, subst, sym, ℕ}
 use Rattle.manifest.specs.Listing.{AreNumbered, prior_numbers}
 use Rattle.manifest.specs.declared.manifest.PriorEntry.{PriorEntry}
 use Rattle.disk_index.specs.Snapshots.{Marked}

@@ -4,7 +4,7 @@ use Rattle.std.proofs.lemmas.List.{get_or-map, get_or-take, length-map, length-t
 use Rattle.ri_base.specs.Collection.{document_at}
 use Rattle.ri_base.specs.Documents.{Document}
 use Rattle.ri_base.specs.Pair.{Pair}
-use Rattle.ri_base.specs.declared.faults.SegFault.{SegFault}
+use Rattle.ri_base.specs.declared.seg_fault.SegFault.{SegFault}
 use Rattle.query_check.specs.Leaves.{LeafTree, leaf_tree, prior}
 use Rattle.query_check.specs.declared.leaf_kind.LeafKind.{LeafKind}
 use Rattle.belief_nodes.specs.declared.leaf_count.LeafCount.{LeafCount}
@@ -29,7 +29,7 @@ module _ (d : Document) where
       let long = length-map leaves leaf_tree in
       let here : f x ≡ get_or (map f before) first other = ap f at ∙ sym (get_or-map f before first x other (omega (arith, lt, each))) in
       let there : get_or (map g (take number trees)) first other ≡ g (get_or (take number trees) first (prior 0)) = get_or-map g (take number trees) first (prior 0) other (within number trees first lt (omega (arith, inside, long))) in
-      let front : get_or (take number trees) first (prior 0) ≡ get_or trees first (prior 0) = get_or-take trees number first (prior 0) lt in
+      let front : get_or (take number trees) first (prior 0) ≡ get_or trees first (prior 0) = get_or-take number trees first (prior 0) lt in
       let early_is : get_or trees first (prior 0) ≡ leaf_tree early = get_or-map leaf_tree leaves first early (prior 0) (omega (arith, lt, inside)) ∙ ap leaf_tree (sym at_early) in
       let late_is : get_or trees number (prior 0) ≡ leaf_tree late = get_or-map leaf_tree leaves number late (prior 0) inside ∙ ap leaf_tree (sym at_late) in
       ap f is ∙ here ∙ ap (λ ns. get_or ns first other) so_far ∙ there ∙ ap g (front ∙ early_is ∙ same ∙ sym late_is)

@@ -42,7 +42,10 @@ impl<'a> LeafExtents<'a> {
     {
         match self {
             LeafExtents::Plain(found) => Ok(LeafExtents::Plain(copy_of(alloc, found)?)),
-            LeafExtents::Inside(found, name) => Ok(LeafExtents::Inside(copy_of(alloc, found)?, name)),
+            LeafExtents::Inside(found, name) => Ok(LeafExtents::Inside(
+                copy_of(alloc, found)?,
+                name,
+            )),
             LeafExtents::Prior => Ok(LeafExtents::Prior),
         }
     }

@@ -11,7 +11,15 @@ use seg_codec::seg_bytes;
 use std::alloc::Global;
 
 static WORDS: [&str; 9] = [
-    "a b c", "a b", "c a a b", "b c", "a b c", "c c a", "c", "b a c a b", "a",
+    "a b c",
+    "a b",
+    "c a a b",
+    "b c",
+    "a b c",
+    "c c a",
+    "c",
+    "b a c a b",
+    "a",
 ];
 
 /// Of the first 130 documents two have the word `e`. Those from 200 on have all the same words.

@@ -4,7 +4,7 @@ ghost use Rattle.ri_base.specs.Ratio.{ratio_of};
 ghost use Rattle.smoothing.specs.Counts.{AreCounts};
 ghost use Rattle.smoothing.specs.Fractions.{Computes, dirichlet};
 
-use crate::parts::{Opened, Piece, live_alone, opened};
+use crate::parts::{Opened, Piece, live_alone, open_parts};
 use crate::searches::{begin, hits_of, step, whole_search};
 use crate::steps::is_right;
 use ri_base::{Fraction, SegFault};
@@ -29,10 +29,12 @@ const CALLS: u64 = 12;
 
 fn failing_at(alloc: Global, call: u64) -> Option<Vec<StoreFail>> {
     let mut fails = Vec::new(alloc);
-    fails.push(StoreFail {
-        call,
-        left: Left::Old,
-    }).ok()?;
+    fails
+        .push(StoreFail {
+            call,
+            left: Left::Old,
+        })
+        .ok()?;
     Some(fails)
 }
 
@@ -74,7 +76,7 @@ fn searches(alloc: Global, call: u64) -> Option<(bool, bool)> {
             ensures { ratio_of result ≡ dirichlet 1 tf len cf total }
         { dirichlet_fraction(1, tf, len, cf, total) },
     );
-    let mut opened = opened(alloc, &DISK, failing_at(alloc, call)?)?;
+    let mut opened = open_parts(alloc, &DISK, failing_at(alloc, call)?)?;
     let fails = fails_once(alloc, &mut opened, &rule)?;
     let is_right = is_right_next(alloc, &mut opened, &rule)?;
     Some((fails, is_right))

@@ -4,7 +4,7 @@ ghost use Rattle.ri_base.specs.Ratio.{ratio_of};
 ghost use Rattle.smoothing.specs.Counts.{AreCounts};
 ghost use Rattle.smoothing.specs.Fractions.{Computes, dirichlet};
 
-use crate::parts::{Opened, Piece, opened};
+use crate::parts::{Opened, Piece, open_parts};
 use crate::searches::{hits_of, whole_search};
 use ri_base::{Fraction, Hit};
 use smoothing::{Rule, RuleKind, dirichlet_fraction};
@@ -72,7 +72,7 @@ fn wrong_order(alloc: Global) -> Option<usize> {
             ensures { ratio_of result ≡ dirichlet 1 tf len cf total }
         { dirichlet_fraction(1, tf, len, cf, total) },
     );
-    let Some(mut opened) = opened(alloc, &PIECES, Vec::new(alloc)) else {
+    let Some(mut opened) = open_parts(alloc, &PIECES, Vec::new(alloc)) else {
         return Some(ORDERS.len());
     };
     for (i, (text, docnos)) in ORDERS.iter().enumerate() {

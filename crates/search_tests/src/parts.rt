@@ -1,9 +1,7 @@
 // Parts of these documents, with a mark for each dead one.
 use crate::documents::{bytes_of, is_dead, sealed};
 use deletion_list::DelList;
-use disk_index::{
-    BlockCache, DiskIndex, MarkedPart, Part, Snapshot, fits_snapshot, segment_name,
-};
+use disk_index::{BlockCache, DiskIndex, MarkedPart, Part, Snapshot, fits_snapshot, segment_name};
 use ri_base::Sealed;
 use std::alloc::{AllocError, Global};
 use std::num::NonZeroUsize;
@@ -42,7 +40,9 @@ fn store_of(alloc: Global, pieces: &[Piece], fails: Vec<StoreFail>) -> Option<Me
     let mut files = Vec::new(alloc);
     for number in 0..pieces.len() {
         if pieces[number].is_on_disk {
-            files.push(file_of(alloc, number as u64, pieces[number])?).ok()?;
+            files
+                .push(file_of(alloc, number as u64, pieces[number])?)
+                .ok()?;
         }
     }
     Some(MemStore::new(alloc, files, fails))
@@ -102,7 +102,7 @@ fn snapshot_of(alloc: Global, parts: &[MarkedPart]) -> Option<Snapshot> {
     Snapshot::of(alloc, parts).ok()
 }
 
-fn opened_with(alloc: Global, snapshot: Snapshot, store: MemStore) -> Option<Opened> {
+fn with_cache(alloc: Global, snapshot: Snapshot, store: MemStore) -> Option<Opened> {
     let cache = BlockCache::new(alloc, NonZeroUsize::MIN).ok()?;
     Some(Opened {
         snapshot,
@@ -112,11 +112,11 @@ fn opened_with(alloc: Global, snapshot: Snapshot, store: MemStore) -> Option<Ope
 }
 
 /// A snapshot of these pieces. In its store these calls fail.
-pub fn opened(alloc: Global, pieces: &[Piece], fails: Vec<StoreFail>) -> Option<Opened> {
+pub fn open_parts(alloc: Global, pieces: &[Piece], fails: Vec<StoreFail>) -> Option<Opened> {
     let mut store = store_of(alloc, pieces, fails)?;
     let parts = marked_parts(alloc, &mut store, pieces)?;
     let snapshot = snapshot_of(alloc, &parts)?;
-    opened_with(alloc, snapshot, store)
+    with_cache(alloc, snapshot, store)
 }
 
 /// The live documents from a number on, up to another, in one part in memory without marks.
@@ -125,7 +125,7 @@ pub fn live_alone(alloc: Global, from: u32, to: u32) -> Option<Opened> {
     let parts = [unmarked(alloc, part)?];
     let snapshot = snapshot_of(alloc, &parts)?;
     let store = MemStore::new(alloc, Vec::new(alloc), Vec::new(alloc));
-    opened_with(alloc, snapshot, store)
+    with_cache(alloc, snapshot, store)
 }
 
 /// The same snapshot once more.

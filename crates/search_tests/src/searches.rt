@@ -37,7 +37,14 @@ fn step_on<F: Fn(u32, u32, u64, u64) -> Fraction>(
     ensures plugs { All (HasPrior 0) (network_tree search.new.network).leaves }
 {
     let mut plugs: Vec<Box<dyn BeliefNode>> = Vec::new(alloc);
-    search.step(alloc, docs, rule, &mut plugs, &mut opened.store, &mut opened.cache)
+    search.step(
+        alloc,
+        docs,
+        rule,
+        &mut plugs,
+        &mut opened.store,
+        &mut opened.cache,
+    )
 }
 
 /// Whether all documents are passed by now; nothing where the search can't go on. A fault of the store is told apart.

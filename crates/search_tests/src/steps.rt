@@ -6,7 +6,7 @@ ghost use Rattle.smoothing.specs.Fractions.{Computes, dirichlet};
 ghost use Rattle.belief_nodes.specs.Leaves.{HasPrior};
 ghost use Rattle.belief_nodes.specs.Network.{network_tree};
 
-use crate::parts::{Opened, Piece, live_alone, opened};
+use crate::parts::{Opened, Piece, live_alone, open_parts};
 use crate::searches::{begin, hits_of, step, whole_search};
 use ranker::Search;
 use ri_base::{Fraction, Hit};
@@ -30,6 +30,11 @@ static QUERIES: [&str; 12] = [
 ];
 
 static STEPS: [u64; 5] = [1, 2, 3, 7, 1000];
+
+/// Of 130 documents: ties, a word of few, and one of none.
+static FEW_QUERIES: [&str; 3] = ["a", "e", "x"];
+
+static FEW_STEPS: [u64; 3] = [1, 7, 1000];
 
 fn is_same(a: &Hit, b: &Hit) -> bool {
     a.docno.as_bytes() == b.docno.as_bytes()
@@ -108,12 +113,13 @@ fn wrong_step<F: Fn(u32, u32, u64, u64) -> Fraction>(
     opened: &mut Opened,
     text: &str,
     most: u32,
+    steps: &[u64],
     rule: &Rule<F>,
     wanted: &[Hit],
 ) -> Option<u64>
     requires { Computes F.pre F.post rule.now.kind rule.now.f }
 {
-    for docs in &STEPS {
+    for docs in steps {
         if !is_right(alloc, opened, text, most, *docs, rule, wanted) {
             return Some(*docs);
         }
@@ -127,6 +133,7 @@ fn wrong_front<F: Fn(u32, u32, u64, u64) -> Fraction>(
     alloc: Global,
     opened: &mut Opened,
     text: &str,
+    steps: &[u64],
     rule: &Rule<F>,
     all: &[Hit],
 ) -> Option<(u32, u64)>
@@ -135,7 +142,7 @@ fn wrong_front<F: Fn(u32, u32, u64, u64) -> Fraction>(
     let count = all.len().min(1000) as u32;
     for most in [1, count, count.saturating_add(1)] {
         let shown = all.len().min(most as usize);
-        if let Some(docs) = wrong_step(alloc, opened, text, most, rule, &all[..shown]) {
+        if let Some(docs) = wrong_step(alloc, opened, text, most, steps, rule, &all[..shown]) {
             return Some((most, docs));
         }
     }
@@ -148,6 +155,7 @@ fn wrong_results<F: Fn(u32, u32, u64, u64) -> Fraction>(
     opened: &mut Opened,
     live: &mut Opened,
     text: &str,
+    steps: &[u64],
     rule: &Rule<F>,
 ) -> Option<(u32, u64)>
     requires { Computes F.pre F.post rule.now.kind rule.now.f }
@@ -156,7 +164,7 @@ fn wrong_results<F: Fn(u32, u32, u64, u64) -> Fraction>(
         return Some((0, 0));
     };
     match hits_of(&search) {
-        Some(all) => wrong_front(alloc, opened, text, rule, all),
+        Some(all) => wrong_front(alloc, opened, text, steps, rule, all),
         None => Some((0, 0)),
     }
 }
@@ -166,12 +174,14 @@ fn wrong_query<F: Fn(u32, u32, u64, u64) -> Fraction>(
     alloc: Global,
     opened: &mut Opened,
     live: &mut Opened,
+    queries: &[&str],
+    steps: &[u64],
     rule: &Rule<F>,
 ) -> Option<(usize, u32, u64)>
     requires { Computes F.pre F.post rule.now.kind rule.now.f }
 {
-    for (i, text) in QUERIES.iter().enumerate() {
-        if let Some((most, docs)) = wrong_results(alloc, opened, live, text, rule) {
+    for (i, text) in queries.iter().enumerate() {
+        if let Some((most, docs)) = wrong_results(alloc, opened, live, text, steps, rule) {
             return Some((i, most, docs));
         }
     }
@@ -179,7 +189,14 @@ fn wrong_query<F: Fn(u32, u32, u64, u64) -> Fraction>(
 }
 
 /// The same of these pieces, which have the documents from a number on, up to another.
-fn wrong_of(alloc: Global, pieces: &[Piece], from: u32, to: u32) -> Option<(usize, u32, u64)> {
+fn wrong_of(
+    alloc: Global,
+    pieces: &[Piece],
+    from: u32,
+    to: u32,
+    queries: &[&str],
+    steps: &[u64],
+) -> Option<(usize, u32, u64)> {
     let rule = Rule::new(
         RuleKind::Dirichlet { mu: 1 },
         |tf, len, cf, total| -> Fraction
@@ -188,12 +205,23 @@ fn wrong_of(alloc: Global, pieces: &[Piece], from: u32, to: u32) -> Option<(usiz
         { dirichlet_fraction(1, tf, len, cf, total) },
     );
     let Some(mut live) = live_alone(alloc, from, to) else {
-        return Some((QUERIES.len(), 0, 0));
+        return Some((queries.len(), 0, 0));
     };
-    match opened(alloc, pieces, Vec::new(alloc)) {
-        Some(mut opened) => wrong_query(alloc, &mut opened, &mut live, &rule),
-        None => Some((QUERIES.len(), 0, 1)),
+    match open_parts(alloc, pieces, Vec::new(alloc)) {
+        Some(mut opened) => wrong_query(alloc, &mut opened, &mut live, queries, steps, &rule),
+        None => Some((queries.len(), 0, 1)),
     }
+}
+
+/// All queries and steps over the first nine documents.
+fn wrong_of_nine(alloc: Global, pieces: &[Piece]) -> Option<(usize, u32, u64)> {
+    wrong_of(alloc, pieces, 0, 9, &QUERIES, &STEPS)
+}
+
+/// A few of both over 130 documents.
+fn wrong_of_many(alloc: Global, pieces: &[Piece], from: u32) -> Option<(usize, u32, u64)> {
+    let to = from.saturating_add(130);
+    wrong_of(alloc, pieces, from, to, &FEW_QUERIES, &FEW_STEPS)
 }
 
 static MEMORY: [Piece; 1] = [Piece {
@@ -204,7 +232,7 @@ static MEMORY: [Piece; 1] = [Piece {
 
 #[test]
 fn over_a_part_in_memory(rt: HostRuntime) {
-    assert_eq!(rt; wrong_of(rt.alloc(), &MEMORY, 0, 9), None);
+    assert_eq!(rt; wrong_of_nine(rt.alloc(), &MEMORY), None);
 }
 
 static DISK: [Piece; 1] = [Piece {
@@ -215,7 +243,7 @@ static DISK: [Piece; 1] = [Piece {
 
 #[test]
 fn over_a_part_on_disk(rt: HostRuntime) {
-    assert_eq!(rt; wrong_of(rt.alloc(), &DISK, 0, 9), None);
+    assert_eq!(rt; wrong_of_nine(rt.alloc(), &DISK), None);
 }
 
 static BOTH: [Piece; 3] = [
@@ -238,7 +266,7 @@ static BOTH: [Piece; 3] = [
 
 #[test]
 fn over_parts_of_both_kinds(rt: HostRuntime) {
-    assert_eq!(rt; wrong_of(rt.alloc(), &BOTH, 0, 9), None);
+    assert_eq!(rt; wrong_of_nine(rt.alloc(), &BOTH), None);
 }
 
 static RANGES: [Piece; 1] = [Piece {
@@ -263,11 +291,11 @@ static EQUAL: [Piece; 2] = [
 
 #[test]
 fn over_several_ranges(rt: HostRuntime) {
-    assert_eq!(rt; wrong_of(rt.alloc(), &RANGES, 0, 130), None);
-    assert_eq!(rt; wrong_of(rt.alloc(), &EQUAL, 200, 330), None);
+    assert_eq!(rt; wrong_of_many(rt.alloc(), &RANGES, 0), None);
+    assert_eq!(rt; wrong_of_many(rt.alloc(), &EQUAL, 200), None);
 }
 
 #[test]
 fn over_no_document(rt: HostRuntime) {
-    assert_eq!(rt; wrong_of(rt.alloc(), &[], 0, 0), None);
+    assert_eq!(rt; wrong_of(rt.alloc(), &[], 0, 0, &QUERIES, &FEW_STEPS), None);
 }

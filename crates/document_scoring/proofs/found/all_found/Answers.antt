@@ -1,4 +1,5 @@
 use Rattle.std.proofs.Common.{arith, rules, ◌≡◌, ◌<◌, ◌+◌, ◌++◌, ◌∷◌, [], List, get_or, length, map, take, ap, sym, subst, ◌∙◌}
+use Rattle.std.specs.List.{All}
 use Rattle.std.proofs.lemmas.List.{length-map, length_push, take_all}
 use Rattle.std.proofs.lemmas.List.Elements.{All-push}
 use Rattle.ri_base.specs.Collection.{document_at}
@@ -13,7 +14,10 @@ use Rattle.document_scoring.proofs.FirstsLemmas.{default, so_far_read}
 use Rattle.document_scoring.proofs.found.all_found.Goals as goal
 
 pub found_at-requires-clause-before : goal.found_at-requires-clause-before
-found_at-requires-clause-before g c = rw (sym c.loop-number.invariant.keeps.documents_stay) at c.loop-number.invariant.found
+found_at-requires-clause-before g c =
+    let read = g.P.Postings.documents c.loop-number.part in
+    subst (All (IsFound (document_at read c.args.id).fields)) (sym c.deref.ensures.value)
+    (subst (λ (ds : List Document). All (IsFound (document_at ds c.args.id).fields) c.loop-number.all.items) (sym c.loop-number.invariant.keeps.documents_stay) c.loop-number.invariant.found)
 
 pub loop-number-preserved : goal.loop-number-preserved
 loop-number-preserved g c =
@@ -29,12 +33,16 @@ loop-number-preserved g c =
     let long = length-map c.args.leaves.now leaf_tree in
     let inside : i < length leaves = omega (arith, c.loop-number-test.true, long) in
     let pushed : c.push.new.self.items ≡ all ++ found ∷ [] = search rules in
+    let before : g.P.Postings.sound c.args.part.now → (w : Pair) → map (found_count (document_at read c.args.id).fields w) c.deref.result.now ≡ map (count_in (document_at read c.args.id) w) (take i leaves) =
+    λ sound.
+    subst (λ (v : List LeafExtents). (w : Pair) → map (found_count (document_at read c.args.id).fields w) v ≡ map (count_in (document_at read c.args.id) w) (take i leaves)) (sym c.deref.ensures.value)
+    (so_far_read docs read c.args.id leaves i all (sym stay) (c.loop-number.invariant.so_far sound)) in
     record {
       keeps = search rules;
       so_far = λ sound w.
           rw pushed (next_same (found_count d.fields w) (count_in d w) all leaves i found leaf inside (default leaves i (prior 0) leaf inside) (c.loop-number.invariant.so_far sound w)
           (found_stays docs read c.args.id w leaf found stay
-          (c.in_ok-found.ensures.exact (c.loop-number.invariant.keeps.sound_stays sound) (so_far_read docs read c.args.id leaves i all (sym stay) (c.loop-number.invariant.so_far sound)) w)));
+          (c.in_ok-found.ensures.exact (c.loop-number.invariant.keeps.sound_stays sound) (before sound) w)));
       each = rw pushed (length_push all found ∙ ap (λ n. n + 1) c.loop-number.invariant.each);
       found = rw pushed (All-push (IsFound d.fields) all found c.loop-number.invariant.found (IsFound-stays docs read c.args.id found stay c.in_ok-found.ensures.found));
     }

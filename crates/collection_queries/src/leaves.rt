@@ -66,7 +66,10 @@ pub fn all_stats<T: Store>(
     let mut stats = Vec::with_capacity(alloc, leaves.len())?;
     for leaf in leaves {
         let found = leaf_stats(alloc, leaf, snapshot, generation, counts, store, cache)?;
-        stats.push(found)?;
+        match stats.push(found) {
+            Ok(()) => {}
+            Err(_) => return Err(SegFault::Memory),
+        }
     }
     Ok(stats)
 }

@@ -1,7 +1,7 @@
 //! What is asked of a collection that stays in the files of a store: its first results for a query, or why one has its score.
 #![tactic(auto)]
 
-mod answer;
+mod answering;
 mod explained;
 mod kept_priors;
 mod laws;
@@ -12,7 +12,7 @@ mod results;
 mod search;
 mod shown;
 
-pub use answer::answer;
+pub use answering::answer;
 pub use kept_priors::{names_of, take_priors};
 pub use laws::ranking_is_true;
 pub use priors::length_plug;

@@ -16,6 +16,7 @@ use ri_base::{ArgList, NoMemory};
 use ri_ends::{Sink, Source, StdSink, StdSource};
 use std::alloc::{AllocError, Global};
 use std::env;
+use std::fs;
 use std::io::ErrorKind;
 use std::process::ExitCode;
 use store_ends::{FolderStore, Store};
@@ -74,11 +75,19 @@ fn folder_of(words: &ArgList) -> &str {
     }
 }
 
+/// Makes the folder of a `create` where it isn't there. Where that fails, the store tells of it.
+fn make_folder(rt: &HostRuntime, words: &ArgList) {
+    if words.get(1) == Some("create") && words.get(2).is_none() {
+        let _ = fs::create_dir(rt, folder_of(words));
+    }
+}
+
 /// Runs the command of the program's words over standard input, standard output and the folder that they name.
 fn run_main(rt: &HostRuntime) -> Result<Status, NoMemory> {
     let words = words_of(rt)?;
     let mut source = StdSource::new(rt.stdin());
     let mut sink = StdSink::new(rt.stdout());
+    make_folder(rt, &words);
     let mut store = FolderStore::new(rt, folder_of(&words))?;
     run_words(rt.alloc(), &words, &mut source, &mut sink, &mut store)
 }

@@ -17,7 +17,7 @@ use Rattle.collection_queries.specs.Answer.{IsAnswerText}
 use Rattle.collection_queries.specs.Priors.{names_with, priors_with}
 use Rattle.collection_queries.specs.Shown.{Shown}
 use Rattle.indri_app.specs.Command.{IsQuery, answer_piece, query_refusal}
-use Rattle.indri_app.specs.Opened.{IsWant}
+use Rattle.indri_app.specs.Opened.{IsOpenFault, IsWant}
 use Rattle.indri_app.specs.declared.question.AskFault.{AskFault}
 use Rattle.indri_app.specs.declared.question.AskFault.TheVariants.{Broken, Refused}
 use Rattle.indri_app.specs.declared.texts.TextFault.{TextFault}
@@ -66,3 +66,8 @@ IsIntactWithPriors told = (limits : Limits) × ((s : State) × IsRepositoryOpene
 abbrev pub IfRefused : AskFault → Type 0 → Type 0
 IfRefused (Refused why) P = P
 IfRefused (Broken why) P = Unit {0}
+
+-- neither the input nor the sink is to blame
+abbrev pub IsAskBroken : AskFault → Type 0
+IsAskBroken (Refused why) = Unit {0}
+IsAskBroken (Broken why) = IsOpenFault why

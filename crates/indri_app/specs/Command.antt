@@ -15,14 +15,14 @@ use Rattle.query_refusals.specs.declared.refusal.QueryRefusal.{QueryRefusal}
 use Rattle.query_refusals.specs.declared.refusal.QueryRefusal.TheVariants as refusal
 use Rattle.command_pieces.specs.Pieces.{Piece}
 use Rattle.command_pieces.specs.Written.{Plain, told_piece, unflushed}
+use Rattle.command_pieces.specs.declared.command_fault.CommandFault.{CommandFault}
+use Rattle.command_pieces.specs.declared.command_fault.CommandFault.TheVariants as fault
 use Rattle.document_handlers.specs.Work.{Work, adding, behind_all, input_pieces, scanning}
 use Rattle.holdings.specs.declared.limits.Limits.{Limits}
-use Rattle.manifest.specs.Priors.{PriorTable}
-use Rattle.prior_lines.specs.Rows.{prior_rows}
 use Rattle.repository.specs.RealLimits.{AreReal}
 use Rattle.repository.specs.Stands.{Collection}
 use Rattle.collection_commands.specs.Flushing.{delete_pieces, then_flushed}
-use Rattle.collection_commands.specs.PriorSetting.{IsTableOf, prior_pieces}
+use Rattle.collection_commands.specs.PriorSetting.{ArePriorPieces, name_refusal}
 use Rattle.collection_queries.specs.Answer.{IsAnswerText}
 use Rattle.collection_queries.specs.Priors.{names_with, priors_with}
 use Rattle.collection_queries.specs.Shown.{Shown, explanation, shown_for}
@@ -87,13 +87,18 @@ ArePieces told (scan text) c bytes pieces = (x : ExprTree) × (expr_text text �
 ArePieces told create c bytes pieces = ⊥
 ArePieces told add c bytes pieces = (limits : Limits) × AreReal limits × (pieces ≡ add_pieces told limits c bytes)
 ArePieces told delete c bytes pieces = pieces ≡ delete_pieces c bytes
-ArePieces told (prior name) c bytes pieces = (table : PriorTable) × IsTableOf (prior_rows bytes) table × (pieces ≡ prior_pieces c name bytes table)
+ArePieces told (prior name) c bytes pieces = ArePriorPieces (name_refusal c name) c name bytes pieces
 ArePieces told (query question) c bytes pieces = AreAnswer c question (shown_for question) pieces
 ArePieces told (explain rank question) c bytes pieces = AreAnswer c question (explanation rank) pieces
 
 -- These are they, or none where they can't be told yet.
 abbrev pub AreBegun : Option Files → Asks → Collection → List ℕ → List (Piece Collection) → Type 0
 AreBegun told asks c bytes pieces = (pieces ≡ []) ⊎ ArePieces told asks c bytes pieces
+
+-- These are they of a command that is broken off. Where the sink failed they can be told.
+abbrev pub AreBegunBy : CommandFault → Option Files → Asks → Collection → List ℕ → List (Piece Collection) → Type 0
+AreBegunBy fault.Write told asks c bytes pieces = ArePieces told asks c bytes pieces
+AreBegunBy why told asks c bytes pieces = AreBegun told asks c bytes pieces
 
 -- ---- which commands look at a manifest
 

@@ -1,5 +1,7 @@
 pub mod Asked
+pub mod Changes
 pub mod Command
+pub mod HasRun
 pub mod LastLines
 pub mod Opened
 pub mod Runs

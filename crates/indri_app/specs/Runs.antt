@@ -3,11 +3,12 @@ use Rattle.std.specs.Prelude.{ℕ, ◌≡◌, ◌⊎◌, Bool, true, false, List
 use Rattle.ri_base.specs.Expression.{ExprTree}
 use Rattle.store_ends.specs.Files.{Files, Leaves}
 use Rattle.command_words.specs.Table.{Asks, create}
-use Rattle.command_pieces.specs.CommandFaults.{IsDamage}
+use Rattle.command_pieces.specs.CommandFaults.{IsBrokenBy, IsDamage, of_items}
 use Rattle.command_pieces.specs.Lines.{EndsIn, WritesLine}
 use Rattle.command_pieces.specs.Pieces.{BrokenOff, Finished, Piece, StandsAlong, StoppedBetween, Writes, WritesFront, some_refused}
 use Rattle.command_pieces.specs.Written.{AllWritten, CutBetween, CutThenLine, CutWithin, Plain}
 use Rattle.command_pieces.specs.declared.command_fault.CommandFault.{CommandFault}
+use Rattle.command_pieces.specs.declared.fault.Fault.{Fault}
 use Rattle.document_handlers.specs.Work.{input_pieces, scanning}
 use Rattle.query_reader.specs.QueryText.{expr_text}
 use Rattle.query_reader.specs.declared.fault.QueryKind.{QueryKind}
@@ -19,7 +20,7 @@ use Rattle.repository.specs.RealLimits.{StandsFor}
 use Rattle.repository.specs.Stands.{Collection}
 use Rattle.collection_commands.specs.Creation.{IsMade, create_pieces}
 use Rattle.collection_queries.specs.Priors.{names_with}
-use Rattle.indri_app.specs.Command.{AreBegun, ArePieces, text_refusal}
+use Rattle.indri_app.specs.Command.{AreBegun, AreBegunBy, ArePieces, text_refusal}
 use Rattle.indri_app.specs.LastLines.{IsClosed, exists_line, last_line, read_line, store_line}
 use Rattle.indri_app.specs.declared.status.Status.{Status}
 use Rattle.indri_app.specs.declared.status.Status.TheVariants.{Done, Exists, Malformed, Memory, NoRepository, QueryRefused, ReadFault, SomeRefused, StoreFault, Usage, WriteFault}
@@ -33,6 +34,10 @@ IsDone told asks c bytes refused before now files =
 abbrev pub IsEndedIn : List ℕ → Option Files → Asks → Collection → List ℕ → Option (List ℕ) → Option (List ℕ) → Option Files → ℕ → ℕ → Type 0
 IsEndedIn line told asks c bytes before now files count_before count_now =
     (pieces : List (Piece Collection)) × AreBegun told asks c bytes pieces × EndsIn line StandsFor c pieces before now files count_before count_now
+
+-- A command is broken off at some of its pieces, or at none where they can't be told yet.
+abbrev pub IsBegun : CommandFault → Option Files → Asks → Collection → List ℕ → Option (List ℕ) → Option (List ℕ) → Option Files → Type 0
+IsBegun why told asks c bytes before now files = (pieces : List (Piece Collection)) × AreBegunBy why told asks c bytes pieces × IsBrokenBy why StandsFor c pieces before now files
 
 -- the line of the refusal of the command's text is written, and the files stay
 pub record IsTextRefused (told : Option Files) (asks : Asks) (c : Collection) (before now : Option (List ℕ)) (files : Option Files) : Type 0 where
@@ -88,6 +93,11 @@ IsEnded (Ok false) status before now count_before count_now = (status ≡ Done) 
 IsEnded (Ok true) status before now count_before count_now = (status ≡ SomeRefused) × (now ≡ before)
 IsEnded (Err why) status before now count_before count_now = IsClosed why status before now count_before count_now
 
+-- what a command answers that changes no file
+abbrev pub items_answer : Result Bool Fault → Result Bool CommandFault
+items_answer (Ok refused) = Ok refused
+items_answer (Err why) = Err (of_items why)
+
 -- how a run ends that needs a repository and finds no manifest
 abbrev pub IsAbsentStatus : Status → Type 0
 IsAbsentStatus status = (status ≡ NoRepository) ⊎ (status ≡ StoreFault) ⊎ (status ≡ Memory)
@@ -108,24 +118,53 @@ TellsDamage before now count_before count_now = (why : CommandFault) × IsDamage
 abbrev pub HasDone : Status → Type 0
 HasDone status = (status ≡ Done) ⊎ (status ≡ SomeRefused) ⊎ (status ≡ QueryRefused)
 
--- ---- a scan, which looks at no file
+-- ---- a command that changes no file
+
+-- What a command of these pieces has written.
+abbrev pub WritesBy : Status → List Plain → Option (List ℕ) → Option (List ℕ) → ℕ → ℕ → Type 0
+WritesBy Done pieces before now count_before count_now = (some_refused pieces ≡ false) × AllWritten pieces before now
+WritesBy SomeRefused pieces before now count_before count_now = (some_refused pieces ≡ true) × AllWritten pieces before now
+WritesBy ReadFault pieces before now count_before count_now = CutThenLine read_line pieces before now count_before count_now
+WritesBy WriteFault pieces before now count_before count_now = CutWithin pieces before now
+WritesBy Memory pieces before now count_before count_now = CutBetween pieces before now
+WritesBy QueryRefused pieces before now count_before count_now = ⊥
+WritesBy Exists pieces before now count_before count_now = ⊥
+WritesBy StoreFault pieces before now count_before count_now = ⊥
+WritesBy Usage pieces before now count_before count_now = ⊥
+WritesBy Malformed pieces before now count_before count_now = ⊥
+WritesBy NoRepository pieces before now count_before count_now = ⊥
+
+-- a run that looks at no file ends so
+abbrev pub IsPlainStatus : Status → Type 0
+IsPlainStatus Done = Unit {0}
+IsPlainStatus SomeRefused = Unit {0}
+IsPlainStatus ReadFault = Unit {0}
+IsPlainStatus WriteFault = Unit {0}
+IsPlainStatus Memory = Unit {0}
+IsPlainStatus QueryRefused = Unit {0}
+IsPlainStatus Exists = ⊥
+IsPlainStatus StoreFault = ⊥
+IsPlainStatus Usage = ⊥
+IsPlainStatus Malformed = ⊥
+IsPlainStatus NoRepository = ⊥
+
+-- a run whose answer is one piece ends so
+abbrev pub IsReplyStatus : Status → Type 0
+IsReplyStatus Done = Unit {0}
+IsReplyStatus SomeRefused = Unit {0}
+IsReplyStatus ReadFault = ⊥
+IsReplyStatus WriteFault = Unit {0}
+IsReplyStatus Memory = Unit {0}
+IsReplyStatus QueryRefused = ⊥
+IsReplyStatus Exists = ⊥
+IsReplyStatus StoreFault = ⊥
+IsReplyStatus Usage = ⊥
+IsReplyStatus Malformed = ⊥
+IsReplyStatus NoRepository = ⊥
 
 -- What a scan has written of these bytes, or the line of its text's refusal.
-abbrev pub ScansBy : Status → List Plain → Option (List ℕ) → Option (List ℕ) → ℕ → ℕ → Type 0
-ScansBy Done pieces before now count_before count_now = (some_refused pieces ≡ false) × AllWritten pieces before now
-ScansBy SomeRefused pieces before now count_before count_now = (some_refused pieces ≡ true) × AllWritten pieces before now
-ScansBy ReadFault pieces before now count_before count_now = CutThenLine read_line pieces before now count_before count_now
-ScansBy WriteFault pieces before now count_before count_now = CutWithin pieces before now
-ScansBy Memory pieces before now count_before count_now = CutBetween pieces before now
-ScansBy QueryRefused pieces before now count_before count_now = ⊥
-ScansBy Exists pieces before now count_before count_now = ⊥
-ScansBy StoreFault pieces before now count_before count_now = ⊥
-ScansBy Usage pieces before now count_before count_now = ⊥
-ScansBy Malformed pieces before now count_before count_now = ⊥
-ScansBy NoRepository pieces before now count_before count_now = ⊥
-
 abbrev pub ScansFor : Result ExprTree (QueryKind × ℕ) → Status → List ℕ → Option (List ℕ) → Option (List ℕ) → ℕ → ℕ → Type 0
-ScansFor (Ok x) status bytes before now count_before count_now = ScansBy status (input_pieces (scanning x) (read bytes)) before now count_before count_now
+ScansFor (Ok x) status bytes before now count_before count_now = WritesBy status (input_pieces (scanning x) (read bytes)) before now count_before count_now
 ScansFor (Err fault) status bytes before now count_before count_now = Tells QueryRefused (line_of (Text fault.0 fault.1)) status before now
 
 -- Want of memory may come before the text is read.

@@ -1,11 +1,11 @@
 // How a run ends.
-ghost use Rattle.std.specs.Prelude.{◌≡◌, ◌≢◌, ◌≤◌, ◌⊎◌, ◌++◌, IfOk, OnOk};
+ghost use Rattle.std.specs.Prelude.{◌≡◌, ◌≢◌, ◌≤◌, ◌⊎◌, ◌++◌, ◌∷◌, [], IfOk, OnOk};
 ghost use Rattle.ri_ends.specs.Causes.{Rose};
 ghost use Rattle.indri_app.specs.LastLines.{IsClosed, IsLined, file_text, malformed_line, missing_line, part_text, status_of};
-ghost use Rattle.indri_app.specs.Runs.{IsEnded, Tells};
+ghost use Rattle.indri_app.specs.Runs.{IsEnded, IsReplyStatus, Tells, WritesBy, items_answer};
 
 use crate::Status;
-use command_pieces::CommandFault;
+use command_pieces::{CommandFault, Fault, Reply};
 use disk_index::segment_name;
 use repository::prior_name;
 use ri_base::{FileName, NoMemory, PartName};
@@ -118,6 +118,31 @@ pub fn close<K: Sink>(alloc: Global, fault: CommandFault, sink: &mut K) -> Statu
         CommandFault::Write => Status::WriteFault,
         CommandFault::Memory => Status::Memory,
     }
+}
+
+/// Ends a run of a command that changes no file by what it answers.
+pub fn finish_items<K: Sink>(alloc: Global, answer: Result<bool, Fault>, sink: &mut K) -> Status
+    ensures ended { IsEnded (items_answer answer) result (K.taken sink.old) (K.taken sink.new) (K.faults sink.old) (K.faults sink.new) }
+    ensures later { K.faults sink.old ≤ K.faults sink.new }
+{
+    match answer {
+        Ok(refused) => finish(alloc, Ok(refused), sink),
+        Err(fault) => finish(alloc, Err(CommandFault::of_items(fault)), sink),
+    }
+}
+
+/// Writes the one piece of an answer, and ends the run.
+pub fn write_reply<K: Sink>(alloc: Global, reply: &Reply, sink: &mut K) -> Status
+    ensures written { WritesBy result (reply.now ∷ []) (K.taken sink.old) (K.taken sink.new) (K.faults sink.old) (K.faults sink.new) }
+    ensures only { IsReplyStatus result }
+    ensures later { K.faults sink.old ≤ K.faults sink.new }
+    ensures write { result ≡ Status.WriteFault → Rose (K.faults sink.old) (K.faults sink.new) }
+{
+    let answer = match reply.write(sink) {
+        Ok(()) => Ok(reply.is_refusal()),
+        Err(fault) => Err(fault),
+    };
+    finish_items(alloc, answer, sink)
 }
 
 /// Ends a run by what its command answers: whether something is refused, or why it is broken off.

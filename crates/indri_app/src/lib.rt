@@ -2,6 +2,7 @@
 #![tactic(auto)]
 
 mod addition;
+mod changing;
 mod ending;
 mod opening;
 mod program;

@@ -13,7 +13,7 @@ ghost use Rattle.collection_queries.specs.Answer.{IsRule};
 ghost use Rattle.collection_queries.specs.Priors.{run_priors};
 ghost use Rattle.collection_queries.specs.Searching.{IsShowable};
 ghost use Rattle.collection_queries.specs.Shown.{told_shown};
-ghost use Rattle.indri_app.specs.Asked.{IfRefused, IsAskFault, IsAsked, IsFaultOver, IsIntactWithPriors, ask_fault};
+ghost use Rattle.indri_app.specs.Asked.{IfRefused, IsAskBroken, IsAskFault, IsAsked, IsFaultOver, IsIntactWithPriors, ask_fault};
 ghost use Rattle.indri_app.specs.Command.{answer_piece};
 
 use crate::opening::open_repository;
@@ -89,6 +89,7 @@ pub fn ask<T: Store>(
     ensures manifest { (f : Files) → T.files store.old ≡ Some f → f manifest_name ≡ None → OnOk result ⊥ }
     ensures intact { (f : Files) → T.files store.old ≡ Some f → OnOk result (IsIntactWithPriors (T.files store.old)) }
     ensures intact_refused { (f : Files) → T.files store.old ≡ Some f → IfErr result (λ fault. IfRefused fault (IsIntactWithPriors (T.files store.old))) }
+    ensures only { IfErr result IsAskBroken }
     ensures quiet { IsQuiet T.files T.layers T.clock T.since T.longest T.held store.old store.new }
     ensures later { T.faults store.old ≤ T.faults store.new }
     ensures store { IsErrOf result (AskFault.Broken CommandFault.Store) → Rose (T.faults store.old) (T.faults store.new) }

@@ -10,7 +10,7 @@ use Rattle.collection_queries.specs.Answer.{IsAnswerText}
 use Rattle.collection_queries.specs.Shown.{results, shown_text}
 use Rattle.collection_queries.proofs.AnswerLemmas.{result_text}
 use Rattle.collection_queries.proofs.SearchLemmas.{search-answer}
-use Rattle.collection_queries.proofs.answer.results_text.Goals as goal
+use Rattle.collection_queries.proofs.answering.results_text.Goals as goal
 
 -- There are no more hits than were asked for (`answer_few`), and each has as many beliefs as the query has leaves (`shape`).
 

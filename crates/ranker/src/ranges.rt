@@ -14,9 +14,5 @@ pub fn end_of(range: u32, docs: u32) -> u32
 pub fn start_of(range: u32, docs: u32) -> u32
     ensures { result ≡ min docs (64 * range) }
 {
-    if range <= docs / 64 {
-        64 * range
-    } else {
-        docs
-    }
+    if range <= docs / 64 { 64 * range } else { docs }
 }

@@ -1,4 +1,4 @@
-use Rattle.std.proofs.Common.{◌≡◌, ◌≤◌, ◌+◌, ◌%◌, false, cond, List, length, map, take, refl, ap, sym, subst, ◌∙◌, arith}
+use Rattle.std.proofs.Common.{◌≡◌, ◌≤◌, ◌+◌, ◌%◌, false, cond, List, map, take, refl, ap, sym, subst, ◌∙◌, arith}
 use Rattle.std.specs.Int.{bit_at}
 use Rattle.ri_base.specs.Collection.{document_at}
 use Rattle.ri_base.specs.Documents.{Document}
@@ -42,8 +42,8 @@ loop-at-preserved g c =
       so_far = λ sound known.
           let none : c.has_id.result ≡ false → query_may filters network.leaves (document_at read at) ≡ false =
           λ clear.
-              let bit : bit_at c.args.ahead.mask (at % 64) ≡ 0 = sym c.has_id.ensures ∙ ap (λ b. cond b 1 0) clear in
-              subst (λ (ds : List Document). query_may filters network.leaves (document_at ds at) ≡ false) (sym keeps.documents_stay) (known.none at low (omega (arith, test)) bit) in
+          let bit : bit_at c.args.ahead.mask (at % 64) ≡ 0 = sym c.has_id.ensures ∙ ap (λ b. cond b 1 0) clear in
+          subst (λ (ds : List Document). query_may filters network.leaves (document_at ds at) ≡ false) (sym keeps.documents_stay) (known.none at low (omega (arith, test)) bit) in
           Advances-then kind priors filters network (unmarked (take c.args.id docs) marks) (unmarked (take at docs) marks) (unmarked (take (at + 1) docs) marks) c.args.first.now c.loop-at.first c.pass_document.new.first
           (c.loop-at.invariant.so_far sound known)
           (Advances-read kind _ priors filters network read docs marks at (at + 1) c.loop-at.first c.pass_document.new.first c.loop-at.invariant.stay keeps.documents_stay (c.in_ok-passed.ensures.first (keeps.sound_stays sound) none));

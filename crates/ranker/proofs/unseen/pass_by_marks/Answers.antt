@@ -1,4 +1,4 @@
-use Rattle.std.proofs.Common.{◌≡◌, ◌<◌, ◌≤◌, ◌+◌, true, false, length, arith}
+use Rattle.std.proofs.Common.{arith}
 use Rattle.ranker.proofs.PassedLemmas.{ids-counted}
 use Rattle.ranker.proofs.unseen.pass_by_marks.Goals as goal
 

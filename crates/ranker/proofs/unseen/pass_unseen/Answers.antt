@@ -1,4 +1,4 @@
-use Rattle.std.proofs.Common.{◌≡◌, ◌≤◌, ◌+◌, length, ap, arith}
+use Rattle.std.proofs.Common.{◌≡◌, ◌≤◌, length, ap, arith}
 use Rattle.deletion_list.specs.Marks.{marked_count}
 use Rattle.deletion_list.proofs.MarkLemmas.{few}
 use Rattle.ranker.specs.Passed.{live_ids}

@@ -1,4 +1,4 @@
-use Rattle.std.proofs.Common.{◌∙◌, Ok, Err, ap}
+use Rattle.std.proofs.Common.{◌∙◌, Err, ap}
 use Rattle.command_pieces.specs.Written.{told_piece}
 use Rattle.document_handlers.proofs.AdditionLemmas.{added-reads, added-reply, full-is, refused-reads, refused-reply, repeated-is, same-limits}
 use Rattle.document_handlers.proofs.adder.Adder.add.Goals as goal

@@ -1,6 +1,6 @@
 -- A document that is added to a repository, over the collection that it reads as.
-use Rattle.std.proofs.Common.{◌≡◌, ◌+◌, ℕ, Bool, true, false, ◌||◌, List, length, refl, ap, sym, ◌∙◌, subst, inl, inr, Option, Result, Ok, Err, map}
-use Rattle.std.specs.Prelude.{nat_lt, if◌then◌else◌}
+use Rattle.std.proofs.Common.{◌≡◌, ◌+◌, ℕ, Bool, true, false, ◌||◌, List, [], ◌∷◌, length, refl, ap, sym, ◌∙◌, subst, inl, inr, Option, Result, Ok, Err, map}
+use Rattle.std.specs.Prelude.{nat_lt, if◌then◌else◌, IfOk, OnOk}
 use Rattle.std.specs.Set.{is_member}
 use Rattle.std.specs.Str.{bytes_eq}
 use Rattle.ri_base.specs.Documents.{Document}
@@ -17,8 +17,15 @@ use Rattle.refusals.specs.declared.refusal.CollectionKind.TheVariants.{Collectio
 use Rattle.refusals.specs.declared.refusal.Refusal.{Refusal}
 use Rattle.refusals.specs.declared.refusal.Refusal.TheVariants as refusal
 use Rattle.repository.specs.Stands.{Collection}
-use Rattle.repository.specs.States.{ReadsAs, State}
+use Rattle.repository.specs.States.{IsBacked, ReadsAs, State}
 use Rattle.repository.specs.Steps.{with_document}
+use Rattle.tokens.specs.Content as tokens
+use Rattle.tokens.specs.Content.{content}
+use Rattle.tokens.specs.declared.document.TokenRefusal.{TokenRefusal}
+use Rattle.tokens.specs.declared.document.TokenRefusal.TheVariants as unreadable
+use Rattle.trec_reader.specs.declared.document.RawDoc.{RawDoc}
+use Rattle.holdings.specs.declared.limits.Limits.{Limits}
+use Rattle.document_handlers.specs.Work.{Work, adding, behind, replies, scanning}
 use Rattle.document_handlers.specs.Addition.{added, added_text, addition, collection_with, holds_too_much, is_there}
 
 -- what the answer of a repository says of a document; want of memory says nothing
@@ -65,11 +72,56 @@ pub added-reads : (told : Option Files) (s t : State) (c : Collection) (d : Docu
 added-reads told s t c d r reads answers ok now =
     subst (λ x. ReadsAs told t (collection_with c x)) (sym (answered told s c d r reads answers (λ none. cc) ∙ ap (as_addition d) ok)) now
 
-pub refused-reply : (told : Option Files) (s : State) (c : Collection) (d : Document) (r : Result (Unit {0}) AddRefusal) (why : Refusal) (p : Plain) → ReadsAs told s c → Answers r (answer s.held d) → (r ≡ Err holding.Memory → ⊥) → as_addition d r ≡ Err why
-    → p ≡ refusal_piece why → p ≡ added (addition s.held.limits c (Ok d))
-refused-reply told s c d r why p reads answers some is e = e ∙ sym (ap added (answered told s c d r reads answers some ∙ is))
+-- ---- it is refused
 
-pub refused-reads : (told : Option Files) (s t : State) (c : Collection) (d : Document) (r : Result (Unit {0}) AddRefusal) (why : Refusal) → ReadsAs told s c → Answers r (answer s.held d) → (r ≡ Err holding.Memory → ⊥) → as_addition d r ≡ Err why
-    → t ≡ s → ReadsAs told t (collection_with c (addition s.held.limits c (Ok d)))
-refused-reads told s t c d r why reads answers some is same =
-    subst (λ x. ReadsAs told t (collection_with c x)) (sym (answered told s c d r reads answers some ∙ is)) (subst (λ u. ReadsAs told u c) (sym same) reads)
+pub repeated-is : (told : Option Files) (s : State) (c : Collection) (d : Document) (r : Result (Unit {0}) AddRefusal) (docno : List ℕ) → ReadsAs told s c → Answers r (answer s.held d) → r ≡ Err (holding.Repeated docno) → addition s.held.limits c (Ok d) ≡ Err (refusal.Collection Repeated docno)
+repeated-is told s c d r docno reads answers is = answered told s c d r reads answers (λ none. cc) ∙ ap (as_addition d) is
+
+pub full-is : (told : Option Files) (s : State) (c : Collection) (d : Document) (r : Result (Unit {0}) AddRefusal) (docno : List ℕ) → ReadsAs told s c → Answers r (answer s.held d) → r ≡ Err (holding.CollectionFull docno) → addition s.held.limits c (Ok d) ≡ Err (refusal.Collection CollectionFull docno)
+full-is told s c d r docno reads answers is = answered told s c d r reads answers (λ none. cc) ∙ ap (as_addition d) is
+
+pub refused-reply : {E : Type 0} (q : Result Plain E) (x : Result Document Refusal) (why : Refusal) → x ≡ Err why → IfOk q (λ p. p ≡ refusal_piece why) → IfOk q (λ p. p ≡ added x)
+refused-reply (Ok p) x why is e = e ∙ sym (ap added is)
+refused-reply (Err none) x why is e = tt
+
+pub refused-reads : {A E : Type 0} (q : Result A E) (told : Option Files) (s t : State) (c : Collection) (x : Result Document Refusal) (why : Refusal) → ReadsAs told s c → x ≡ Err why → t ≡ s → OnOk q (ReadsAs told t (collection_with c x))
+refused-reads (Ok a) told s t c x why reads is same = subst (λ x. ReadsAs told t (collection_with c x)) (sym is) (subst (λ u. ReadsAs told u c) (sym same) reads)
+refused-reads (Err none) told s t c x why reads is same = tt
+
+pub same-limits : {A E : Type 0} (q : Result A E) (s t : State) → t ≡ s → OnOk q (t.held.limits ≡ s.held.limits)
+same-limits (Ok a) s t same = ap (λ (u : State). u.held.limits) same
+same-limits (Err none) s t same = tt
+
+-- ---- a document that isn't read
+
+pub unread : (d : RawDoc) (why : TokenRefusal) → tokens.Answers (Err why) (content d) → (why ≡ unreadable.Memory → ⊥) → content d ≡ Err why
+unread d (unreadable.TooManyTokens docno) answers some = answers
+unread d (unreadable.TooManyFields docno) answers some = answers
+unread d unreadable.Memory answers some = absurd (some refl)
+
+pub unread-reply : (told : Option Files) (limits : Limits) (c : Collection) (w : Work) (d : RawDoc) (why : TokenRefusal) (p : Plain) → w ≡ adding told limits c → content d ≡ Err why → p ≡ refusal_piece (refusal.Document why) → p ∷ [] ≡ replies w d
+unfolding replies
+unread-reply told limits c w d why p w_is is e = rw w_is (rw is (ap (λ q. q ∷ []) e))
+
+pub unread-behind : (told : Option Files) (limits : Limits) (c : Collection) (w : Work) (d : RawDoc) (why : TokenRefusal) → w ≡ adding told limits c → content d ≡ Err why → behind w d ≡ adding told limits c
+unfolding behind
+unread-behind told limits c w d why w_is is = rw w_is (rw is refl)
+
+-- ---- the repository is given back
+
+abbrev told_in : Option Files → Work → Option Files
+told_in other (scanning x) = other
+told_in other (adding told limits c) = told
+
+abbrev limits_in : Limits → Work → Limits
+limits_in other (scanning x) = other
+limits_in other (adding told limits c) = limits
+
+abbrev collection_in : Collection → Work → Collection
+collection_in other (scanning x) = other
+collection_in other (adding told limits c) = c
+
+pub given-back : (told known : Option Files) (limits : Limits) (s : State) (c d : Collection) → adding told limits c ≡ adding known s.held.limits d → ReadsAs known s d → IsBacked known s → ReadsAs told s c × IsBacked told s × (s.held.limits ≡ limits)
+given-back told known limits s c d same reads backed =
+    let told_is = sym (ap (told_in told) same) in
+    (subst (λ t. ReadsAs t s c) told_is (subst (ReadsAs known s) (sym (ap (collection_in c) same)) reads), subst (λ t. IsBacked t s) told_is backed, sym (ap (limits_in limits) same))

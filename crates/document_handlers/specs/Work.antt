@@ -4,7 +4,6 @@ use Rattle.ri_base.specs.Documents.{Document}
 use Rattle.ri_base.specs.Expression.{ExprTree}
 use Rattle.command_pieces.specs.Written.{Plain, told_piece}
 use Rattle.refusals.specs.Lines.{refusal_piece}
-use Rattle.refusals.specs.declared.refusal.Refusal.{Refusal}
 use Rattle.refusals.specs.declared.refusal.Refusal.TheVariants as refusal
 use Rattle.holdings.specs.declared.limits.Limits.{Limits}
 use Rattle.repository.specs.Stands.{Collection}

@@ -2,6 +2,7 @@
 ghost use Rattle.std.specs.Prelude.{◌≡◌, Ok, true, IfOk, OnOk, Option};
 ghost use Rattle.ri_base.specs.Documents.{Document};
 ghost use Rattle.store_ends.specs.Files.{Files};
+ghost use Rattle.holdings.specs.declared.limits.Limits.{Limits};
 ghost use Rattle.repository.specs.Stands.{Collection};
 ghost use Rattle.repository.specs.States.{IsBacked, ReadsAs};
 ghost use Rattle.document_handlers.specs.Addition.{added, added_text, addition, collection_with};
@@ -87,7 +88,10 @@ impl Handler for Adder {
         match doc_of(alloc, document) {
             Ok(doc) => Ok(Some(self.add(alloc, &doc)?)),
             Err(TokenRefusal::Memory) => Err(AllocError),
-            Err(refusal) => Ok(Some(reply_of(alloc, &Refusal::Document(refusal))?)),
+            Err(refusal) => {
+                let reply = reply_of(alloc, &Refusal::Document(refusal))?;
+                Ok(Some(reply))
+            }
         }
     }
 }

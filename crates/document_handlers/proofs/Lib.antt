@@ -1,2 +1,1 @@
-pub mod AdditionLemmas
 pub mod Following

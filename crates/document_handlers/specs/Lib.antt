@@ -1,3 +1,3 @@
-pub mod Addition
+pub mod Collection
 pub mod Scan
 pub mod Work

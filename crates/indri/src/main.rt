@@ -1,25 +1,20 @@
-//! The program: runs the command of its words over standard input, standard output and a folder.
+//! The program: runs the command of its words over standard input and standard output.
 #![tactic(auto)]
 
 ghost use Rattle.std.specs.Prelude.{◌≡◌, IfOk};
 ghost use Rattle.belief_nodes.specs.Priors.{no_prior};
 
 #[cfg(test)]
-mod store_tests;
-#[cfg(test)]
 mod tests;
 
 use belief_nodes::{BeliefNode, TablePlug};
-use collection_queries::length_plug;
-use indri_app::{Status, run};
+use indri_app::{Status, length_plug, run};
 use ri_base::{ArgList, NoMemory};
 use ri_ends::{Sink, Source, StdSink, StdSource};
 use std::alloc::{AllocError, Global};
 use std::env;
-use std::fs;
 use std::io::ErrorKind;
 use std::process::ExitCode;
-use store_ends::{FolderStore, Store};
 
 /// The words behind the program's name. Where one isn't UTF-8 there are none, so that they are no command.
 fn words_of(rt: &HostRuntime) -> Result<ArgList, NoMemory> {
@@ -36,7 +31,7 @@ fn words_of(rt: &HostRuntime) -> Result<ArgList, NoMemory> {
     }
 }
 
-/// A prior that can be stored. It has no rows before a repository is opened.
+/// A prior that can be stored. It has no rows today.
 fn stored(alloc: Global) -> Result<Box<TablePlug>, NoMemory>
     ensures { IfOk result (λ plug. ⟦<TablePlug as BeliefNode>⟧.meaning plug.value ≡ no_prior) }
 {
@@ -45,12 +40,11 @@ fn stored(alloc: Global) -> Result<Box<TablePlug>, NoMemory>
 }
 
 /// Runs the command of the words with the nine priors of the program, the last of which is that of lengths.
-fn run_words<S: Source, K: Sink, T: Store>(
+fn run_words<S: Source, K: Sink>(
     alloc: Global,
     words: &ArgList,
     source: &mut S,
     sink: &mut K,
-    store: &mut T,
 ) -> Result<Status, NoMemory> {
     let lengths = Box::new(alloc, length_plug(alloc)?)?;
     let mut plugs: [Box<dyn BeliefNode>; 9] = [
@@ -64,32 +58,15 @@ fn run_words<S: Source, K: Sink, T: Store>(
         stored(alloc)?,
         lengths,
     ];
-    Ok(run(alloc, words, source, sink, store, &mut plugs))
+    Ok(run(alloc, words, source, sink, &mut plugs))
 }
 
-/// The folder that the words name, and the present one where there are none.
-fn folder_of(words: &ArgList) -> &str {
-    match words.get(0) {
-        Some(folder) => folder,
-        None => ".",
-    }
-}
-
-/// Makes the folder of a `create` where it isn't there. Where that fails, the store tells of it.
-fn make_folder(rt: &HostRuntime, words: &ArgList) {
-    if words.get(1) == Some("create") && words.get(2).is_none() {
-        let _ = fs::create_dir(rt, folder_of(words));
-    }
-}
-
-/// Runs the command of the program's words over standard input, standard output and the folder that they name.
+/// Runs the command of the program's words over standard input and standard output.
 fn run_main(rt: &HostRuntime) -> Result<Status, NoMemory> {
     let words = words_of(rt)?;
     let mut source = StdSource::new(rt.stdin());
     let mut sink = StdSink::new(rt.stdout());
-    make_folder(rt, &words);
-    let mut store = FolderStore::new(rt, folder_of(&words))?;
-    run_words(rt.alloc(), &words, &mut source, &mut sink, &mut store)
+    run_words(rt.alloc(), &words, &mut source, &mut sink)
 }
 
 fn main(rt: HostRuntime) -> ExitCode {

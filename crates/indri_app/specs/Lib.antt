@@ -1,9 +1,8 @@
-pub mod Asked
-pub mod Changes
+pub mod Answer
 pub mod Command
-pub mod HasRun
-pub mod LastLines
-pub mod Opened
+pub mod CommandPieces
+pub mod Priors
 pub mod Runs
+pub mod Shown
 pub mod Status
-pub mod Texts
+pub mod Told

@@ -1,15 +1,16 @@
-//! The commands of the program, over any source, any sink and any store.
+//! The commands of the program, over any source and any sink.
 #![tactic(auto)]
 
-mod addition;
-mod changing;
-mod ending;
-mod opening;
+mod answer;
+mod command;
+mod explained;
+mod priors;
 mod program;
-mod question;
-mod scan;
+mod ranked;
+mod results;
+mod shown;
 mod status;
-mod texts;
 
+pub use priors::length_plug;
 pub use program::run;
 pub use status::Status;

@@ -1,0 +1,4 @@
+pub mod CountLemmas
+pub mod RankingLemmas
+pub mod SkippingLemmas
+pub mod SumLemmas

@@ -1,0 +1,12 @@
+use Rattle.std.proofs.Common.{◌≡◌, ◌*◌, map, take}
+use Rattle.ri_base.specs.Query.{filter_tree}
+use Rattle.belief_nodes.specs.Network.{network_tree}
+use Rattle.ranker.specs.First.{HoldsFirst}
+use Rattle.full_ranking.proofs.ranking.first_rows.Given as goal
+
+abbrev pub invariant-loop-range : goal.invariant-loop-range
+invariant-loop-range g l = record {
+  stay : map (λ b. (goal.BeliefNode-dyn g (b.vtable, b.value)).meaning b.value) l.plugs ≡ map (λ b. (goal.BeliefNode-dyn g (b.vtable, b.value)).meaning b.value) l.initial.plugs;
+  same : l.index ≡ l.fn.index;
+  so_far : HoldsFirst l.rule.kind (map (λ b. (goal.BeliefNode-dyn g (b.vtable, b.value)).meaning b.value) l.initial.plugs) (map filter_tree l.filters) (network_tree l.network) (take (64 * l.range) l.fn.index) l.most l.first;
+}

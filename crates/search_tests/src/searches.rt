@@ -1,5 +1,5 @@
 // Searches over what was opened.
-ghost use Rattle.std.specs.Prelude.{◌≡◌, All, IfSome};
+ghost use Rattle.std.specs.Prelude.{◌≡◌, true, All, IfSome};
 ghost use Rattle.smoothing.specs.Fractions.{Computes};
 ghost use Rattle.belief_nodes.specs.Leaves.{HasPrior};
 ghost use Rattle.belief_nodes.specs.Network.{network_tree};

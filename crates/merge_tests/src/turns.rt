@@ -48,11 +48,12 @@ fn number_of(docno: &[u8]) -> Option<u32> {
 
 /// The next document that isn't dead from the start on.
 fn next_number(number: u32) -> u32 {
-    let mut next = number;
-    while next < 200 && DEAD.contains(&next) {
-        next += 1;
+    for next in number..200 {
+        if !DEAD.contains(&next) {
+            return next;
+        }
     }
-    next
+    number.max(200)
 }
 
 /// The number behind the documents of a part, where these are the ones from a number on that aren't dead from the start on, and those

@@ -114,7 +114,14 @@ fn search(rt: &HostRuntime, folder: &str, docs: u32, step: u64) -> Result<()> {
     println!(rt; "{folder}")?;
     for line in rt.lines(rt.alloc()) {
         let text = line?;
-        let count = found(rt.alloc(), &mut counted, text.as_str(), 1000, step, &mut store)?;
+        let count = found(
+            rt.alloc(),
+            &mut counted,
+            text.as_str(),
+            1000,
+            step,
+            &mut store,
+        )?;
         println!(rt; "{count} results")?;
     }
     Ok(())

@@ -27,12 +27,7 @@ fn mark(marks: &mut DelList, id: u32)
 }
 
 /// The marks of a part, with those of these places that are in it.
-fn marks_of(
-    alloc: Global,
-    part: &MarkedPart,
-    number: usize,
-    deleted: &[Spot],
-) -> Option<DelList>
+fn marks_of(alloc: Global, part: &MarkedPart, number: usize, deleted: &[Spot]) -> Option<DelList>
     ensures { IfSome result (λ marks. length marks ≡ size part.now.source) }
 {
     let mut marks = part.marks().clone_in(alloc).ok()?;

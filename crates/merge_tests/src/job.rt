@@ -26,11 +26,17 @@ fn mark(marks: &mut DelList, id: u32)
     }
 }
 
+fn copy_of(alloc: Global, marks: &DelList) -> Option<DelList>
+    ensures { IfSome result (λ copy. copy ≡ marks.now) }
+{
+    marks.clone_in(alloc).ok()
+}
+
 /// The marks of a part, with those of these places that are in it.
 fn marks_of(alloc: Global, part: &MarkedPart, number: usize, deleted: &[Spot]) -> Option<DelList>
     ensures { IfSome result (λ marks. length marks ≡ size part.now.source) }
 {
-    let mut marks = part.marks().clone_in(alloc).ok()?;
+    let mut marks = copy_of(alloc, part.marks())?;
     for spot in deleted {
         if spot.part == number {
             mark(&mut marks, spot.id);

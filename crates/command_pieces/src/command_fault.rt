@@ -21,7 +21,9 @@ pub enum CommandFault {
         place: u64,
     },
     /// A file that is listed isn't there.
-    Missing { file: FileName },
+    Missing {
+        file: FileName,
+    },
     /// There is no manifest.
     NoRepository,
     /// There is a manifest already.

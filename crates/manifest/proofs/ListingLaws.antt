@@ -147,9 +147,10 @@ free-with used (k ∷ ns) n none free =
 numbered-behind : (next : ℕ) (used ns : List ℕ) → next < 2 ^ 64 → AreFree used ns → AreNumbered next ns → AreBehind next used ns
 numbered-behind next used [] fits free numbered = tt
 numbered-behind next used (n ∷ ns) fits free numbered =
-    let below = numbered.1.0 in
-    ((omega (arith, below, fits), all-of (nat_le 1 n) (nat_lt n next) (list_any (nat_eq n) used) (is-least 1 n numbered.0) (below-is n next below) free.0),
-      numbered-behind next (with_number used n) ns fits (free-with used ns n numbered.1.1.0 free.1) numbered.1.1.1)
+    let below = numbered.1.0 in (
+      (omega (arith, below, fits), all-of (nat_le 1 n) (nat_lt n next) (list_any (nat_eq n) used) (is-least 1 n numbered.0) (below-is n next below) free.0),
+      numbered-behind next (with_number used n) ns fits (free-with used ns n numbered.1.1.0 free.1) numbered.1.1.1,
+    )
 
 free-of-none : (ns : List ℕ) → AreFree [] ns
 free-of-none [] = tt

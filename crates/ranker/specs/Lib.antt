@@ -3,4 +3,3 @@ pub mod Held
 pub mod Passed
 pub mod Ranking
 pub mod Searches
-pub mod Shape

@@ -1,5 +1,5 @@
 -- Items that change a repository in memory alone, and behind them its flush.
-use Rattle.std.proofs.Common.{◌≡◌, ℕ, Bool, List, Option, None, Some, refl, sym, ◌∙◌}
+use Rattle.std.proofs.Common.{◌≡◌, ℕ, Bool, List, Option, None, Some, refl, sym, subst, ◌∙◌}
 use Rattle.std.specs.Option.{IfSome}
 use Rattle.store_ends.specs.Files.{Files, Leaves}
 use Rattle.store_ends.proofs.Files.{Leaves-same}
@@ -33,10 +33,11 @@ module _ (pieces : List ℕ → List Plain) (behind : List ℕ → Collection) (
   changed-broken e None before mid now f g a s b = tt
   changed-broken e (Some bytes) before mid now f g a s b = by-changed e StandsFor kept (behind bytes) (pieces bytes) (flushed_piece (behind bytes)) before mid now f g a s b
 
-  pub unchanged-broken : (e : Fault) (left : Option (List ℕ)) (before now : Option (List ℕ)) (f : Option Files) → IfSome left (λ bytes. IsCut e (pieces bytes) before now) → StandsFor kept f
-      → IfSome left (λ bytes. IsBrokenBy (of_items e) StandsFor kept (then_flushed (pieces bytes) (behind bytes)) before now f)
-  unchanged-broken e None before now f b s = tt
-  unchanged-broken e (Some bytes) before now f b s = by-unchanged e StandsFor kept (behind bytes) (pieces bytes) (flushed_piece (behind bytes)) before now f b s
+  pub unchanged-broken : (e : Fault) (r : CommandFault) (left : Option (List ℕ)) (before now : Option (List ℕ)) (f : Option Files) → r ≡ of_items e → IfSome left (λ bytes. IsCut e (pieces bytes) before now) → StandsFor kept f
+      → IfSome left (λ bytes. IsBrokenBy r StandsFor kept (then_flushed (pieces bytes) (behind bytes)) before now f)
+  unchanged-broken e r None before now f by b s = tt
+  unchanged-broken e r (Some bytes) before now f by b s =
+      subst (λ (x : CommandFault). IsBrokenBy x StandsFor kept (then_flushed (pieces bytes) (behind bytes)) before now f) (sym by) (by-unchanged e StandsFor kept (behind bytes) (pieces bytes) (flushed_piece (behind bytes)) before now f b s)
 
   pub changed-stops : (left : Option (List ℕ)) (past since : ℕ → Files → Type 0) → IfSome left (λ bytes. Leaves past since (StandsAlong StandsFor kept (flush_pieces (behind bytes))))
       → IfSome left (λ bytes. Leaves past since (StandsAlong StandsFor kept (then_flushed (pieces bytes) (behind bytes))))

@@ -1,5 +1,9 @@
 pub mod ChangeLemmas
 pub mod CommitLemmas
+pub mod CreateLemmas
 pub mod DeletionLemmas
+pub mod FaultLemmas
 pub mod Following
+pub mod PriorLemmas
 pub mod RowLemmas
+pub mod StaleLemmas

@@ -13,7 +13,7 @@ use Rattle.command_pieces.specs.declared.command_fault.CommandFault.TheVariants.
 use Rattle.manifest.specs.Entries.{length_name}
 use Rattle.manifest.specs.PriorFits.{IsPrior}
 use Rattle.manifest.specs.Priors.{PriorTable}
-use Rattle.prior_lines.specs.Rows.{Kept, prior_row, refusals}
+use Rattle.prior_lines.specs.Rows.{Kept, prior_row, prior_rows, refusals}
 use Rattle.refusals.specs.Lines.{refusal_piece}
 use Rattle.refusals.specs.declared.refusal.Refusal.{Refusal}
 use Rattle.refusals.specs.declared.refusal.Refusal.TheVariants.{Fixed, PriorsFull}

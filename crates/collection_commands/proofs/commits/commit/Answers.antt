@@ -1,23 +1,28 @@
-use Rattle.command_pieces.proofs.Joining.{Along-kept}
-use Rattle.collection_commands.proofs.CommitLemmas.{stops-swept, sweep-refused, swept}
+use Rattle.std.proofs.Common.{List, ℕ, subst}
+use Rattle.repository.specs.Writes.{AreGone}
+use Rattle.collection_commands.specs.Flushing.{flushed_piece}
+use Rattle.collection_commands.proofs.CommitLemmas.{sweep-refused, swept, swept-stops}
 use Rattle.collection_commands.proofs.commits.commit.Goals as goal
 
--- Both ends behind `flush_and_tell`: `IsAhead` of it gives that the repository reads as what the files stand for, so the sweep
--- stands for the same throughout.
+-- Behind `flush_and_tell` the repository is ahead of nothing, so the sweep leaves what the files stand for.
 
-pub returns-in-Ok-clause-finished : goal.returns-in-Ok-clause-finished
-returns-in-Ok-clause-finished g c = λ kept k ahead.
-    let there = c.in-Ok-flush_and_tell.ensures.ahead kept k ahead in
-    swept c.flush_and_tell.new.repository.held.limits kept k _ _ _ _ there.real (c.in-Ok-flush_and_tell.ensures.finished kept k ahead) (c.in-Ok.ensures.wrote.stands k there.backed there.reads)
+pub returns-in-Ok-sweep-clause-finished : goal.returns-in-Ok-sweep-clause-finished
+returns-in-Ok-sweep-clause-finished g c = λ kept k ahead.
+    let flush = c.in-Ok.ensures in
+    swept kept k (flushed_piece k) _ _ _ _ (flush.finished kept k ahead) (c.sweep.ensures.stands k (flush.ahead kept k ahead))
+
+pub returns-in-Ok-sweep-clause-stops : goal.returns-in-Ok-sweep-clause-stops
+returns-in-Ok-sweep-clause-stops g c = λ kept k ahead.
+    swept-stops kept k (flushed_piece k) _ _ _ (c.flush_and_tell.ensures.stops kept k ahead) (c.sweep.ensures.stops k (c.in-Ok.ensures.ahead kept k ahead))
+
+pub returns-in-Ok-sweep-clause-swept : goal.returns-in-Ok-sweep-clause-swept
+returns-in-Ok-sweep-clause-swept g c = subst (λ (ns : List ℕ). AreGone ns (g.T.Store.files c.sweep.new.store)) c.in-Ok.ensures.stale c.in-Ok-sweep.ensures.swept
 
 pub returns-in-Err-sweep-clause-broken : goal.returns-in-Err-sweep-clause-broken
 returns-in-Err-sweep-clause-broken g c = λ kept k ahead.
-    let there = c.in-Ok-flush_and_tell.ensures.ahead kept k ahead in
-    sweep-refused c.in-Err-sweep.fault c.flush_and_tell.new.repository.held.limits kept k _ _ _ _ there.real c.in-Err-sweep.ensures.outside (c.in-Ok-flush_and_tell.ensures.finished kept k ahead)
-    (c.sweep.ensures.writes.now k k there.backed (there.stands _ there.real) there.reads)
+    let flush = c.in-Ok.ensures in
+    sweep-refused kept k (flushed_piece k) c.in-Err-sweep.fault _ _ _ _ c.in-Err-sweep.ensures.only (flush.finished kept k ahead) (c.sweep.ensures.stands k (flush.ahead kept k ahead))
 
-pub returns-in-Ok-clause-stops : goal.returns-in-Ok-clause-stops
-returns-in-Ok-clause-stops g c = λ kept k ahead.
-    let there = c.in-Ok-flush_and_tell.ensures.ahead kept k ahead in
-    Along-kept _ _ _ _ kept _ _ _ _ (c.flush_and_tell.ensures.stops kept k ahead) (c.in-Ok-flush_and_tell.ensures.finished kept k ahead)
-    (λ j stands. stops-swept _ _ c.flush_and_tell.new.repository.held.limits kept k there.real (c.sweep.ensures.writes.stops k k there.backed (there.stands _ there.real) there.reads))
+pub returns-in-Err-sweep-clause-stops : goal.returns-in-Err-sweep-clause-stops
+returns-in-Err-sweep-clause-stops g c = λ kept k ahead.
+    swept-stops kept k (flushed_piece k) _ _ _ (c.flush_and_tell.ensures.stops kept k ahead) (c.sweep.ensures.stops k (c.in-Ok.ensures.ahead kept k ahead))

@@ -1,50 +1,50 @@
-use Rattle.std.proofs.Common.{sym, ap, subst, rules, Err}
+use Rattle.std.proofs.Common.{inr, sym, ap, subst, Err}
 use Rattle.repository.specs.RealLimits.{AreReal}
-use Rattle.command_pieces.proofs.Lifting.{Finished-flush}
 use Rattle.repository.proofs.RealLemmas.{stands-for}
-use Rattle.collection_commands.proofs.CommitLemmas.{flush-refused, reply-refused, stops-flush}
+use Rattle.collection_commands.specs.Flushing.{flushed_piece}
+use Rattle.collection_commands.proofs.CommitLemmas.{ahead-now, ahead-stops, flush-refused, flush-stops, flush-told, flush-unwritten, flush-untold}
 use Rattle.collection_commands.proofs.commits.flush_and_tell.Goals as goal
 
 -- the flush is refused
 
-pub returns-in-Err-flush-clause-broken : goal.returns-in-Err-flush-clause-broken
-returns-in-Err-flush-clause-broken g c = λ kept k ahead.
-    flush-refused c.in-Err-flush.fault c.args.repository.now.held.limits kept k _ _ ahead.real c.in-Err-flush.ensures.outside (c.flush.ensures.writes.now kept k ahead.backed (ahead.stands _ ahead.real) ahead.reads)
+pub returns-in-Err-clause-broken : goal.returns-in-Err-clause-broken
+returns-in-Err-clause-broken g c = λ kept k ahead.
+    let now = ahead-now _ g.T.Store.clock _ _ (λ d. d) _ c.args.store.now c.flush.new.store kept k (g.met.T.Store.honest c.flush.new.store) (g.met.T.Store.still c.args.store.now) c.flush.ensures.goes_on.later c.flush.ensures.writes ahead in
+    flush-refused kept k (flushed_piece k) c.in-Err.fault _ _ _ c.of_files.ensures c.in-Err.ensures.outside now
 
-pub returns-in-Err-flush-clause-stops : goal.returns-in-Err-flush-clause-stops
-returns-in-Err-flush-clause-stops g c = λ kept k ahead.
-    stops-flush _ _ c.args.repository.now.held.limits kept k ahead.real (c.flush.ensures.writes.stops kept k ahead.backed (ahead.stands _ ahead.real) ahead.reads)
+pub returns-in-Err-clause-stops : goal.returns-in-Err-clause-stops
+returns-in-Err-clause-stops g c = λ kept k ahead. flush-stops kept k (flushed_piece k) _ _ (ahead-stops _ g.T.Store.clock _ _ (λ d. d) _ c.args.store.now c.flush.new.store kept k c.flush.ensures.writes ahead)
 
--- it is done
+-- it is done, and there is no memory for the reply
 
-pub returns-in-Ok-clause-finished : goal.returns-in-Ok-clause-finished
-returns-in-Ok-clause-finished g c = λ kept k ahead.
-    let done = c.in-Ok-flush.ensures in
-    let real : AreReal c.flush.new.self.held.limits = subst AreReal (sym done.saved.limits) ahead.real in
-    let reads = done.wrote.reads k ahead.backed ahead.reads in
-    let piece = c.in-Ok-flushed_reply.ensures _ k reads in
-    subst _ piece (Finished-flush _ kept k _ _ _ _ (search rules) (stands-for _ k _ real (done.wrote.stands k ahead.backed ahead.reads)))
+pub returns-in_default-clause-broken : goal.returns-in_default-clause-broken
+returns-in_default-clause-broken g c = λ kept k ahead.
+    let real : AreReal c.flush.new.self.held.limits = subst AreReal (sym c.in-Ok.ensures.saved.limits) ahead.real in
+    flush-unwritten kept k (flushed_piece k) _ _ (inr (stands-for _ k _ real (c.in-Ok.ensures.wrote.stands k ahead.backed ahead.reads)))
 
-pub returns-in-Ok-clause-stops : goal.returns-in-Ok-clause-stops
-returns-in-Ok-clause-stops g c = λ kept k ahead.
-    stops-flush _ _ c.args.repository.now.held.limits kept k ahead.real (c.flush.ensures.writes.stops kept k ahead.backed (ahead.stands _ ahead.real) ahead.reads)
+pub returns-in_default-clause-stops : goal.returns-in_default-clause-stops
+returns-in_default-clause-stops g c = λ kept k ahead. flush-stops kept k (flushed_piece k) _ _ (ahead-stops _ g.T.Store.clock _ _ (λ d. d) _ c.args.store.now c.flush.new.store kept k c.flush.ensures.writes ahead)
 
-pub returns-in-Ok-clause-ahead : goal.returns-in-Ok-clause-ahead
-returns-in-Ok-clause-ahead g c = λ kept k ahead.
-    let done = c.in-Ok-flush.ensures in
-    let real : AreReal c.flush.new.self.held.limits = subst AreReal (sym done.saved.limits) ahead.real in
-    record {
-      backed = done.wrote.backed ahead.backed;
-      real = real;
-      stands = stands-for _ k _ real (done.wrote.stands k ahead.backed ahead.reads);
-      reads = done.wrote.reads k ahead.backed ahead.reads;
-    }
+-- the reply is written
 
-pub returns-in-Err-write-clause-broken : goal.returns-in-Err-write-clause-broken
-returns-in-Err-write-clause-broken g c = λ kept k ahead.
-    let done = c.in-Ok-flush.ensures in
-    let real : AreReal c.flush.new.self.held.limits = subst AreReal (sym done.saved.limits) ahead.real in
-    let reads = done.wrote.reads k ahead.backed ahead.reads in
+pub returns-in-Ok-write-clause-finished : goal.returns-in-Ok-write-clause-finished
+returns-in-Ok-write-clause-finished g c = λ kept k ahead.
+    let real : AreReal c.flush.new.self.held.limits = subst AreReal (sym c.in-Ok.ensures.saved.limits) ahead.real in
+    let wrote = c.in-Ok.ensures.wrote in
+    flush-told kept k (flushed_piece k) _ _ _ _ (c.in-Ok-flushed_reply.ensures _ k (wrote.reads k ahead.backed ahead.reads)) c.in-Ok-write.ensures.finished (stands-for _ k _ real (wrote.stands k ahead.backed ahead.reads))
+
+pub returns-in-Ok-write-clause-stops : goal.returns-in-Ok-write-clause-stops
+returns-in-Ok-write-clause-stops g c = λ kept k ahead. flush-stops kept k (flushed_piece k) _ _ (ahead-stops _ g.T.Store.clock _ _ (λ d. d) _ c.args.store.now c.flush.new.store kept k c.flush.ensures.writes ahead)
+
+-- it isn't
+
+pub returns-clause-broken : goal.returns-clause-broken
+returns-clause-broken g c = λ kept k ahead.
+    let real : AreReal c.flush.new.self.held.limits = subst AreReal (sym c.in-Ok.ensures.saved.limits) ahead.real in
+    let wrote = c.in-Ok.ensures.wrote in
     let write = c.in-Err-write.ensures in
-    reply-refused c.in-Err-write.fault _ kept k _ _ _ _ real (done.wrote.stands k ahead.backed ahead.reads) (c.in-Ok-flushed_reply.ensures _ k reads)
-    (λ e. write.no_read (ap Err e)) write.broken (λ e. write.front (ap Err e)) (λ e. write.none (ap Err e))
+    flush-untold kept k (flushed_piece k) c.in-Err-write.fault _ _ _ _ _ c.of_items.ensures (c.in-Ok-flushed_reply.ensures _ k (wrote.reads k ahead.backed ahead.reads)) (stands-for _ k _ real (wrote.stands k ahead.backed ahead.reads)) (λ e. write.no_read (ap Err e))
+    (λ e. write.front (ap Err e)) (λ e. write.none (ap Err e))
+
+pub returns-clause-stops : goal.returns-clause-stops
+returns-clause-stops g c = λ kept k ahead. flush-stops kept k (flushed_piece k) _ _ (ahead-stops _ g.T.Store.clock _ _ (λ d. d) _ c.args.store.now c.flush.new.store kept k c.flush.ensures.writes ahead)

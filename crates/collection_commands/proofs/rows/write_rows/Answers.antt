@@ -3,7 +3,7 @@ use Rattle.collection_commands.proofs.RowLemmas.{rows-all, rows-broken, rows-mor
 use Rattle.collection_commands.proofs.rows.write_rows.Goals as goal
 
 pub loop-line-init : goal.loop-line-init
-loop-line-init g c = record { written = rows-start _ _; later = omega arith; same = search rules }
+loop-line-init g c = record { written = rows-start c.args.lines.now _; later = omega arith; same = search rules }
 
 pub loop-line-preserved : goal.loop-line-preserved
 loop-line-preserved g c = record {

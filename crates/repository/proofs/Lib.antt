@@ -1,10 +1,15 @@
+pub mod BeginLemmas
 pub mod CommitLemmas
 pub mod CountLemmas
+pub mod EndCalls
+pub mod EndLemmas
 pub mod EntryLemmas
+pub mod ExchangeLemmas
 pub mod FirstLemmas
 pub mod FlushLemmas
 pub mod FrameLemmas
 pub mod GoingLemmas
+pub mod KeepLemmas
 pub mod ListedLemmas
 pub mod ManifestLemmas
 pub mod MarkLemmas
@@ -22,3 +27,5 @@ pub mod RealLemmas
 pub mod StepLemmas
 pub mod StoredLemmas
 pub mod SweepLemmas
+pub mod TieLemmas
+pub mod TurnLemmas

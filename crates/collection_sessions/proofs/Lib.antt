@@ -1,0 +1,4 @@
+pub mod Done
+pub mod Standing
+pub mod Texts
+pub mod Beginning

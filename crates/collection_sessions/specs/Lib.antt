@@ -1,0 +1,9 @@
+pub mod Explained
+pub mod Generation
+pub mod Items
+pub mod Open
+pub mod Orders
+pub mod Results
+pub mod Session
+pub mod Taking
+pub mod Told

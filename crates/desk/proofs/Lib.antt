@@ -1,0 +1,11 @@
+pub mod Cases
+pub mod Exits
+pub mod Frames
+pub mod Keeping
+pub mod Known
+pub mod Naming
+pub mod Plugs
+pub mod Points
+pub mod Reading
+pub mod Staying
+pub mod Telling

@@ -11,8 +11,6 @@ mod prior_command;
 mod prior_setting;
 mod rows;
 mod sweeping;
-#[cfg(test)]
-mod tests;
 
 pub use commits::commit;
 pub use create_command::create_repository;

@@ -1,23 +1,29 @@
 #!/usr/bin/env python3
-"""Measures the time and the memory of `scan` and `query`, as LLVM builds the program. It stands apart from the gate.
+"""Measures the time and the memory of the commands over a folder, as LLVM builds the program. It stands apart from the gate.
 
-usage: bench/measure.py [--rounds N] [--program FILE] [GROUP..]        with the program built (./indri builds it)
+usage: bench/measure.py [--rounds N] [--part N] [--program FILE] [GROUP..]        with the program built (./indri builds it)
 
-The inputs are made in a temporary folder, the same ones each time. Without a group all of these are measured:
+The inputs are made in a temporary folder, the same ones each time, and so are the collections: a folder in which `create` and
+`add` were run. Without a group all of these are measured:
 
-    newswire      text in the usual newswire form, 24 MiB, for a word, two windows and a word in a field; the exponent of
-                  the cost from 8, 16 and 32 MiB, which is the slope of the logarithm of the time over that of the size, by
-                  least squares
-    thin          documents of 300 words and no field, 32 and 64 MiB
-    hostile       one document of 8 MiB that is plain text, or one mark again and again
-    pieces        one document that comes through a pipe, in pieces of 64 KiB at most
+    newswire      text in the usual newswire form, 24 MiB: a scan for a word, two windows and a word in a field; `add`; and
+                  queries over the collection; the exponent of the cost from 8, 16 and 32 MiB, which is the slope of the
+                  logarithm of the time over that of the size, by least squares
+    thin          documents of 300 words and no field, 32 and 64 MiB: a scan, `add`, and a query of a word that each has
+    hostile       one document of 8 MiB that is plain text, or one mark again and again: a scan and `add`
+    pieces        one document that comes through a pipe, in pieces of 64 KiB at most: a scan and `add`
     large         one document of 16 MiB: with no word, with as many words as it may have, with more, and with words that
-                  are all different
-    many          30,000 documents of 25 words: a query of three words, against a scan of one; and the same query with
-                  little address space, for room that is reserved and never used
-    windows       one document of 1,000,000 tokens, half of which are words of the windows
+                  are all different: a scan and `add`
+    many          30,000 documents of 25 words: `add`, against a scan of one word; and the same `add` with little address
+                  space, for room that is reserved and never used
+    segments      63,488 documents of 25 words in 1, 4, 16 and 64 segments: opening and a query
+    matches       131,072 documents of 20 words: queries of a word, of three words, of a phrase and of a window, of which 128 to
+                  131,072 documents have each
+    delete        60,000 documents of 25 words, of which one, a tenth or all are deleted, and a query behind it
+    prior         100,000 rows of a prior, and a query with it, against the same query without
+    windows       one document of 1,000,000 tokens, half of which are words of the windows: scans and queries
     fields        65,535 fields of distinct names, one inside the other; as many of one name, one inside the other and one
-                  behind the other, for what lies in them and for windows over them
+                  behind the other, for what lies in them and for windows over them: scans, `add` and queries
     parts         passages of one document of 1,000,000 tokens, against the query of whole documents; and 65,535 fields as
                   results, nested and in a row, with a context and without, in seconds
     evidence      24 MiB of newswire text: a query with the prior of lengths, and with filters that no document or every
@@ -25,15 +31,21 @@ The inputs are made in a temporary folder, the same ones each time. Without a gr
                   which the first extent is taken from an iterator
     passed        63,666 documents of 25 words, for words that no document has; and 200,000 documents of 5 words, for 40 words:
                   what each word costs beyond a query of one word that no document has
-    instructions  machine instructions a byte, counted by cachegrind of valgrind, which must be installed, on 1/4 MiB of
-                  newswire and of thin text; and one document of twice the size. They are the same in each run
+    instructions  machine instructions a byte of a scan and of `add`, counted by cachegrind of valgrind, which must be
+                  installed, on 1/4 MiB of newswire and of thin text; and one document of twice the size. They are the same in
+                  each run
 
-A row has the processor time, its ratio to that of `LC_ALL=C wc -w` on the same file, and the peak of memory, with the
-bounds of these two; rows of many and of instructions have what is named above. A time is the best of the
-rounds, and times of which a ratio is printed are taken in the same rounds, one after the other. The peak is that of the
-whole process, so what it holds of the text is counted in it. Below some 5 MiB it can't be told, since the small process
-that starts the program has as much. The status is 1 where a row is above a bound or the program ends with a status that
-isn't expected. Another program than that of ./indri is measured by --program.
+A row of text has the processor time, its ratio to that of `LC_ALL=C wc -w` on the same file, and the peak of memory, with the
+bounds of these two. That of an `add` has MB of text and documents in a second of processor time too, and the size of the
+files, of which the segments and the manifest are counted, as a ratio to that of the text. A row of a query has the processor
+time of the whole run, which opens the folder each time, in milliseconds. A time is the best of the rounds, and times of which
+a ratio is printed are taken in the same rounds, one after the other. The peak is that of the whole process, so what it holds
+of the text is counted in it. Below some 5 MiB it can't be told, since the small process that starts the program has as much.
+The disk isn't measured: what a run waits for it is no processor time.
+
+The status is 1 where a row is beyond a bound or the program ends with a status that isn't expected. With --part N each size
+is divided by N, and no bound is looked at: so the rows are tried. Another program than that of ./indri is measured by
+--program.
 
 A filter takes the first of an expression's extents, one by one. No command takes all of them so: the program extent_table
 does, and compares them with the list that these commands take; what they cost isn't measured here.
@@ -41,7 +53,6 @@ does, and compares them with the list that these commands take; what they cost i
 import argparse
 import math
 import os
-import random
 import re
 import shutil
 import subprocess
@@ -51,14 +62,13 @@ from collections.abc import Callable
 from dataclasses import dataclass
 from pathlib import Path
 
+import inputs
+from inputs import PLAIN, VOCABULARY
+
 PROGRAM = Path(__file__).resolve().parent.parent / "crates/indri/out/indri"
 COUNT = ["wc", "-w"]
-COMMANDS = ("scan", "query")
 MIB = 1 << 20
-
-VOCABULARY = [f"w{i}" for i in range(5000)] + ["the", "of", "rain", "launch"] * 50
-PLAIN = "several documents contain considerable sentences "
-MOST_FIELDS = 65_535
+MEGA = 10**6
 
 
 @dataclass(frozen=True)
@@ -69,147 +79,100 @@ class Bound:
     peak: float
 
 
-TEXTS = ("rain", "#1(the launch)", "#uw8(the launch)", "launch.head")
-NEWSWIRE = {"scan": Bound(4.5, 12), "query": Bound(6, 80)}
+@dataclass(frozen=True)
+class AddBound:
+    """The same of an `add`, and the most bytes of files for each byte of text."""
+
+    times: float
+    peak: float
+    files: float
+
+
 EXPONENT = 1.1
 
-THIN = {"scan": Bound(4.5, 12), "query": Bound(5.5, 200)}
+TEXTS = ("rain", "#1(the launch)", "#uw8(the launch)", "launch.head")
+NEWSWIRE_SCAN = Bound(4.5, 12)
+NEWSWIRE_ADD = AddBound(8, 250, 3)
+NEWSWIRE_SPEED = 20
+NEWSWIRE_QUERY = Bound(3, 160)
+
+THIN_SCAN = Bound(4.5, 12)
+THIN_ADD = AddBound(8, 600, 2.5)
+THIN_QUERY = Bound(3, 400)
 THIN_TO_HALF = 2.2
 
+# The bounds of a scan and of `add`.
 MARKS = {
-    PLAIN: Bound(5, 56),
-    "<": Bound(3.5, 32),
-    "<!--": Bound(3.5, 32),
-    "&": Bound(4, 32),
-    "<a ": Bound(6, 64),
-    "</doc ": Bound(6.5, 64),
-    "<!": Bound(4, 32),
-    "<a>": Bound(10, 180),
+    PLAIN: (Bound(5, 56), Bound(6, 80)),
+    "<": (Bound(3.5, 32), Bound(3.5, 32)),
+    "<!--": (Bound(3.5, 32), Bound(3.5, 32)),
+    "&": (Bound(4, 32), Bound(4, 32)),
+    "<a ": (Bound(6, 64), Bound(6, 64)),
+    "</doc ": (Bound(6.5, 64), Bound(6.5, 64)),
+    "<!": (Bound(4, 32), Bound(4, 32)),
+    "<a>": (Bound(10, 180), Bound(10, 180)),
 }
-PIECES = {PLAIN: Bound(5, 56), "</doc ": Bound(6.5, 64)}
+PIECES = {PLAIN: (Bound(5, 56), Bound(6, 80)), "</doc ": (Bound(6.5, 64), Bound(6.5, 64))}
 
-LARGE = {"scan": Bound(4, 64), "query": Bound(4, 64)}
-DISTINCT = {"scan": Bound(4.5, 64), "query": Bound(10, 300)}
+LARGE = (Bound(4, 64), Bound(5, 96))
+DISTINCT = (Bound(4.5, 64), Bound(12, 500))
 
-QUERY_TO_SCAN = 3
-BYTES_A_TOKEN = 40
-MANY_SPACE = 32
+ADD_TO_SCAN = 5
+BYTES_A_TOKEN = 80
+MANY_SPACE = 80
+
+# Times of a query over one segment, and the most milliseconds that a further segment costs.
+SEGMENTS = (1, 4, 16, 64)
+SEGMENT_QUERIES = ("nowhere", "rain", "#1(the launch)")
+SEGMENTS_TO_ONE = 3
+
+# Queries of what n documents have, and the most that each further document costs, in microseconds.
+MATCHES = (128, 1024, 8192, 131_072)
+MATCHED = {"one{n}": 8, "one{n} two{n} three{n}": 16, "#1(one{n} two{n})": 16, "#uw8(one{n} three{n})": 16}
+
+# What each line of `delete` costs beyond the first, in microseconds; a query behind it against one before.
+DELETE_MICROSECONDS = 8
+LIVE_TO_ALL = 1.2
+
+# What a row of `prior` costs, in microseconds; a query with the prior against the same without.
+PRIOR_ROWS = 100_000
+PRIOR_MICROSECONDS = 8
+WITH_PRIOR = 3
 
 WINDOWS = ("a", "#uw8(a b c)", "#1(a b)")
 WINDOW = Bound(12, 80)
+WINDOW_QUERY = Bound(12, 160)
 
+MOST_FIELDS = 65_535
 DISTINCT_NAMES = ("x.f9",)
 ONE_NAME = ("x.f", "#any:f", "#uw200000(#any:f y)", "#od200000(#any:f y)", "#od200000(#any:f #any:f)")
 FIELDS = Bound(18, 48)
+FIELDS_ADD = Bound(24, 96)
+FIELDS_QUERY = Bound(18, 96)
 
 # Beliefs in passages, against the same in whole documents; and in fields.
 PASSAGES = ("a b", "w17 w42", "#1(a b) #uw8(a c)")
-PASSAGES_TO_WHOLE = 3
+PASSAGES_TO_WHOLE = 6
 IN_FIELDS = ("x", "x y", "x.(f)")
 FIELDS_SECONDS = 1
 
 # A query, and what stands round or beside it: the most times of the query alone.
 ASKED = "#combine(rain launch)"
 EVIDENCE = {
-    "#combine(rain launch #prior(length))": 1.2,
+    "#combine(rain launch #prior(length))": 1.4,
     "#filreq(nowhere #combine(rain launch))": 1.1,
     "#filrej(nowhere #combine(rain launch))": 1.2,
-    "#filreq(the #combine(rain launch))": 1.2,
+    "#filreq(the #combine(rain launch))": 1.8,
 }
 FILTERS = ("#filreq(#uw200000(#any:f y) x)", "#filreq(#od200000(#any:f y) x)", "#filrej(#od200000(#any:f #any:f) x)")
 
 # Words that no document has, in milliseconds a word; and 40 words of many short documents, against one that none has.
 NO_WORD_MILLISECONDS = 2
-FORTY_TO_ONE = 2
+FORTY_TO_ONE = 15
 
-# Those of `scan` and those of `query`.
-INSTRUCTIONS = {"newswire": (240, 300), "thin": (245, 265)}
+# Those of a scan and those of `add`.
+INSTRUCTIONS = {"newswire": (240, 400), "thin": (245, 400)}
 INSTRUCTIONS_TO_HALF = 2.1
-
-
-# Inputs.
-
-
-def newswire(path, size):
-    """Documents in the usual form: a few fields, sentences with points and commas, lines of some 70 bytes."""
-    pick = random.Random(7)
-    with open(path, "w") as out:
-        i = written = 0
-        while written < size:
-            lines = []
-            for _ in range(20):
-                line = pick.choices(VOCABULARY, k=11)
-                line[3] += ","
-                line[-1] += "."
-                lines.append("   " + " ".join(line))
-            head = " ".join(pick.choices(VOCABULARY, k=5))
-            body = "\n".join(lines)
-            written += out.write(
-                f"<DOC>\n<DOCNO> AP{880000 + i % 1000}-{i:06} </DOCNO>\n<FILEID>AP-NR-02-12-88 2344EST</FILEID>\n"
-                f"<HEAD>{head}</HEAD>\n<TEXT>\n{body} AT&amp;T.\n</TEXT>\n</DOC>\n"
-            )
-            i += 1
-
-
-def thin(path, size):
-    text = " ".join(random.Random(7).choices(VOCABULARY, k=300))
-    with open(path, "w") as out:
-        i = written = 0
-        while written < size:
-            written += out.write(f"<DOC><DOCNO>d{i}</DOCNO>{text}</DOC>\n")
-            i += 1
-
-
-def short_documents(path, documents, words):
-    pick = random.Random(7)
-    with open(path, "w") as out:
-        for i in range(documents):
-            text = " ".join(pick.choices(VOCABULARY, k=words))
-            out.write(f"<DOC><DOCNO>d{i}</DOCNO>{text}</DOC>\n")
-
-
-def one_document(path, text):
-    path.write_text(f"<DOC><DOCNO>d1</DOCNO>{text}</DOC>\n")
-
-
-def repeated(piece, size):
-    return (piece * (size // len(piece) + 1))[:size]
-
-
-def distinct_fields(in_order):
-    """Fields, each opened inside the one before, with a word in each; and as many end tags."""
-    names = [f"f{i}" for i in range(MOST_FIELDS)]
-    ends = names if in_order else reversed(names)
-    return "".join(f"<{name}>x " for name in names) + "".join(f"</{name}>" for name in ends)
-
-
-def nested_fields():
-    """Fields of one name, each opened inside the one before; a word behind each start tag and each end tag."""
-    return "<f>x " * MOST_FIELDS + "</f> y" * MOST_FIELDS
-
-
-def flat_fields():
-    """Fields of one name, one behind the other; a word in each and between them."""
-    return "<f>x</f> x y" * MOST_FIELDS
-
-
-def mixed(tokens):
-    """Half of the tokens are a, b and c, the others one of 5,000 words, in a random order."""
-    pick = random.Random(1)
-    words = pick.choices("abc", k=tokens // 2) + [f"w{pick.randrange(5000)}" for _ in range(tokens // 2)]
-    pick.shuffle(words)
-    return words
-
-
-def in_runs(tokens):
-    """As many of each, with each of the three words in one run."""
-    third = tokens // 6
-    others = [f"w{i % 5000}" for i in range(tokens - 3 * third)]
-    return ["a"] * third + ["b"] * third + ["c"] * third + others
-
-
-def in_lines(words):
-    return "".join(" ".join(words[i : i + 12]) + "\n" for i in range(0, len(words), 12))
 
 
 # One run.
@@ -258,16 +221,29 @@ def run_pipe(command, path):
         return launched(command, feeder.stdout)
 
 
+def copied(source, target):
+    """Makes a folder anew that has the files of another. They are shared, since no command changes one in its place."""
+    shutil.rmtree(target, ignore_errors=True)
+    shutil.copytree(source, target, copy_function=os.link)
+
+
 @dataclass(frozen=True)
 class Job:
-    """What is run on which file, how the file gets there, and the statuses with which that may end."""
+    """What is run on which file, how the file gets there, and the statuses with which that may end.
+
+    Where a job changes the folder `changed`, it is made like the folder `begun` before each run.
+    """
 
     command: list
-    path: Path
+    path: Path = Path(os.devnull)
     way: Callable = run_file
     statuses: tuple = (0,)
+    begun: Path | None = None
+    changed: Path | None = None
 
     def run(self):
+        if self.changed:
+            copied(self.begun, self.changed)
         run = self.way(self.command, self.path)
         if run.status not in self.statuses:
             sys.exit(f"{' '.join(self.command)} ended with status {run.status}")
@@ -289,16 +265,54 @@ def instructions(command, path):
 
 
 class Table:
-    """Measures this program by so many rounds, in this folder, and prints rows."""
+    """Measures this program by so many rounds, in this folder, with sizes divided by `part`, and prints rows."""
 
-    def __init__(self, program, rounds, folder):
+    def __init__(self, program, rounds, part, folder):
         self.program = program
         self.rounds = rounds
+        self.part = part
         self.folder = folder
         self.is_within = True
+        self.empty = folder / "empty"
+        self.empty.mkdir()
+        self.make(self.empty, "create")
 
-    def command(self, name, text):
-        return [str(self.program), ".", name, text]
+    def sized(self, count):
+        return max(count // self.part, 1)
+
+    # Collections.
+
+    def words(self, folder, *words):
+        return [str(self.program), str(folder), *words]
+
+    def make(self, folder, *words, path=os.devnull):
+        """Does a command that isn't measured."""
+        run = run_file(self.words(folder, *words), path)
+        if run.status not in (0, 3):
+            sys.exit(f"{' '.join(words)} ended with status {run.status}")
+
+    def collection(self, name, *paths):
+        """A folder of this name with the documents of these files, each of them added by a run of its own."""
+        folder = self.folder / name
+        copied(self.empty, folder)
+        for path in paths:
+            self.make(folder, "add", path=path)
+        return folder
+
+    # Jobs.
+
+    def scan(self, text, path, way=run_file, statuses=(0,)):
+        return Job(self.words(".", "scan", text), path, way, statuses)
+
+    def add(self, path, way=run_file, statuses=(0,)):
+        """Adds to a folder that is new in each run."""
+        folder = self.folder / "added"
+        return Job(self.words(folder, "add"), path, way, statuses, self.empty, folder)
+
+    def query(self, folder, text, *options):
+        return Job(self.words(folder, "query", *options, text))
+
+    # Cells.
 
     def best(self, *jobs):
         """The least time of each of these jobs and its greatest peak."""
@@ -307,28 +321,50 @@ class Table:
 
     def at_most(self, shown, value, bound):
         """What is shown of a value, with its bound."""
-        if value <= bound:
+        if value <= bound or self.part > 1:
             return f"{shown} (at most {bound})"
         self.is_within = False
         return f"{shown} above the bound {bound}"
 
+    def at_least(self, shown, value, bound):
+        if value >= bound or self.part > 1:
+            return f"{shown} (at least {bound})"
+        self.is_within = False
+        return f"{shown} below the bound {bound}"
+
     def row(self, name, *cells):
         print(f"{name:<56}", "   ".join(cells), flush=True)
 
-    def measure(self, job, bound):
-        """The time of a job, and the cells of that time, of its ratio to the time of `wc -w`, and of its peak."""
-        (count, _), (taken, peak) = self.best(Job(COUNT, job.path), job)
-        times = taken / count
+    def measure(self, job, bound, text=None):
+        """The time of a job, and the cells of that time, of its ratio to the time of `wc -w` on its text, and of its peak."""
+        (count, _), (taken, peak) = self.best(Job(COUNT, text or job.path), job)
+        times = taken / max(count, 0.0001)
         return taken, (
             f"{taken:7.3f} s",
             self.at_most(f"{times:6.2f} times wc -w", times, bound.times),
             self.at_most(f"peak {peak:4.0f} MiB", peak, bound.peak),
         )
 
+    def measure_add(self, path, documents, bound):
+        """The same of an `add`, with its speed and the size of the files that it leaves."""
+        job = self.add(path)
+        taken, cells = self.measure(job, bound)
+        size = path.stat().st_size
+        files = sum(file.stat().st_size for file in job.changed.iterdir()) / size
+        return taken, (
+            *cells,
+            f"{size / MEGA / taken:6.1f} MB/s",
+            f"{documents / taken:7.0f} documents/s",
+            self.at_most(f"files {files:4.2f} times the text", files, bound.files),
+        )
+
+    def milliseconds(self, *jobs):
+        return [1000 * taken for taken, _ in self.best(*jobs)]
+
 
 def exponent(sizes, times):
     """The slope of log time over log size, by least squares."""
-    xs, ys = [math.log(size) for size in sizes], [math.log(taken) for taken in times]
+    xs, ys = [math.log(size) for size in sizes], [math.log(max(taken, 0.0001)) for taken in times]
     x, y = sum(xs) / len(xs), sum(ys) / len(ys)
     return sum((a - x) * (b - y) for a, b in zip(xs, ys)) / sum((a - x) ** 2 for a in xs)
 
@@ -338,42 +374,52 @@ def exponent(sizes, times):
 
 def measure_newswire(table):
     paths = {size: table.folder / f"newswire{size}" for size in (8, 16, 24, 32)}
-    for size, path in paths.items():
-        newswire(path, size * MIB)
+    documents = {size: inputs.newswire(path, table.sized(size * MIB)) for size, path in paths.items()}
     path = paths.pop(24)
-    for name in COMMANDS:
-        for text in TEXTS:
-            command = table.command(name, text)
-            _, cells = table.measure(Job(command, path), NEWSWIRE[name])
-            grown = table.best(*(Job(command, other) for other in paths.values()))
-            slope = exponent(paths, [taken for taken, _ in grown])
-            cell = table.at_most(f"exponent {slope:4.2f}", slope, EXPONENT)
-            table.row(f"{name} {text}, newswire 24 MiB", *cells, cell)
+
+    def slope(jobs):
+        found = exponent(paths, [taken for taken, _ in table.best(*jobs)])
+        return table.at_most(f"exponent {found:4.2f}", found, EXPONENT)
+
+    for text in TEXTS:
+        _, cells = table.measure(table.scan(text, path), NEWSWIRE_SCAN)
+        table.row(f"scan {text}, newswire 24 MiB", *cells, slope([table.scan(text, other) for other in paths.values()]))
+    taken, cells = table.measure_add(path, documents[24], NEWSWIRE_ADD)
+    speed = path.stat().st_size / MEGA / taken
+    fast = table.at_least(f"{speed:4.0f} MB/s", speed, NEWSWIRE_SPEED)
+    table.row("add, newswire 24 MiB", *cells, fast, slope([table.add(other) for other in paths.values()]))
+    folders = {size: table.collection(f"folder{size}", other) for size, other in [*paths.items(), (24, path)]}
+    folder = folders.pop(24)
+    for text in TEXTS:
+        _, cells = table.measure(table.query(folder, text), NEWSWIRE_QUERY, path)
+        table.row(f"query {text}, newswire 24 MiB", *cells, slope([table.query(other, text) for other in folders.values()]))
 
 
 def measure_thin(table):
-    half, whole = table.folder / "thin32", table.folder / "thin64"
-    thin(half, 32 * MIB)
-    thin(whole, 64 * MIB)
-    for name in COMMANDS:
-        command = table.command(name, "rain")
-        of_half, cells = table.measure(Job(command, half), THIN[name])
-        table.row(f"{name} rain, thin 32 MiB", *cells)
-        of_whole, cells = table.measure(Job(command, whole), THIN[name])
-        grown = of_whole / of_half
-        cell = table.at_most(f"{grown:4.2f} times 32 MiB", grown, THIN_TO_HALF)
-        table.row(f"{name} rain, thin 64 MiB", *cells, cell)
+    sizes = (32, 64)
+    paths = [table.folder / f"thin{size}" for size in sizes]
+    documents = [inputs.thin(path, table.sized(size * MIB)) for size, path in zip(sizes, paths)]
+    folders = [table.collection(f"folder of {path.name}", path) for path in paths]
+    scans = [table.measure(table.scan("rain", path), THIN_SCAN) for path in paths]
+    adds = [table.measure_add(path, count, THIN_ADD) for path, count in zip(paths, documents)]
+    queries = [table.measure(table.query(folder, "rain"), THIN_QUERY, path) for folder, path in zip(folders, paths)]
+    for name, ((half, half_cells), (whole, cells)) in (("scan rain", scans), ("add", adds), ("query rain", queries)):
+        table.row(f"{name}, thin 32 MiB", *half_cells)
+        grown = whole / half
+        table.row(f"{name}, thin 64 MiB", *cells, table.at_most(f"{grown:4.2f} times 32 MiB", grown, THIN_TO_HALF))
 
 
 def measure_marks(table, marks, way, in_pieces):
     path = table.folder / "marks"
-    for mark, bound in marks.items():
-        one_document(path, repeated(mark, 8 * MIB))
+    for mark, (scan, add) in marks.items():
+        inputs.one_document(path, inputs.repeated(mark, table.sized(8 * MIB)))
         shown = "plain text" if mark == PLAIN else f"'{mark}'"
-        for name in COMMANDS:
-            job = Job(table.command(name, "rain"), path, way, (0, 3))
+        for name, job, bound in (
+            ("scan rain", table.scan("rain", path, way, (0, 3)), scan),
+            ("add", table.add(path, way, (0, 3)), add),
+        ):
             _, cells = table.measure(job, bound)
-            table.row(f"{name} rain, 8 MiB of {shown}{in_pieces}", *cells)
+            table.row(f"{name}, 8 MiB of {shown}{in_pieces}", *cells)
 
 
 def measure_hostile(table):
@@ -385,113 +431,199 @@ def measure_pieces(table):
 
 
 def measure_large(table):
-    size = 16 * MIB - 40
+    size = table.sized(16 * MIB) - 40
+    statuses = (3,) if table.part == 1 else (0,)
     path = table.folder / "large"
     documents = (
-        ("no word", repeated(". ", size), 0, LARGE),
-        ("1,048,574 words", repeated("a" * 15 + " ", size), 0, LARGE),
-        ("too many words", repeated("a ", size), 3, LARGE),
-        ("1,048,573 distinct words", "".join(f"w{i:014} " for i in range(size // 16)), 0, DISTINCT),
+        ("no word", inputs.repeated(". ", size), (0,), LARGE),
+        ("1,048,574 words", inputs.repeated("a" * 15 + " ", size), (0,), LARGE),
+        ("too many words", inputs.repeated("a ", size), statuses, LARGE),
+        ("1,048,573 distinct words", "".join(f"w{i:014} " for i in range(size // 16)), (0,), DISTINCT),
     )
-    for shown, text, status, bounds in documents:
-        one_document(path, text)
-        for name in COMMANDS:
-            job = Job(table.command(name, "rain"), path, statuses=(status,))
-            _, cells = table.measure(job, bounds[name])
-            table.row(f"{name} rain, 16 MiB with {shown}", *cells)
+    for shown, text, ends, (scan, add) in documents:
+        inputs.one_document(path, text)
+        for name, job, bound in (
+            ("scan rain", table.scan("rain", path, statuses=ends), scan),
+            ("add", table.add(path, statuses=ends), add),
+        ):
+            _, cells = table.measure(job, bound)
+            table.row(f"{name}, 16 MiB with {shown}", *cells)
 
 
 def measure_many(table):
-    documents, words = 30_000, 25
+    documents, words = table.sized(30_000), 25
     path = table.folder / "many"
-    short_documents(path, documents, words)
-    query = table.command("query", "the rain launch")
-    (scan, _), (taken, peak) = table.best(Job(table.command("scan", "rain"), path), Job(query, path))
+    inputs.short_documents(path, 0, documents, words)
+    add = table.add(path)
+    (scan, _), (taken, peak) = table.best(table.scan("rain", path), add)
     ratio = taken / scan
     token = peak * MIB / (documents * words)
-    status = run_file(query, path, MANY_SPACE).status
+    copied(add.begun, add.changed)
+    status = run_file(add.command, path, MANY_SPACE).status
     table.row(
-        "query the rain launch, 30,000 documents",
+        "add, 30,000 documents of 25 words",
         f"{taken:7.3f} s",
-        table.at_most(f"{ratio:5.2f} times scan rain", ratio, QUERY_TO_SCAN),
+        f"{documents / taken:7.0f} documents/s",
+        table.at_most(f"{ratio:5.2f} times scan rain", ratio, ADD_TO_SCAN),
         f"peak {peak:4.0f} MiB",
         table.at_most(f"{token:4.1f} bytes a token", token, BYTES_A_TOKEN),
         table.at_most(f"status {status} in {MANY_SPACE} MiB of address space", status, 0),
     )
 
 
-def measure_texts(table, texts, path, bound, shown):
-    """A row for each of these texts, of both commands, on one file."""
-    for name in COMMANDS:
-        for text in texts:
-            _, cells = table.measure(Job(table.command(name, text), path), bound)
+def measure_segments(table):
+    """The same documents in more and more segments."""
+    documents = table.sized(63_488)
+    folders = {}
+    for segments in SEGMENTS:
+        each = documents // segments
+        paths = [table.folder / f"short{i}" for i in range(segments)]
+        for i, path in enumerate(paths):
+            inputs.short_documents(path, i * each, each, 25)
+        folders[segments] = table.collection(f"segments{segments}", *paths)
+    for text in SEGMENT_QUERIES:
+        taken = table.milliseconds(*(table.query(folder, text) for folder in folders.values()))
+        ratio = taken[-1] / taken[0]
+        cells = [f"{one:7.1f} ms of {segments}" for segments, one in zip(SEGMENTS, taken)]
+        shown = table.at_most(f"{ratio:4.2f} times that of one segment", ratio, SEGMENTS_TO_ONE)
+        table.row(f"query {text}, 63,488 documents in segments", *cells, shown)
+
+
+def measure_matches(table):
+    """Queries of what more and more documents have. What opening costs is that of a query of a word that none has."""
+    counts = [table.sized(count) for count in MATCHES]
+    path = table.folder / "matched"
+    inputs.matched_documents(path, counts[-1], counts)
+    folder = table.collection("matches", path)
+    for text, bound in MATCHED.items():
+        queries = [table.query(folder, text.replace("{n}", str(n))) for n in counts]
+        opened, *taken = table.milliseconds(table.query(folder, "nowhere"), *queries)
+        each = 1000 * (taken[-1] - opened) / counts[-1]
+        cells = [f"{one:7.1f} ms of {n}" for n, one in zip(counts, taken)]
+        shown = table.at_most(f"{each:5.2f} us a document beyond {opened:5.1f} ms", each, bound)
+        table.row(f"query {text}, of as many documents", *cells, shown)
+
+
+def measure_delete(table):
+    documents = table.sized(60_000)
+    path, docnos = table.folder / "short", table.folder / "docnos"
+    inputs.short_documents(path, 0, documents, 25)
+    whole, changed = table.collection("whole", path), table.folder / "deleted"
+    job = Job(table.words(changed, "delete"), docnos, begun=whole, changed=changed)
+    times = {}
+    for shown, every in (("one", documents), ("a tenth", 10), ("all", 1)):
+        docnos.write_text("".join(f"d{i}\n" for i in range(0, documents, every)))
+        count = len(range(0, documents, every))
+        [times[shown]] = table.milliseconds(job)
+        before, after = table.milliseconds(table.query(whole, "rain"), table.query(changed, "rain"))
+        manifest = (changed / "manifest").stat().st_size
+        asked = table.at_most(f"then a query of {after:6.1f} ms, {after / before:4.2f} times", after / before, LIVE_TO_ALL)
+        each = 1000 * (times[shown] - times["one"]) / count
+        cell = table.at_most(f"{each:5.2f} us a line beyond one", each, DELETE_MICROSECONDS)
+        table.row(f"delete {shown} of 60,000 documents", f"{times[shown]:7.1f} ms of {count}", cell, f"manifest {manifest} bytes", asked)
+
+
+def measure_prior(table):
+    documents = table.sized(PRIOR_ROWS)
+    path, rows = table.folder / "ranked", table.folder / "rows"
+    inputs.short_documents(path, 0, documents, 5)
+    rows.write_text("".join(f"d{i} {1 + i % 97}/100\n" for i in range(documents)))
+    whole, changed = table.collection("without", path), table.folder / "with"
+    set_rows = Job(table.words(changed, "prior", "home"), rows, begun=whole, changed=changed)
+    opened, taken = table.milliseconds(table.query(whole, "nowhere"), set_rows)
+    each = 1000 * taken / documents
+    shown = table.at_most(f"{each:5.2f} us a row", each, PRIOR_MICROSECONDS)
+    table.row("prior, 100,000 rows", f"{taken:7.1f} ms", shown, f"opening {opened:5.1f} ms")
+    texts = ("rain launch", "rain launch #prior(home)")
+    alone, beside = table.milliseconds(*(table.query(changed, text) for text in texts))
+    shown = table.at_most(f"{beside / alone:4.2f} times the query alone", beside / alone, WITH_PRIOR)
+    table.row(f"query {texts[1]}, 100,000 documents", f"{beside:7.1f} ms", shown)
+
+
+def measure_texts(table, texts, path, bounds, shown):
+    """A row for each of these texts, of a scan of one file and of a query over its collection."""
+    folder = table.collection("folder", path)
+    for text in texts:
+        for name, job, bound in (("scan", table.scan(text, path), bounds[0]), ("query", table.query(folder, text), bounds[1])):
+            _, cells = table.measure(job, bound, path)
             table.row(f"{name} {text}, {shown}", *cells)
 
 
 def measure_windows(table):
     path = table.folder / "windows"
-    for words, shown in ((mixed(1_000_000), "mixed"), (in_runs(1_000_000), "in runs")):
-        one_document(path, in_lines(words))
-        measure_texts(table, WINDOWS, path, WINDOW, f"1,000,000 tokens {shown}")
+    tokens = table.sized(1_000_000)
+    for words, shown in ((inputs.mixed(tokens), "mixed"), (inputs.in_runs(tokens), "in runs")):
+        inputs.one_document(path, inputs.in_lines(words))
+        measure_texts(table, WINDOWS, path, (WINDOW, WINDOW_QUERY), f"1,000,000 tokens {shown}")
 
 
 def measure_fields(table):
     path = table.folder / "fields"
+    fields = table.sized(MOST_FIELDS)
     documents = (
-        (distinct_fields(in_order=False), DISTINCT_NAMES, "65,535 names, closed last first"),
-        (distinct_fields(in_order=True), DISTINCT_NAMES, "65,535 names, closed as opened"),
-        (nested_fields(), ONE_NAME, "65,535 fields nested"),
-        (flat_fields(), ONE_NAME, "65,535 fields in a row"),
+        (inputs.distinct_fields(fields, in_order=False), DISTINCT_NAMES, "65,535 names, closed last first"),
+        (inputs.distinct_fields(fields, in_order=True), DISTINCT_NAMES, "65,535 names, closed as opened"),
+        (inputs.nested_fields(fields), ONE_NAME, "65,535 fields nested"),
+        (inputs.flat_fields(fields), ONE_NAME, "65,535 fields in a row"),
     )
     for document, texts, shown in documents:
-        one_document(path, document)
-        measure_texts(table, texts, path, FIELDS, shown)
+        inputs.one_document(path, document)
+        _, cells = table.measure(table.add(path), FIELDS_ADD)
+        table.row(f"add, {shown}", *cells)
+        measure_texts(table, texts, path, (FIELDS, FIELDS_QUERY), shown)
 
 
 def measure_parts(table):
     path = table.folder / "parts"
-    one_document(path, in_lines(mixed(1_000_000)))
+    inputs.one_document(path, inputs.in_lines(inputs.mixed(table.sized(1_000_000))))
+    folder = table.collection("passages", path)
     for beliefs in PASSAGES:
         asked = (f"#combine({beliefs})", f"#combine[passage100:50]({beliefs})")
-        (whole, _), (taken, peak) = table.best(*(Job(table.command("query", text), path) for text in asked))
+        (whole, _), (taken, peak) = table.best(*(table.query(folder, text) for text in asked))
         ratio = table.at_most(f"{taken / whole:5.2f} times {asked[0]}", taken / whole, PASSAGES_TO_WHOLE)
         table.row(f"query {asked[1]}", f"{taken:7.3f} s", ratio, f"peak {peak:4.0f} MiB")
-    for document, shown in ((nested_fields(), "nested"), (flat_fields(), "in a row")):
-        one_document(path, document)
+    fields = table.sized(MOST_FIELDS)
+    for document, shown in ((inputs.nested_fields(fields), "nested"), (inputs.flat_fields(fields), "in a row")):
+        inputs.one_document(path, document)
+        folder = table.collection("in fields", path)
         for beliefs in IN_FIELDS:
             text = f"#combine[f]({beliefs})"
-            [(taken, peak)] = table.best(Job(table.command("query", text), path))
+            [(taken, peak)] = table.best(table.query(folder, text))
             seconds = table.at_most(f"{taken:7.3f} s", taken, FIELDS_SECONDS)
             table.row(f"query {text}, 65,535 fields {shown}", seconds, f"peak {peak:4.0f} MiB")
 
 
 def measure_evidence(table):
     path = table.folder / "evidence"
-    newswire(path, 24 * MIB)
+    inputs.newswire(path, table.sized(24 * MIB))
+    folder = table.collection("evidence folder", path)
     for text, bound in EVIDENCE.items():
-        (alone, _), (taken, _) = table.best(*(Job(table.command("query", asked), path) for asked in (ASKED, text)))
+        (alone, _), (taken, _) = table.best(*(table.query(folder, asked) for asked in (ASKED, text)))
         ratio = taken / alone
         table.row(f"query {text}", f"{taken:7.3f} s", table.at_most(f"{ratio:5.2f} times {ASKED}", ratio, bound))
-    one_document(path, nested_fields())
+    inputs.one_document(path, inputs.nested_fields(table.sized(MOST_FIELDS)))
+    folder = table.collection("nested folder", path)
     for text in FILTERS:
-        _, cells = table.measure(Job(table.command("query", text), path), FIELDS)
+        _, cells = table.measure(table.query(folder, text), FIELDS_QUERY, path)
         table.row(f"query {text}, 65,535 fields nested", *cells)
 
 
 def measure_passed(table):
     path = table.folder / "passed"
     absent = [f"nowhere{i}" for i in range(41)]
-    short_documents(path, 63_666, 25)
-    (one, _), (all_absent, _) = table.best(*(Job(table.command("query", text), path) for text in (absent[0], " ".join(absent))))
-    each = (all_absent - one) * 1000 / 40
+    inputs.short_documents(path, 0, table.sized(63_666), 25)
+    folder = table.collection("absent", path)
+    one, all_absent = table.milliseconds(*(table.query(folder, text) for text in (absent[0], " ".join(absent))))
+    each = (all_absent - one) / 40
     table.row(
         "query of words that none of 63,666 documents has",
         table.at_most(f"{each:7.3f} ms a word", each, NO_WORD_MILLISECONDS),
-        f"{one:7.3f} s for one",
+        f"{one:7.1f} ms for one",
     )
-    short_documents(path, 200_000, 5)
+    inputs.short_documents(path, 0, table.sized(200_000), 5)
+    folder = table.collection("forty", path)
     forty = " ".join(VOCABULARY[:40])
-    (one, _), (taken, peak) = table.best(*(Job(table.command("query", text), path) for text in (absent[0], forty)))
+    (one, _), (taken, peak) = table.best(*(table.query(folder, text) for text in (absent[0], forty)))
     table.row(
         "query of 40 words, 200,000 documents of 5 words",
         f"{taken:7.3f} s",
@@ -500,30 +632,31 @@ def measure_passed(table):
     )
 
 
+def counted(table, path):
+    """The instructions of a scan and of an `add`."""
+    add = table.add(path)
+    copied(add.begun, add.changed)
+    return instructions(table.scan("rain", path).command, path), instructions(add.command, path)
+
+
 def measure_instructions(table):
     if not shutil.which("valgrind"):
         sys.exit("valgrind isn't installed, and the group instructions needs it")
-    size = MIB // 4
+    size = table.sized(MIB // 4)
     paths = {name: table.folder / name for name in INSTRUCTIONS}
-    newswire(paths["newswire"], size)
-    thin(paths["thin"], size)
+    inputs.newswire(paths["newswire"], size)
+    inputs.thin(paths["thin"], size)
     for shown, path in paths.items():
-        for name, most in zip(COMMANDS, INSTRUCTIONS[shown]):
-            each = instructions(table.command(name, "rain"), path) / path.stat().st_size
+        for name, found, most in zip(("scan rain", "add"), counted(table, path), INSTRUCTIONS[shown]):
+            each = found / path.stat().st_size
             cell = table.at_most(f"{each:7.1f} instructions a byte", each, most)
-            table.row(f"{name} rain, {shown} 1/4 MiB", cell)
-    measure_growth(table)
-
-
-def measure_growth(table):
-    half, whole = table.folder / "half", table.folder / "whole"
-    one_document(half, repeated(PLAIN, MIB // 4))
-    one_document(whole, repeated(PLAIN, MIB // 2))
-    for name in COMMANDS:
-        command = table.command(name, "documents")
-        grown = instructions(command, whole) / instructions(command, half)
-        cell = table.at_most(f"{grown:4.2f} times those of 1/4 MiB", grown, INSTRUCTIONS_TO_HALF)
-        table.row(f"{name} documents, one document of 1/2 MiB", cell)
+            table.row(f"{name}, {shown} 1/4 MiB", cell)
+    halves = [table.folder / "half of a document", table.folder / "whole document"]
+    for path, one in zip(halves, (size, 2 * size)):
+        inputs.one_document(path, inputs.repeated(PLAIN, one))
+    for name, half, whole in zip(("scan rain", "add"), *(counted(table, path) for path in halves)):
+        cell = table.at_most(f"{whole / half:4.2f} times those of 1/4 MiB", whole / half, INSTRUCTIONS_TO_HALF)
+        table.row(f"{name}, one document of 1/2 MiB", cell)
 
 
 GROUPS = {
@@ -533,6 +666,10 @@ GROUPS = {
     "pieces": measure_pieces,
     "large": measure_large,
     "many": measure_many,
+    "segments": measure_segments,
+    "matches": measure_matches,
+    "delete": measure_delete,
+    "prior": measure_prior,
     "windows": measure_windows,
     "fields": measure_fields,
     "parts": measure_parts,
@@ -543,14 +680,15 @@ GROUPS = {
 
 
 def options():
-    parser = argparse.ArgumentParser(description="Measures the time and the memory of scan and query.")
+    parser = argparse.ArgumentParser(description="Measures the time and the memory of the commands over a folder.")
     parser.add_argument("--rounds", type=int, default=3, help="a time is the best of so many (3)")
+    parser.add_argument("--part", type=int, default=1, help="each size is divided by this, to try the rows (1)")
     parser.add_argument("--program", type=Path, default=PROGRAM, help="the program that is measured (that of ./indri)")
     parser.add_argument("groups", nargs="*", metavar="GROUP", help=", ".join(GROUPS))
     chosen = parser.parse_args()
     unknown = [group for group in chosen.groups if group not in GROUPS]
-    if unknown or chosen.rounds < 1:
-        parser.error(f"no group {unknown[0]}" if unknown else "no round")
+    if unknown or chosen.rounds < 1 or chosen.part < 1:
+        parser.error(f"no group {unknown[0]}" if unknown else "no round, or no part")
     return chosen
 
 
@@ -558,11 +696,13 @@ def main():
     chosen = options()
     if not os.access(chosen.program, os.X_OK):
         sys.exit("the program isn't built: run ./indri once")
-    with tempfile.TemporaryDirectory() as folder:
-        table = Table(chosen.program.resolve(), chosen.rounds, Path(folder))
-        for group in chosen.groups or GROUPS:
+    is_within = True
+    for group in chosen.groups or GROUPS:
+        with tempfile.TemporaryDirectory() as folder:
+            table = Table(chosen.program.resolve(), chosen.rounds, chosen.part, Path(folder))
             GROUPS[group](table)
-    sys.exit(0 if table.is_within else 1)
+            is_within &= table.is_within
+    sys.exit(0 if is_within else 1)
 
 
 if __name__ == "__main__":

@@ -1,35 +1,43 @@
 #!/usr/bin/env python3
-"""What `query` and `explain` must print for a table of rankings, worked out apart from the program.
+"""What the commands on a collection must print for a table of rankings, worked out apart from the program.
 
 usage: bench/rankings.py
 
-It reads the cases in bench/rankings.cases and writes their lines to bench/rankings.lines, and those of
-bench/rankings.windows, which have ranges and contexts, to bench/rankings.windows.lines. `.ci/examples` runs the program on
-the cases and compares what it writes with these lines.
+It reads the cases in bench/rankings.cases and writes their lines to bench/rankings.lines; those of bench/rankings.windows,
+which have ranges and contexts, to bench/rankings.windows.lines; and those of bench/rankings.changes, which delete documents
+and set priors, to bench/rankings.changes.lines. `.ci/examples` runs the program on the cases and compares what it writes with
+these lines.
 
-A case is some lines, and the line `query` ends it:
+A case is some lines, in this order, and the line `query` ends it:
 
     # what the case shows
     mu 7                                              where it isn't 2500
     explain 2                                         where the result of this rank is explained, and none is ranked
-    text <DOC><DOCNO>d1</DOCNO>a b</DOC>              TREC text, as many lines as wanted; each has a line feed behind it
+    text <DOC><DOCNO>d1</DOCNO>a b</DOC>              TREC text for `add`, as many lines as wanted
+    delete d1                                         a line for `delete`, as many as wanted
+    prior home d1 1/2                                 a row for `prior home`, as many as wanted; several names may have rows
     query #combine(a b)
 
-Each line is written as it stands. Behind the line `query` stand the lines that the program must write for this text and
-this query, and the exit status. Text and query are read by small readers of their own, which stop at a form that no
-case needs. Printed is how many cases there are, and how many statements were checked of them.
+A line of input has a line feed behind it. The case begins with a folder in which `create` was run. Then come `add`,
+`delete` where it has lines, `prior` once for each name, in the order in which the names are met first, and `query` or
+`explain`. Each line of the case is written as it stands. Before the line `query` stand the lines that the program must write
+for the commands that change the folder, behind each command its exit status, and behind the line `query` those for the query.
+Texts and queries are read by small readers of their own, which stop at a form that no case needs. Printed is how many cases
+there are, and how many statements were checked of them.
 
 How the figures were computed. Everything is by the definitions, in exact whole numbers. No code is shared with the
 program, and nothing was taken from it or its output:
 
-- Extents: all positions, all chains and all windows are tried. Counts are sums over all documents, also those that a
+- The collection: a list of documents. `add` appends, `delete` takes away, a prior is a table of its accepted rows.
+- Extents: all positions, all chains and all windows are tried. Counts are sums over all live documents, also those that a
   filter leaves out. A filter passes where the set of its expression's extents isn't empty, or where it is.
 - Windows: of all pairs of places those that are the whole document, a field of the name, or a passage. Of a leaf in a
   window tf is how many positions begin an extent that lies inside it, len how many positions it has. With a context only
   extents inside some field of that name count, and only positions in such a field. The sums cf and total are those of
   tf and len over all documents as wholes, with the same context.
 - A leaf's fraction is p = 2 W tf + mu B over q = 2 W (len + mu), not reduced, with B = max(2 cf, 1) and
-  W = max(total, 1). That of the prior of lengths is one of three. It makes no candidate.
+  W = max(total, 1). That of the prior of lengths is one of three, that of another prior stands in the row of the docno, or in
+  its row `*`, or is 1/1. A prior makes no candidate.
 - Scales by least common multiples; weights without those of 0, divided by their greatest common divisor.
 - Digits by the recurrence, 40 squarings from floor(q 2^62 / (p 2^e)). Keys are weighted sums, of `#max` the least.
 - The order of the lines is key, docno, begin, end; the score is the floor of key 10^6 / (scale 2^40).
@@ -57,7 +65,11 @@ from math import gcd, lcm, prod
 from pathlib import Path
 
 BENCH = Path(__file__).resolve().parent
-TABLES = (("rankings.cases", "rankings.lines"), ("rankings.windows", "rankings.windows.lines"))
+TABLES = (
+    ("rankings.cases", "rankings.lines"),
+    ("rankings.windows", "rankings.windows.lines"),
+    ("rankings.changes", "rankings.changes.lines"),
+)
 LEVEL = 40
 MOST_LINES = 10
 MILLION = 10**6
@@ -80,6 +92,13 @@ class Case:
     mu: int = 2500
     text: str = ""
     rank: int | None = None
+    deleted: str = ""
+    rows: dict = field(default_factory=dict)
+
+
+def status_of(replies):
+    refused = any(reply.startswith("refused ") for reply in replies)
+    return f"status {3 if refused else 0}"
 
 
 # TREC text: start and end tags without attributes, comments, entity references and words of ASCII.
@@ -159,22 +178,88 @@ def document_at(text, begin):
     return content(docno, text[at:end.start()]), end.end()
 
 
-def read(text):
-    """The documents, each docno once, and the lines of what is refused."""
-    documents, refusals = {}, []
+def added(text):
+    """The documents by docno, each docno once, and what is told of each document and of the refusal that ends the text."""
+    documents, replies = {}, []
     at = SPACE.match(text).end()
     while at < len(text):
         try:
             document, at = document_at(text, at)
         except Refused as refused:
-            refusals.append("refused {} {}".format(*refused.args))
+            replies.append("refused {} {}".format(*refused.args))
             break
         if document.docno in documents:
-            refusals.append(f"refused Repeated {document.docno}")
+            replies.append(f"refused Repeated {document.docno}")
         else:
             documents[document.docno] = document
+            replies.append(f"added {document.docno} {len(document.tokens)}")
         at = SPACE.match(text, at).end()
-    return list(documents.values()), refusals
+    return documents, replies
+
+
+# The lines of `delete` and of `prior`. The place of a line is the offset of its first byte.
+
+
+def placed_lines(text):
+    """The lines that have more than white space, without that at their ends, each with its place."""
+    at = 0
+    for line in text.splitlines(keepends=True):
+        if line.strip("\t\n\f\r "):
+            yield at, line.strip("\t\n\f\r ")
+        at += len(line)
+
+
+def deletions(documents, text):
+    """What is told of the lines of docnos, which are taken out of the documents."""
+    for place, line in placed_lines(text):
+        if not DOCNO.fullmatch(line):
+            yield f"refused BadEvent {place}"
+        elif documents.pop(line, None):
+            yield f"deleted {line}"
+        else:
+            yield f"refused NoSuchDoc {line}"
+
+
+ROW = re.compile(r"([!-;=-~]+) (\d{1,18})/(\d{1,18})")
+
+
+def table_of(name, text):
+    """The fractions of a prior by docno, that of `*` among them, and what is told of its rows."""
+    table, replies = {}, []
+    for place, line in placed_lines(text):
+        found = ROW.fullmatch(line)
+        p, q = (int(found[2]), int(found[3])) if found else (0, 0)
+        if not 0 < p <= q:
+            replies.append(f"refused BadRow {place}")
+        elif found[1] in table:
+            replies.append(f"refused RepeatedRow {found[1]}")
+        else:
+            table[found[1]] = p, q
+    return table, [*replies, f"prior {name} {len(table) - ('*' in table)}"]
+
+
+@dataclass
+class Collection:
+    """The live documents in the order of their additions, and the tables of the priors by their names."""
+
+    documents: list
+    priors: dict
+
+
+def begun(case):
+    """The collection of a case, and what the commands that make it write."""
+    documents, replies = added(case.text)
+    replies.append(f"flushed {len(documents)}")
+    lines = [*replies, status_of(replies)]
+    if case.deleted:
+        replies = list(deletions(documents, case.deleted))
+        replies.append(f"flushed {len(documents)}")
+        lines += [*replies, status_of(replies)]
+    priors = {}
+    for name, text in case.rows.items():
+        priors[name.lower()], replies = table_of(name.lower(), text)
+        lines += [*replies, status_of(replies)]
+    return Collection(list(documents.values()), priors), lines
 
 
 # Query text: expressions are tuples, an operator's name first; beliefs are of these classes.
@@ -190,7 +275,9 @@ class Leaf:
 
 @dataclass
 class Prior:
-    """The prior of a document's length."""
+    """The prior of this name: `length` is that of a document's length."""
+
+    name: str
 
 
 @dataclass
@@ -288,8 +375,8 @@ class Reader:
             return Sum([weight for weight, _ in pairs], [argument for _, argument in pairs])
         if self.take(r"#max\("):
             return Greatest(self.many(self.belief))
-        if self.take(r"#prior\((?i:length)\)"):
-            return Prior()
+        if found := self.take(r"#prior\(([A-Za-z][A-Za-z0-9]*)\)"):
+            return Prior(found[1].lower())
         return self.leaf()
 
     def leaf(self):
@@ -456,8 +543,11 @@ def positions(leaf, document, window):
 LENGTH_STEPS = ((1000, (1, 1)), (100, (1, 2)), (0, (1, 4)))
 
 
-def prior_fraction(document):
-    return next(fraction for least, fraction in LENGTH_STEPS if len(document.tokens) >= least)
+def prior_fraction(name, document, priors):
+    if name == "length":
+        return next(fraction for least, fraction in LENGTH_STEPS if len(document.tokens) >= least)
+    table = priors[name]
+    return table.get(document.docno, table.get("*", (1, 1)))
 
 
 @cache
@@ -617,9 +707,9 @@ def sums_of(leaf, documents):
     return sum(occurrences(leaf, *whole) for whole in wholes), sum(positions(leaf, *whole) for whole in wholes)
 
 
-def fraction_of(leaf, document, window, sums, mu):
+def fraction_of(leaf, document, window, sums, mu, priors):
     if isinstance(leaf, Prior):
-        return prior_fraction(document)
+        return prior_fraction(leaf.name, document, priors)
     cf, total = sums
     width = 2 * max(total, 1)
     tf = occurrences(leaf, document, window)
@@ -634,14 +724,16 @@ def found_windows(query, document):
     return [w for w in windows(query.ranked, document) if any(occurrences(leaf, document, w) for leaf in leaves)]
 
 
-def candidates(query, documents, mu):
+def candidates(query, collection, mu):
     """Those of the documents that pass all filters, each with the windows in which some leaf occurs."""
     leaves = leaves_of(query.tree)
-    sums = [sums_of(leaf, documents) for leaf in leaves]
+    sums = [sums_of(leaf, collection.documents) for leaf in leaves]
     found = []
-    for document in documents:
+    for document in collection.documents:
         for window in found_windows(query, document):
-            fractions = [fraction_of(leaf, document, window, both, mu) for leaf, both in zip(leaves, sums)]
+            fractions = [
+                fraction_of(leaf, document, window, both, mu, collection.priors) for leaf, both in zip(leaves, sums)
+            ]
             value = key(query.tree, iter([digits(p, q) for p, q in fractions]))
             found.append(Candidate(document, window, fractions, value, product(query.tree, iter(fractions))))
     return found
@@ -696,9 +788,9 @@ def check_score(line, score, e):
     check("a score encloses the logarithm of the product", compare(low, qs) <= 0 < compare(high, qs))
 
 
-def ranking(query, documents, mu):
+def ranking(query, collection, mu):
     e = scale(query.tree)
-    ordered = sorted(candidates(query, documents, mu), key=Candidate.order)
+    ordered = sorted(candidates(query, collection, mu), key=Candidate.order)
     lines, rest = ordered[:MOST_LINES], ordered[MOST_LINES:]
     shown = marks(lines, e)
     check_order(lines, shown, rest, e)
@@ -727,7 +819,7 @@ def leaf_lines(number, leaf, candidate, documents, fraction):
     """A leaf with its counts in the window and in the collection and its belief, and the extents behind its counts."""
     belief = "{}/{}".format(*fraction)
     if isinstance(leaf, Prior):
-        return [f"prior {number} length belief {belief}"]
+        return [f"prior {number} {leaf.name} belief {belief}"]
     document, window = candidate.document, candidate.window
     context = "" if leaf.context is None else f".({leaf.context})"
     counts = occurrences(leaf, document, window), positions(leaf, document, window), *sums_of(leaf, documents)
@@ -736,60 +828,73 @@ def leaf_lines(number, leaf, candidate, documents, fraction):
     return [f"leaf {number} {printed(leaf.expr)}{context} {shown} belief {belief}", *(f"at {b} {e}" for b, e in found)]
 
 
-def explanation(query, documents, mu, rank):
+def explanation(query, collection, mu, rank):
     """Why the result of a rank has its score."""
     e = scale(query.tree)
-    ordered = sorted(candidates(query, documents, mu), key=Candidate.order)
+    ordered = sorted(candidates(query, collection, mu), key=Candidate.order)
     if rank > len(ordered):
         return ["refused NoSuchRank q"]
     line = ordered[rank - 1]
     lines = [f"result {rank} {line.document.docno} {line.window[0]} {line.window[1]}", f"scale {e}"]
     for i, (leaf, fraction) in enumerate(zip(leaves_of(query.tree), line.fractions)):
-        lines += leaf_lines(i + 1, leaf, line, documents, fraction)
+        lines += leaf_lines(i + 1, leaf, line, collection.documents, fraction)
     score = line.key * MILLION // (e << LEVEL)
     check_score(line, score, e)
     return [*lines, f"score -{score // MILLION}.{score % MILLION:06}"]
 
 
-def fault(query):
+def fault(query, priors):
     """What the check of a query finds first, if anything."""
     if not has_weights(query.tree):
         return "NoWeight"
     tree = reduced(query.tree)
     if all(isinstance(leaf, Prior) for leaf in leaves_of(tree)):
         return "NoLeaf"
-    return "ScaleTooLarge" if scale(tree) >= 1 << 60 else None
+    if scale(tree) >= 1 << 60:
+        return "ScaleTooLarge"
+    named = [leaf.name for leaf in leaves_of(query.tree) if isinstance(leaf, Prior)]
+    return next((f"UnknownPrior {name}" for name in named if name != "length" and name not in priors), None)
 
 
-def answer(case, text):
-    """The lines of a case, and its status."""
-    query = Reader(text).query()
-    if found := fault(query):
+def answer(query, collection, case):
+    """What is written for the query of a case, and its status."""
+    if found := fault(query, collection.priors):
         return [f"refused Check {found}", "status 2"]
     query = Query(query.filters, query.ranked, reduced(query.tree))
-    documents, refusals = read(case.text)
     if case.rank is None:
-        return [*refusals, *ranking(query, documents, case.mu), f"status {3 if refusals else 0}"]
-    lines = explanation(query, documents, case.mu, case.rank)
-    return [*refusals, *lines, f"status {3 if refusals or lines[0].startswith('refused ') else 0}"]
+        return [*ranking(query, collection, case.mu), "status 0"]
+    lines = explanation(query, collection, case.mu, case.rank)
+    return [*lines, status_of(lines)]
+
+
+def worked(case, line, text):
+    """The line of the query of a case, with what is written before it and behind it."""
+    collection, replies = begun(case)
+    return [*replies, line, *answer(Reader(text).query(), collection, case)]
 
 
 def lines_of(text):
-    """The lines of all cases, each with what is to be written behind it."""
+    """The lines of all cases, each with what is to be written."""
     case = Case()
     for line in text.removesuffix("\n").split("\n"):
-        yield line
         word, _, rest = line.partition(" ")
+        if word == "query":
+            yield from worked(case, line, rest)
+            checked["cases"] += 1
+            case = Case()
+            continue
+        yield line
         if word == "mu":
             case.mu = int(rest)
         elif word == "explain":
             case.rank = int(rest)
         elif word == "text":
             case.text += rest + "\n"
-        elif word == "query":
-            yield from answer(case, rest)
-            checked["cases"] += 1
-            case = Case()
+        elif word == "delete":
+            case.deleted += rest + "\n"
+        elif word == "prior":
+            name, _, row = rest.partition(" ")
+            case.rows[name] = case.rows.get(name, "") + row + "\n"
         else:
             assert word in ("", "#"), f"no line of a case: {line}"
 

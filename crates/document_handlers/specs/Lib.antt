@@ -1,3 +1,3 @@
-pub mod Collection
+pub mod Addition
 pub mod Scan
 pub mod Work

@@ -4,40 +4,37 @@ use Rattle.ri_base.specs.Documents.{Document}
 use Rattle.ri_base.specs.Expression.{ExprTree}
 use Rattle.command_pieces.specs.Written.{Plain, told_piece}
 use Rattle.refusals.specs.Lines.{refusal_piece}
-use Rattle.refusals.specs.declared.refusal.Refusal.{Refusal}
 use Rattle.refusals.specs.declared.refusal.Refusal.TheVariants as refusal
+use Rattle.holdings.specs.declared.limits.Limits.{Limits}
+use Rattle.repository.specs.Stands.{Collection}
+use Rattle.store_ends.specs.Files.{Files}
 use Rattle.tokens.specs.Content.{content}
 use Rattle.tokens.specs.declared.document.TokenRefusal.{TokenRefusal}
 use Rattle.trec_reader.specs.Read.{Found}
 use Rattle.trec_reader.specs.declared.document.RawDoc.{RawDoc}
 use Rattle.trec_reader.specs.declared.refusal.TrecRefusal.{TrecRefusal}
-use Rattle.document_handlers.specs.Collection.{accepted, documents_with}
+use Rattle.document_handlers.specs.Addition.{added, addition, collection_with}
 use Rattle.document_handlers.specs.Scan.{document_lines}
 
--- It scans each document for an expression, or takes it into a collection, behind those that are accepted.
+-- It scans each document for an expression, or adds it to the collection that a repository reads as with these files, within limits.
 pub data Work : Type 0 where
   scanning : ExprTree → Work
-  collecting : List Document → Work
+  adding : Option Files → Limits → Collection → Work
 
 -- the lines of a document that was read, or of its refusal
 abbrev pub scanned : ExprTree → Result Document TokenRefusal → Plain
 scanned x (Ok d) = told_piece (document_lines x d)
 scanned x (Err why) = refusal_piece (refusal.Document why)
 
--- nothing of a document that is accepted, or the line of its refusal
-abbrev pub collected : Result Document Refusal → List Plain
-collected (Ok d) = []
-collected (Err why) = refusal_piece why ∷ []
-
 -- what is written of a document
 unfoldable pub replies : Work → RawDoc → List Plain
 replies (scanning x) d = scanned x (content d) ∷ []
-replies (collecting docs) d = collected (accepted docs (content d))
+replies (adding told limits c) d = added (addition limits c (content d)) ∷ []
 
 -- how the work goes on behind a document
 unfoldable pub behind : Work → RawDoc → Work
 behind (scanning x) d = scanning x
-behind (collecting docs) d = collecting (documents_with docs (accepted docs (content d)))
+behind (adding told limits c) d = adding told limits (collection_with c (addition limits c (content d)))
 
 -- what is written of documents, one behind the other
 unfoldable pub document_pieces : Work → List RawDoc → List Plain

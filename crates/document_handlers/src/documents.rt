@@ -7,7 +7,7 @@ ghost use Rattle.command_pieces.specs.Pieces.{some_refused};
 ghost use Rattle.command_pieces.specs.Written.{AllWritten};
 ghost use Rattle.refusals.specs.declared.refusal.Refusal.TheVariants.{Input};
 ghost use Rattle.refusals.specs.Lines.{refusal_piece};
-ghost use Rattle.document_handlers.specs.Work.{behind, behind_all, input_pieces, replies};
+ghost use Rattle.document_handlers.specs.Work.{Work, behind, behind_all, input_pieces, replies};
 
 use crate::handler::Handler;
 use command_pieces::Fault;
@@ -25,11 +25,11 @@ fn take_document<H: Handler, K: Sink>(
     sink: &mut K,
 ) -> Result<bool, Fault>
     requires whole { H.is_whole handler.old }
-    ensures refused { IfOk result (λ refused. refused ≡ some_refused (replies (H.work handler.old) document)) }
-    ensures behind { OnOk result (H.work handler.new ≡ behind (H.work handler.old) document) }
+    ensures refused { (w : Work) → H.does handler.old w → IfOk result (λ refused. refused ≡ some_refused (replies w document)) }
+    ensures behind { (w : Work) → H.does handler.old w → OnOk result (H.does handler.new (behind w document)) }
     ensures whole { OnOk result (H.is_whole handler.new) }
-    ensures finished { OnOk result (AllWritten (replies (H.work handler.old) document) (K.taken sink.old) (K.taken sink.new)) }
-    ensures broken { IfErr result (λ fault. IsCut fault (replies (H.work handler.old) document) (K.taken sink.old) (K.taken sink.new)) }
+    ensures finished { (w : Work) → H.does handler.old w → OnOk result (AllWritten (replies w document) (K.taken sink.old) (K.taken sink.new)) }
+    ensures broken { (w : Work) → H.does handler.old w → IfErr result (λ fault. IsCut fault (replies w document) (K.taken sink.old) (K.taken sink.new)) }
     ensures no_read { IsErrOf result Fault.Read → ⊥ }
     ensures later { K.faults sink.old ≤ K.faults sink.new }
     ensures cause { IsErrOf result Fault.Write → Rose (K.faults sink.old) (K.faults sink.new) }
@@ -73,11 +73,11 @@ pub fn take_documents<H: Handler, S: Source, K: Sink>(
 ) -> Result<bool, Fault>
     requires whole { H.is_whole handler.old }
 
-    ensures refused { IfOk result (λ refused. IfSome (S.left source.old) (λ bytes. refused ≡ some_refused (input_pieces (H.work handler.old) (read bytes)))) }
-    ensures behind { OnOk result (IfSome (S.left source.old) (λ bytes. H.work handler.new ≡ behind_all (H.work handler.old) (read bytes).0)) }
+    ensures refused { (w : Work) → H.does handler.old w → IfOk result (λ refused. IfSome (S.left source.old) (λ bytes. refused ≡ some_refused (input_pieces w (read bytes)))) }
+    ensures behind { (w : Work) → H.does handler.old w → OnOk result (IfSome (S.left source.old) (λ bytes. H.does handler.new (behind_all w (read bytes).0))) }
     ensures whole { OnOk result (H.is_whole handler.new) }
-    ensures finished { OnOk result (IfSome (S.left source.old) (λ bytes. AllWritten (input_pieces (H.work handler.old) (read bytes)) (K.taken sink.old) (K.taken sink.new))) }
-    ensures broken { IfErr result (λ fault. IfSome (S.left source.old) (λ bytes. IsCut fault (input_pieces (H.work handler.old) (read bytes)) (K.taken sink.old) (K.taken sink.new))) }
+    ensures finished { (w : Work) → H.does handler.old w → OnOk result (IfSome (S.left source.old) (λ bytes. AllWritten (input_pieces w (read bytes)) (K.taken sink.old) (K.taken sink.new))) }
+    ensures broken { (w : Work) → H.does handler.old w → IfErr result (λ fault. IfSome (S.left source.old) (λ bytes. IsCut fault (input_pieces w (read bytes)) (K.taken sink.old) (K.taken sink.new))) }
 
     ensures read { IsErrOf result Fault.Read → Rose (S.faults source.old) (S.faults source.new) }
     ensures write { IsErrOf result Fault.Write → Rose (K.faults sink.old) (K.faults sink.new) }

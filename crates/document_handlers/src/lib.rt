@@ -1,12 +1,12 @@
 //! What commands do with the documents of their input.
 #![tactic(auto)]
 
-mod collection;
+mod adder;
 mod documents;
 mod handler;
 mod scan;
 
-pub use collection::{Gathered, Gatherer};
+pub use adder::Adder;
 pub use documents::take_documents;
 pub use handler::Handler;
 pub use scan::Scanner;

@@ -54,7 +54,7 @@ pub struct Scanner {
 
 impl Scanner {
     pub fn new(expr: ExtentExpr) -> Scanner
-        ensures work { ⟦<Scanner as Handler>⟧.work result ≡ scanning (expr_tree expr) }
+        ensures does { ⟦<Scanner as Handler>⟧.does result (scanning (expr_tree expr)) }
         ensures whole { ⟦<Scanner as Handler>⟧.is_whole result }
     {
         Scanner { expr }
@@ -62,7 +62,7 @@ impl Scanner {
 }
 
 impl Handler for Scanner {
-    ghost work = { λ s. scanning (expr_tree s.expr) };
+    ghost does = { λ s w. w ≡ scanning (expr_tree s.expr) };
 
     ghost is_whole = { λ _. ⊤ };
 

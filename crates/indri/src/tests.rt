@@ -6,6 +6,7 @@ use ri_ends::{MemSink, MemSource, SinkFail, Source};
 use std::alloc::Global;
 use std::process::Abort;
 use std::test::Fail;
+use store_ends::MemStore;
 
 const TWO: &[u8] = b"<DOC><DOCNO>d1</DOCNO>a b</DOC><DOC><DOCNO>d2</DOCNO>a</DOC>";
 
@@ -54,7 +55,8 @@ fn ran(
     fails: &[SinkFail],
 ) -> Result<(Status, Vec<u8>), Fail> {
     let mut sink = MemSink::new(alloc, fails.to_vec(alloc)?);
-    let status = run_words(alloc, words, source, &mut sink)?;
+    let mut store = MemStore::new(alloc, Vec::new(alloc), Vec::new(alloc));
+    let status = run_words(alloc, words, source, &mut sink, &mut store)?;
     Ok((status, sink.bytes().to_vec(alloc)?))
 }
 
@@ -249,215 +251,8 @@ fn scans(rt: HostRuntime) -> Result<(), Fail> {
     Ok(())
 }
 
-/// Queries with a mu of 1.
-static QUERIES: [Row; 18] = [
-    (
-        "#combine(a)",
-        TWO,
-        Status::Done,
-        b"1 - -0.263034 d2 0 1\n2 > -0.847996 d1 0 2\n",
-    ),
-    (
-        "#max(a b)",
-        TWO,
-        Status::Done,
-        b"1 - -0.263034 d2 0 1\n2 > -0.847996 d1 0 2\n",
-    ),
-    (
-        "a z",
-        TWO,
-        Status::Done,
-        b"1 - -1.923998 d2 0 1\n2 > -2.508960 d1 0 2\n",
-    ),
-    ("b", TWO, Status::Done, b"1 - -1.169925 d1 0 2\n"),
-    ("#filreq(b a)", TWO, Status::Done, b"1 - -0.847996 d1 0 2\n"),
-    ("#filrej(b a)", TWO, Status::Done, b"1 - -0.263034 d2 0 1\n"),
-    (
-        "#filreq(a #filrej(b a))",
-        TWO,
-        Status::Done,
-        b"1 - -0.263034 d2 0 1\n",
-    ),
-    (
-        "#filreq(#uw5(a b) a)",
-        TWO,
-        Status::Done,
-        b"1 - -0.847996 d1 0 2\n",
-    ),
-    (
-        "#combine[t](a)",
-        b"<DOC><DOCNO>d1</DOCNO><t>a b</t><t>a</t></DOC>",
-        Status::Done,
-        b"1 - -0.263034 d1 2 3\n2 > -0.847996 d1 0 2\n",
-    ),
-    (
-        "#filrej(#band(a b) #combine[passage4:2](a))",
-        b"<DOC><DOCNO>d1</DOCNO>a c a c a</DOC><DOC><DOCNO>d2</DOCNO>a b</DOC>",
-        Status::Done,
-        b"1 - -0.347923 d1 4 5\n2 > -0.637429 d1 2 5\n3 > -0.959358 d1 0 4\n",
-    ),
-    (
-        "a dog.(title)",
-        TWO,
-        Status::Done,
-        b"1 - -0.631517 d2 0 1\n2 > -0.923998 d1 0 2\n",
-    ),
-    ("z", TWO, Status::Done, b""),
-    ("a", b"", Status::Done, b""),
-    (
-        "a",
-        b"<DOC><DOCNO>d2</DOCNO>a b</DOC><DOC><DOCNO>d1</DOCNO>a b</DOC>",
-        Status::Done,
-        b"1 - -1.000000 d1 0 2\n2 = -1.000000 d2 0 2\n",
-    ),
-    (
-        "a b",
-        b"<DOC><DOCNO>d1</DOCNO>a a b</DOC><DOC><DOCNO>d2</DOCNO>a b b</DOC>",
-        Status::Done,
-        b"1 - -1.046554 d1 0 3\n2 ~ -1.046554 d2 0 3\n",
-    ),
-    (
-        "#weight(0.8 #combine(a b c) 0.1 #combine(#1(a b) #1(b c)) 0.1 #combine(#uw8(a b) #uw8(b c)))",
-        b"<DOC><DOCNO>d1</DOCNO>a b c</DOC>",
-        Status::Done,
-        b"1 - -1.584962 d1 0 3\n",
-    ),
-    (
-        "#weight(1 a 0.0000001 #weight(1 a 0.0000001 b))",
-        b"<DOC><DOCNO>d1</DOCNO>a b</DOC><DOC><DOCNO>d2</DOCNO>a c</DOC>",
-        Status::Done,
-        b"1 - -1.000000 d1 0 2\n2 ~ -1.000000 d2 0 2\n",
-    ),
-    (
-        "a",
-        b"<DOC><DOCNO>d1</DOCNO>a b</DOC><DOC><DOCNO>d1</DOCNO>a</DOC><DOC><DOCNO>d2</DOCNO>a</DOC>x",
-        Status::SomeRefused,
-        b"refused Repeated d1\nrefused NotADoc 89\n1 - -0.263034 d2 0 1\n2 > -0.847996 d1 0 2\n",
-    ),
-];
-
-#[test]
-fn queries(rt: HostRuntime) -> Result<(), Fail> {
-    for (text, input, status, lines) in &QUERIES {
-        let texts = [".", "query", "--mu", "1", *text];
-        assert_ends(&rt, rt.alloc(), case_of(&texts, input, 64), *status, lines)?;
-    }
-    Ok(())
-}
-
-/// Queries with options, over two documents, and what is written.
-static SHOWN: [(&[&str], &[u8]); 4] = [
-    (
-        &[".", "query", "a", "--mu=1", "--k", "1"],
-        b"1 - -0.263034 d2 0 1\n",
-    ),
-    (
-        &[
-            ".", "query", "--topic", "301", "--mu", "1", "--run", "mine", "a",
-        ],
-        b"301 Q0 d2 1 -0.263034 mine\n301 Q0 d1 2 -0.847996 mine\n",
-    ),
-    (
-        &[
-            ".",
-            "query",
-            "--topic=301",
-            "--run=mine",
-            "--mu=1",
-            "--k=1",
-            "--",
-            "a",
-        ],
-        b"301 Q0 d2 1 -0.263034 mine\n",
-    ),
-    (&[".", "query", "--topic", "301", "--run", "mine", "c"], b""),
-];
-
-#[test]
-fn options(rt: HostRuntime) -> Result<(), Fail> {
-    for (texts, lines) in &SHOWN {
-        assert_ends(
-            &rt,
-            rt.alloc(),
-            case_of(texts, TWO, 64),
-            Status::Done,
-            lines,
-        )?;
-    }
-    Ok(())
-}
-
-/// A rank, a query with a mu of 1, its input, its status, and what is written of the result of that rank.
-static EXPLAINED: [(&str, &str, &[u8], Status, &[u8]); 8] = [
-    (
-        "1",
-        "a",
-        TWO,
-        Status::Done,
-        b"result 1 d2 0 1\nscale 1\nleaf 1 \"a\" tf 1 len 1 cf 2 total 3 belief 10/12\nat 0 1\nscore -0.263034\n",
-    ),
-    (
-        "2",
-        "a",
-        TWO,
-        Status::Done,
-        b"result 2 d1 0 2\nscale 1\nleaf 1 \"a\" tf 1 len 2 cf 2 total 3 belief 10/18\nat 0 1\nscore -0.847996\n",
-    ),
-    (
-        "3",
-        "a",
-        TWO,
-        Status::SomeRefused,
-        b"refused NoSuchRank q\n",
-    ),
-    (
-        "1",
-        "a",
-        b"",
-        Status::SomeRefused,
-        b"refused NoSuchRank q\n",
-    ),
-    (
-        "2",
-        "a b",
-        TWO,
-        Status::Done,
-        b"result 2 d2 0 1\nscale 2\nleaf 1 \"a\" tf 1 len 1 cf 2 total 3 belief 10/12\nat 0 1\nleaf 2 \"b\" tf 0 len 1 cf 1 total 3 belief 2/12\nscore -1.423998\n",
-    ),
-    (
-        "1",
-        "a #prior(length)",
-        TWO,
-        Status::Done,
-        b"result 1 d2 0 1\nscale 2\nleaf 1 \"a\" tf 1 len 1 cf 2 total 3 belief 10/12\nat 0 1\nprior 2 length belief 1/4\nscore -1.131517\n",
-    ),
-    (
-        "1",
-        "#1(a b)",
-        TWO,
-        Status::Done,
-        b"result 1 d1 0 2\nscale 1\nleaf 1 #1(\"a\" \"b\") tf 1 len 2 cf 1 total 3 belief 8/18\nat 0 2\nscore -1.169925\n",
-    ),
-    (
-        "1",
-        "a",
-        b"<DOC><DOCNO>d1</DOCNO>a b</DOC><DOC><DOCNO>d1</DOCNO>a</DOC><DOC><DOCNO>d2</DOCNO>a</DOC>x",
-        Status::SomeRefused,
-        b"refused Repeated d1\nrefused NotADoc 89\nresult 1 d2 0 1\nscale 1\nleaf 1 \"a\" tf 1 len 1 cf 2 total 3 belief 10/12\nat 0 1\nscore -0.263034\n",
-    ),
-];
-
-#[test]
-fn explained(rt: HostRuntime) -> Result<(), Fail> {
-    for (rank, text, input, status, lines) in &EXPLAINED {
-        let texts = [".", "explain", *rank, "--mu=1", *text];
-        assert_ends(&rt, rt.alloc(), case_of(&texts, input, 64), *status, lines)?;
-    }
-    Ok(())
-}
-
 /// Words that are no command, and texts that are refused: the words, the status, and what is written.
-static REFUSED: [(&[&str], Status, &str); 33] = [
+static REFUSED: [(&[&str], Status, &str); 26] = [
     (&[], Status::Usage, USAGE),
     (&[".", "query", "--run", "mine", "a"], Status::Usage, USAGE),
     (&[".", "explain", "0", "a"], Status::Usage, USAGE),
@@ -465,11 +260,6 @@ static REFUSED: [(&[&str], Status, &str); 33] = [
         &[".", "explain", "--k", "1", "1", "a"],
         Status::Usage,
         USAGE,
-    ),
-    (
-        &[".", "explain", "1", "#1(a"],
-        Status::QueryRefused,
-        "refused Query Expected 4\n",
     ),
     (&[".", "query", "--mu", "0", "a"], Status::Usage, USAGE),
     (&[".", "query", "--mu", "01", "a"], Status::Usage, USAGE),
@@ -553,42 +343,6 @@ static REFUSED: [(&[&str], Status, &str); 33] = [
         Status::QueryRefused,
         "refused Query NotYetBuilt 0\n",
     ),
-    (
-        &[".", "query", "--mu", "1", "#weight(0 a 0 b)"],
-        Status::QueryRefused,
-        "refused Check NoWeight\n",
-    ),
-    (
-        &[
-            ".",
-            "query",
-            "--mu",
-            "1",
-            "#weight(1.073741823 #weight(1.073741823 a 0.000000001 b) 0.000000001 c)",
-        ],
-        Status::QueryRefused,
-        "refused Check ScaleTooLarge\n",
-    ),
-    (
-        &[".", "query", "--mu", "1", "#combine(a #filreq(b c))"],
-        Status::QueryRefused,
-        "refused Query FilterInside 11\n",
-    ),
-    (
-        &[".", "query", "--mu", "1", "#weight(1234567 a)"],
-        Status::QueryRefused,
-        "refused Query WeightTooLong 8\n",
-    ),
-    (
-        &[".", "query", "--mu", "1", "#prior(length)"],
-        Status::QueryRefused,
-        "refused Check NoLeaf\n",
-    ),
-    (
-        &[".", "query", "--mu", "1", "a #prior(x)"],
-        Status::QueryRefused,
-        "refused Check UnknownPrior x\n",
-    ),
 ];
 
 /// What the words answer and write, and how many bytes of the input are left.
@@ -667,20 +421,13 @@ fn assert_write_faults(
     Ok(())
 }
 
-const QUERY: [&str; 5] = [".", "query", "--mu", "1", "a"];
-
 /// Words, an input, and the two texts that its two writing calls are given.
-static WRITINGS: [(&[&str], &[u8], [&[u8]; 2]); 3] = [
+static WRITINGS: [(&[&str], &[u8], [&[u8]; 2]); 2] = [
     (&SCAN, TWO, [b"d1 0 1\n", b"d2 0 1\n"]),
     (
         &SCAN,
         b"<DOC><DOCNO>d1</DOCNO>a b</DOC>x",
         [b"d1 0 1\n", b"refused NotADoc 31\n"],
-    ),
-    (
-        &QUERY,
-        b"<DOC><DOCNO>d1</DOCNO>a</DOC><DOC><DOCNO>d1</DOCNO>a</DOC>",
-        [b"refused Repeated d1\n", b"1 - -0.000000 d1 0 1\n"],
     ),
 ];
 
@@ -695,7 +442,7 @@ fn writes_that_fail(rt: HostRuntime) -> Result<(), Fail> {
 }
 
 /// Runs whose source or sink is to fail at some calls, their status, and what they write.
-static FAILING: [(Case<'static>, Status, &[u8]); 4] = [
+static FAILING: [(Case<'static>, Status, &[u8]); 3] = [
     // the twelfth read and the third write aren't made
     (
         Case {
@@ -730,17 +477,6 @@ static FAILING: [(Case<'static>, Status, &[u8]); 4] = [
         },
         Status::ReadFault,
         b"d1 0 1\nfau",
-    ),
-    (
-        Case {
-            texts: &QUERY,
-            input: TWO,
-            piece: 40,
-            read_fails: &[2],
-            write_fails: &[],
-        },
-        Status::ReadFault,
-        b"fault read\n",
     ),
 ];
 

@@ -1,67 +1,137 @@
--- The command that the words of the command line ask for.
-use Rattle.std.specs.Prelude.{List, [], codes, Option, None, Some, Result, Ok, Err, ℕ, option_and_then}
-use Rattle.command_words.specs.Table.{Asks, add, asks_of, create, delete, explain, prior, query, scan}
+-- What the words of the command line ask for, and the pieces of that command on a collection.
+use Rattle.std.specs.Prelude.{◌≡◌, ◌⊎◌, ℕ, List, [], ◌∷◌, codes, Option, None, Some, Result, Ok, Err}
+use Rattle.command_words.specs.Table.{Asks, Question, add, create, delete, explain, prior, query, scan}
 use Rattle.ri_base.specs.Expression.{ExprTree}
 use Rattle.ri_base.specs.Query.{QueryTree}
-use Rattle.smoothing.specs.Fractions.{IsMu}
-use Rattle.smoothing.specs.declared.rule.RuleKind.{RuleKind}
 use Rattle.smoothing.specs.declared.rule.RuleKind.TheVariants.{Dirichlet}
+use Rattle.store_ends.specs.Files.{Files}
+use Rattle.trec_reader.specs.Read.{read}
 use Rattle.query_reader.specs.QueryText.{expr_text, query_text}
 use Rattle.query_reader.specs.declared.fault.QueryKind.{QueryKind}
 use Rattle.query_check.specs.Check.{CheckedTree, checks}
 use Rattle.query_check.specs.declared.fault.CheckFault.{CheckFault}
+use Rattle.query_refusals.specs.Lines.{refusal_piece}
 use Rattle.query_refusals.specs.declared.refusal.QueryRefusal.{QueryRefusal}
 use Rattle.query_refusals.specs.declared.refusal.QueryRefusal.TheVariants as refusal
-use Rattle.indri_app.specs.Shown.{Shown, explanation, shown_for}
+use Rattle.command_pieces.specs.Pieces.{Piece}
+use Rattle.command_pieces.specs.Written.{Plain, told_piece, unflushed}
+use Rattle.command_pieces.specs.declared.command_fault.CommandFault.{CommandFault}
+use Rattle.command_pieces.specs.declared.command_fault.CommandFault.TheVariants as fault
+use Rattle.document_handlers.specs.Work.{Work, adding, behind_all, input_pieces, scanning}
+use Rattle.holdings.specs.declared.limits.Limits.{Limits}
+use Rattle.repository.specs.RealLimits.{AreReal}
+use Rattle.repository.specs.Stands.{Collection}
+use Rattle.collection_commands.specs.Flushing.{delete_pieces, then_flushed}
+use Rattle.collection_commands.specs.PriorSetting.{ArePriorPieces, name_refusal}
+use Rattle.collection_queries.specs.Answer.{IsAnswerText}
+use Rattle.collection_queries.specs.Priors.{names_with, priors_with}
+use Rattle.collection_queries.specs.Shown.{Shown, explanation, shown_for}
 
--- a command whose text has no fault: the scan for an expression, or the ranking by a checked query under a rule of
--- smoothing, of which this is shown
-pub data Command : Type 0 where
-  scan_for : ExprTree → Command
-  rank_by : RuleKind → Shown → CheckedTree → Command
+-- ---- texts
 
--- the numbers of the rule are in their ranges
-abbrev pub IsRule : RuleKind → Type 0
-IsRule (Dirichlet mu) = IsMu mu
+-- the refusal of a text that isn't read
+abbrev pub expr_refusal : Result ExprTree (QueryKind × ℕ) → Option QueryRefusal
+expr_refusal (Ok x) = None
+expr_refusal (Err fault) = Some (refusal.Text fault.0 fault.1)
 
-abbrev pub scan_read : Result ExprTree (QueryKind × ℕ) → Result Command QueryRefusal
-scan_read (Ok x) = Ok (scan_for x)
-scan_read (Err fault) = Err (refusal.Text fault.0 fault.1)
+abbrev pub check_refusal : Result CheckedTree CheckFault → Option QueryRefusal
+check_refusal (Ok q) = None
+check_refusal (Err fault) = Some (refusal.Check fault)
 
-abbrev pub query_checked : RuleKind → Shown → Result CheckedTree CheckFault → Result Command QueryRefusal
-query_checked rule shown (Ok q) = Ok (rank_by rule shown q)
-query_checked rule shown (Err fault) = Err (refusal.Check fault)
+abbrev pub query_refusal : List (List ℕ) → Result QueryTree (QueryKind × ℕ) → Option QueryRefusal
+query_refusal names (Ok q) = check_refusal (checks q names)
+query_refusal names (Err fault) = Some (refusal.Text fault.0 fault.1)
 
-abbrev pub query_read : RuleKind → Shown → Result QueryTree (QueryKind × ℕ) → Result Command QueryRefusal
-query_read rule shown (Ok q) = query_checked rule shown (checks q [])
-query_read rule shown (Err fault) = Err (refusal.Text fault.0 fault.1)
+-- the refusal of the command's text, where the priors have these names
+abbrev pub text_refusal : List (List ℕ) → Asks → Option QueryRefusal
+text_refusal names (scan text) = expr_refusal (expr_text text)
+text_refusal names create = None
+text_refusal names add = None
+text_refusal names delete = None
+text_refusal names (prior name) = None
+text_refusal names (query question) = query_refusal names (query_text question.text)
+text_refusal names (explain rank question) = query_refusal names (query_text question.text)
 
--- the command, or the refusal of its text; what works on a folder is no command yet
-abbrev pub command_of : Asks → Option (Result Command QueryRefusal)
-command_of (scan text) = Some (scan_read (expr_text text))
-command_of (query question) = Some (query_read (Dirichlet question.mu) (shown_for question) (query_text question.text))
-command_of (explain rank question) = Some (query_read (Dirichlet question.mu) (explanation rank) (query_text question.text))
-command_of create = None
-command_of add = None
-command_of delete = None
-command_of (prior name) = None
+-- a text is read as this query, which has no fault where the priors have these names
+pub record IsQuery (names : List (List ℕ)) (text : List ℕ) (q : CheckedTree) : Type 0 where
+  pub tree : QueryTree
+  pub read_as : query_text text ≡ Ok tree
+  pub checked : checks tree names ≡ Ok q
 
--- what the words ask for: nothing, where they are no command; a command; or the refusal of its text
-abbrev pub asked : List (List ℕ) → Option (Result Command QueryRefusal)
-asked words = option_and_then command_of (asks_of words)
+-- ---- pieces
 
--- P holds of the command, where the words ask for one
-abbrev pub IfAsksFor : Option (Result Command QueryRefusal) → (Command → Type 0) → Type 0
-IfAsksFor None P = Unit {0}
-IfAsksFor (Some (Ok command)) P = P command
-IfAsksFor (Some (Err why)) P = Unit {0}
+-- the collection behind the documents that are added
+abbrev pub collection_in : Collection → Work → Collection
+collection_in c (scanning x) = c
+collection_in c (adding told limits d) = d
 
--- P holds of the refusal, where the text of the command is refused
-abbrev pub IfRefused : Option (Result Command QueryRefusal) → (QueryRefusal → Type 0) → Type 0
-IfRefused None P = Unit {0}
-IfRefused (Some (Ok command)) P = Unit {0}
-IfRefused (Some (Err why)) P = P why
+-- all that `add` does with an input, within limits
+abbrev pub add_pieces : Option Files → Limits → Collection → List ℕ → List (Piece Collection)
+add_pieces told limits c bytes = then_flushed (input_pieces (adding told limits c) (read bytes)) (collection_in c (behind_all (adding told limits c) (read bytes).0))
+
+-- the one piece of an answer; none is the refusal of a rank above the number of results
+abbrev pub answer_piece : Option (List ℕ) → Plain
+answer_piece None = refusal_piece (refusal.NoSuchRank (codes "q"))
+answer_piece (Some text) = told_piece text
+
+-- These are all pieces of a query: its answer over the live documents.
+abbrev pub AreAnswer : Collection → Question → Shown → List (Piece Collection) → Type 0
+AreAnswer c question shown pieces =
+    (q : CheckedTree) × IsQuery (names_with c.priors) question.text q × ((answer : Option (List ℕ))
+    × IsAnswerText (Dirichlet question.mu) (priors_with c.priors) (names_with c.priors) shown q c.live answer × (pieces ≡ unflushed (answer_piece answer ∷ [])))
+
+-- These are all pieces of a command on a collection, for which the files stand, with this input. There is none of `create`, which
+-- isn't done where there is a manifest.
+abbrev pub ArePieces : Option Files → Asks → Collection → List ℕ → List (Piece Collection) → Type 0
+ArePieces told (scan text) c bytes pieces = (x : ExprTree) × (expr_text text ≡ Ok x) × (pieces ≡ unflushed (input_pieces (scanning x) (read bytes)))
+ArePieces told create c bytes pieces = ⊥
+ArePieces told add c bytes pieces = (limits : Limits) × AreReal limits × (pieces ≡ add_pieces told limits c bytes)
+ArePieces told delete c bytes pieces = pieces ≡ delete_pieces c bytes
+ArePieces told (prior name) c bytes pieces = ArePriorPieces (name_refusal c name) c name bytes pieces
+ArePieces told (query question) c bytes pieces = AreAnswer c question (shown_for question) pieces
+ArePieces told (explain rank question) c bytes pieces = AreAnswer c question (explanation rank) pieces
+
+-- These are they, or none where they can't be told yet.
+abbrev pub AreBegun : Option Files → Asks → Collection → List ℕ → List (Piece Collection) → Type 0
+AreBegun told asks c bytes pieces = (pieces ≡ []) ⊎ ArePieces told asks c bytes pieces
+
+-- These are they of a command that is broken off. Where the sink failed they can be told.
+abbrev pub AreBegunBy : CommandFault → Option Files → Asks → Collection → List ℕ → List (Piece Collection) → Type 0
+AreBegunBy fault.Write told asks c bytes pieces = ArePieces told asks c bytes pieces
+AreBegunBy why told asks c bytes pieces = AreBegun told asks c bytes pieces
+
+-- ---- which commands look at a manifest
+
+-- the command works on a repository that is there
+abbrev pub NeedsRepository : Asks → Type 0
+NeedsRepository (scan text) = ⊥
+NeedsRepository create = ⊥
+NeedsRepository add = Unit {0}
+NeedsRepository delete = Unit {0}
+NeedsRepository (prior name) = Unit {0}
+NeedsRepository (query question) = Unit {0}
+NeedsRepository (explain rank question) = Unit {0}
+
+-- it reads the files of the priors
+abbrev pub ReadsPriors : Asks → Type 0
+ReadsPriors (scan text) = ⊥
+ReadsPriors create = ⊥
+ReadsPriors add = ⊥
+ReadsPriors delete = ⊥
+ReadsPriors (prior name) = ⊥
+ReadsPriors (query question) = Unit {0}
+ReadsPriors (explain rank question) = Unit {0}
 
 -- what is written where the words are no command
 unfoldable pub usage_line : List ℕ
 usage_line = codes "usage: indri DIR scan|create|add|delete|merge|prior|query|explain|session|gen\n"
+
+-- a question with this text and this mu, of whose ranking this is shown
+abbrev pub IsAskedBy : Asks → List ℕ → ℕ → Shown → Type 0
+IsAskedBy (scan t) text mu shown = ⊥
+IsAskedBy create text mu shown = ⊥
+IsAskedBy add text mu shown = ⊥
+IsAskedBy delete text mu shown = ⊥
+IsAskedBy (prior name) text mu shown = ⊥
+IsAskedBy (query question) text mu shown = (question.text ≡ text) × (question.mu ≡ mu) × (shown_for question ≡ shown)
+IsAskedBy (explain rank question) text mu shown = (question.text ≡ text) × (question.mu ≡ mu) × (explanation rank ≡ shown)

@@ -1,8 +1,9 @@
-pub mod Answer
+pub mod Asked
+pub mod Changes
 pub mod Command
-pub mod CommandPieces
-pub mod Priors
+pub mod HasRun
+pub mod LastLines
+pub mod Opened
 pub mod Runs
-pub mod Shown
 pub mod Status
-pub mod Told
+pub mod Texts

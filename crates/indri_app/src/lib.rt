@@ -1,16 +1,15 @@
-//! The commands of the program, over any source and any sink.
+//! The commands of the program, over any source, any sink and any store.
 #![tactic(auto)]
 
-mod answer;
-mod command;
-mod explained;
-mod priors;
+mod addition;
+mod changing;
+mod ending;
+mod opening;
 mod program;
-mod ranked;
-mod results;
-mod shown;
+mod question;
+mod scan;
 mod status;
+mod texts;
 
-pub use priors::length_plug;
 pub use program::run;
 pub use status::Status;

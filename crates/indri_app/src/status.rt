@@ -17,6 +17,14 @@ pub enum Status {
     ReadFault,
     /// The sink failed (5).
     WriteFault,
+    /// The store failed (6).
+    StoreFault,
+    /// A file of the repository isn't what it must be, or isn't there (7).
+    Malformed,
+    /// There is no repository (8).
+    NoRepository,
+    /// There is a repository already (8).
+    Exists,
     /// There was no memory (9).
     Memory,
 }
@@ -33,6 +41,9 @@ impl Status {
             Status::SomeRefused => 3,
             Status::ReadFault => 4,
             Status::WriteFault => 5,
+            Status::StoreFault => 6,
+            Status::Malformed => 7,
+            Status::NoRepository | Status::Exists => 8,
             Status::Memory => 9,
         }
     }

@@ -1,6 +1,6 @@
 // Words of the command line, and what they ask for.
-use command_words::read_words;
-use ri_base::ArgList;
+use command_words::{Words, read_words};
+use ri_base::{ArgList, Name, NoMemory};
 use std::alloc::Global;
 use std::test::Fail;
 
@@ -206,15 +206,30 @@ static REFUSED: [&str; 92] = [
     "explain|--help",
 ];
 
-/// What these words behind a folder ask for.
-fn asked(alloc: Global, line: &str) -> Result<String, Fail> {
+/// The words behind a folder.
+fn words_of(alloc: Global, line: &str) -> Result<ArgList, NoMemory> {
     let mut words = ArgList::new(alloc);
     words.push(".")?;
     for word in line.split('|') {
         words.push(word)?;
     }
+    Ok(words)
+}
+
+/// What these words behind a folder ask for.
+fn asked(alloc: Global, line: &str) -> Result<String, Fail> {
+    let words = words_of(alloc, line)?;
     let found = read_words(alloc, &words)?;
     Ok(format!(in alloc; "{:?}", found)?)
+}
+
+/// The name of the prior that these words ask for.
+fn prior_named(alloc: Global, line: &str) -> Result<Option<Name>, NoMemory> {
+    let words = words_of(alloc, line)?;
+    match read_words(alloc, &words)? {
+        Some(Words::Prior(name)) => Ok(Some(name)),
+        _ => Ok(None),
+    }
 }
 
 #[test]
@@ -222,6 +237,15 @@ fn what_words_ask_for(rt: HostRuntime) -> Result<(), Fail> {
     for (line, wanted) in &ASKED {
         let found = asked(rt.alloc(), line)?;
         assert_eq!(rt; found.as_str(), *wanted);
+    }
+    Ok(())
+}
+
+#[test]
+fn priors_by_their_names(rt: HostRuntime) -> Result<(), Fail> {
+    for line in &["prior|home", "prior|HoMe", "prior|--|home"] {
+        let name = prior_named(rt.alloc(), line)?.ok_or("no prior")?;
+        assert_eq!(rt; name.as_bytes(), b"home");
     }
     Ok(())
 }

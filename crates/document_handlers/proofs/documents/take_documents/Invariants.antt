@@ -4,17 +4,17 @@ use Rattle.read_ahead.specs.Ahead.{most_of}
 use Rattle.trec_reader.specs.declared.document.RawDoc.{RawDoc}
 use Rattle.command_pieces.specs.Pieces.{some_refused}
 use Rattle.command_pieces.specs.Written.{AllWritten}
-use Rattle.document_handlers.specs.Work.{behind_all, document_pieces}
+use Rattle.document_handlers.specs.Work.{Work, behind_all, document_pieces}
 use Rattle.document_handlers.proofs.Following.{AreFollowed}
 use Rattle.document_handlers.proofs.documents.take_documents.Given as goal
 
 abbrev pub invariant-documents : goal.invariant-documents
 invariant-documents g l = (done : List RawDoc) × record {
   followed : AreFollowed done l.reader.ahead.offset (prepend_known l.reader.ahead.bytes (g.S.Source.left l.source)) (g.S.Source.left l.fn.source);
-  work : g.H.Handler.work l.handler ≡ behind_all (g.H.Handler.work l.fn.handler) done;
+  work : (w : Work) → g.H.Handler.does l.fn.handler w → g.H.Handler.does l.handler (behind_all w done);
   whole : g.H.Handler.is_whole l.handler;
-  refused : l.some_refused ≡ some_refused (document_pieces (g.H.Handler.work l.fn.handler) done);
-  finished : AllWritten (document_pieces (g.H.Handler.work l.fn.handler) done) (g.K.Sink.taken l.fn.sink) (g.K.Sink.taken l.sink);
+  refused : (w : Work) → g.H.Handler.does l.fn.handler w → l.some_refused ≡ some_refused (document_pieces w done);
+  finished : (w : Work) → g.H.Handler.does l.fn.handler w → AllWritten (document_pieces w done) (g.K.Sink.taken l.fn.sink) (g.K.Sink.taken l.sink);
   begun : l.reader.is_ended ≡ false;
   fits : most_of l.reader.ahead (g.S.Source.can_give l.source) < 2 ^ 64;
   layers : g.S.Source.layers l.source ≡ g.S.Source.layers l.fn.source;

@@ -1,7 +1,21 @@
-use Rattle.std.proofs.Common.{refl}
-use Rattle.indri_app.specs.Command.{asked}
-use Rattle.indri_app.proofs.Ending.{nothing_begun}
+use Rattle.std.proofs.Common.{◌≡◌, None, Some, inr, refl, sym, ◌∙◌}
+use Rattle.command_words.specs.Asked.{told_words}
+use Rattle.command_words.specs.Table.{Asks}
+use Rattle.disk_index.specs.QuietLaws.{IsQuiet-same}
+use Rattle.indri_app.proofs.RunsOver.{memory-some}
 use Rattle.indri_app.proofs.program.run.Goals as goal
 
-pub returns-in-Err-Memory-clause-runs : goal.returns-in-Err-Memory-clause-runs
-returns-in-Err-Memory-clause-runs g c = nothing_begun (asked c.args.words.now) _ _ _ refl
+pub returns-in-Ok-Some-clause-has_run : goal.returns-in-Ok-Some-clause-has_run
+returns-in-Ok-Some-clause-has_run g c = rw (sym c.in-Ok-Some.ensures.words) c.run_words.ensures.has_run
+
+pub returns-in-Ok-None-clause-has_run : goal.returns-in-Ok-None-clause-has_run
+returns-in-Ok-None-clause-has_run g c = rw (sym c.in-Ok-None.ensures.words) tt
+
+pub returns-in-Err-clause-has_run : goal.returns-in-Err-clause-has_run
+returns-in-Err-clause-has_run g c = memory-some _ _ _ _ _ _ _
+
+pub returns-in-Ok-Some-clause-usage : goal.returns-in-Ok-Some-clause-usage
+returns-in-Ok-Some-clause-usage g c = λ is. absurd (c.run_words.ensures.has_run.command is)
+
+pub returns-in-Ok-Some-clause-no_command : goal.returns-in-Ok-Some-clause-no_command
+returns-in-Ok-Some-clause-no_command g c = λ none. let some = c.in-Ok-Some.ensures.words in absurd cc

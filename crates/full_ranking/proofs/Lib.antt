@@ -1,4 +1,0 @@
-pub mod CountLemmas
-pub mod RankingLemmas
-pub mod SkippingLemmas
-pub mod SumLemmas

@@ -1,0 +1,338 @@
+-- How a run ends, by what its command answers.
+use Rattle.std.proofs.Common.{◌≡◌, ◌≤◌, ◌⊎◌, inl, inr, ℕ, Bool, List, Option, None, Some, Result, Ok, Err, true, false, refl, sym, ap, subst, ◌∙◌, arith, take}
+use Rattle.std.specs.Prelude.{IfErr, IfOk, OnOk, IsTrue, is_some}
+use Rattle.ri_ends.specs.Causes.{Rose}
+use Rattle.store_ends.specs.Files.{Files}
+use Rattle.command_pieces.specs.CommandFaults.{IsDamage}
+use Rattle.command_pieces.specs.Lines.{WritesLine}
+use Rattle.command_pieces.specs.Pieces.{Writes}
+use Rattle.command_pieces.specs.declared.command_fault.CommandFault.{CommandFault}
+use Rattle.command_pieces.specs.declared.command_fault.CommandFault.TheVariants as fault
+use Rattle.repository.specs.Names.{manifest_name}
+use Rattle.indri_app.specs.Changes.{IsFoundFirst, IsOverFault}
+use Rattle.indri_app.specs.LastLines.{IsClosed, absent_line, exists_line, malformed_line, missing_line, status_of}
+use Rattle.indri_app.specs.Opened.{IsAbsentFault}
+use Rattle.indri_app.specs.Runs.{HasDone, IsAbsentStatus, IsEnded, IsUntouched, TellsDamage}
+use Rattle.indri_app.specs.declared.status.Status.{Status}
+use Rattle.indri_app.specs.declared.status.Status.TheVariants as status
+
+-- ---- the count of an end rose, and it never falls
+
+pub rose-later : (a b z : ℕ) → Rose a b → b ≤ z → Rose a z
+rose-later a b z r h = omega (arith, r, h)
+
+pub rose-earlier : (a b z : ℕ) → a ≤ b → Rose b z → Rose a z
+rose-earlier a b z h r = omega (arith, h, r)
+
+-- the line is the first that is written
+pub line-first : (line : List ℕ) (start mid now : Option (List ℕ)) (a b z : ℕ) → mid ≡ start → a ≤ b → WritesLine mid now line b z → WritesLine start now line a z
+line-first line start mid now a b z e h l = record {
+  front = l.front;
+  written = subst (λ t. Writes t now (take l.front line)) e l.written;
+  whole = λ short. rose-earlier a b z h (l.whole short);
+}
+
+-- ---- why a command is broken off, and the status of its run
+
+pub closed-status : (why : CommandFault) (s : Status) (mid now : Option (List ℕ)) (b z : ℕ) → IsClosed why s mid now b z → (s ≡ status_of why) ⊎ (s ≡ status.Memory)
+closed-status fault.Read s mid now b z ends = elim ends [ inl h ↦ inl h.0 | inr h ↦ inr h.0 ]
+closed-status fault.Write s mid now b z ends = inl ends.0
+closed-status fault.Store s mid now b z ends = elim ends [ inl h ↦ inl h.0 | inr h ↦ inr h.0 ]
+closed-status (fault.Malformed f p place) s mid now b z ends = elim ends [ inl h ↦ inl h.0 | inr h ↦ inr h.0 ]
+closed-status (fault.Missing f) s mid now b z ends = elim ends [ inl h ↦ inl h.0 | inr h ↦ inr h.0 ]
+closed-status fault.NoRepository s mid now b z ends = elim ends [ inl h ↦ inl h.0 | inr h ↦ inr h.0 ]
+closed-status fault.Exists s mid now b z ends = elim ends [ inl h ↦ inl h.0 | inr h ↦ inr h.0 ]
+closed-status fault.Memory s mid now b z ends = inl ends.0
+
+read-of : (why : CommandFault) → status.ReadFault ≡ status_of why → why ≡ fault.Read
+read-of fault.Read e = refl
+read-of fault.Write e = absurd cc
+read-of fault.Store e = absurd cc
+read-of (fault.Malformed f p place) e = absurd cc
+read-of (fault.Missing f) e = absurd cc
+read-of fault.NoRepository e = absurd cc
+read-of fault.Exists e = absurd cc
+read-of fault.Memory e = absurd cc
+
+pub read-closed : (why : CommandFault) (s : Status) (mid now : Option (List ℕ)) (b z : ℕ) → IsClosed why s mid now b z → s ≡ status.ReadFault → why ≡ fault.Read
+read-closed why s mid now b z ends e = elim (closed-status why s mid now b z ends) [ inl w ↦ read-of why (sym e ∙ w) | inr m ↦ absurd cc ]
+
+pub read-ended : (answer : Result Bool CommandFault) (s : Status) (mid now : Option (List ℕ)) (b z : ℕ) → IsEnded answer s mid now b z → s ≡ status.ReadFault → answer ≡ Err fault.Read
+read-ended (Ok false) s mid now b z (w, same) e = absurd cc
+read-ended (Ok true) s mid now b z (w, same) e = absurd cc
+read-ended (Err why) s mid now b z ends e = ap Err (read-closed why s mid now b z ends e)
+
+write-of : (why : CommandFault) → status.WriteFault ≡ status_of why → why ≡ fault.Write
+write-of fault.Read e = absurd cc
+write-of fault.Write e = refl
+write-of fault.Store e = absurd cc
+write-of (fault.Malformed f p place) e = absurd cc
+write-of (fault.Missing f) e = absurd cc
+write-of fault.NoRepository e = absurd cc
+write-of fault.Exists e = absurd cc
+write-of fault.Memory e = absurd cc
+
+pub write-closed : (why : CommandFault) (s : Status) (mid now : Option (List ℕ)) (b z : ℕ) → IsClosed why s mid now b z → s ≡ status.WriteFault → why ≡ fault.Write
+write-closed why s mid now b z ends e = elim (closed-status why s mid now b z ends) [ inl w ↦ write-of why (sym e ∙ w) | inr m ↦ absurd cc ]
+
+pub write-ended : (answer : Result Bool CommandFault) (s : Status) (mid now : Option (List ℕ)) (b z : ℕ) → IsEnded answer s mid now b z → s ≡ status.WriteFault → answer ≡ Err fault.Write
+write-ended (Ok false) s mid now b z (w, same) e = absurd cc
+write-ended (Ok true) s mid now b z (w, same) e = absurd cc
+write-ended (Err why) s mid now b z ends e = ap Err (write-closed why s mid now b z ends e)
+
+store-of : (why : CommandFault) → status.StoreFault ≡ status_of why → why ≡ fault.Store
+store-of fault.Read e = absurd cc
+store-of fault.Write e = absurd cc
+store-of fault.Store e = refl
+store-of (fault.Malformed f p place) e = absurd cc
+store-of (fault.Missing f) e = absurd cc
+store-of fault.NoRepository e = absurd cc
+store-of fault.Exists e = absurd cc
+store-of fault.Memory e = absurd cc
+
+pub store-closed : (why : CommandFault) (s : Status) (mid now : Option (List ℕ)) (b z : ℕ) → IsClosed why s mid now b z → s ≡ status.StoreFault → why ≡ fault.Store
+store-closed why s mid now b z ends e = elim (closed-status why s mid now b z ends) [ inl w ↦ store-of why (sym e ∙ w) | inr m ↦ absurd cc ]
+
+pub store-ended : (answer : Result Bool CommandFault) (s : Status) (mid now : Option (List ℕ)) (b z : ℕ) → IsEnded answer s mid now b z → s ≡ status.StoreFault → answer ≡ Err fault.Store
+store-ended (Ok false) s mid now b z (w, same) e = absurd cc
+store-ended (Ok true) s mid now b z (w, same) e = absurd cc
+store-ended (Err why) s mid now b z ends e = ap Err (store-closed why s mid now b z ends e)
+
+absent-of : (why : CommandFault) → status.NoRepository ≡ status_of why → why ≡ fault.NoRepository
+absent-of fault.Read e = absurd cc
+absent-of fault.Write e = absurd cc
+absent-of fault.Store e = absurd cc
+absent-of (fault.Malformed f p place) e = absurd cc
+absent-of (fault.Missing f) e = absurd cc
+absent-of fault.NoRepository e = refl
+absent-of fault.Exists e = absurd cc
+absent-of fault.Memory e = absurd cc
+
+pub absent-closed : (why : CommandFault) (s : Status) (mid now : Option (List ℕ)) (b z : ℕ) → IsClosed why s mid now b z → s ≡ status.NoRepository → why ≡ fault.NoRepository
+absent-closed why s mid now b z ends e = elim (closed-status why s mid now b z ends) [ inl w ↦ absent-of why (sym e ∙ w) | inr m ↦ absurd cc ]
+
+pub absent-ended : (answer : Result Bool CommandFault) (s : Status) (mid now : Option (List ℕ)) (b z : ℕ) → IsEnded answer s mid now b z → s ≡ status.NoRepository → answer ≡ Err fault.NoRepository
+absent-ended (Ok false) s mid now b z (w, same) e = absurd cc
+absent-ended (Ok true) s mid now b z (w, same) e = absurd cc
+absent-ended (Err why) s mid now b z ends e = ap Err (absent-closed why s mid now b z ends e)
+
+exists-of : (why : CommandFault) → status.Exists ≡ status_of why → why ≡ fault.Exists
+exists-of fault.Read e = absurd cc
+exists-of fault.Write e = absurd cc
+exists-of fault.Store e = absurd cc
+exists-of (fault.Malformed f p place) e = absurd cc
+exists-of (fault.Missing f) e = absurd cc
+exists-of fault.NoRepository e = absurd cc
+exists-of fault.Exists e = refl
+exists-of fault.Memory e = absurd cc
+
+pub exists-closed : (why : CommandFault) (s : Status) (mid now : Option (List ℕ)) (b z : ℕ) → IsClosed why s mid now b z → s ≡ status.Exists → why ≡ fault.Exists
+exists-closed why s mid now b z ends e = elim (closed-status why s mid now b z ends) [ inl w ↦ exists-of why (sym e ∙ w) | inr m ↦ absurd cc ]
+
+pub exists-ended : (answer : Result Bool CommandFault) (s : Status) (mid now : Option (List ℕ)) (b z : ℕ) → IsEnded answer s mid now b z → s ≡ status.Exists → answer ≡ Err fault.Exists
+exists-ended (Ok false) s mid now b z (w, same) e = absurd cc
+exists-ended (Ok true) s mid now b z (w, same) e = absurd cc
+exists-ended (Err why) s mid now b z ends e = ap Err (exists-closed why s mid now b z ends e)
+
+usage-never : (why : CommandFault) → status.Usage ≡ status_of why → ⊥
+usage-never fault.Read e = absurd cc
+usage-never fault.Write e = absurd cc
+usage-never fault.Store e = absurd cc
+usage-never (fault.Malformed f p place) e = absurd cc
+usage-never (fault.Missing f) e = absurd cc
+usage-never fault.NoRepository e = absurd cc
+usage-never fault.Exists e = absurd cc
+usage-never fault.Memory e = absurd cc
+
+pub usage-not_closed : (why : CommandFault) (s : Status) (mid now : Option (List ℕ)) (b z : ℕ) → IsClosed why s mid now b z → s ≡ status.Usage → ⊥
+usage-not_closed why s mid now b z ends e = elim (closed-status why s mid now b z ends) [ inl w ↦ usage-never why (sym e ∙ w) | inr m ↦ absurd cc ]
+
+refused-never : (why : CommandFault) → status.QueryRefused ≡ status_of why → ⊥
+refused-never fault.Read e = absurd cc
+refused-never fault.Write e = absurd cc
+refused-never fault.Store e = absurd cc
+refused-never (fault.Malformed f p place) e = absurd cc
+refused-never (fault.Missing f) e = absurd cc
+refused-never fault.NoRepository e = absurd cc
+refused-never fault.Exists e = absurd cc
+refused-never fault.Memory e = absurd cc
+
+pub refused-not_closed : (why : CommandFault) (s : Status) (mid now : Option (List ℕ)) (b z : ℕ) → IsClosed why s mid now b z → s ≡ status.QueryRefused → ⊥
+refused-not_closed why s mid now b z ends e = elim (closed-status why s mid now b z ends) [ inl w ↦ refused-never why (sym e ∙ w) | inr m ↦ absurd cc ]
+
+done-never : (why : CommandFault) → status.Done ≡ status_of why → ⊥
+done-never fault.Read e = absurd cc
+done-never fault.Write e = absurd cc
+done-never fault.Store e = absurd cc
+done-never (fault.Malformed f p place) e = absurd cc
+done-never (fault.Missing f) e = absurd cc
+done-never fault.NoRepository e = absurd cc
+done-never fault.Exists e = absurd cc
+done-never fault.Memory e = absurd cc
+
+pub done-not_closed : (why : CommandFault) (s : Status) (mid now : Option (List ℕ)) (b z : ℕ) → IsClosed why s mid now b z → s ≡ status.Done → ⊥
+done-not_closed why s mid now b z ends e = elim (closed-status why s mid now b z ends) [ inl w ↦ done-never why (sym e ∙ w) | inr m ↦ absurd cc ]
+
+some-never : (why : CommandFault) → status.SomeRefused ≡ status_of why → ⊥
+some-never fault.Read e = absurd cc
+some-never fault.Write e = absurd cc
+some-never fault.Store e = absurd cc
+some-never (fault.Malformed f p place) e = absurd cc
+some-never (fault.Missing f) e = absurd cc
+some-never fault.NoRepository e = absurd cc
+some-never fault.Exists e = absurd cc
+some-never fault.Memory e = absurd cc
+
+pub some-not_closed : (why : CommandFault) (s : Status) (mid now : Option (List ℕ)) (b z : ℕ) → IsClosed why s mid now b z → s ≡ status.SomeRefused → ⊥
+some-not_closed why s mid now b z ends e = elim (closed-status why s mid now b z ends) [ inl w ↦ some-never why (sym e ∙ w) | inr m ↦ absurd cc ]
+
+pub usage-not_ended : (answer : Result Bool CommandFault) (s : Status) (mid now : Option (List ℕ)) (b z : ℕ) → IsEnded answer s mid now b z → s ≡ status.Usage → ⊥
+usage-not_ended (Ok false) s mid now b z (w, same) e = absurd cc
+usage-not_ended (Ok true) s mid now b z (w, same) e = absurd cc
+usage-not_ended (Err why) s mid now b z ends e = usage-not_closed why s mid now b z ends e
+
+pub refused-not_ended : (answer : Result Bool CommandFault) (s : Status) (mid now : Option (List ℕ)) (b z : ℕ) → IsEnded answer s mid now b z → s ≡ status.QueryRefused → ⊥
+refused-not_ended (Ok false) s mid now b z (w, same) e = absurd cc
+refused-not_ended (Ok true) s mid now b z (w, same) e = absurd cc
+refused-not_ended (Err why) s mid now b z ends e = refused-not_closed why s mid now b z ends e
+
+pub done-not_closed-any : (why : CommandFault) (s : Status) (mid now : Option (List ℕ)) (b z : ℕ) → IsClosed why s mid now b z → HasDone s → ⊥
+done-not_closed-any why s mid now b z ends has = elim has [
+  | inl e ↦ done-not_closed why s mid now b z ends e
+  | inr other ↦ elim other [ inl e ↦ some-not_closed why s mid now b z ends e | inr e ↦ refused-not_closed why s mid now b z ends e ]
+]
+
+-- what holds where the command answered that it was done
+pub done-ended : (P : Type 0) (answer : Result Bool CommandFault) (s : Status) (mid now : Option (List ℕ)) (b z : ℕ) → OnOk answer P → IsEnded answer s mid now b z → HasDone s → P
+done-ended P (Ok refused) s mid now b z p ends has = p
+done-ended P (Err why) s mid now b z p ends has = absurd (done-not_closed-any why s mid now b z ends has)
+
+-- ---- damage
+
+malformed-of : (why : CommandFault) → status.Malformed ≡ status_of why → IsDamage why
+malformed-of fault.Read e = absurd cc
+malformed-of fault.Write e = absurd cc
+malformed-of fault.Store e = absurd cc
+malformed-of (fault.Malformed f p place) e = tt
+malformed-of (fault.Missing f) e = tt
+malformed-of fault.NoRepository e = absurd cc
+malformed-of fault.Exists e = absurd cc
+malformed-of fault.Memory e = absurd cc
+
+pub malformed-closed : (why : CommandFault) (s : Status) (mid now : Option (List ℕ)) (b z : ℕ) → IsClosed why s mid now b z → s ≡ status.Malformed → IsDamage why
+malformed-closed why s mid now b z ends e = elim (closed-status why s mid now b z ends) [ inl w ↦ malformed-of why (sym e ∙ w) | inr m ↦ absurd cc ]
+
+pub damage-closed : (why : CommandFault) (s : Status) (mid now : Option (List ℕ)) (b z : ℕ) → IsClosed why s mid now b z → s ≡ status.Malformed → TellsDamage mid now b z
+damage-closed fault.Read s mid now b z ends e = absurd (malformed-closed fault.Read s mid now b z ends e)
+damage-closed fault.Write s mid now b z ends e = absurd (malformed-closed fault.Write s mid now b z ends e)
+damage-closed fault.Store s mid now b z ends e = absurd (malformed-closed fault.Store s mid now b z ends e)
+damage-closed (fault.Malformed f p place) s mid now b z ends e = elim ends [ inl (w, l) ↦ (fault.Malformed f p place, tt, (malformed_line f p place, refl, l)) | inr (w, same) ↦ absurd cc ]
+damage-closed (fault.Missing f) s mid now b z ends e = elim ends [ inl (w, l) ↦ (fault.Missing f, tt, (missing_line f, refl, l)) | inr (w, same) ↦ absurd cc ]
+damage-closed fault.NoRepository s mid now b z ends e = absurd (malformed-closed fault.NoRepository s mid now b z ends e)
+damage-closed fault.Exists s mid now b z ends e = absurd (malformed-closed fault.Exists s mid now b z ends e)
+damage-closed fault.Memory s mid now b z ends e = absurd (malformed-closed fault.Memory s mid now b z ends e)
+
+pub damage-first : (start mid now : Option (List ℕ)) (a b z : ℕ) → mid ≡ start → a ≤ b → TellsDamage mid now b z → TellsDamage start now a z
+damage-first start mid now a b z e h (why, damage, (line, is, l)) = (why, damage, (line, is, line-first line start mid now a b z e h l))
+
+-- the fault is one that is found first
+first-damage : (why : CommandFault) → IsDamage why → IsFoundFirst why
+first-damage fault.Read d = absurd d
+first-damage fault.Write d = absurd d
+first-damage fault.Store d = absurd d
+first-damage (fault.Malformed f p place) d = tt
+first-damage (fault.Missing f) d = tt
+first-damage fault.NoRepository d = absurd d
+first-damage fault.Exists d = absurd d
+first-damage fault.Memory d = absurd d
+
+pub first-ended : (Q : Type 0) (answer : Result Bool CommandFault) (s : Status) (mid now : Option (List ℕ)) (b z : ℕ) → IfErr answer (λ why. IsFoundFirst why → Q) → IsEnded answer s mid now b z → s ≡ status.Malformed → Q
+first-ended Q (Ok false) s mid now b z q (w, same) e = absurd cc
+first-ended Q (Ok true) s mid now b z q (w, same) e = absurd cc
+first-ended Q (Err why) s mid now b z q ends e = q (first-damage why (malformed-closed why s mid now b z ends e))
+
+pub damage-ended : (answer : Result Bool CommandFault) (s : Status) (mid now : Option (List ℕ)) (b z : ℕ) → IsEnded answer s mid now b z → s ≡ status.Malformed → TellsDamage mid now b z
+damage-ended (Ok false) s mid now b z (w, same) e = absurd cc
+damage-ended (Ok true) s mid now b z (w, same) e = absurd cc
+damage-ended (Err why) s mid now b z ends e = damage-closed why s mid now b z ends e
+
+-- ---- the manifest
+
+damage-not_absent : (why : CommandFault) → IsDamage why → IsAbsentFault why → ⊥
+damage-not_absent fault.Read d absent = d
+damage-not_absent fault.Write d absent = d
+damage-not_absent fault.Store d absent = d
+damage-not_absent (fault.Malformed f p place) d absent = absent
+damage-not_absent (fault.Missing f) d absent = absent
+damage-not_absent fault.NoRepository d absent = d
+damage-not_absent fault.Exists d absent = d
+damage-not_absent fault.Memory d absent = d
+
+-- damage is told only where there is a manifest
+pub there-ended : (found : Option (List ℕ)) (answer : Result Bool CommandFault) (s : Status) (mid now : Option (List ℕ)) (b z : ℕ) → (found ≡ None → OnOk answer ⊥ × IfErr answer IsAbsentFault) → IsEnded answer s mid now b z → s ≡ status.Malformed
+    → IsTrue (is_some found)
+there-ended (Some bytes) answer s mid now b z without ends e = refl
+there-ended None (Ok false) s mid now b z without (w, same) e = absurd cc
+there-ended None (Ok true) s mid now b z without (w, same) e = absurd cc
+there-ended None (Err why) s mid now b z without ends e = absurd (damage-not_absent why (malformed-closed why s mid now b z ends e) (without refl).1)
+
+pub absent-closed-status : (why : CommandFault) (s : Status) (mid now : Option (List ℕ)) (b z : ℕ) → IsAbsentFault why → IsClosed why s mid now b z → IsAbsentStatus s
+absent-closed-status fault.Read s mid now b z absent ends = absurd absent
+absent-closed-status fault.Write s mid now b z absent ends = absurd absent
+absent-closed-status fault.Store s mid now b z absent ends = elim ends [ inl h ↦ inr (inl h.0) | inr h ↦ inr (inr h.0) ]
+absent-closed-status (fault.Malformed f p place) s mid now b z absent ends = absurd absent
+absent-closed-status (fault.Missing f) s mid now b z absent ends = absurd absent
+absent-closed-status fault.NoRepository s mid now b z absent ends = elim ends [ inl h ↦ inl h.0 | inr h ↦ inr (inr h.0) ]
+absent-closed-status fault.Exists s mid now b z absent ends = absurd absent
+absent-closed-status fault.Memory s mid now b z absent ends = inr (inr ends.0)
+
+-- how it ends where there is none
+pub without-ended : (answer : Result Bool CommandFault) (s : Status) (mid now : Option (List ℕ)) (b z : ℕ) → OnOk answer ⊥ × IfErr answer IsAbsentFault → IsEnded answer s mid now b z → IsAbsentStatus s
+without-ended (Ok refused) s mid now b z without ends = absurd without.0
+without-ended (Err why) s mid now b z without ends = absent-closed-status why s mid now b z without.1 ends
+
+pub absent-line-closed : (why : CommandFault) (s : Status) (mid now : Option (List ℕ)) (b z : ℕ) → IsClosed why s mid now b z → s ≡ status.NoRepository → WritesLine mid now absent_line b z
+absent-line-closed fault.Read s mid now b z ends e = let w = absent-closed fault.Read s mid now b z ends e in absurd cc
+absent-line-closed fault.Write s mid now b z ends e = let w = absent-closed fault.Write s mid now b z ends e in absurd cc
+absent-line-closed fault.Store s mid now b z ends e = let w = absent-closed fault.Store s mid now b z ends e in absurd cc
+absent-line-closed (fault.Malformed f p place) s mid now b z ends e = let w = absent-closed (fault.Malformed f p place) s mid now b z ends e in absurd cc
+absent-line-closed (fault.Missing f) s mid now b z ends e = let w = absent-closed (fault.Missing f) s mid now b z ends e in absurd cc
+absent-line-closed fault.NoRepository s mid now b z ends e = elim ends [ inl (w, l) ↦ l | inr (w, same) ↦ absurd cc ]
+absent-line-closed fault.Exists s mid now b z ends e = let w = absent-closed fault.Exists s mid now b z ends e in absurd cc
+absent-line-closed fault.Memory s mid now b z ends e = let w = absent-closed fault.Memory s mid now b z ends e in absurd cc
+
+pub absent-line-ended : (answer : Result Bool CommandFault) (s : Status) (mid now : Option (List ℕ)) (b z : ℕ) → IsEnded answer s mid now b z → s ≡ status.NoRepository → WritesLine mid now absent_line b z
+absent-line-ended (Ok false) s mid now b z (w, same) e = absurd cc
+absent-line-ended (Ok true) s mid now b z (w, same) e = absurd cc
+absent-line-ended (Err why) s mid now b z ends e = absent-line-closed why s mid now b z ends e
+
+pub exists-line-closed : (why : CommandFault) (s : Status) (mid now : Option (List ℕ)) (b z : ℕ) → IsClosed why s mid now b z → s ≡ status.Exists → WritesLine mid now exists_line b z
+exists-line-closed fault.Read s mid now b z ends e = let w = exists-closed fault.Read s mid now b z ends e in absurd cc
+exists-line-closed fault.Write s mid now b z ends e = let w = exists-closed fault.Write s mid now b z ends e in absurd cc
+exists-line-closed fault.Store s mid now b z ends e = let w = exists-closed fault.Store s mid now b z ends e in absurd cc
+exists-line-closed (fault.Malformed f p place) s mid now b z ends e = let w = exists-closed (fault.Malformed f p place) s mid now b z ends e in absurd cc
+exists-line-closed (fault.Missing f) s mid now b z ends e = let w = exists-closed (fault.Missing f) s mid now b z ends e in absurd cc
+exists-line-closed fault.NoRepository s mid now b z ends e = let w = exists-closed fault.NoRepository s mid now b z ends e in absurd cc
+exists-line-closed fault.Exists s mid now b z ends e = elim ends [ inl (w, l) ↦ l | inr (w, same) ↦ absurd cc ]
+exists-line-closed fault.Memory s mid now b z ends e = let w = exists-closed fault.Memory s mid now b z ends e in absurd cc
+
+-- a command that works on a repository isn't broken off because there is one
+pub exists-not_ended : (answer : Result Bool CommandFault) (s : Status) (mid now : Option (List ℕ)) (b z : ℕ) → IfErr answer IsOverFault → IsEnded answer s mid now b z → s ≡ status.Exists → ⊥
+exists-not_ended answer s mid now b z only ends e = subst (λ (r : Result Bool CommandFault). IfErr r IsOverFault) (exists-ended answer s mid now b z ends e) only
+
+-- there was no manifest, and that was found first
+pub absent-first : (Q : Type 0) (answer : Result Bool CommandFault) → IfErr answer (λ why. IsFoundFirst why → Q) → answer ≡ Err fault.NoRepository → Q
+absent-first Q answer q e = subst (λ (r : Result Bool CommandFault). IfErr r (λ why. IsFoundFirst why → Q)) e q tt
+
+-- a run that needs a manifest is untouched
+pub untouched-ended : (Q : Type 0) (answer : Result Bool CommandFault) (s : Status) (mid now : Option (List ℕ)) (b z : ℕ) → IfErr answer (λ why. IsFoundFirst why → Q) → IfErr answer IsOverFault → IsEnded answer s mid now b z → IsUntouched s → Q
+untouched-ended Q answer s mid now b z q only ends un = elim un [
+  | inl e ↦ absurd (usage-not_ended answer s mid now b z ends e)
+  | inr more ↦ elim more [
+    | inl e ↦ absurd (refused-not_ended answer s mid now b z ends e)
+    | inr last ↦ elim last [
+      | inl e ↦ absent-first Q answer q (absent-ended answer s mid now b z ends e)
+      | inr e ↦ absurd (exists-not_ended answer s mid now b z only ends e)
+    ]
+  ]
+]

@@ -1,0 +1,84 @@
+use Rattle.std.proofs.Common.{◌≡◌, Err, refl, sym, subst}
+use Rattle.store_ends.specs.Files.{Files}
+use Rattle.command_pieces.specs.declared.command_fault.CommandFault.TheVariants as fault
+use Rattle.repository.specs.RealLimits.{StandsFor}
+use Rattle.collection_commands.specs.Ahead.{IsAhead}
+use Rattle.indri_app.specs.Opened.{IsOpenFault}
+use Rattle.indri_app.specs.Changes.{told_change}
+use Rattle.indri_app.proofs.ChangingLemmas.{goes-behind, items-first, items-not_absent, items-not_first, items-over, on-any, open-over, quiet-goes_on, want-late}
+use Rattle.indri_app.proofs.Closing.{stops-behind, stops-none, want-begun-some}
+use Rattle.indri_app.proofs.Ended.{rose-earlier}
+use Rattle.indri_app.proofs.changing.change_files.Goals as goal
+
+-- the repository is open
+
+pub returns-in-Ok-clause-done : goal.returns-in-Ok-clause-done
+returns-in-Ok-clause-done g c = λ k stands.
+    let same = c.open_repository.ensures.quiet.same_files in
+    rw same at (c.change_repository.ensures.done k (subst (λ f. IsAhead f c.in-Ok.repository k k) (sym same) (c.in-Ok.ensures.opened k stands)))
+
+pub returns-in-Ok-clause-broken : goal.returns-in-Ok-clause-broken
+returns-in-Ok-clause-broken g c = λ k stands.
+    let same = c.open_repository.ensures.quiet.same_files in
+    rw same at (c.change_repository.ensures.broken k (subst (λ f. IsAhead f c.in-Ok.repository k k) (sym same) (c.in-Ok.ensures.opened k stands)))
+
+pub returns-in-Ok-clause-stops : goal.returns-in-Ok-clause-stops
+returns-in-Ok-clause-stops g c = λ k stands.
+    let same = c.open_repository.ensures.quiet.same_files in
+    stops-behind (g.T.Store.files c.args.store.now) (told_change c.args.what) k _ _ _ _ c.open_repository.ensures.quiet.no_more
+    (rw same at (c.change_repository.ensures.stops k (subst (λ f. IsAhead f c.in-Ok.repository k k) (sym same) (c.in-Ok.ensures.opened k stands))))
+
+pub returns-in-Ok-clause-honest : goal.returns-in-Ok-clause-honest
+returns-in-Ok-clause-honest g c = λ k stands. items-not_first c.change_repository.result c.change_repository.ensures.only
+
+pub returns-in-Ok-clause-first : goal.returns-in-Ok-clause-first
+returns-in-Ok-clause-first g c = items-first _ c.change_repository.result c.change_repository.ensures.only
+
+pub returns-in-Ok-clause-absent : goal.returns-in-Ok-clause-absent
+returns-in-Ok-clause-absent g c = λ f told e. absurd (items-not_absent c.change_repository.result c.change_repository.ensures.only e)
+
+pub returns-in-Ok-clause-without : goal.returns-in-Ok-clause-without
+returns-in-Ok-clause-without g c = λ f told none. absurd (c.in-Ok.ensures.without f told none).0
+
+pub returns-in-Ok-clause-intact : goal.returns-in-Ok-clause-intact
+returns-in-Ok-clause-intact g c = λ f told. on-any _ c.change_repository.result (c.in-Ok.repository.held.limits, (c.in-Ok.repository, c.in-Ok.ensures.read f told))
+
+pub returns-in-Ok-clause-only : goal.returns-in-Ok-clause-only
+returns-in-Ok-clause-only g c = items-over c.change_repository.result c.change_repository.ensures.only
+
+pub returns-in-Ok-clause-goes_on : goal.returns-in-Ok-clause-goes_on
+returns-in-Ok-clause-goes_on g c = goes-behind _ _ _ _ _ _ _ _ _ c.open_repository.ensures.quiet c.change_repository.ensures.goes_on
+
+pub returns-in-Ok-clause-store : goal.returns-in-Ok-clause-store
+returns-in-Ok-clause-store g c = λ e. rose-earlier _ _ _ c.open_repository.ensures.later (c.change_repository.ensures.store e)
+
+-- it isn't opened
+
+pub returns-in-Err-clause-broken : goal.returns-in-Err-clause-broken
+returns-in-Err-clause-broken g c = λ k stands.
+    let same = c.open_repository.ensures.quiet.same_files in
+    want-begun-some c.in-Err.fault _ (told_change c.args.what) k _ _ _ _ (c.in-Err.ensures.honest k stands) refl (subst (λ f. StandsFor k f) (sym same) stands)
+
+pub returns-in-Err-clause-stops : goal.returns-in-Err-clause-stops
+returns-in-Err-clause-stops g c = λ k stands. stops-none _ (told_change c.args.what) k _ _ _ c.open_repository.ensures.quiet.no_more
+
+pub returns-in-Err-clause-honest : goal.returns-in-Err-clause-honest
+returns-in-Err-clause-honest g c = λ k stands. want-late c.in-Err.fault (c.in-Err.ensures.honest k stands)
+
+pub returns-in-Err-clause-first : goal.returns-in-Err-clause-first
+returns-in-Err-clause-first g c = λ first. (c.open_repository.ensures.quiet, refl, refl)
+
+pub returns-in-Err-clause-without : goal.returns-in-Err-clause-without
+returns-in-Err-clause-without g c = λ f told none. (tt, (c.in-Err.ensures.without f told none).1)
+
+pub returns-in-Err-clause-only : goal.returns-in-Err-clause-only
+returns-in-Err-clause-only g c = open-over c.in-Err.fault c.in-Err.ensures.only
+
+pub returns-in-Err-clause-goes_on : goal.returns-in-Err-clause-goes_on
+returns-in-Err-clause-goes_on g c = quiet-goes_on _ _ _ _ _ _ _ _ c.open_repository.ensures.quiet
+
+pub returns-in-Err-clause-read : goal.returns-in-Err-clause-read
+returns-in-Err-clause-read g c = λ e. let one : c.in-Err.fault ≡ fault.Read = cc in absurd (subst IsOpenFault one c.in-Err.ensures.only)
+
+pub returns-in-Err-clause-write : goal.returns-in-Err-clause-write
+returns-in-Err-clause-write g c = λ e. let one : c.in-Err.fault ≡ fault.Write = cc in absurd (subst IsOpenFault one c.in-Err.ensures.only)

@@ -1,0 +1,48 @@
+use Rattle.std.proofs.Common.{refl}
+use Rattle.command_words.specs.Table.{add, delete}
+use Rattle.collection_commands.specs.Flushing.{delete_pieces}
+use Rattle.indri_app.specs.Command.{add_pieces}
+use Rattle.indri_app.proofs.Closing.{begun-by, done-by, prior-begun, stops-by}
+use Rattle.indri_app.proofs.changing.change_repository.Goals as goal
+
+pub returns-in-Add-clause-done : goal.returns-in-Add-clause-done
+returns-in-Add-clause-done g c = λ k ahead.
+    let told = g.T.Store.files c.args.store.now in
+    let limits = c.args.repository.held.limits in
+    rw c.in-Add.is (done-by told add k (λ bytes. add_pieces told limits k bytes) _ _ _ _ c.add.result (λ bytes. (limits, ahead.real, refl)) (c.add.ensures.refused k ahead) (c.add.ensures.finished k ahead))
+
+pub returns-in-Add-clause-broken : goal.returns-in-Add-clause-broken
+returns-in-Add-clause-broken g c = λ k ahead.
+    let told = g.T.Store.files c.args.store.now in
+    let limits = c.args.repository.held.limits in
+    rw c.in-Add.is (begun-by told add k (λ bytes. add_pieces told limits k bytes) _ _ _ _ c.add.result (λ bytes. (limits, ahead.real, refl)) (c.add.ensures.broken k ahead))
+
+pub returns-in-Add-clause-stops : goal.returns-in-Add-clause-stops
+returns-in-Add-clause-stops g c = λ k ahead.
+    let told = g.T.Store.files c.args.store.now in
+    let limits = c.args.repository.held.limits in
+    rw c.in-Add.is (stops-by told add k (λ bytes. add_pieces told limits k bytes) _ _ _ (λ bytes. (limits, ahead.real, refl)) (c.add.ensures.stops k ahead))
+
+pub returns-in-Delete-clause-done : goal.returns-in-Delete-clause-done
+returns-in-Delete-clause-done g c = λ k ahead.
+    let told = g.T.Store.files c.args.store.now in
+    rw c.in-Delete.is (done-by told delete k (λ bytes. delete_pieces k bytes) _ _ _ _ c.delete.result (λ bytes. refl) (c.delete.ensures.refused k ahead) (c.delete.ensures.finished k ahead))
+
+pub returns-in-Delete-clause-broken : goal.returns-in-Delete-clause-broken
+returns-in-Delete-clause-broken g c = λ k ahead.
+    let told = g.T.Store.files c.args.store.now in
+    rw c.in-Delete.is (begun-by told delete k (λ bytes. delete_pieces k bytes) _ _ _ _ c.delete.result (λ bytes. refl) (c.delete.ensures.broken k ahead))
+
+pub returns-in-Delete-clause-stops : goal.returns-in-Delete-clause-stops
+returns-in-Delete-clause-stops g c = λ k ahead.
+    let told = g.T.Store.files c.args.store.now in
+    rw c.in-Delete.is (stops-by told delete k (λ bytes. delete_pieces k bytes) _ _ _ (λ bytes. refl) (c.delete.ensures.stops k ahead))
+
+pub returns-in-Prior-clause-done : goal.returns-in-Prior-clause-done
+returns-in-Prior-clause-done g c = λ k ahead. rw c.in-Prior.is (c.set_prior.ensures.finished k ahead)
+
+pub returns-in-Prior-clause-broken : goal.returns-in-Prior-clause-broken
+returns-in-Prior-clause-broken g c = λ k ahead. rw c.in-Prior.is (prior-begun (g.T.Store.files c.args.store.now) c.in-Prior.name k _ _ _ _ c.set_prior.result (c.set_prior.ensures.broken k ahead))
+
+pub returns-in-Prior-clause-stops : goal.returns-in-Prior-clause-stops
+returns-in-Prior-clause-stops g c = λ k ahead. rw c.in-Prior.is (c.set_prior.ensures.stops k ahead)

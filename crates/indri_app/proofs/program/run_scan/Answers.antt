@@ -1,0 +1,42 @@
+use Rattle.ri_base.specs.Expression.{expr_tree}
+use Rattle.trec_reader.specs.Read.{read}
+use Rattle.document_handlers.specs.Work.{input_pieces, scanning}
+use Rattle.indri_app.proofs.Ended.{read-ended, refused-not_ended, rose-later, write-ended}
+use Rattle.indri_app.proofs.PlainRuns.{ended-writes-some, items-plain, items-read, items-write, scans-memory, scans-of, scans-refused, tells-no_read, tells-plain}
+use Rattle.indri_app.specs.Runs.{items_answer}
+use Rattle.indri_app.proofs.program.run_scan.Goals as goal
+
+pub returns-clause-scans : goal.returns-clause-scans
+returns-clause-scans g c =
+    let x = expr_tree c.in-Ok.expr in
+    let did = c.scan-answer.ensures in
+    scans-of c.args.text.now x _ _ _ _ _ _ c.in-Ok.ensures.read
+    (ended-writes-some c.scan-answer.result _ (λ bytes. input_pieces (scanning x) (read bytes)) _ _ _ _ _ _ _ did.write_later did.refused did.finished did.broken c.finish_items.ensures.ended)
+
+pub returns-clause-only : goal.returns-clause-only
+returns-clause-only g c = items-plain c.scan-answer.result _ _ _ _ _ c.finish_items.ensures.ended
+
+pub returns-clause-untouched : goal.returns-clause-untouched
+returns-clause-untouched g c = λ is. absurd (refused-not_ended (items_answer c.scan-answer.result) _ _ _ _ _ c.finish_items.ensures.ended is)
+
+pub returns-clause-read : goal.returns-clause-read
+returns-clause-read g c = λ is. c.scan-answer.ensures.read (items-read c.scan-answer.result (read-ended (items_answer c.scan-answer.result) _ _ _ _ _ c.finish_items.ensures.ended is))
+
+pub returns-clause-write : goal.returns-clause-write
+returns-clause-write g c = λ is. rose-later _ _ _ (c.scan-answer.ensures.write (items-write c.scan-answer.result (write-ended (items_answer c.scan-answer.result) _ _ _ _ _ c.finish_items.ensures.ended is))) c.finish_items.ensures.later
+
+-- the text is refused
+
+pub returns-in-Err-Refused-clause-scans : goal.returns-in-Err-Refused-clause-scans
+returns-in-Err-Refused-clause-scans g c = scans-refused c.args.text.now c.in-Err-Refused.refusal _ _ _ _ _ _ (rw c.in-Err-Refused.field-0-is at c.in-Err-Refused.ensures.refused) c.tell_refusal.ensures.tells
+
+pub returns-in-Err-Refused-clause-only : goal.returns-in-Err-Refused-clause-only
+returns-in-Err-Refused-clause-only g c = tells-plain _ _ _ _ c.tell_refusal.ensures.tells
+
+pub returns-in-Err-Refused-clause-read : goal.returns-in-Err-Refused-clause-read
+returns-in-Err-Refused-clause-read g c = λ is. absurd (tells-no_read _ _ _ _ c.tell_refusal.ensures.tells is)
+
+-- there is no memory for it
+
+pub returns-in-Err-Memory-clause-scans : goal.returns-in-Err-Memory-clause-scans
+returns-in-Err-Memory-clause-scans g c = scans-memory c.args.text.now _ _ _ _

@@ -1,0 +1,126 @@
+// The commands `query` and `explain`.
+ghost use Rattle.std.specs.Prelude.{◌≡◌, ◌≤◌, None, Some, codes, map, IfErr, IfOk, IsErrOf, OnOk};
+ghost use Rattle.ri_base.specs.Keeps.{Rose};
+ghost use Rattle.store_ends.specs.Files.{Files, IsQuiet};
+ghost use Rattle.smoothing.specs.declared.rule.RuleKind.TheVariants.{Dirichlet};
+ghost use Rattle.query_refusals.specs.Lines.{refusal_piece};
+ghost use Rattle.query_refusals.specs.declared.refusal.QueryRefusal.TheVariants.{NoSuchRank};
+ghost use Rattle.repository.specs.Names.{manifest_name};
+ghost use Rattle.repository.specs.RealLimits.{StandsFor};
+ghost use Rattle.repository.specs.Stands.{Collection};
+ghost use Rattle.std.specs.Option.{option_map};
+ghost use Rattle.collection_queries.specs.Answer.{IsRule};
+ghost use Rattle.collection_queries.specs.Priors.{run_priors};
+ghost use Rattle.collection_queries.specs.Searching.{IsShowable};
+ghost use Rattle.collection_queries.specs.Shown.{told_shown};
+ghost use Rattle.indri_app.specs.Asked.{IfRefused, IsAskBroken, IsAskFault, IsAsked, IsFaultOver, IsIntactWithPriors, ask_fault};
+ghost use Rattle.indri_app.specs.Command.{answer_piece};
+
+use crate::opening::open_repository;
+use crate::texts::{TextFault, read_checked};
+use belief_nodes::BeliefNode;
+use collection_queries::{Shown, answer, names_of, take_priors};
+use command_pieces::{CommandFault, Reply};
+use query_refusals::{QueryRefusal, reply_of};
+use ri_base::{Name, NoMemory};
+use smoothing::RuleKind;
+use std::alloc::Global;
+use store_ends::Store;
+
+/// Why a question isn't answered.
+#[derive(Debug, Drop)]
+pub enum AskFault {
+    /// Its text is refused.
+    Refused(QueryRefusal),
+    Broken(CommandFault),
+}
+
+/// The name of the query of a command that has but one.
+const ONE_QUERY: &[u8] = b"q";
+
+/// The refusal of a rank above the number of results.
+fn no_such_rank(alloc: Global) -> Result<Reply, NoMemory>
+    ensures { IfOk result (λ reply. reply ≡ refusal_piece (NoSuchRank (codes "q"))) }
+{
+    let Some(query) = Name::of_lower(alloc, ONE_QUERY)? else {
+        unreachable!();
+    };
+    reply_of(alloc, &QueryRefusal::NoSuchRank { query })
+}
+
+/// What is written of an answer.
+fn reply_to(alloc: Global, answer: Option<Vec<u8>>) -> Result<Reply, NoMemory>
+    ensures { IfOk result (λ reply. reply ≡ answer_piece (option_map (λ t. t.items) answer)) }
+{
+    match answer {
+        Some(text) => Ok(Reply::told(text)),
+        None => no_such_rank(alloc),
+    }
+}
+
+fn ask_fault(fault: TextFault) -> AskFault
+    ensures { result ≡ ask_fault fault }
+{
+    match fault {
+        TextFault::Refused(refusal) => AskFault::Refused(refusal),
+        TextFault::Memory => AskFault::Broken(CommandFault::Memory),
+    }
+}
+
+/// What a query of this text is answered over the live documents of a store, its priors by their rows.
+pub fn ask<T: Store>(
+    alloc: Global,
+    text: &str,
+    mu: u32,
+    shown: &Shown,
+    plugs: &mut [Box<dyn BeliefNode>],
+    store: &mut T,
+) -> Result<Reply, AskFault>
+    requires rule { IsRule (Dirichlet mu) }
+    requires shown { IsShowable (told_shown shown.now) }
+    requires plugs { map (λ plug. meaning plug) plugs.old ≡ run_priors }
+
+    // Files that stand for a collection: the answer is that over its live documents, or the first fault of the text.
+    ensures asked { (c : Collection) → StandsFor c (T.files store.old) → IfOk result (IsAsked c text.now mu (told_shown shown.now)) }
+    ensures refused { (c : Collection) → StandsFor c (T.files store.old) → IfErr result (IsAskFault c text.now) }
+
+    // Whatever the files are.
+    ensures there { (f : Files) → T.files store.old ≡ Some f → IfErr result (IsFaultOver f) }
+    ensures manifest { (f : Files) → T.files store.old ≡ Some f → f manifest_name ≡ None → OnOk result ⊥ }
+    ensures intact { (f : Files) → T.files store.old ≡ Some f → OnOk result (IsIntactWithPriors (T.files store.old)) }
+    ensures intact_refused { (f : Files) → T.files store.old ≡ Some f → IfErr result (λ fault. IfRefused fault (IsIntactWithPriors (T.files store.old))) }
+    ensures only { IfErr result IsAskBroken }
+    ensures quiet { IsQuiet T.files T.layers T.clock T.since T.longest T.held store.old store.new }
+    ensures later { T.faults store.old ≤ T.faults store.new }
+    ensures store { IsErrOf result (AskFault.Broken CommandFault.Store) → Rose (T.faults store.old) (T.faults store.new) }
+{
+    let mut repository = match open_repository(alloc, store) {
+        Ok(repository) => repository,
+        Err(fault) => return Err(AskFault::Broken(fault)),
+    };
+    if let Err(fault) = take_priors(alloc, &repository, plugs, store) {
+        return Err(AskFault::Broken(CommandFault::of_files(fault)));
+    }
+    let Ok(names) = names_of(alloc, repository.priors()) else {
+        return Err(AskFault::Broken(CommandFault::Memory));
+    };
+    let checked = match read_checked(alloc, text, &names) {
+        Ok(checked) => checked,
+        Err(fault) => return Err(ask_fault(fault)),
+    };
+    let Ok(snapshot) = repository.snapshot(alloc) else {
+        return Err(AskFault::Broken(CommandFault::Memory));
+    };
+    let kind = RuleKind::Dirichlet { mu };
+    let generation = repository.generation();
+    let answer = match answer(
+        alloc, kind, shown, checked, &names, plugs, snapshot, generation, store,
+    ) {
+        Ok(answer) => answer,
+        Err(fault) => return Err(AskFault::Broken(CommandFault::of_files(fault))),
+    };
+    match reply_to(alloc, answer) {
+        Ok(reply) => Ok(reply),
+        Err(_) => Err(AskFault::Broken(CommandFault::Memory)),
+    }
+}

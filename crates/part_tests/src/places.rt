@@ -1,8 +1,11 @@
-// The places of words in documents.
-use crate::segment::{cache_of, open, places};
-use disk_index::{BlockCache, Part};
+// The places of words in documents, over a store in memory and over a folder.
+use crate::segment::{BYTES, NAME, cache_of, open, store_of};
+use disk_index::{BlockCache, DiskIndex};
+use ri_base::Term;
 use std::alloc::Global;
-use store_ends::Store;
+use std::fs;
+use std::test::Fail;
+use store_ends::{FolderStore, Store};
 
 /// A word, a document, and the places of the word there.
 static PLACES: [(&str, u32, &[u32]); 6] = [
@@ -14,49 +17,73 @@ static PLACES: [(&str, u32, &[u32]); 6] = [
     ("a", 0, &[0]),
 ];
 
-/// Whether a word has these places in a document.
-pub fn are_places<T: Store>(
+/// Whether a term has these places in a document; nothing where they can't be read.
+fn has_places<T: Store>(
     alloc: Global,
-    part: &Part,
+    index: &DiskIndex,
     store: &mut T,
     cache: &mut BlockCache,
-    word: &str,
+    term: &Term,
     id: u32,
     wanted: &[u32],
-) -> bool {
-    match places(alloc, part, store, cache, word, id) {
-        Ok(found) => found.as_slice() == wanted,
-        Err(_) => false,
+) -> Option<bool> {
+    if id >= index.docs() {
+        return None;
     }
+    let found = index.positions(alloc, store, cache, term, id).ok()?;
+    Some(found.as_slice() == wanted)
 }
 
-/// The first of these rows that is read otherwise, if one is.
-fn first_wrong<T: Store>(
+/// Whether all rows are so; nothing where one can't be read.
+fn are_places<T: Store>(
     alloc: Global,
-    part: &Part,
+    index: &DiskIndex,
     store: &mut T,
     cache: &mut BlockCache,
-) -> Option<usize> {
-    for (i, (word, id, wanted)) in PLACES.iter().enumerate() {
-        if !are_places(alloc, part, store, cache, word, *id, wanted) {
-            return Some(i);
-        }
+) -> Option<bool> {
+    let mut are_so = true;
+    for (word, id, wanted) in &PLACES {
+        let term = Term::new(alloc, word.as_bytes()).ok()??;
+        are_so &= has_places(alloc, index, store, cache, &term, *id, wanted)?;
     }
-    None
+    Some(are_so)
 }
 
-/// Whether all rows are read so of a part, with room for so many blocks.
-pub fn are_read<T: Store>(alloc: Global, part: &Part, store: &mut T, slots: usize) -> bool {
-    match cache_of(alloc, slots) {
-        Ok(mut cache) => first_wrong(alloc, part, store, &mut cache).is_none(),
-        Err(_) => false,
-    }
+/// The same of the segment once it is opened, with room for so many blocks.
+pub fn are_read<T: Store>(alloc: Global, store: &mut T, slots: usize) -> Option<bool> {
+    let index = open(alloc, store).ok()?;
+    let mut cache = cache_of(alloc, slots).ok()?;
+    are_places(alloc, &index, store, &mut cache)
 }
 
-/// Whether they are read so of the segment once it is opened.
-pub fn are_read_once_open<T: Store>(alloc: Global, store: &mut T, slots: usize) -> bool {
-    match open(alloc, store) {
-        Ok(part) => are_read(alloc, &part, store, slots),
-        Err(_) => false,
+fn are_read_in_memory(alloc: Global, slots: usize) -> Option<bool> {
+    let mut store = store_of(alloc, &BYTES, Vec::new(alloc)).ok()?;
+    are_read(alloc, &mut store, slots)
+}
+
+#[test]
+fn in_memory(rt: HostRuntime) {
+    assert!(rt; are_read_in_memory(rt.alloc(), 1) == Some(true));
+    assert!(rt; are_read_in_memory(rt.alloc(), 2) == Some(true));
+}
+
+fn put(store: &mut FolderStore<'_, HostRuntime>) -> bool {
+    NAME.len() <= 64 && store.put(NAME, &BYTES).is_ok()
+}
+
+/// Whether all rows are so once the segment is there. Before it can't be opened.
+fn are_read_in(rt: &HostRuntime, path: &str) -> Option<bool> {
+    let mut store = FolderStore::new(rt, path).ok()?;
+    if are_read(rt.alloc(), &mut store, 2).is_some() || !put(&mut store) {
+        return None;
     }
+    are_read(rt.alloc(), &mut store, 2)
+}
+
+#[test]
+fn in_a_folder(rt: HostRuntime) -> Result<(), Fail> {
+    fs::create_dir(&rt, "parts")?;
+    assert!(rt; are_read_in(&rt, "parts") == Some(true));
+    fs::remove_dir_all(&rt, "parts")?;
+    Ok(())
 }

@@ -1,9 +1,8 @@
 // A segment that was written out by hand: `d1` has the tokens `a b`, and `d2` the token `a`. Its blocks stand at 126 and 145.
-use disk_index::{BlockCache, DiskIndex, Part};
-use ri_base::{Positions, SegFault, Term};
+use disk_index::{BlockCache, DiskIndex};
+use ri_base::SegFault;
 use std::alloc::{AllocError, Global};
 use std::num::NonZeroUsize;
-use std::rc::Rc;
 use store_ends::{MemStore, Store, StoreFail};
 
 pub static BYTES: [u8; 155] = [
@@ -41,47 +40,12 @@ pub fn store_of(
     Ok(MemStore::new(alloc, files, fails))
 }
 
-pub fn shared(alloc: Global, index: DiskIndex) -> Result<Part, AllocError> {
-    Ok(Part::Disk(Rc::new(alloc, index).map_err(AllocError::from)?))
-}
-
 /// Segment 1, of two documents.
-pub fn open<T: Store>(alloc: Global, store: &mut T) -> Result<Part, SegFault> {
-    let index = DiskIndex::open(alloc, store, 1, 2)?;
-    Ok(shared(alloc, index)?)
+pub fn open<T: Store>(alloc: Global, store: &mut T) -> Result<DiskIndex, SegFault> {
+    DiskIndex::open(alloc, store, 1, 2)
 }
 
 /// A cache of so many blocks, or of one.
 pub fn cache_of(alloc: Global, slots: usize) -> Result<BlockCache, AllocError> {
     BlockCache::new(alloc, NonZeroUsize::new(slots).unwrap_or(NonZeroUsize::MIN))
-}
-
-/// The places of a term in a document; none where there is no such document.
-fn places_of<T: Store>(
-    alloc: Global,
-    part: &Part,
-    store: &mut T,
-    cache: &mut BlockCache,
-    term: &Term,
-    id: u32,
-) -> Result<Positions, SegFault> {
-    if id >= part.docs() {
-        return Ok(Positions::new(alloc));
-    }
-    part.positions(alloc, store, cache, term, id)
-}
-
-/// The same of a word.
-pub fn places<T: Store>(
-    alloc: Global,
-    part: &Part,
-    store: &mut T,
-    cache: &mut BlockCache,
-    word: &str,
-    id: u32,
-) -> Result<Positions, SegFault> {
-    match Term::new(alloc, word.as_bytes())? {
-        Some(term) => places_of(alloc, part, store, cache, &term, id),
-        None => Ok(Positions::new(alloc)),
-    }
 }

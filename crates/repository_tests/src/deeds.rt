@@ -1,15 +1,13 @@
-// What is done with the repository of a store, and what is answered.
+// What is done with the repository of a store, and what is seen of it.
 ghost use Rattle.std.specs.Prelude.{◌≡◌, false, true, IfSome};
 ghost use Rattle.manifest.specs.Entries.{length_name};
 ghost use Rattle.repository.specs.Priors.{is_same};
 
-use crate::answers::Answer;
-use crate::changed::{add, delete};
-use crate::contents::{Content, bytes_in};
+use crate::documents::{doc, docno};
 use holdings::Limits;
 use manifest::{PriorRows, read_prior};
 use repository::Repository;
-use ri_base::{Name, SegFault};
+use ri_base::Name;
 use std::alloc::Global;
 use store_ends::Store;
 
@@ -20,56 +18,51 @@ pub enum Deed {
     Delete(&'static str),
     Flush,
     Sweep,
-    /// A prior gets the rows of these bytes.
-    Prior(&'static str, Content),
-    /// The belief of the first row of a prior.
-    Belief(u32),
-    Count,
+    /// The prior `home` gets the rows of these bytes.
+    Prior(&'static [u8]),
 }
 
-/// What is answered.
-#[derive(Clone, Copy, PartialEq, Eq)]
-pub enum Told {
-    Of(Answer),
-    /// A prior can't be set, or isn't there.
-    Refused,
-    Belief(u64, u64),
-    Live(u64),
-    /// The store failed.
-    Failed,
-    /// Another fault.
-    Fault,
-    Unusable,
-}
+/// What is done, and whether it is; else it is refused, or fails.
+pub type Row = (Deed, bool);
 
-pub const DONE: Told = Told::Of(Answer::Done);
+/// How many documents are live, and the belief of the first row of the first prior.
+pub type Seen = (u64, Option<(u64, u64)>);
 
-/// What is done, and the answer.
-pub type Row = (Deed, Told);
-
-fn of_fault(fault: SegFault) -> Told {
-    match fault {
-        SegFault::Store => Told::Failed,
-        _ => Told::Fault,
+fn add(alloc: Global, repository: &mut Repository, name: &str, count: usize) -> bool
+    requires { repository.old.usable ≡ true }
+{
+    match doc(alloc, name, count) {
+        Some(doc) => repository.add(alloc, &doc).is_ok(),
+        None => false,
     }
 }
 
-fn of_call(answer: Result<(), SegFault>) -> Told {
-    match answer {
-        Ok(()) => DONE,
-        Err(fault) => of_fault(fault),
+fn delete(alloc: Global, repository: &mut Repository, name: &str) -> bool
+    requires { repository.old.usable ≡ true }
+{
+    match docno(alloc, name) {
+        Some(docno) => repository.delete(&docno).is_ok(),
+        None => false,
     }
 }
 
-fn rows_of(alloc: Global, content: Content) -> Option<PriorRows> {
-    read_prior(alloc, bytes_in(content), 1).ok()
+fn flush<S: Store>(alloc: Global, store: &mut S, repository: &mut Repository) -> bool
+    requires { repository.old.usable ≡ true }
+{
+    repository.flush(alloc, store).is_ok()
 }
 
-/// A name that isn't `length`.
-fn name_of(alloc: Global, text: &str) -> Option<Name>
+fn sweep<S: Store>(alloc: Global, store: &mut S, repository: &mut Repository) -> bool
+    requires { repository.old.usable ≡ true }
+{
+    repository.sweep(alloc, store).is_ok()
+}
+
+/// The name `home`, which isn't `length`.
+fn home(alloc: Global) -> Option<Name>
     ensures { IfSome result (λ name. is_same name length_name ≡ false) }
 {
-    let name = Name::new(alloc, text.as_bytes()).ok()??;
+    let name = Name::new(alloc, b"home").ok()??;
     if name.as_bytes() == b"length".as_slice() {
         return None;
     }
@@ -80,19 +73,16 @@ fn put_rows<S: Store>(
     alloc: Global,
     store: &mut S,
     repository: &mut Repository,
-    name: Name,
     rows: &PriorRows,
-) -> Told
-    requires usable { repository.old.usable ≡ true }
-    requires name { is_same name length_name ≡ false }
+) -> bool
+    requires { repository.old.usable ≡ true }
 {
     if !repository.is_stored() {
-        return Told::Refused;
+        return false;
     }
-    match repository.set_prior(alloc, store, name, rows) {
-        Ok(true) => DONE,
-        Ok(false) => Told::Refused,
-        Err(fault) => of_fault(fault),
+    match home(alloc) {
+        Some(name) => repository.set_prior(alloc, store, name, rows).is_ok(),
+        None => false,
     }
 }
 
@@ -100,79 +90,80 @@ fn set_prior<S: Store>(
     alloc: Global,
     store: &mut S,
     repository: &mut Repository,
-    name: &str,
-    content: Content,
-) -> Option<Told>
+    bytes: &[u8],
+) -> bool
     requires { repository.old.usable ≡ true }
 {
-    let rows = rows_of(alloc, content)?;
-    let name = name_of(alloc, name)?;
-    Some(put_rows(alloc, store, repository, name, &rows))
-}
-
-fn first_belief(rows: &PriorRows) -> Told {
-    match rows.rows() {
-        [(_, belief), ..] => Told::Belief(belief.p, belief.q),
-        [] => Told::Refused,
+    match read_prior(alloc, bytes, 1) {
+        Ok(rows) => put_rows(alloc, store, repository, &rows),
+        Err(_) => false,
     }
 }
 
-fn belief<S: Store>(alloc: Global, store: &mut S, repository: &Repository, i: u32) -> Told
-    requires { repository.now.usable ≡ true }
-{
-    if i as usize >= repository.priors().len() {
-        return Told::Refused;
-    }
-    match repository.prior_rows(alloc, store, i) {
-        Ok(rows) => first_belief(&rows),
-        Err(fault) => of_fault(fault),
-    }
-}
-
-/// What is answered; nothing where memory is short.
-pub fn answer_to<S: Store>(
+fn is_done<S: Store>(
     alloc: Global,
     store: &mut S,
     repository: &mut Repository,
     deed: Deed,
-) -> Option<Told> {
+) -> bool {
     if !repository.usable() {
-        return Some(Told::Unusable);
+        return false;
     }
     match deed {
-        Deed::Add(name, count) => Some(Told::Of(add(alloc, repository, name, count))),
-        Deed::Delete(name) => Some(Told::Of(delete(alloc, repository, name))),
-        Deed::Flush => Some(of_call(repository.flush(alloc, store))),
-        Deed::Sweep => Some(of_call(repository.sweep(alloc, store))),
-        Deed::Prior(name, content) => set_prior(alloc, store, repository, name, content),
-        Deed::Belief(i) => Some(belief(alloc, store, repository, i)),
-        Deed::Count => Some(Told::Live(repository.live_count())),
+        Deed::Add(name, count) => add(alloc, repository, name, count),
+        Deed::Delete(name) => delete(alloc, repository, name),
+        Deed::Flush => flush(alloc, store, repository),
+        Deed::Sweep => sweep(alloc, store, repository),
+        Deed::Prior(bytes) => set_prior(alloc, store, repository, bytes),
     }
 }
 
-pub fn opened<S: Store>(alloc: Global, store: &mut S, limits: Limits) -> Option<Repository> {
-    Repository::open(alloc, store, limits).ok()?
-}
-
-/// Whether each of these rows is answered so.
-fn are_told<S: Store>(
+fn are_done<S: Store>(
     alloc: Global,
     store: &mut S,
     repository: &mut Repository,
     rows: &[Row],
 ) -> bool {
     for (deed, wanted) in rows {
-        if answer_to(alloc, store, repository, *deed) != Some(*wanted) {
+        if is_done(alloc, store, repository, *deed) != *wanted {
             return false;
         }
     }
     true
 }
 
-/// Whether the repository of these files answers so.
-pub fn answers_so<S: Store>(alloc: Global, store: &mut S, limits: Limits, rows: &[Row]) -> bool {
-    match opened(alloc, store, limits) {
-        Some(mut repository) => are_told(alloc, store, &mut repository, rows),
-        None => false,
+fn first_belief(rows: &PriorRows) -> Option<(u64, u64)> {
+    let (_, belief) = rows.rows().first()?;
+    Some((belief.p, belief.q))
+}
+
+/// What is seen of the repository; nothing where it can't be used, or a prior can't be read.
+fn seen<S: Store>(alloc: Global, store: &mut S, repository: &Repository) -> Option<Seen> {
+    if !repository.usable() {
+        return None;
     }
+    if repository.priors().is_empty() {
+        return Some((repository.live_count(), None));
+    }
+    let rows = repository.prior_rows(alloc, store, 0).ok()?;
+    Some((repository.live_count(), first_belief(&rows)))
+}
+
+/// Parts have two documents at most, and there are a hundred documents and tokens at most.
+fn opened<S: Store>(alloc: Global, store: &mut S) -> Option<Repository> {
+    let limits = Limits {
+        part_docs: 2,
+        held_docs: 100,
+        held_tokens: 100,
+    };
+    Repository::open(alloc, store, limits).ok()?
+}
+
+/// What is seen of the repository of these files behind these rows; nothing where one goes otherwise, or the files can't be opened.
+pub fn seen_behind<S: Store>(alloc: Global, store: &mut S, rows: &[Row]) -> Option<Seen> {
+    let mut repository = opened(alloc, store)?;
+    if !are_done(alloc, store, &mut repository, rows) {
+        return None;
+    }
+    seen(alloc, store, &repository)
 }

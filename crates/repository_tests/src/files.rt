@@ -1,62 +1,60 @@
 // The files of repositories, written out by hand.
 use std::alloc::{AllocError, Global};
-use store_ends::{Left, MemStore, Store, StoreFail};
-
-/// The manifest that lists nothing.
-pub static EMPTY: [u8; 33] = [
-    0x69, 0x6e, 0x64, 0x72, 0x69, 0x6d, 0x61, 0x6e, 1, 0, 0, 0, 1, 0, 0, 0, 0, 0, 0, 0, 0, 0, 0, 0,
-    0, 0, 0, 0, 0, 0, 0, 0, 0,
-];
+use store_ends::Store;
 
 /// Segment 1 of two documents, none of them marked. The next file has number 2.
-pub static ONE: [u8; 49] = [
-    0x69, 0x6e, 0x64, 0x72, 0x69, 0x6d, 0x61, 0x6e, 1, 0, 0, 0, 2, 0, 0, 0, 0, 0, 0, 0, 1, 0, 0, 0,
-    1, 0, 0, 0, 0, 0, 0, 0, 2, 0, 0, 0, 0, 0, 0, 0, 0, 0, 0, 0, 0, 0, 0, 0, 0,
-];
+pub const ONE: &[u8] =
+    b"indriman\x01\0\0\0\x02\0\0\0\0\0\0\0\x01\0\0\0\x01\0\0\0\0\0\0\0\x02\0\0\0\0\0\0\0\0\0\0\0\0\0\0\0\0";
 
 /// The same with a mark for document 0.
-pub static MARKED: [u8; 53] = [
-    0x69, 0x6e, 0x64, 0x72, 0x69, 0x6d, 0x61, 0x6e, 1, 0, 0, 0, 2, 0, 0, 0, 0, 0, 0, 0, 1, 0, 0, 0,
-    1, 0, 0, 0, 0, 0, 0, 0, 2, 0, 0, 0, 1, 0, 0, 0, 0, 0, 0, 0, 0, 0, 0, 0, 0, 0, 0, 0, 0,
-];
+pub const MARKED: &[u8] =
+    b"indriman\x01\0\0\0\x02\0\0\0\0\0\0\0\x01\0\0\0\x01\0\0\0\0\0\0\0\x02\0\0\0\x01\0\0\0\0\0\0\0\0\0\0\0\0\0\0\0\0";
+
+/// The same with the prior `home`, whose file has number 2. The next file has number 3.
+pub const HOME: &[u8] =
+    b"indriman\x01\0\0\0\x03\0\0\0\0\0\0\0\x01\0\0\0\x01\0\0\0\0\0\0\0\x02\0\0\0\x01\0\0\0\0\0\0\0\0\0\0\0\0\0\0\0\x01\x04home\x02\0\0\0\0\0\0\0";
+
+/// The prior has the file 3, and the file 2 is stale. The next file has number 4.
+pub const STALE: &[u8] =
+    b"indriman\x01\0\0\0\x04\0\0\0\0\0\0\0\x01\0\0\0\x01\0\0\0\0\0\0\0\x02\0\0\0\x01\0\0\0\0\0\0\0\x01\0\0\0\0\0\0\0\x02\0\0\0\0\0\0\0\x01\x04home\x03\0\0\0\0\0\0\0";
+
+/// The same without the stale file.
+pub const SWEPT: &[u8] =
+    b"indriman\x01\0\0\0\x04\0\0\0\0\0\0\0\x01\0\0\0\x01\0\0\0\0\0\0\0\x02\0\0\0\x01\0\0\0\0\0\0\0\0\0\0\0\0\0\0\0\x01\x04home\x03\0\0\0\0\0\0\0";
+
+/// Nothing is listed, and the next file has the greatest number.
+pub const AT_END: &[u8] =
+    b"indriman\x01\0\0\0\xff\xff\xff\xff\xff\xff\xff\xff\0\0\0\0\0\0\0\0\0\0\0\0\0";
+
+/// Segment 1 of two documents, none of them marked, and the prior `home` with the file 2. The next file has the greatest number.
+pub const ENDED: &[u8] =
+    b"indriman\x01\0\0\0\xff\xff\xff\xff\xff\xff\xff\xff\x01\0\0\0\x01\0\0\0\0\0\0\0\x02\0\0\0\0\0\0\0\0\0\0\0\0\0\0\0\x01\x04home\x02\0\0\0\0\0\0\0";
 
 /// Segments 1 and 2 of two documents each, none of them marked. The next file has number 3.
-pub static TWO: [u8; 65] = [
-    0x69, 0x6e, 0x64, 0x72, 0x69, 0x6d, 0x61, 0x6e, 1, 0, 0, 0, 3, 0, 0, 0, 0, 0, 0, 0, 2, 0, 0, 0,
-    1, 0, 0, 0, 0, 0, 0, 0, 2, 0, 0, 0, 0, 0, 0, 0, 2, 0, 0, 0, 0, 0, 0, 0, 2, 0, 0, 0, 0, 0, 0, 0,
-    0, 0, 0, 0, 0, 0, 0, 0, 0,
-];
-
-/// The one that lists nothing, with the greatest number for the next file.
-pub static AT_END: [u8; 33] = [
-    0x69, 0x6e, 0x64, 0x72, 0x69, 0x6d, 0x61, 0x6e, 1, 0, 0, 0, 0xff, 0xff, 0xff, 0xff, 0xff, 0xff,
-    0xff, 0xff, 0, 0, 0, 0, 0, 0, 0, 0, 0, 0, 0, 0, 0,
-];
-
-/// Segment 1 of two documents, and the stale number 2. The next file has number 3.
-pub static STALE: [u8; 57] = [
-    0x69, 0x6e, 0x64, 0x72, 0x69, 0x6d, 0x61, 0x6e, 1, 0, 0, 0, 3, 0, 0, 0, 0, 0, 0, 0, 1, 0, 0, 0,
-    1, 0, 0, 0, 0, 0, 0, 0, 2, 0, 0, 0, 0, 0, 0, 0, 1, 0, 0, 0, 0, 0, 0, 0, 2, 0, 0, 0, 0, 0, 0, 0,
-    0,
-];
-
-/// The same without the stale number.
-pub static SWEPT: [u8; 49] = [
-    0x69, 0x6e, 0x64, 0x72, 0x69, 0x6d, 0x61, 0x6e, 1, 0, 0, 0, 3, 0, 0, 0, 0, 0, 0, 0, 1, 0, 0, 0,
-    1, 0, 0, 0, 0, 0, 0, 0, 2, 0, 0, 0, 0, 0, 0, 0, 0, 0, 0, 0, 0, 0, 0, 0, 0,
-];
+pub const TWO: &[u8] =
+    b"indriman\x01\0\0\0\x03\0\0\0\0\0\0\0\x02\0\0\0\x01\0\0\0\0\0\0\0\x02\0\0\0\0\0\0\0\x02\0\0\0\0\0\0\0\x02\0\0\0\0\0\0\0\0\0\0\0\0\0\0\0\0";
 
 /// `d1` with the tokens `a b`, and `d2` with the token `a`.
-pub static SEGMENT: [u8; 155] = [
-    0x69, 0x6e, 0x64, 0x72, 0x69, 0x73, 0x65, 0x67, 1, 0, 0, 0, 2, 0, 0, 0, 3, 0, 0, 0, 0, 0, 0, 0,
-    2, 0, 0, 0, 0, 0, 0, 0, 0x40, 0, 0, 0, 0, 0, 0, 0, 0x52, 0, 0, 0, 0, 0, 0, 0, 0x7e, 0, 0, 0, 0,
-    0, 0, 0, 0x9b, 0, 0, 0, 0, 0, 0, 0, 2, 0x64, 0x31, 2, 0, 0, 0, 0, 0, 2, 0x64, 0x32, 1, 0, 0, 0,
-    0, 0, 1, 0x61, 1, 0, 0, 0, 0, 0, 0, 0, 0x7e, 0, 0, 0, 0, 0, 0, 0, 0x13, 0, 0, 0, 1, 0x62, 1, 0,
-    0, 0, 0, 0, 0, 0, 0x91, 0, 0, 0, 0, 0, 0, 0, 0x0a, 0, 0, 0, 2, 0, 1, 0, 0, 0, 0, 0, 0, 0, 1, 1,
-    0, 0, 0, 0, 0, 0, 0, 1, 0, 1, 0, 0, 0, 1, 0, 0, 0,
-];
+pub const SEGMENT: &[u8] =
+    b"indriseg\x01\0\0\0\x02\0\0\0\x03\0\0\0\0\0\0\0\x02\0\0\0\0\0\0\0\x40\0\0\0\0\0\0\0\x52\0\0\0\0\0\0\0\x7e\0\0\0\0\0\0\0\x9b\0\0\0\0\0\0\0\x02d1\x02\0\0\0\0\0\x02d2\x01\0\0\0\0\0\x01a\x01\0\0\0\0\0\0\0\x7e\0\0\0\0\0\0\0\x13\0\0\0\x01b\x01\0\0\0\0\0\0\0\x91\0\0\0\0\0\0\0\x0a\0\0\0\x02\0\x01\0\0\0\0\0\0\0\x01\x01\0\0\0\0\0\0\0\x01\0\x01\0\0\0\x01\0\0\0";
 
-/// A name and a content.
+/// One row: `d1` has 1 / 2.
+pub const HALF: &[u8] = b"indripri\0\x01\0\0\0\x02d1\x01\0\0\0\0\0\0\0\x02\0\0\0\0\0\0\0";
+
+/// One row: `d1` has 1 / 3.
+pub const THIRD: &[u8] = b"indripri\0\x01\0\0\0\x02d1\x01\0\0\0\0\0\0\0\x03\0\0\0\0\0\0\0";
+
+pub const MANIFEST: &str = "manifest";
+
+pub const FIRST: &str = "seg-0000000000000001";
+
+pub const SECOND: &str = "seg-0000000000000002";
+
+pub const PRIOR_TWO: &str = "pri-0000000000000002";
+
+pub const PRIOR_THREE: &str = "pri-0000000000000003";
+
+/// A name and a content. Where there is no file it has no bytes.
 pub type File = (&'static str, &'static [u8]);
 
 fn file_of(alloc: Global, file: &File) -> Result<(Vec<u8>, Vec<u8>), AllocError> {
@@ -64,28 +62,16 @@ fn file_of(alloc: Global, file: &File) -> Result<(Vec<u8>, Vec<u8>), AllocError>
     Ok((name.as_bytes().to_vec(alloc)?, bytes.to_vec(alloc)?))
 }
 
-/// A store with these files, in which these calls fail.
-pub fn store_of(
-    alloc: Global,
-    files: &[File],
-    fails: Vec<StoreFail>,
-) -> Result<MemStore, AllocError> {
+/// The files that a store in memory is made of.
+pub fn files_of(alloc: Global, files: &[File]) -> Result<Vec<(Vec<u8>, Vec<u8>)>, AllocError> {
     let mut kept = Vec::new(alloc);
     for file in files {
         kept.push(file_of(alloc, file)?)?;
     }
-    Ok(MemStore::new(alloc, kept, fails))
+    Ok(kept)
 }
 
-/// The failure of one call.
-pub fn fails_at(alloc: Global, call: u64, left: Left) -> Result<Vec<StoreFail>, AllocError> {
-    let mut fails = Vec::new(alloc);
-    fails.push(StoreFail { call, left })?;
-    Ok(fails)
-}
-
-/// Whether the file has these bytes. Where there is none it has no bytes.
-pub fn has_bytes<S: Store>(store: &mut S, name: &str, wanted: &[u8]) -> bool {
+fn is_left<S: Store>(store: &mut S, name: &str, wanted: &[u8]) -> bool {
     if name.len() > 30 {
         return false;
     }
@@ -96,7 +82,12 @@ pub fn has_bytes<S: Store>(store: &mut S, name: &str, wanted: &[u8]) -> bool {
     }
 }
 
-/// The same of the manifest.
-pub fn is_manifest(store: &mut MemStore, wanted: &[u8]) -> bool {
-    has_bytes(store, "manifest", wanted)
+/// Whether each of these files has its bytes.
+pub fn are_left<S: Store>(store: &mut S, files: &[File]) -> bool {
+    for (name, bytes) in files {
+        if !is_left(store, name, bytes) {
+            return false;
+        }
+    }
+    true
 }

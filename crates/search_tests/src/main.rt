@@ -1,4 +1,4 @@
-//! Tests of searches in steps, called as their users call them. The program itself does nothing.
+//! Tests of searches in steps and of sums over snapshots, called as their users call them. The program itself does nothing.
 #![tactic(auto)]
 
 #[cfg(test)]
@@ -6,9 +6,9 @@ mod documents;
 #[cfg(test)]
 mod failing;
 #[cfg(test)]
-mod orders;
+mod opened;
 #[cfg(test)]
-mod parts;
+mod orders;
 #[cfg(test)]
 mod queries;
 #[cfg(test)]
@@ -16,6 +16,6 @@ mod searches;
 #[cfg(test)]
 mod stats;
 #[cfg(test)]
-mod steps;
+mod sums;
 
 fn main() {}

@@ -1,91 +1,104 @@
 // Searches over what was opened.
 ghost use Rattle.std.specs.Prelude.{◌≡◌, true, All, IfSome};
-ghost use Rattle.smoothing.specs.Fractions.{Computes};
+ghost use Rattle.ri_base.specs.Ratio.{ratio_of};
+ghost use Rattle.smoothing.specs.Counts.{AreCounts};
+ghost use Rattle.smoothing.specs.Fractions.{dirichlet};
 ghost use Rattle.belief_nodes.specs.Leaves.{HasPrior};
 ghost use Rattle.belief_nodes.specs.Network.{network_tree};
 
-use crate::parts::{Opened, shared};
+use crate::opened::{Opened, shared};
 use crate::queries::query;
 use crate::stats::all_stats;
 use belief_nodes::BeliefNode;
 use ranker::Search;
-use ri_base::{Fraction, Hit, SegFault};
-use smoothing::Rule;
+use ri_base::{Fraction, Hit};
+use smoothing::{Rule, RuleKind, dirichlet_fraction};
 use std::alloc::Global;
 
-/// A search for a query, for at most so many results, that has passed no document yet.
-pub fn begin(alloc: Global, opened: &mut Opened, text: &str, most: u32) -> Option<Search>
+/// A query, and the docnos of its results in order, with one space between them.
+pub type Row = (&'static str, &'static str);
+
+/// A search for a query, for at most ten results, that has passed no document yet.
+fn begin(alloc: Global, opened: &mut Opened, text: &str) -> Option<Search>
     ensures { IfSome result (λ s. All (HasPrior 0) (network_tree s.network).leaves) }
 {
     let checked = query(alloc, text)?;
     let stats = all_stats(alloc, &checked.leaves, opened)?;
     let snapshot = shared(alloc, &opened.snapshot)?;
-    Search::new(alloc, snapshot, checked, &stats, most).ok()
+    Search::new(alloc, snapshot, checked, &stats, 10).ok()
 }
 
-/// A step of a search that can go on.
-fn step_on<F: Fn(u32, u32, u64, u64) -> Fraction>(
-    alloc: Global,
-    search: &mut Search,
-    opened: &mut Opened,
-    docs: u64,
-    rule: &Rule<F>,
-) -> Result<bool, SegFault>
+/// Passes so many documents, with a mu of 1; whether all are passed by now.
+fn step(alloc: Global, search: &mut Search, opened: &mut Opened, docs: u64) -> Option<bool>
     requires usable { search.old.usable ≡ true }
-    requires rule { Computes F.pre F.post rule.now.kind rule.now.f }
     requires plugs { All (HasPrior 0) (network_tree search.old.network).leaves }
     ensures plugs { All (HasPrior 0) (network_tree search.new.network).leaves }
 {
+    let rule = Rule::new(
+        RuleKind::Dirichlet { mu: 1 },
+        |tf, len, cf, total| -> Fraction
+            requires { AreCounts tf len cf total }
+            ensures { ratio_of result ≡ dirichlet 1 tf len cf total }
+        { dirichlet_fraction(1, tf, len, cf, total) },
+    );
     let mut plugs: Vec<Box<dyn BeliefNode>> = Vec::new(alloc);
-    search.step(
+    let answer = search.step(
         alloc,
         docs,
-        rule,
+        &rule,
         &mut plugs,
         &mut opened.store,
         &mut opened.cache,
-    )
+    );
+    answer.ok()
 }
 
-/// Whether all documents are passed by now; nothing where the search can't go on. A fault of the store is told apart.
-pub fn step<F: Fn(u32, u32, u64, u64) -> Fraction>(
-    alloc: Global,
-    search: &mut Search,
-    opened: &mut Opened,
-    docs: u64,
-    rule: &Rule<F>,
-) -> Option<Result<bool, SegFault>>
-    requires rule { Computes F.pre F.post rule.now.kind rule.now.f }
-    requires plugs { All (HasPrior 0) (network_tree search.old.network).leaves }
-    ensures plugs { All (HasPrior 0) (network_tree search.new.network).leaves }
+/// Whether the search passes all documents by steps of so many, 200 steps at most.
+fn passes(alloc: Global, search: &mut Search, opened: &mut Opened, docs: u64) -> bool
+    requires { All (HasPrior 0) (network_tree search.old.network).leaves }
 {
+    for _ in 0..200 {
+        if !search.usable() {
+            return false;
+        }
+        match step(alloc, search, opened, docs) {
+            Some(true) => return true,
+            Some(false) => {}
+            None => return false,
+        }
+    }
+    false
+}
+
+/// Whether these have the docnos of the text, in order.
+fn have_docnos(hits: &[Hit], docnos: &str) -> bool {
+    let mut wanted = docnos.split_whitespace();
+    for hit in hits {
+        match wanted.next() {
+            Some(docno) if docno.as_bytes() == hit.docno.as_bytes() => {}
+            _ => return false,
+        }
+    }
+    wanted.next().is_none()
+}
+
+/// Whether the search has these results.
+fn has_results(search: &Search, docnos: &str) -> bool {
     if !search.usable() {
+        return false;
+    }
+    match search.results() {
+        Some(hits) => have_docnos(hits.as_slice(), docnos),
+        None => false,
+    }
+}
+
+/// Whether a query has just these results, by steps of so many documents; nothing where it fails.
+pub fn is_order(alloc: Global, opened: &mut Opened, row: &Row, docs: u64) -> Option<bool> {
+    let (text, docnos) = row;
+    let mut search = begin(alloc, opened, text)?;
+    if !passes(alloc, &mut search, opened, docs) {
         return None;
     }
-    Some(step_on(alloc, search, opened, docs, rule))
-}
-
-/// The results, once all documents are passed.
-pub fn hits_of(search: &Search) -> Option<&[Hit]> {
-    if !search.usable() {
-        return None;
-    }
-    Some(search.results()?.as_slice())
-}
-
-/// A search that has passed all documents in one step, for at most so many results.
-pub fn whole_search<F: Fn(u32, u32, u64, u64) -> Fraction>(
-    alloc: Global,
-    opened: &mut Opened,
-    text: &str,
-    most: u32,
-    rule: &Rule<F>,
-) -> Option<Search>
-    requires { Computes F.pre F.post rule.now.kind rule.now.f }
-{
-    let mut search = begin(alloc, opened, text, most)?;
-    match step(alloc, &mut search, opened, u64::MAX, rule) {
-        Some(Ok(true)) => Some(search),
-        _ => None,
-    }
+    Some(has_results(&search, docnos))
 }

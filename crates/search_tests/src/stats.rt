@@ -2,10 +2,10 @@
 ghost use Rattle.std.specs.Prelude.{◌≡◌, length, All, IfSome};
 ghost use Rattle.belief_nodes.specs.Leaves.{AreLeafStats};
 
-use crate::parts::Opened;
+use crate::opened::Opened;
 use counts::Counts;
 use query_check::LeafKind;
-use ri_base::LeafStats;
+use ri_base::{ExtentExpr, LeafStats, Name};
 use std::alloc::Global;
 use std::num::NonZeroUsize;
 
@@ -19,6 +19,27 @@ fn bounded(stats: LeafStats) -> Option<LeafStats>
     Some(stats)
 }
 
+/// The sums of an expression; nothing where they can't be read.
+pub fn sums_of(
+    alloc: Global,
+    expr: &ExtentExpr,
+    context: Option<&Name>,
+    generation: u64,
+    opened: &mut Opened,
+    counts: &mut Counts,
+) -> Option<LeafStats> {
+    let stats = counts.leaf(
+        alloc,
+        expr,
+        context,
+        &opened.snapshot,
+        generation,
+        &mut opened.store,
+        &mut opened.cache,
+    );
+    stats.ok()
+}
+
 fn stats_of(
     alloc: Global,
     leaf: &LeafKind,
@@ -27,19 +48,17 @@ fn stats_of(
 ) -> Option<LeafStats>
     ensures { IfSome result (λ s. AreLeafStats s) }
 {
-    let LeafKind::Extents(expr, context) = leaf else {
-        return bounded(LeafStats { cf: 0, total: 0 });
-    };
-    let stats = counts.leaf(
-        alloc,
-        expr,
-        context.as_ref(),
-        &opened.snapshot,
-        0,
-        &mut opened.store,
-        &mut opened.cache,
-    );
-    bounded(stats.ok()?)
+    match leaf {
+        LeafKind::Extents(expr, context) => {
+            bounded(sums_of(alloc, expr, context.as_ref(), 0, opened, counts)?)
+        }
+        LeafKind::Prior(_) => None,
+    }
+}
+
+/// No sums, with room for two.
+pub fn counts_of(alloc: Global) -> Option<Counts> {
+    Counts::new(alloc, NonZeroUsize::new(2)?).ok()
 }
 
 /// The sums of all leaves over the live documents.
@@ -47,7 +66,7 @@ pub fn all_stats(alloc: Global, leaves: &[LeafKind], opened: &mut Opened) -> Opt
     ensures each { IfSome result (λ v. length v.items ≡ length leaves.now) }
     ensures range { IfSome result (λ v. All (λ s. AreLeafStats s) v.items) }
 {
-    let mut counts = Counts::new(alloc, NonZeroUsize::MIN).ok()?;
+    let mut counts = counts_of(alloc)?;
     let mut all = Vec::new(alloc);
     for leaf in leaves {
         all.push(stats_of(alloc, leaf, opened, &mut counts)?).ok()?;

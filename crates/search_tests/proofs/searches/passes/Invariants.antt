@@ -1,7 +1,7 @@
 use Rattle.std.proofs.Common.{All}
 use Rattle.belief_nodes.specs.Leaves.{HasPrior}
 use Rattle.belief_nodes.specs.Network.{network_tree}
-use Rattle.search_tests.proofs.steps.ends_with.Given as goal
+use Rattle.search_tests.proofs.searches.passes.Given as goal
 
 abbrev pub invariant-loop : goal.invariant-loop
-invariant-loop g l = All (HasPrior 0) (network_tree l.search.network).leaves
+invariant-loop l = All (HasPrior 0) (network_tree l.search.network).leaves

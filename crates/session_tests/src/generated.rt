@@ -66,10 +66,7 @@ fn orders(rt: HostRuntime) -> Result<(), Fail> {
 
 #[test]
 fn sums(rt: HostRuntime) -> Result<(), Fail> {
-    assert_eq!(rt; (live_count(3), live_tokens(3)), (2, 6));
-    assert_eq!(rt;
-        (live_count(100_000), live_tokens(100_000)),
-        (66_667, 200_000)
-    );
+    assert_eq!(rt; live_count(3), 2);
+    assert_eq!(rt; live_tokens(3), 6);
     Ok(())
 }

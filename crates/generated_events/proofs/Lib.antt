@@ -1,0 +1,3 @@
+pub mod DocnoLemmas
+pub mod EventLemmas
+pub mod SumLemmas

@@ -1,0 +1,2 @@
+pub mod Beaten
+pub mod Counts

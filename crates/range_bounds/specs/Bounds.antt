@@ -1,6 +1,6 @@
 -- Bounds of the beliefs of the leaves of a query in the windows of the documents of a range.
 use Rattle.std.specs.Prelude.{◌≡◌, ℕ, max, List, [], length, Option, None, Some, flat_map, map, zip}
-use Rattle.std.specs.List.{AllZip}
+use Rattle.std.specs.List.{All, AllZip, Contains}
 use Rattle.ri_base.specs.Documents.{Document}
 use Rattle.ri_base.specs.Pair.{Pair}
 use Rattle.ri_base.specs.Ratio.{Ratio}
@@ -16,7 +16,7 @@ use Rattle.belief_nodes.specs.Priors.{IsGreatestOf, Prior, prior_at, prior_fract
 use Rattle.expression_words.specs.Words.{names, words}
 use Rattle.range_bounds.specs.Most.{most}
 use Rattle.range_bounds.specs.Ranges.{least_length}
-use Rattle.range_bounds.specs.Tables.{told_most}
+use Rattle.range_bounds.specs.Tables.{names_of, terms_of, told_most}
 use Rattle.range_bounds.specs.declared.range_counts.RangeCounts.{RangeCounts}
 use Rattle.range_bounds.specs.declared.table.RangeTable.{RangeTable}
 
@@ -74,3 +74,8 @@ all_leaf_words leaves = flat_map leaf_words leaves
 
 abbrev pub all_leaf_names : List LeafTree → List (List ℕ)
 all_leaf_names leaves = flat_map leaf_names leaves
+
+-- the table counts what these leaves ask for
+pub record CountsFor (leaves : List LeafTree) (table : RangeTable) : Type 0 where
+  pub words : All (Contains (terms_of table)) (all_leaf_words leaves)
+  pub names : All (Contains (names_of table)) (all_leaf_names leaves)

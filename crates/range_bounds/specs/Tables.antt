@@ -1,6 +1,6 @@
 -- What a table of ranges tells of the documents of a part.
 use Rattle.std.specs.Prelude.{◌≡◌, ◌<◌, ◌≤◌, ℕ, ◌*◌, List, length, map, position, slice_index_or}
-use Rattle.std.specs.List.{All}
+use Rattle.std.specs.List.{All, AllZip}
 use Rattle.std.specs.Option.{option_map_or}
 use Rattle.std.specs.Str.{bytes_eq}
 use Rattle.ri_base.specs.Documents.{Document, IsDocument}
@@ -45,6 +45,10 @@ range_count table = length table.ranges.items
 -- it has the counts of each range of these documents
 abbrev pub IsTableOf : List Document → RangeTable → Type 0
 IsTableOf docs table = AreAllCounts (terms_of table) (names_of table) docs table.ranges.items
+
+-- each table is that of its documents
+abbrev pub AreTablesOf : List (List Document) → List RangeTable → Type 0
+AreTablesOf docs tables = AllZip IsTableOf docs tables
 
 -- what the counts of a range tell of an expression
 abbrev pub told_most : RangeTable → RangeCounts → ExprTree → ℕ

@@ -11,9 +11,9 @@ ghost use Rattle.belief_nodes.specs.Leaves.{AreLeafStats, HasPrior};
 ghost use Rattle.belief_nodes.specs.Network.{network_tree};
 ghost use Rattle.belief_nodes.specs.Priors.{IsGreatestOf, prior_at, prior_fractions};
 ghost use Rattle.windows.specs.Windows.{windows};
-ghost use Rattle.range_bounds.specs.Bounds.{AreBounds, AreCovered, IsToldBound, all_leaf_names, all_leaf_words, least_scored};
+ghost use Rattle.range_bounds.specs.Bounds.{AreBounds, AreCovered, CountsFor, IsToldBound, least_scored};
 ghost use Rattle.range_bounds.specs.Ranges.{range_documents};
-ghost use Rattle.range_bounds.specs.Tables.{IsTableOf, names_of, range_count, terms_of};
+ghost use Rattle.range_bounds.specs.Tables.{IsTableOf, range_count};
 
 use crate::most::most;
 use crate::range_counts::RangeCounts;
@@ -37,8 +37,7 @@ impl RangeTable {
     ) -> Result<Fractions, NoMemory>
         requires rule { Computes F.pre F.post rule.now.kind rule.now.f }
         requires range { range < range_count self.now }
-        requires terms { All (Contains (terms_of self.now)) (all_leaf_words (network_tree network.now).leaves) }
-        requires names { All (Contains (names_of self.now)) (all_leaf_names (network_tree network.now).leaves) }
+        requires counts { CountsFor (network_tree network.now).leaves self.now }
         requires plugs { All (HasPrior (length plugs.now)) (network_tree network.now).leaves }
         ensures exact { (docs : List Document) → IsTableOf docs self.now → IfOk result
             (λ bounds. AreBounds rule.now.kind (map (λ plug. meaning plug) plugs.now) (network_tree network.now).range

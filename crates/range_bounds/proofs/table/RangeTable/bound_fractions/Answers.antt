@@ -70,7 +70,7 @@ returns-clause-exact g c = λ docs is_table.
     let all : AreToldBounds kind priors network.range table counts leaves network.stats.items (map ratio_of c.loop-i.bounds.items) =
     subst (λ (ls : List LeafTree). AreToldBounds kind priors network.range table counts ls network.stats.items (map ratio_of c.loop-i.bounds.items)) (take_all i leaves end)
     (subst (λ (ss : List LeafStats). AreToldBounds kind priors network.range table counts (take i leaves) ss (map ratio_of c.loop-i.bounds.items)) (take_all i network.stats.items (omega (arith, end, network.kept.each))) c.loop-i.invariant) in
-    rw c.of.ensures (bounds_told kind priors network.range table counts (range_documents docs c.args.range) leaves network.stats.items (map ratio_of c.loop-i.bounds.items) counted c.requires.terms c.requires.names all)
+    rw c.of.ensures (bounds_told kind priors network.range table counts (range_documents docs c.args.range) leaves network.stats.items (map ratio_of c.loop-i.bounds.items) counted c.requires.counts.words c.requires.counts.names all)
 
 pub returns-clause-covers : goal.returns-clause-covers
 returns-clause-covers g c = λ docs d w is_table has in_it.

@@ -1,0 +1,7 @@
+//! The tables of the ranges of a snapshot's parts.
+#![tactic(auto)]
+
+mod asked;
+mod tables;
+
+pub use tables::tables;

@@ -20,7 +20,7 @@ fn with_field(begun: Begun, span: &FieldSpan, name: &Name) -> Begun
 }
 
 /// At how many tokens fields of the name begin, of fields in their order.
-pub(crate) fn begin_count(spans: &[FieldSpan], name: &Name) -> u32
+pub(crate) fn begin_count(spans: &[FieldSpan], name: &Name) -> u64
     requires { AllPairs IsBefore spans.now }
     ensures { result ≡ distinct_count nat_eq (field_begins name.now spans.now) }
 {

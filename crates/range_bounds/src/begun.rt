@@ -4,13 +4,13 @@ ghost use Rattle.std.specs.Prelude.{◌≤◌};
 /// How many of the begins so far differ, and the token behind the last of them.
 #[derive(Clone, Copy, Debug)]
 pub(crate) struct Begun {
-    pub count: u32,
-    pub next: u32,
+    pub count: u64,
+    pub next: u64,
     ghost few: { count ≤ next },
 }
 
 impl Begun {
-    ghost use Rattle.std.specs.Prelude.{◌<◌, ◌-◌, ◌^◌, ◌∷◌, ◌++◌, [], ℕ, List};
+    ghost use Rattle.std.specs.Prelude.{◌∷◌, ◌++◌, [], ℕ, List};
     ghost use Rattle.range_bounds.specs.Begins.{IsCounted, IsNoEarlier};
 
     /// No field begins yet.
@@ -22,9 +22,9 @@ impl Begun {
 
     /// With one field more, which begins no earlier than those so far.
     pub fn with(self, begin: u32) -> Begun
-        requires { begin < 2 ^ 32 - 1 }
         ensures { (begins : List ℕ) → IsNoEarlier begins begin → IsCounted begins self → IsCounted (begins ++ begin ∷ []) result }
     {
+        let begin = u64::from(begin);
         if begin < self.next {
             return self;
         }

@@ -50,11 +50,11 @@ fn most_begins<P: Postings>(part: &P, name: &Name, first: u32, end: u32) -> u32
     requires within { end ≤ length (P.documents part.now) }
     ensures { result ≡ capped (most_begins (section (P.documents part.now) first end) name.now) }
 {
-    let mut most = 0;
+    let mut most = 0u64;
     for id in first..end {
         most = most.max(begin_count(part.spans(id), name));
     }
-    most.min(MAX_DOC_TOKENS as u32)
+    most.min(MAX_DOC_TOKENS as u64) as u32
 }
 
 /// The same of each name.

@@ -1,5 +1,5 @@
 -- What is kept of items, one after the other.
-use Rattle.std.proofs.Common.{◌≡◌, ◌<◌, ◌≤◌, ℕ, ◌+◌, ◌-◌, ◌*◌, ◌/◌, ◌^◌, Bool, true, false, List, [], ◌∷◌, ◌++◌, length, refl, sym, ap, subst, ◌∙◌, arith, nat_lt, nat_le, get_or, ⊎_elim, not, append_assoc, Option}
+use Rattle.std.proofs.Common.{◌≡◌, ◌<◌, ◌≤◌, ℕ, ◌+◌, ◌-◌, ◌*◌, ◌/◌, ◌%◌, ◌^◌, Bool, true, false, List, [], ◌∷◌, ◌++◌, length, refl, sym, ap, subst, ◌∙◌, arith, nat_lt, nat_le, get_or, ⊎_elim, not, append_assoc, Option}
 use Rattle.std.specs.BinaryHeap.{IsUpperBound}
 use Rattle.std.specs.Cmp.{IsTotalOrder}
 use Rattle.std.specs.List.{All, filter}
@@ -168,3 +168,11 @@ module _ {X : Type 0} (order : X → X → Ordering) (total : IsTotalOrder order
         let some = count_all q taken (All-weaker (λ x. is_beaten_by number scale k all (number x) ≡ false) (λ x. q x ≡ true) (λ x e. ap not e) taken h.in_question) in
         let none = count_none q h.passed (All-weaker (Gone all) (λ x. q x ≡ false) (λ x e. ap not e) h.passed h.beaten) in
         omega (arith, some, none, count_append q taken h.passed, count_permutation q all (taken ++ h.passed) h.split, length-filter q all)
+
+-- ---- the threshold as it is computed
+
+pub last_value : (c s r : ℕ) → c < 2 ^ 80 → s < 2 ^ 60 → r ≡ ((c + s) * 268435456 % 340282366920938463463374607431768211456 - s) / 268435456 → r ≡ upper s c / 2 ^ 28
+last_value c s r small few e = e ∙ ap (λ m. (m - s) / 268435456) (mod_small ((c + s) * 268435456) (omega (arith, small, few)))
+  where
+    mod_small : (m : ℕ) → m < 340282366920938463463374607431768211456 → m % 340282366920938463463374607431768211456 ≡ m
+    mod_small m h = omega (arith, h)

@@ -66,7 +66,10 @@ fn threshold_of<T: Leading + Drop>(heap: &BinaryHeap<T>, most: usize, scale: u64
     if heap.len() < most {
         return None;
     }
-    heap.peek().map(|top| last_below(top.leading(), scale))
+    match heap.peek() {
+        Some(top) => Some(last_below(top.leading(), scale)),
+        None => None,
+    }
 }
 
 /// Puts an item that comes before the greatest in its place, and answers the one that isn't held.

@@ -66,6 +66,10 @@ IsCounted-old begins begin begun old no_earlier h = record {
   last = λ b e. unchanged b ∙ h.last b e;
 }
   where
+    last_false : (c : Bool) → c || false ≡ c
+    last_false true = refl
+    last_false false = refl
+
     there : (next : ℕ) → begun.next ≡ next → is_member nat_eq begins begin ≡ true
     there zero e = absurd (omega (arith, old, e))
     there (suc b) e =
@@ -80,10 +84,6 @@ IsCounted-old begins begin begun old no_earlier h = record {
         or_right (is_member nat_eq begins b) (is_member nat_eq (begin ∷ []) b) e ∙ sym has)
         (λ (e : is_member nat_eq (begin ∷ []) b ≡ false). ap (λ c. is_member nat_eq begins b || c) e ∙ last_false (is_member nat_eq begins b))
         (cases_Bool (is_member nat_eq (begin ∷ []) b))
-
-    last_false : (c : Bool) → c || false ≡ c
-    last_false true = refl
-    last_false false = refl
 
 -- how many differ
 pub IsCounted-count : (begins : List ℕ) (begun : Begun) → IsCounted begins begun → begun.count ≡ distinct_count nat_eq begins

@@ -42,8 +42,9 @@ impl RangeCounts {
         ensures honest { P.sound part.old → IfErr result IsOutside }
         ensures store { result ≡ Err SegFault.Store → Rose (P.faults part.old) (P.faults part.new) }
     {
+        let docs = part.docs();
         let first = RANGE_IDS * range;
-        let end = first + (part.docs() - first).min(RANGE_IDS);
+        let end = first + (docs - first).min(RANGE_IDS);
         let least = least_length(part, first, end);
         let begins = all_most_begins(alloc, part, names, first, end)?;
         let places = all_most_places(alloc, part, terms, first, end)?;

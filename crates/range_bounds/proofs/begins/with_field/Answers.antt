@@ -4,8 +4,8 @@ use Rattle.range_bounds.specs.Begins.{IsCounted, IsNoEarlier}
 use Rattle.range_bounds.proofs.BeginLemmas.{IsCounted-field, IsCounted-other}
 use Rattle.range_bounds.proofs.begins.with_field.Goals as goal
 
-pub returns-then-name-name : goal.returns-then-name-name
-returns-then-name-name c = λ begins no_earlier h.
+pub returns-then-ne : goal.returns-then-ne
+returns-then-ne c = λ begins no_earlier h.
     let other : bytes_eq c.args.span.now.name c.args.name.now ≡ false = search rules in
     IsCounted-other begins c.args.name.now c.args.span.now c.args.begun other h
 

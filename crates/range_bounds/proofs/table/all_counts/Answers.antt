@@ -20,11 +20,13 @@ one_more P xs x all here i d inside = ⊎_elim
     (cases_lt i (length xs))
 
 pub loop-range-init : goal.loop-range-init
-loop-range-init g c = record {
-  keeps = record { documents_stay = refl; no_fault_lost = omega arith; sound_stays = λ u. u; stays_quiet = g.met.P.Postings.quiet_same _ };
-  long = refl;
-  exact = λ sound range d inside. absurd (omega (arith, inside));
-}
+loop-range-init g c =
+    let none : length c.new-ranges.result.items ≡ 0 = search rules in
+    record {
+      keeps = record { documents_stay = refl; no_fault_lost = omega arith; sound_stays = λ u. u; stays_quiet = g.met.P.Postings.quiet_same _ };
+      long = none;
+      exact = λ sound range d inside. absurd (omega (arith, inside, none));
+    }
 
 pub of-requires : goal.of-requires
 of-requires g c =

@@ -1,7 +1,7 @@
 use Rattle.std.proofs.Common.{rules, ◌≡◌, ◌<◌, ◌≤◌, ◌+◌, ◌∙◌, ◌++◌, ◌∷◌, [], List, length, get_or, map, take, refl, sym, ap, subst, arith}
 use Rattle.std.specs.Prelude.{All}
 use Rattle.std.proofs.Math.ListN.{get_or-map}
-use Rattle.std.proofs.lemmas.List.{length-map, map-append, take_all}
+use Rattle.std.proofs.lemmas.List.{get_or_default, length-map, map-append, take_all}
 use Rattle.ri_base.specs.Ratio.{Ratio, ratio_of}
 use Rattle.ri_base.specs.declared.hit.LeafStats.{LeafStats}
 use Rattle.ri_base.specs.declared.query.Range.{Range}
@@ -36,21 +36,24 @@ loop-i-preserved g c =
     let items = c.leaves-leaf-items.result.now in
     let i = c.loop-i.i in
     let leaf = c.leaf-item.result in
-    let stat : LeafStats = c.index-stat.result.now in
+    let none : LeafStats = record { cf = 0; total = 0 } in
+    let stat : LeafStats = get_or network.stats.items i none in
     let told : map leaf_tree items ≡ leaves = c.leaves-leaf-items.ensures in
     let first : i < length (map leaf_tree items) = rw (length-map items leaf_tree) c.loop-i-test.true in
     let inside : i < length leaves = subst (λ (ls : List LeafTree). i < length ls) told first in
     let here : leaf_tree leaf ≡ get_or leaves i (leaf_tree leaf) =
     subst (λ (ls : List LeafTree). leaf_tree leaf ≡ get_or ls i (leaf_tree leaf)) told (ap leaf_tree c.leaf-item.is ∙ sym (get_or-map leaf_tree items i leaf)) in
-    let stat_at : stat ≡ get_or network.stats.items i stat = search rules in
+    let short : i < length network.stats.items = omega (arith, inside, network.kept.each) in
+    let stat_at : stat ≡ get_or network.stats.items i stat = get_or_default network.stats.items i none stat short in
     let bound : IsToldBound kind priors network.range table counts (leaf_tree leaf) stat (ratio_of c.leaf_bound-bound.result) =
-    subst (λ (r : Range). IsToldBound kind priors r table counts (leaf_tree leaf) stat (ratio_of c.leaf_bound-bound.result)) c.range.ensures c.leaf_bound-bound.ensures in
+    subst (λ (ss : List LeafStats). IsToldBound kind priors network.range table counts (leaf_tree leaf) (get_or ss i none) (ratio_of c.leaf_bound-bound.result)) c.stats-stats.ensures
+    (subst (λ (r : Range). IsToldBound kind priors r table counts (leaf_tree leaf) (get_or c.stats-stats.result.now i none) (ratio_of c.leaf_bound-bound.result)) c.range.ensures c.leaf_bound-bound.ensures) in
     let pushed : c.push.new.self.items ≡ c.loop-i.bounds.items ++ c.leaf_bound-bound.result ∷ [] = search rules in
     let more : map ratio_of c.push.new.self.items ≡ map ratio_of c.loop-i.bounds.items ++ ratio_of c.leaf_bound-bound.result ∷ [] =
     ap (map ratio_of) pushed ∙ map-append ratio_of c.loop-i.bounds.items (c.leaf_bound-bound.result ∷ []) in
     subst (AreToldBounds kind priors network.range table counts (take (i + 1) leaves) (take (i + 1) network.stats.items)) (sym more)
     (bounds_more kind priors network.range table counts leaves network.stats.items (map ratio_of c.loop-i.bounds.items) i (leaf_tree leaf) stat (ratio_of c.leaf_bound-bound.result)
-    inside (omega (arith, inside, network.kept.each)) here stat_at c.loop-i.invariant bound)
+    inside short here stat_at c.loop-i.invariant bound)
 
 pub returns-clause-exact : goal.returns-clause-exact
 returns-clause-exact g c = λ docs is_table.

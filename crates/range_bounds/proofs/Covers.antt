@@ -1,12 +1,12 @@
 -- The bounds of a range cover the beliefs in each window of each of its documents.
-use Rattle.std.proofs.Common.{◌≡◌, ◌<◌, ◌≤◌, ◌+◌, ◌-◌, ◌*◌, ◌^◌, ℕ, zero, suc, Bool, true, false, cond, max, min, nat_eq, nat_lt, List, [], ◌∷◌, length, map, filter, get_or, Option, None, Some, refl, sym, ap, subst, ◌∙◌, arith, ⊎_elim, inl, inr}
-use Rattle.std.specs.Prelude.{Contains, fold, zip}
-use Rattle.std.specs.List.{All, AllZip}
+use Rattle.std.proofs.Common.{◌≡◌, ◌<◌, ◌≤◌, ◌*◌, ◌^◌, ℕ, zero, suc, Bool, true, false, cond, max, min, nat_eq, nat_lt, List, [], ◌∷◌, length, map, filter, get_or, Option, None, Some, sym, ap, subst, ◌∙◌, arith, ⊎_elim, inl, inr}
+use Rattle.std.specs.Prelude.{Contains, fold}
+use Rattle.std.specs.List.{All}
 use Rattle.std.specs.Set.{distinct_count, is_member, unique_keys}
 use Rattle.std.specs.Str.{bytes_eq}
 use Rattle.std.proofs.lemmas.Bool.{cases_Bool, eq-eqb, or_left, or_right}
 use Rattle.std.proofs.lemmas.List.{get_or-map, length-map}
-use Rattle.std.proofs.lemmas.List.Elements.{All-cons, All-contains, All-filter, All-head, All-map, All-nil, All-tail, All-weaker}
+use Rattle.std.proofs.lemmas.List.Elements.{All-cons, All-contains, All-filter, All-map, All-nil}
 use Rattle.std.proofs.lemmas.Slice.Eq.{bytes_eq-Decides}
 use Rattle.ri_base.specs.Documents.{AreFields, Document, Field, IsDocument}
 use Rattle.ri_base.specs.Expression.{ExprTree, ExprTrees, word, ordered, unordered, syn, any, band, in_field, none, more}
@@ -17,11 +17,11 @@ use Rattle.ri_base.specs.declared.hit.LeafStats.{LeafStats}
 use Rattle.ri_base.specs.declared.limits.TheConstants.{MAX_DOC_TOKENS}
 use Rattle.ri_base.specs.declared.query.Range.{Range}
 use Rattle.ri_base.specs.declared.query.Range.TheVariants.{Whole, Field as Fields, Passages}
-use Rattle.field_extents.specs.Extents.{begin_count, is_inside}
+use Rattle.field_extents.specs.Extents.{is_inside}
 use Rattle.field_extents.specs.Fields.{lies_in_some}
 use Rattle.field_extents.proofs.Laws.{begin_count-le, begin_count-le-covered_count, covered_count-le}
-use Rattle.extent_lists.specs.Extents.{Ext, Exts, IsField}
-use Rattle.extent_lists.specs.Operators.{HasEach, IsChain, IsInSome}
+use Rattle.extent_lists.specs.Extents.{Ext, Exts}
+use Rattle.extent_lists.specs.Operators.{IsChain, IsInSome}
 use Rattle.extent_evaluation.specs.Counts.{counted, len, tf}
 use Rattle.extent_evaluation.specs.Listed.{extent_list}
 use Rattle.extent_evaluation.proofs.ListedLemmas.{listing}
@@ -32,12 +32,12 @@ use Rattle.smoothing.specs.declared.rule.RuleKind.{RuleKind}
 use Rattle.smoothing.proofs.Rises.{covered_kind}
 use Rattle.query_check.specs.Leaves.{LeafTree, extents, prior}
 use Rattle.belief_nodes.specs.Leaves.{AreLeafStats}
-use Rattle.belief_nodes.specs.Priors.{Prior, prior_at, prior_fraction, prior_fractions}
+use Rattle.belief_nodes.specs.Priors.{Prior, prior_at}
 use Rattle.belief_nodes.proofs.LeafBeliefs.{prior_kept}
 use Rattle.belief_nodes.proofs.Lists.{all_first, all_rest}
 use Rattle.windows.specs.Windows.{passage, passage_numbers, window, windows}
 use Rattle.range_bounds.specs.Bounds.{AreBounds, AreCovered, IsLeafBound, belief_in, least_scored}
-use Rattle.range_bounds.specs.Most.{most, most_by}
+use Rattle.range_bounds.specs.Most.{most}
 use Rattle.range_bounds.specs.Ranges.{field_begins, greatest, least_length, most_begins, most_places}
 use Rattle.range_bounds.specs.Tables.{AreFormed}
 use Rattle.range_bounds.proofs.Members.{HasFew, member_unique}

@@ -1,5 +1,5 @@
 -- Smaller beliefs have a greater key.
-use Rattle.std.proofs.Common.{◌≤◌, ◌*◌, ℕ, zero, suc, List, [], ◌∷◌, arith, mul-le-mul_left}
+use Rattle.std.proofs.Common.{◌≤◌, ℕ, zero, suc, List, [], ◌∷◌, arith, mul-le-mul_left}
 use Rattle.std.specs.Prelude.{All, slice_index}
 use Rattle.std.specs.List.{AllZip}
 use Rattle.ri_base.specs.Ratio.{IsBelief, Ratio}

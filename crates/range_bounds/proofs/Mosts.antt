@@ -1,5 +1,5 @@
 -- Each operator's extents begin at no more places than its count says.
-use Rattle.std.proofs.Common.{◌≡◌, ◌<◌, ◌≤◌, ◌+◌, ℕ, zero, suc, Bool, true, false, cond, nat_eq, nat_lt, List, [], ◌∷◌, ◌++◌, length, length-append, map, slice_get, Some, refl, sym, ap, ◌∙◌, subst, arith, ⊎_elim}
+use Rattle.std.proofs.Common.{◌≡◌, ◌<◌, ◌≤◌, ◌+◌, ℕ, zero, suc, Bool, true, false, cond, nat_eq, nat_lt, List, [], ◌∷◌, ◌++◌, length, length-append, map, slice_get, Some, refl, sym, subst, arith, ⊎_elim}
 use Rattle.std.specs.List.{All}
 use Rattle.std.specs.Set.{distinct_count, is_member}
 use Rattle.std.specs.Str.{bytes_eq}

@@ -1,4 +1,4 @@
-use Rattle.std.proofs.Common.{◌+◌, ◌∙◌, nat_eq, take, sym, ap, subst}
+use Rattle.std.proofs.Common.{◌∙◌, nat_eq, take, sym, ap, subst}
 use Rattle.std.specs.Set.{distinct_count}
 use Rattle.std.proofs.lemmas.List.{take_all}
 use Rattle.range_bounds.specs.Begins.{IsCounted}

@@ -1,4 +1,4 @@
-use Rattle.std.proofs.Common.{rules, ◌≡◌, ◌∷◌, ◌++◌, [], true, false, ap, subst, sym}
+use Rattle.std.proofs.Common.{rules, ◌≡◌, ◌∷◌, ◌++◌, [], true, false, subst, sym}
 use Rattle.std.specs.Str.{bytes_eq}
 use Rattle.range_bounds.specs.Begins.{IsCounted, IsNoEarlier}
 use Rattle.range_bounds.proofs.BeginLemmas.{IsCounted-field, IsCounted-other}

@@ -1,7 +1,6 @@
-use Rattle.std.proofs.Common.{◌≡◌, ◌∙◌, max, map, ap, arith}
+use Rattle.std.proofs.Common.{◌∙◌, max, ap, arith}
 use Rattle.ri_base.specs.Expression.{expr_tree}
 use Rattle.smoothing.specs.Fractions.{fraction_of}
-use Rattle.range_bounds.specs.Bounds.{least_scored}
 use Rattle.range_bounds.specs.Tables.{told_most}
 use Rattle.range_bounds.proofs.bounds.leaf_bound.Goals as goal
 

@@ -1,4 +1,4 @@
-use Rattle.std.proofs.Common.{◌≡◌, ◌≤◌, ◌∙◌, ℕ, Bool, List, cond, map, ap, sym, unwrap_or, arith}
+use Rattle.std.proofs.Common.{◌∙◌, cond, map, ap, sym, unwrap_or, arith}
 use Rattle.ri_base.specs.Expression.{expr_tree, expr_trees}
 use Rattle.ri_base.specs.declared.expression.ExtentExpr.{ExtentExpr}
 use Rattle.range_bounds.specs.Most.{capped, each_occurs, most_of_first, total_most}

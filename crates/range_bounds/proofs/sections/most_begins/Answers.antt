@@ -1,7 +1,7 @@
 use Rattle.std.proofs.Common.{◌≡◌, ◌<◌, ◌∙◌, length, max, nat_eq, sym, ap, arith}
 use Rattle.std.specs.Set.{distinct_count}
 use Rattle.ri_base.specs.Collection.{document_at}
-use Rattle.ri_base.specs.Documents.{Document, Field}
+use Rattle.ri_base.specs.Documents.{Document}
 use Rattle.range_bounds.specs.Ranges.{field_begins, most_begins, section}
 use Rattle.range_bounds.proofs.SectionLemmas.{folded, section_end, section_none}
 use Rattle.range_bounds.proofs.sections.most_begins.Goals as goal

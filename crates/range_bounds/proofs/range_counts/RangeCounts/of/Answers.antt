@@ -1,4 +1,4 @@
-use Rattle.std.proofs.Common.{◌≡◌, ◌*◌, ◌∙◌, ℕ, List, map, ap, subst, arith}
+use Rattle.std.proofs.Common.{◌≡◌, ◌*◌, ◌∙◌, map, ap, subst, arith}
 use Rattle.range_bounds.specs.Most.{capped}
 use Rattle.range_bounds.specs.Ranges.{least_length, most_begins, most_places, range_documents, section}
 use Rattle.range_bounds.specs.Tables.{AreFormed}

@@ -1,8 +1,8 @@
-use Rattle.std.proofs.Common.{rules, ◌≡◌, ◌<◌, ◌≤◌, ◌+◌, ◌∙◌, ◌++◌, ◌∷◌, [], List, length, get_or, map, take, refl, sym, ap, subst, arith}
+use Rattle.std.proofs.Common.{rules, ◌≡◌, ◌<◌, ◌≤◌, ◌+◌, ◌∙◌, ◌++◌, ◌∷◌, [], List, length, get_or, map, take, sym, ap, subst, arith}
 use Rattle.std.specs.Prelude.{All}
 use Rattle.std.proofs.Math.ListN.{get_or-map}
 use Rattle.std.proofs.lemmas.List.{get_or_default, length-map, map-append, take_all}
-use Rattle.ri_base.specs.Ratio.{Ratio, ratio_of}
+use Rattle.ri_base.specs.Ratio.{ratio_of}
 use Rattle.ri_base.specs.declared.hit.LeafStats.{LeafStats}
 use Rattle.ri_base.specs.declared.query.Range.{Range}
 use Rattle.query_check.specs.Leaves.{LeafTree, leaf_tree}

@@ -35,13 +35,13 @@ tables_push [] (t ∷ ts) d table h k = absurd h
 tables_push (x ∷ xs) [] d table h k = absurd h
 tables_push (x ∷ xs) (t ∷ ts) d table h k = (h.0, tables_push xs ts d table h.1 k)
 
+map_push : {X : Type 0} (f : X → List Document) (ys : List X) (x : X) → map f (ys ++ x ∷ []) ≡ map f ys ++ f x ∷ []
+map_push f [] x = refl
+map_push f (y ∷ ys) x = ap (λ zs. f y ∷ zs) (map_push f ys x)
+
 pub tables_more : {X : Type 0} (f : X → List Document) (xs : List X) (i : ℕ) (x : X) (tables now : List RangeTable) (table : RangeTable) → i < length xs → x ≡ get_or xs i x → now ≡ tables ++ table ∷ []
     → AreTablesOf (map f (take i xs)) tables → IsTableOf (f x) table → AreTablesOf (map f (take (i + 1) xs)) now
 tables_more f xs i x tables now table inside here is h k =
     let whole : take (i + 1) xs ≡ take i xs ++ x ∷ [] = take_more xs i x inside ∙ ap (λ y. take i xs ++ y ∷ []) (sym here) in
-    subst (AreTablesOf (map f (take (i + 1) xs))) (sym is) (subst (λ ds. AreTablesOf ds (tables ++ table ∷ [])) (sym (ap (map f) whole ∙ map_push (take i xs)))
+    subst (AreTablesOf (map f (take (i + 1) xs))) (sym is) (subst (λ ds. AreTablesOf ds (tables ++ table ∷ [])) (sym (ap (map f) whole ∙ map_push f (take i xs) x))
     (tables_push (map f (take i xs)) tables (f x) table h k))
-  where
-    map_push : (ys : List X) → map f (ys ++ x ∷ []) ≡ map f ys ++ f x ∷ []
-    map_push [] = refl
-    map_push (y ∷ ys) = ap (λ zs. f y ∷ zs) (map_push ys)

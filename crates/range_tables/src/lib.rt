@@ -2,6 +2,6 @@
 #![tactic(auto)]
 
 mod asked;
-mod tables;
+mod part_tables;
 
-pub use tables::tables;
+pub use part_tables::tables;

@@ -15,7 +15,7 @@ use Rattle.range_bounds.specs.Bounds.{CountsFor}
 use Rattle.range_bounds.specs.Tables.{AreTablesOf, IsTableOf, names_of, terms_of}
 use Rattle.range_tables.proofs.ReadingLemmas.{backed-at, keeps-among}
 use Rattle.range_tables.proofs.TableLemmas.{tables_more}
-use Rattle.range_tables.proofs.tables.tables.Goals as goal
+use Rattle.range_tables.proofs.part_tables.tables.Goals as goal
 
 pub loop-marked-init : goal.loop-marked-init
 loop-marked-init g c = record {
@@ -69,11 +69,17 @@ returns-in_err-table-clause-honest g c = λ backed cached.
     let part : IsPartBacked here m.source = subst (λ (f : Option Files). IsPartBacked f m.source) (sym same) (backed-at told parts c.loop-marked.marked-index m c.loop-marked-test.true c.marked-item.is backed) in
     let blocks : IsCacheBacked here c.loop-marked.cache =
     subst (λ (f : Option Files). IsCacheBacked f c.loop-marked.cache) (sym same) (IsCacheBacked-kept told (IsFileAmong parts) c.args.cache.now c.loop-marked.cache inv.cache cached) in
-    let p = err_from_is_err_and c.from_residual.result c.from_residual.ensures.1 in
+    let p = err_from_is_err_and c.from_residual-in_err-table.result c.from_residual-in_err-table.ensures.1 in
     rw (p.1, p.2) (c.in_err-table.ensures.honest (subst (λ (s : Source). IsPartBacked here s) (sym c.part.ensures.part) part) blocks)
 
 pub returns-in_err-table-clause-cache : goal.returns-in_err-table-clause-cache
 returns-in_err-table-clause-cache g c =
+    let here = g.T.Store.files c.loop-marked.store in
+    keeps-among (g.T.Store.files c.args.store.now) here c.args.parts.now c.loop-marked.marked-index c.marked-item.result c.args.cache.now c.loop-marked.cache c.table_of.new.cache c.loop-marked-test.true c.marked-item.is
+    c.loop-marked.invariant.quiet.same_files c.loop-marked.invariant.cache (subst (λ (s : Source). CacheKeeps here (IsFileOf s) c.loop-marked.cache c.table_of.new.cache) c.part.ensures.part c.table_of.ensures.cache)
+
+pub returns-in_err-map_err-clause-cache : goal.returns-in_err-map_err-clause-cache
+returns-in_err-map_err-clause-cache g c =
     let here = g.T.Store.files c.loop-marked.store in
     keeps-among (g.T.Store.files c.args.store.now) here c.args.parts.now c.loop-marked.marked-index c.marked-item.result c.args.cache.now c.loop-marked.cache c.table_of.new.cache c.loop-marked-test.true c.marked-item.is
     c.loop-marked.invariant.quiet.same_files c.loop-marked.invariant.cache (subst (λ (s : Source). CacheKeeps here (IsFileOf s) c.loop-marked.cache c.table_of.new.cache) c.part.ensures.part c.table_of.ensures.cache)

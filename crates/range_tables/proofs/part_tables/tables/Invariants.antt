@@ -7,7 +7,7 @@ use Rattle.disk_index.specs.Parts.{reads}
 use Rattle.disk_index.specs.Snapshots.{AreBacked, IsFileAmong}
 use Rattle.range_bounds.specs.Bounds.{CountsFor}
 use Rattle.range_bounds.specs.Tables.{AreTablesOf}
-use Rattle.range_tables.proofs.tables.tables.Given as goal
+use Rattle.range_tables.proofs.part_tables.tables.Given as goal
 
 abbrev pub invariant-loop-marked : goal.invariant-loop-marked
 invariant-loop-marked g l = record {

@@ -1,4 +1,0 @@
-pub mod Aparts
-pub mod Beaten
-pub mod Counts
-pub mod Kepts

@@ -1,0 +1,5 @@
+pub mod Begins
+pub mod Bounds
+pub mod Most
+pub mod Ranges
+pub mod Tables

@@ -18,3 +18,15 @@ returns-in-Delete-clause-has_run g c = rw c.in-Delete.is c.run_change.ensures.ha
 
 pub returns-in-Prior-clause-has_run : goal.returns-in-Prior-clause-has_run
 returns-in-Prior-clause-has_run g c = rw c.in-Prior.is c.run_change.ensures.has_run
+
+pub run_question-requires : goal.run_question-requires
+run_question-requires g c = let ranges = rw c.in-Query.is at c.requires.ranges in record { rule = ranges.mu; shown = ranges.most; plugs = c.requires.plugs }
+
+pub returns-in-Query-clause-has_run : goal.returns-in-Query-clause-has_run
+returns-in-Query-clause-has_run g c = rw c.in-Query.is (c.run_question.ensures.has_run (query (told_asked c.in-Query.asked)) _ (sym c.deref.ensures.value, refl, refl))
+
+pub run_question-requires-in-Explain : goal.run_question-requires-in-Explain
+run_question-requires-in-Explain g c = let ranges = rw c.in-Explain.is at c.requires.ranges in record { rule = ranges.2.mu; shown = (ranges.0, ranges.1); plugs = c.requires.plugs }
+
+pub returns-in-Explain-clause-has_run : goal.returns-in-Explain-clause-has_run
+returns-in-Explain-clause-has_run g c = rw c.in-Explain.is (c.run_question-in-Explain.ensures.has_run (explain c.in-Explain.field-0 (told_asked c.in-Explain.asked)) _ (sym c.deref.ensures.value, refl, refl))

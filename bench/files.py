@@ -19,8 +19,8 @@ the system may be used again, and isn't counted then.
 The hostile files have 1 MB and the greatest counts. Each is refused at the place that it was made for. A row has the time and
 the peak.
 
-The status is 1 where a row is beyond its bound, or where the program says something else than it must. The peak of reading
-the usual words has a bound of its own: a token takes 32 bytes of memory in a document, and 13 of such a file.
+The status is 1 where a row is beyond its bound, or where the program says something else than it must. A token takes 16
+bytes of memory in a document, and some 13 of a file of usual words.
 """
 import argparse
 import math
@@ -40,7 +40,7 @@ MIB = 1 << 20
 COLLECTIONS = {"usual words": (16, 5300), "even words": (1, 8300)}
 WRITTEN, READ = 100, 60
 EXPONENT = 1.1
-WRITE_PEAK, READ_PEAK = 2, {"usual words": 3, "even words": 2}
+WRITE_PEAK, READ_PEAK = 2, 2
 
 HOSTILE_SIZE = MEGA
 HOSTILE_SECONDS, HOSTILE_PEAK = 0.010, 8 * MIB
@@ -156,7 +156,7 @@ class Table:
             reads.append((length, *self.measured(("read", path), counts)))
             path.unlink()
         self.row(f"write, {name}", WRITTEN, WRITE_PEAK, *writes)
-        self.row(f"read, {name}", READ, READ_PEAK[name], *reads)
+        self.row(f"read, {name}", READ, READ_PEAK, *reads)
 
     def hostile(self, name, made):
         content, fault = made

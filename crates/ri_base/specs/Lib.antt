@@ -14,6 +14,7 @@ pub mod Queries
 pub mod Query
 pub mod Ratio
 pub mod Reading
+pub mod ShortBytes
 pub mod Spelling
 pub mod Text
 pub mod Vocabulary

@@ -9,27 +9,36 @@ ghost use Rattle.std.specs.Hash as fed;
 ghost use Rattle.std.specs.Ordering.{as_partial_cmp, nat_cmp};
 
 use crate::NoMemory;
-use smallvec::SmallVec;
 use std::alloc::Global;
 use std::cmp::Ordering;
 use std::hash::{Hash, Hasher};
 use std::marker::Model;
 
-/// How many bytes are kept without an allocation. Few words of a text are longer.
-const INLINE_BYTES: usize = 16;
+/// How many bytes are kept without an allocation, so that the whole takes 16. Few words of a text are longer.
+const INLINE_BYTES: usize = 14;
+
+/// How many there are and the places that they lie in, or bytes behind one pointer.
+#[derive(Debug, Drop)]
+enum Kept {
+    Inline(u8, [u8; INLINE_BYTES]),
+    Boxed(Box<Vec<u8>>),
+}
 
 /// Bytes that are few in most cases, compared as their list: byte by byte, and a front before what it is a front of.
 #[derive(Debug, Drop)]
 pub struct ShortBytes {
-    items: SmallVec<u8, INLINE_BYTES>,
+    kept: Kept,
 }
 
 impl Model for ShortBytes {
     ghost use Rattle.std.specs.Prelude.{ℕ, List};
+    ghost use Rattle.ri_base.specs.ShortBytes.{kept_bytes, FitsInline};
 
     ghost Value = { List ℕ };
 
-    ghost view = { λ b. b.items.items };
+    ghost view = { λ b. kept_bytes b.kept };
+
+    ghost invariant = { λ b. FitsInline b.kept };
 }
 
 impl ShortBytes {
@@ -37,15 +46,23 @@ impl ShortBytes {
     pub fn copy_of(alloc: Global, bytes: &[u8]) -> Result<ShortBytes, NoMemory>
         ensures { IfOk result (λ b. b ≡ bytes.now) }
     {
-        Ok(ShortBytes {
-            items: SmallVec::from_slice(alloc, bytes)?,
-        })
+        let kept = if bytes.len() > INLINE_BYTES {
+            Kept::Boxed(Box::new(alloc, Vec::from_slice(alloc, bytes)?)?)
+        } else {
+            let mut places = [0; INLINE_BYTES];
+            places[..bytes.len()].copy_from_slice(bytes);
+            Kept::Inline(bytes.len() as u8, places)
+        };
+        Ok(ShortBytes { kept })
     }
 
     pub fn as_slice(&self) -> &[u8]
         ensures { result.now ≡ self.now }
     {
-        self.items.as_slice()
+        match &self.kept {
+            Kept::Inline(len, places) => &places[..usize::from(*len)],
+            Kept::Boxed(bytes) => bytes.as_slice(),
+        }
     }
 
     /// Equal bytes.
@@ -62,7 +79,7 @@ impl PartialEq for ShortBytes {
     ghost laws = { Prim.search (comparing, rules) };
 
     fn eq(&self, other: &ShortBytes) -> bool {
-        self.items == other.items
+        self.as_slice() == other.as_slice()
     }
 }
 
@@ -90,7 +107,7 @@ impl Ord for ShortBytes {
     ghost matches_eq = { Prim.search (comparing, rules) };
 
     fn cmp(&self, other: &ShortBytes) -> Ordering {
-        self.items.cmp(&other.items)
+        self.as_slice().cmp(other.as_slice())
     }
 }
 
@@ -100,6 +117,6 @@ impl Hash for ShortBytes {
     ghost respects_eq = { Prim.search (hashing, rules) };
 
     fn hash<H: Hasher>(&self, state: &mut H) {
-        self.items.hash(state);
+        self.as_slice().hash(state);
     }
 }

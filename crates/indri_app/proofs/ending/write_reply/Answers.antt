@@ -1,5 +1,6 @@
-use Rattle.std.proofs.Common.{◌≡◌, ℕ, ◌∷◌, [], Bool, true, false, Err, List, Ok, Option, sym, ◌∙◌}
+use Rattle.std.proofs.Common.{◌≡◌, ℕ, ◌∷◌, [], Bool, true, false, Err, List, Ok, Option, ap, sym, ◌∙◌}
 use Rattle.command_pieces.proofs.Joining.{refused-one}
+use Rattle.command_pieces.specs.declared.fault.Fault.TheVariants as items
 use Rattle.indri_app.specs.Runs.{IsEnded, items_answer}
 use Rattle.indri_app.specs.declared.status.Status.{Status}
 use Rattle.indri_app.specs.declared.status.Status.TheVariants as status
@@ -27,11 +28,13 @@ returns-in-Ok-clause-write g c = λ is. absurd (done-not_written c.is_refusal.re
 
 pub returns-in-Err-clause-written : goal.returns-in-Err-clause-written
 returns-in-Err-clause-written g c =
-    ended-writes (Err c.in-Err.fault) _ (c.args.reply.now ∷ []) _ _ _ _ _ _ c.write.ensures.later tt tt c.in-Err.ensures.broken c.finish_items.ensures.ended
+    ended-writes (Err c.in-Err.fault) _ (c.args.reply.now ∷ []) _ _ _ _ _ _ c.write.ensures.later tt tt c.in-Err.ensures.broken c.finish_items-in-Err.ensures.ended
 
 pub returns-in-Err-clause-only : goal.returns-in-Err-clause-only
-returns-in-Err-clause-only g c = items-reply (Err c.in-Err.fault) _ _ _ _ _ c.in-Err.ensures.no_read c.finish_items.ensures.ended
+returns-in-Err-clause-only g c = items-reply (Err c.in-Err.fault) _ _ _ _ _ (λ e. let one : c.in-Err.fault ≡ items.Read = cc in c.in-Err.ensures.no_read (ap Err one)) c.finish_items-in-Err.ensures.ended
 
 pub returns-in-Err-clause-write : goal.returns-in-Err-clause-write
 returns-in-Err-clause-write g c = λ is.
-    rose-later _ _ _ (c.in-Err.ensures.cause (items-write (Err c.in-Err.fault) (write-ended (items_answer (Err c.in-Err.fault)) _ _ _ _ _ c.finish_items.ensures.ended is))) c.finish_items.ensures.later
+    let ends = items-write (Err c.in-Err.fault) (write-ended (items_answer (Err c.in-Err.fault)) _ _ _ _ _ c.finish_items-in-Err.ensures.ended is) in
+    let one : c.in-Err.fault ≡ items.Write = cc in
+    rose-later _ _ _ (c.in-Err.ensures.cause (ap Err one)) c.finish_items-in-Err.ensures.later

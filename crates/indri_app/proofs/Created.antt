@@ -24,7 +24,7 @@ use Rattle.indri_app.specs.declared.status.Status.TheVariants as status
 use Rattle.indri_app.proofs.Closing.{as-status, closed}
 use Rattle.indri_app.proofs.Ended.{line-first}
 
-real_limits : Limits
+abbrev real_limits : Limits
 real_limits = record { part_docs = MAX_PART_DOCS; held_docs = MAX_HELD_DOCS; held_tokens = MAX_HELD_TOKENS; some = omega arith; part_fits = omega arith; docs_fit = omega arith; tokens_fit = omega arith }
 
 are-real : AreReal real_limits

@@ -98,8 +98,9 @@ pub fn ask<T: Store>(
         Ok(repository) => repository,
         Err(fault) => return Err(AskFault::Broken(fault)),
     };
-    if let Err(fault) = take_priors(alloc, &repository, plugs, store) {
-        return Err(AskFault::Broken(CommandFault::of_files(fault)));
+    match take_priors(alloc, &repository, plugs, store) {
+        Ok(()) => {}
+        Err(fault) => return Err(AskFault::Broken(CommandFault::of_files(fault))),
     }
     let Ok(names) = names_of(alloc, repository.priors()) else {
         return Err(AskFault::Broken(CommandFault::Memory));

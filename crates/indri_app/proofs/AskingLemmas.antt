@@ -131,6 +131,6 @@ asked-of c asked mu shown priors names docs q piece same_priors same_names same_
   q,
   subst (λ (ns : List (List ℕ)). IsQuery ns asked q) same_names is,
   subst (λ (ds : List Document). IsAnswerOver (Dirichlet mu) (priors_with c.priors) (names_with c.priors) shown q ds piece) same_docs
-  (subst (λ (ns : List (List ℕ)). IsAnswerOver (Dirichlet mu) (priors_with c.priors) ns shown q docs piece) same_names
-  (subst (λ (ps : List Prior). IsAnswerOver (Dirichlet mu) ps names shown q docs piece) same_priors over)),
+      (subst (λ (ns : List (List ℕ)). IsAnswerOver (Dirichlet mu) (priors_with c.priors) ns shown q docs piece) same_names
+      (subst (λ (ps : List Prior). IsAnswerOver (Dirichlet mu) ps names shown q docs piece) same_priors over)),
 )

@@ -141,9 +141,7 @@ fn ask_open<T: Store>(
         Ok(checked) => checked,
         Err(fault) => return Err(ask_fault(fault)),
     };
-    match answer_checked(
-        alloc, repository, checked, &names, mu, shown, plugs, store,
-    ) {
+    match answer_checked(alloc, repository, checked, &names, mu, shown, plugs, store) {
         Ok(reply) => Ok(reply),
         Err(fault) => Err(AskFault::Broken(fault)),
     }

@@ -20,12 +20,16 @@ unfolding behind_all behind
 adding-stays told limits k c [] = refl
 adding-stays told limits k c (d ∷ docs) = adding-stays told limits k (collection_with c (addition limits c (content d))) docs
 
+-- documents are added to this repository, and this is the work with the next one
+abbrev pub IsAdding : State → Work → Type 0
+IsAdding s w = (told : Option Files) × (c : Collection) × ReadsAs told s c × IsBacked told s × (w ≡ adding told s.held.limits c)
+
 -- the repository behind all documents of an input, for a collection that it read as with the files before them
-pub added-ahead : (Does : Work → Type 0) (told : Option Files) (limits : Limits) (k : Collection) (s : State) (left : Option (List ℕ)) → IfSome left (λ bytes. Does (behind_all (adding told limits k) (read bytes).0))
-    → ((c : Collection) → Does (adding told limits c) → ReadsAs told s c × IsBacked told s × (s.held.limits ≡ limits)) → AreReal limits → StandsFor k told
-    → IfSome left (λ bytes. IsAhead told s k (collection_in k (behind_all (adding told limits k) (read bytes).0)))
-added-ahead Does told limits k s None does reads real stands = tt
-added-ahead Does told limits k s (Some bytes) does reads real stands =
-    let d : Does (adding told limits (collection_in k (behind_all (adding told limits k) (read bytes).0))) = subst Does (adding-stays told limits k k (read bytes).0) does in
-    let r = reads (collection_in k (behind_all (adding told limits k) (read bytes).0)) d in
-    record { backed = r.1; real = subst AreReal (sym r.2) real; stands = stands; reads = r.0 }
+pub added-ahead : (told : Option Files) (limits : Limits) (k : Collection) (s r : State) (left : Option (List ℕ)) → IfSome left (λ bytes. IsAdding s (behind_all (adding told limits k) (read bytes).0))
+    → ((c : Collection) → IsAdding s (adding told limits c) → ReadsAs told r c × IsBacked told r × (r.held.limits ≡ limits)) → AreReal limits → StandsFor k told
+    → IfSome left (λ bytes. IsAhead told r k (collection_in k (behind_all (adding told limits k) (read bytes).0)))
+added-ahead told limits k s r None does reads real stands = tt
+added-ahead told limits k s r (Some bytes) does reads real stands =
+    let d : IsAdding s (adding told limits (collection_in k (behind_all (adding told limits k) (read bytes).0))) = subst (IsAdding s) (adding-stays told limits k k (read bytes).0) does in
+    let h = reads (collection_in k (behind_all (adding told limits k) (read bytes).0)) d in
+    record { backed = h.1; real = subst AreReal (sym h.2) real; stands = stands; reads = h.0 }

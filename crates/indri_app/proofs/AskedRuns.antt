@@ -128,8 +128,8 @@ over-absent files fault.Exists over none = absurd over
 over-absent files fault.Memory over none = tt
 
 pub some-of : (o : Option (List ℕ)) → (o ≡ None → ⊥) → is_some o ≡ true
-some-of None no = absurd (no refl)
-some-of (Some bytes) no = refl
+some-of None never = absurd (never refl)
+some-of (Some bytes) never = refl
 
 pub intact-of : (told : Option Files) → IsIntactWithPriors told → IsIntact told
 intact-of told (limits, (s, opened, priors)) = (limits, (s, opened))

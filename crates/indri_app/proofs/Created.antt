@@ -1,5 +1,5 @@
 -- A run of `create`.
-use Rattle.std.proofs.Common.{◌≡◌, ◌≤◌, inl, inr, ℕ, List, [], Option, None, Some, refl, sym, subst, true, ◌∙◌}
+use Rattle.std.proofs.Common.{◌≡◌, ◌≤◌, inl, inr, ℕ, List, [], Option, None, Some, refl, sym, subst, true, ◌∙◌, arith}
 use Rattle.std.specs.Prelude.{is_some}
 use Rattle.std.specs.Option.{IfSome}
 use Rattle.ri_base.specs.declared.limits.TheConstants.{MAX_HELD_TOKENS, MAX_PART_DOCS}
@@ -24,8 +24,8 @@ use Rattle.indri_app.specs.declared.status.Status.TheVariants as status
 use Rattle.indri_app.proofs.Closing.{as-status, closed}
 use Rattle.indri_app.proofs.Ended.{line-first}
 
-real_limits : Limits
-real_limits = record { part_docs = MAX_PART_DOCS; held_docs = MAX_HELD_DOCS; held_tokens = MAX_HELD_TOKENS }
+abbrev real_limits : Limits
+real_limits = record { part_docs = MAX_PART_DOCS; held_docs = MAX_HELD_DOCS; held_tokens = MAX_HELD_TOKENS; some = omega arith; part_fits = omega arith; docs_fit = omega arith; tokens_fit = omega arith }
 
 are-real : AreReal real_limits
 are-real = record { part_docs = refl; held_docs = refl; held_tokens = refl }

@@ -66,11 +66,11 @@ items-plain (Err items.Memory) s mid now b z (e, same) = subst IsPlainStatus (sy
 
 -- an answer that isn't broken off by its source
 pub items-reply : (answer : Result Bool Fault) (s : Status) (mid now : Option (List ℕ)) (b z : ℕ) → (answer ≡ Err items.Read → ⊥) → IsEnded (items_answer answer) s mid now b z → IsReplyStatus s
-items-reply (Ok false) s mid now b z no (e, same) = subst IsReplyStatus (sym e) tt
-items-reply (Ok true) s mid now b z no (e, same) = subst IsReplyStatus (sym e) tt
-items-reply (Err items.Read) s mid now b z no ends = absurd (no refl)
-items-reply (Err items.Write) s mid now b z no (e, same) = subst IsReplyStatus (sym e) tt
-items-reply (Err items.Memory) s mid now b z no (e, same) = subst IsReplyStatus (sym e) tt
+items-reply (Ok false) s mid now b z never (e, same) = subst IsReplyStatus (sym e) tt
+items-reply (Ok true) s mid now b z never (e, same) = subst IsReplyStatus (sym e) tt
+items-reply (Err items.Read) s mid now b z never ends = absurd (never refl)
+items-reply (Err items.Write) s mid now b z never (e, same) = subst IsReplyStatus (sym e) tt
+items-reply (Err items.Memory) s mid now b z never (e, same) = subst IsReplyStatus (sym e) tt
 
 pub items-read : (answer : Result Bool Fault) → items_answer answer ≡ Err fault.Read → answer ≡ Err items.Read
 items-read (Ok refused) e = absurd cc

@@ -48,7 +48,7 @@ memory-some None left told past before a z = tt
 memory-some (Some asks) left told past before a z = memory-has_run asks left told past before a z
 
 not-plain : (s t : Status) → IsPlainStatus s → s ≡ t → (IsPlainStatus t → ⊥) → ⊥
-not-plain s t plain e no = no (subst IsPlainStatus e plain)
+not-plain s t plain e never = never (subst IsPlainStatus e plain)
 
 pub scan-has_run : (text : List ℕ) (s : Status) (left : Option (List ℕ)) (told : Option Files) (past : ℕ → Files → Type 0) (before now : Option (List ℕ)) (a z : ℕ) → IsPlainStatus s → IfSome left (λ bytes. ScansTo s text bytes before now a z) → HasRun (scan text) s left told told past past before now a z
 scan-has_run text s left told past before now a z plain scans' = record {

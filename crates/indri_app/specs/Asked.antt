@@ -1,7 +1,10 @@
 -- What a question over the files of a store comes to.
 use Rattle.std.specs.Prelude.{◌≡◌, ℕ, List, Option, None, Some}
 use Rattle.std.specs.List.{AllZip}
+use Rattle.ri_base.specs.Documents.{Document}
+use Rattle.smoothing.specs.declared.rule.RuleKind.{RuleKind}
 use Rattle.smoothing.specs.declared.rule.RuleKind.TheVariants.{Dirichlet}
+use Rattle.belief_nodes.specs.Priors.{Prior as Told}
 use Rattle.store_ends.specs.Files.{Files}
 use Rattle.query_check.specs.Check.{CheckedTree}
 use Rattle.query_reader.specs.QueryText.{query_text}
@@ -17,7 +20,7 @@ use Rattle.collection_queries.specs.Answer.{IsAnswerText}
 use Rattle.collection_queries.specs.Priors.{names_with, priors_with}
 use Rattle.collection_queries.specs.Shown.{Shown}
 use Rattle.indri_app.specs.Command.{IsQuery, answer_piece, query_refusal}
-use Rattle.indri_app.specs.Opened.{IsOpenFault, IsWant}
+use Rattle.indri_app.specs.Opened.{IsFileFault, IsOpenFault, IsWant}
 use Rattle.indri_app.specs.declared.question.AskFault.{AskFault}
 use Rattle.indri_app.specs.declared.question.AskFault.TheVariants.{Broken, Refused}
 use Rattle.indri_app.specs.declared.texts.TextFault.{TextFault}
@@ -71,3 +74,12 @@ IfRefused (Broken why) P = Unit {0}
 abbrev pub IsAskBroken : AskFault → Type 0
 IsAskBroken (Refused why) = Unit {0}
 IsAskBroken (Broken why) = IsOpenFault why
+
+-- it is open, and its text is refused, or a file isn't read
+abbrev pub IsOpenAskFault : AskFault → Type 0
+IsOpenAskFault (Refused why) = Unit {0}
+IsOpenAskFault (Broken why) = IsFileFault why
+
+-- the piece of the answer of a checked query over these documents
+abbrev pub IsAnswerOver : RuleKind → List Told → List (List ℕ) → Shown → CheckedTree → List Document → Plain → Type 0
+IsAnswerOver rule priors names shown q docs piece = (answer : Option (List ℕ)) × IsAnswerText rule priors names shown q docs answer × (piece ≡ answer_piece answer)

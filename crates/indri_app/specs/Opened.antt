@@ -34,3 +34,14 @@ IsOpenFault (Missing file) = Unit {0}
 IsOpenFault NoRepository = Unit {0}
 IsOpenFault Exists = ⊥
 IsOpenFault Memory = Unit {0}
+
+-- It is open, and a file of it isn't read.
+abbrev pub IsFileFault : CommandFault → Type 0
+IsFileFault Read = ⊥
+IsFileFault Write = ⊥
+IsFileFault Store = Unit {0}
+IsFileFault (Malformed file part place) = Unit {0}
+IsFileFault (Missing file) = Unit {0}
+IsFileFault NoRepository = ⊥
+IsFileFault Exists = ⊥
+IsFileFault Memory = Unit {0}

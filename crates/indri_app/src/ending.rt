@@ -27,6 +27,7 @@ pub fn tell<K: Sink>(sink: &mut K, line: &[u8], told: Status) -> Status
     }
 }
 
+#[tactic(auto, unfolding(repository::specs::Names::manifest_name))]
 fn push_file(text: &mut Vec<u8>, file: FileName) -> Result<(), NoMemory>
     ensures { OnOk result (text.new.items ≡ text.old.items ++ file_text file) }
 {
@@ -138,11 +139,10 @@ pub fn write_reply<K: Sink>(alloc: Global, reply: &Reply, sink: &mut K) -> Statu
     ensures later { K.faults sink.old ≤ K.faults sink.new }
     ensures write { result ≡ Status.WriteFault → Rose (K.faults sink.old) (K.faults sink.new) }
 {
-    let answer = match reply.write(sink) {
-        Ok(()) => Ok(reply.is_refusal()),
-        Err(fault) => Err(fault),
-    };
-    finish_items(alloc, answer, sink)
+    match reply.write(sink) {
+        Ok(()) => finish_items(alloc, Ok(reply.is_refusal()), sink),
+        Err(fault) => finish_items(alloc, Err(fault), sink),
+    }
 }
 
 /// Ends a run by what its command answers: whether something is refused, or why it is broken off.

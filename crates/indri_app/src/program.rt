@@ -184,6 +184,7 @@ fn run_words<S: Source, K: Sink, T: Store>(
 
 /// Does what the words ask for, over the source, the sink and the store. The first word names the folder of the store and isn't read.
 /// The plugs take the rows of the priors that the repository keeps, each those of its place.
+#[tactic(auto, unfolding(crate::specs::Command::usage_line))]
 pub fn run<S: Source, K: Sink, T: Store>(
     alloc: Global,
     words: &ArgList,

@@ -1,5 +1,5 @@
 // The commands `query` and `explain`.
-ghost use Rattle.std.specs.Prelude.{◌≡◌, ◌≤◌, None, Some, codes, map, IfErr, IfOk, IsErrOf, OnOk};
+ghost use Rattle.std.specs.Prelude.{◌≡◌, ◌≤◌, None, Some, true, codes, length, map, IfErr, IfOk, IsErrOf, OnOk};
 ghost use Rattle.ri_base.specs.Keeps.{Rose};
 ghost use Rattle.store_ends.specs.Files.{Files, IsQuiet};
 ghost use Rattle.smoothing.specs.declared.rule.RuleKind.TheVariants.{Dirichlet};
@@ -8,20 +8,26 @@ ghost use Rattle.query_refusals.specs.declared.refusal.QueryRefusal.TheVariants.
 ghost use Rattle.repository.specs.Names.{manifest_name};
 ghost use Rattle.repository.specs.RealLimits.{StandsFor};
 ghost use Rattle.repository.specs.Stands.{Collection};
+ghost use Rattle.repository.specs.States.{IsBacked, ReadsAs};
+ghost use Rattle.holdings.specs.Parts.{live};
+ghost use Rattle.query_check.specs.Answers.{whole_checked};
 ghost use Rattle.std.specs.Option.{option_map};
 ghost use Rattle.collection_queries.specs.Answer.{IsRule};
-ghost use Rattle.collection_queries.specs.Priors.{run_priors};
+ghost use Rattle.collection_queries.specs.Priors.{priors_with, run_priors};
 ghost use Rattle.collection_queries.specs.Searching.{IsShowable};
 ghost use Rattle.collection_queries.specs.Shown.{told_shown};
-ghost use Rattle.indri_app.specs.Asked.{IfRefused, IsAskBroken, IsAskFault, IsAsked, IsFaultOver, IsIntactWithPriors, ask_fault};
+ghost use Rattle.indri_app.specs.Asked.{IfRefused, IsAnswerOver, IsAskBroken, IsAskFault, IsAsked, IsFaultOver, IsOpenAskFault, IsIntactWithPriors, ask_fault};
 ghost use Rattle.indri_app.specs.Command.{answer_piece};
+ghost use Rattle.indri_app.specs.Opened.{IsFileFault, IsWant};
 
 use crate::opening::open_repository;
 use crate::texts::{TextFault, read_checked};
 use belief_nodes::BeliefNode;
 use collection_queries::{Shown, answer, names_of, take_priors};
 use command_pieces::{CommandFault, Reply};
+use query_check::Checked;
 use query_refusals::{QueryRefusal, reply_of};
+use repository::Repository;
 use ri_base::{Name, NoMemory};
 use smoothing::RuleKind;
 use std::alloc::Global;
@@ -67,6 +73,80 @@ fn ask_fault(fault: TextFault) -> AskFault
     }
 }
 
+/// What is written of the answer of a checked query over a repository.
+fn answer_checked<T: Store>(
+    alloc: Global,
+    repository: &mut Repository,
+    checked: Checked,
+    names: &[Name],
+    mu: u32,
+    shown: &Shown,
+    plugs: &mut [Box<dyn BeliefNode>],
+    store: &mut T,
+) -> Result<Reply, CommandFault>
+    requires usable { repository.old.usable ≡ true }
+    requires rule { IsRule (Dirichlet mu) }
+    requires shown { IsShowable (told_shown shown.now) }
+    requires nine { length plugs.old ≡ 9 }
+    ensures answered { IsBacked (T.files store.old) repository.old → IfOk result (λ reply. IsAnswerOver (Dirichlet mu) (map (λ plug. meaning plug) plugs.old) names.now (told_shown shown.now) (whole_checked checked) (live (T.files store.old) repository.old.held.parts) reply) }
+    ensures honest { IsBacked (T.files store.old) repository.old → IfErr result IsWant }
+    ensures only { IfErr result IsFileFault }
+    ensures quiet { IsQuiet T.files T.layers T.clock T.since T.longest T.held store.old store.new }
+    ensures later { T.faults store.old ≤ T.faults store.new }
+    ensures store { IsErrOf result CommandFault.Store → Rose (T.faults store.old) (T.faults store.new) }
+{
+    let Ok(snapshot) = repository.snapshot(alloc) else {
+        return Err(CommandFault::Memory);
+    };
+    let kind = RuleKind::Dirichlet { mu };
+    let generation = repository.generation();
+    let answer = match answer(
+        alloc, kind, shown, checked, names, plugs, snapshot, generation, store,
+    ) {
+        Ok(answer) => answer,
+        Err(fault) => return Err(CommandFault::of_files(fault)),
+    };
+    match reply_to(alloc, answer) {
+        Ok(reply) => Ok(reply),
+        Err(_) => Err(CommandFault::Memory),
+    }
+}
+
+/// What a query of this text is answered over a repository whose priors are told by their rows.
+fn ask_open<T: Store>(
+    alloc: Global,
+    repository: &mut Repository,
+    text: &str,
+    mu: u32,
+    shown: &Shown,
+    plugs: &mut [Box<dyn BeliefNode>],
+    store: &mut T,
+) -> Result<Reply, AskFault>
+    requires usable { repository.old.usable ≡ true }
+    requires rule { IsRule (Dirichlet mu) }
+    requires shown { IsShowable (told_shown shown.now) }
+    requires nine { length plugs.old ≡ 9 }
+    ensures asked { (c : Collection) → ReadsAs (T.files store.old) repository.old c → IsBacked (T.files store.old) repository.old → map (λ plug. meaning plug) plugs.old ≡ priors_with c.priors
+        → IfOk result (IsAsked c text.now mu (told_shown shown.now)) }
+    ensures refused { (c : Collection) → ReadsAs (T.files store.old) repository.old c → IsBacked (T.files store.old) repository.old → IfErr result (IsAskFault c text.now) }
+    ensures only { IfErr result IsOpenAskFault }
+    ensures quiet { IsQuiet T.files T.layers T.clock T.since T.longest T.held store.old store.new }
+    ensures later { T.faults store.old ≤ T.faults store.new }
+    ensures store { IsErrOf result (AskFault.Broken CommandFault.Store) → Rose (T.faults store.old) (T.faults store.new) }
+{
+    let Ok(names) = names_of(alloc, repository.priors()) else {
+        return Err(AskFault::Broken(CommandFault::Memory));
+    };
+    let checked = match read_checked(alloc, text, &names) {
+        Ok(checked) => checked,
+        Err(fault) => return Err(ask_fault(fault)),
+    };
+    match answer_checked(alloc, repository, checked, &names, mu, shown, plugs, store) {
+        Ok(reply) => Ok(reply),
+        Err(fault) => Err(AskFault::Broken(fault)),
+    }
+}
+
 /// What a query of this text is answered over the live documents of a store, its priors by their rows.
 pub fn ask<T: Store>(
     alloc: Global,
@@ -98,29 +178,9 @@ pub fn ask<T: Store>(
         Ok(repository) => repository,
         Err(fault) => return Err(AskFault::Broken(fault)),
     };
-    if let Err(fault) = take_priors(alloc, &repository, plugs, store) {
-        return Err(AskFault::Broken(CommandFault::of_files(fault)));
-    }
-    let Ok(names) = names_of(alloc, repository.priors()) else {
-        return Err(AskFault::Broken(CommandFault::Memory));
-    };
-    let checked = match read_checked(alloc, text, &names) {
-        Ok(checked) => checked,
-        Err(fault) => return Err(ask_fault(fault)),
-    };
-    let Ok(snapshot) = repository.snapshot(alloc) else {
-        return Err(AskFault::Broken(CommandFault::Memory));
-    };
-    let kind = RuleKind::Dirichlet { mu };
-    let generation = repository.generation();
-    let answer = match answer(
-        alloc, kind, shown, checked, &names, plugs, snapshot, generation, store,
-    ) {
-        Ok(answer) => answer,
+    match take_priors(alloc, &repository, plugs, store) {
+        Ok(()) => {}
         Err(fault) => return Err(AskFault::Broken(CommandFault::of_files(fault))),
-    };
-    match reply_to(alloc, answer) {
-        Ok(reply) => Ok(reply),
-        Err(_) => Err(AskFault::Broken(CommandFault::Memory)),
     }
+    ask_open(alloc, &mut repository, text, mu, shown, plugs, store)
 }

@@ -16,9 +16,8 @@ pub returns-in-Err-clause-broken : goal.returns-in-Err-clause-broken
 returns-in-Err-clause-broken g c = λ k ahead.
     let told = g.T.Store.files c.args.store.now in
     let limits = c.args.repository.held.limits in
-    rw c.of_items.ensures
-    (unchanged-broken (λ bytes. input_pieces (adding told limits k) (read bytes)) (λ bytes. collection_in k (behind_all (adding told limits k) (read bytes).0)) k c.in-Err.fault _ _ _ _
-    (c.in-Err.ensures.broken _ (c.new-adder.ensures.does told k ahead.reads ahead.backed)) ahead.stands)
+    unchanged-broken (λ bytes. input_pieces (adding told limits k) (read bytes)) (λ bytes. collection_in k (behind_all (adding told limits k) (read bytes).0)) k c.in-Err.fault _ _ _ _ _ c.of_items.ensures
+    (c.in-Err.ensures.broken _ (c.new-adder.ensures.does told k ahead.reads ahead.backed)) ahead.stands
 
 pub returns-in-Err-clause-stops : goal.returns-in-Err-clause-stops
 returns-in-Err-clause-stops g c = λ k ahead.
@@ -39,7 +38,7 @@ returns-in-Ok-commit-clause-finished g c = λ k ahead.
     let told = g.T.Store.files c.args.store.now in
     let limits = c.args.repository.held.limits in
     let does = c.new-adder.ensures.does told k ahead.reads ahead.backed in
-    let there = added-ahead _ told limits k c.into_repository-repository.result _ (c.in-Ok.ensures.behind _ does) (λ d h. c.into_repository-repository.ensures.reads told limits d h) ahead.real ahead.stands in
+    let there = added-ahead told limits k c.take_documents.new.handler.repository c.into_repository-repository.result _ (c.in-Ok.ensures.behind _ does) (λ d h. c.into_repository-repository.ensures.reads told limits d h) ahead.real ahead.stands in
     changed-finished (λ bytes. input_pieces (adding told limits k) (read bytes)) (λ bytes. collection_in k (behind_all (adding told limits k) (read bytes).0)) k _ _ _ _ told _ (c.in-Ok.ensures.finished _ does) ahead.stands
     (for-some (λ d. Finished StandsFor k (flush_pieces d) (g.K.Sink.taken c.take_documents.new.sink) (g.K.Sink.taken c.commit.new.sink) (g.T.Store.files c.commit.new.store)) (λ bytes. collection_in k (behind_all (adding told limits k) (read bytes).0)) told c.into_repository-repository.result k _ there
     (λ d is. c.in-Ok-commit.ensures.finished k d is))
@@ -49,7 +48,7 @@ returns-in-Ok-commit-clause-stops g c = λ k ahead.
     let told = g.T.Store.files c.args.store.now in
     let limits = c.args.repository.held.limits in
     let does = c.new-adder.ensures.does told k ahead.reads ahead.backed in
-    let there = added-ahead _ told limits k c.into_repository-repository.result _ (c.in-Ok.ensures.behind _ does) (λ d h. c.into_repository-repository.ensures.reads told limits d h) ahead.real ahead.stands in
+    let there = added-ahead told limits k c.take_documents.new.handler.repository c.into_repository-repository.result _ (c.in-Ok.ensures.behind _ does) (λ d h. c.into_repository-repository.ensures.reads told limits d h) ahead.real ahead.stands in
     changed-stops (λ bytes. input_pieces (adding told limits k) (read bytes)) (λ bytes. collection_in k (behind_all (adding told limits k) (read bytes).0)) k _ _ _
     (for-some (λ d. Leaves (g.T.Store.since c.args.store.now) (g.T.Store.since c.commit.new.store) (StandsAlong StandsFor k (flush_pieces d))) (λ bytes. collection_in k (behind_all (adding told limits k) (read bytes).0)) told c.into_repository-repository.result k _ there
     (λ d is. c.commit.ensures.stops k d is))
@@ -61,7 +60,7 @@ returns-clause-broken g c = λ k ahead.
     let told = g.T.Store.files c.args.store.now in
     let limits = c.args.repository.held.limits in
     let does = c.new-adder.ensures.does told k ahead.reads ahead.backed in
-    let there = added-ahead _ told limits k c.into_repository-repository.result _ (c.in-Ok.ensures.behind _ does) (λ d h. c.into_repository-repository.ensures.reads told limits d h) ahead.real ahead.stands in
+    let there = added-ahead told limits k c.take_documents.new.handler.repository c.into_repository-repository.result _ (c.in-Ok.ensures.behind _ does) (λ d h. c.into_repository-repository.ensures.reads told limits d h) ahead.real ahead.stands in
     changed-broken (λ bytes. input_pieces (adding told limits k) (read bytes)) (λ bytes. collection_in k (behind_all (adding told limits k) (read bytes).0)) k c.in-Err-commit.fault _ _ _ _ told _ (c.in-Ok.ensures.finished _ does) ahead.stands
     (for-some (λ d. IsBrokenBy c.in-Err-commit.fault StandsFor k (flush_pieces d) (g.K.Sink.taken c.take_documents.new.sink) (g.K.Sink.taken c.commit.new.sink) (g.T.Store.files c.commit.new.store)) (λ bytes. collection_in k (behind_all (adding told limits k) (read bytes).0)) told c.into_repository-repository.result k _ there
     (λ d is. c.in-Err-commit.ensures.broken k d is))
@@ -71,7 +70,7 @@ returns-clause-stops g c = λ k ahead.
     let told = g.T.Store.files c.args.store.now in
     let limits = c.args.repository.held.limits in
     let does = c.new-adder.ensures.does told k ahead.reads ahead.backed in
-    let there = added-ahead _ told limits k c.into_repository-repository.result _ (c.in-Ok.ensures.behind _ does) (λ d h. c.into_repository-repository.ensures.reads told limits d h) ahead.real ahead.stands in
+    let there = added-ahead told limits k c.take_documents.new.handler.repository c.into_repository-repository.result _ (c.in-Ok.ensures.behind _ does) (λ d h. c.into_repository-repository.ensures.reads told limits d h) ahead.real ahead.stands in
     changed-stops (λ bytes. input_pieces (adding told limits k) (read bytes)) (λ bytes. collection_in k (behind_all (adding told limits k) (read bytes).0)) k _ _ _
     (for-some (λ d. Leaves (g.T.Store.since c.args.store.now) (g.T.Store.since c.commit.new.store) (StandsAlong StandsFor k (flush_pieces d))) (λ bytes. collection_in k (behind_all (adding told limits k) (read bytes).0)) told c.into_repository-repository.result k _ there
     (λ d is. c.commit.ensures.stops k d is))

@@ -6,10 +6,10 @@ use Rattle.indri_app.proofs.RunsOver.{memory-some}
 use Rattle.indri_app.proofs.program.run.Goals as goal
 
 pub returns-in-Ok-Some-clause-has_run : goal.returns-in-Ok-Some-clause-has_run
-returns-in-Ok-Some-clause-has_run g c = rw (sym c.in-Ok-Some.ensures.words) c.run_words.ensures.has_run
+returns-in-Ok-Some-clause-has_run g c = rw (sym (rw c.in-Ok-Some.field-0-is at c.in-Ok-Some.ensures.words)) c.run_words.ensures.has_run
 
 pub returns-in-Ok-None-clause-has_run : goal.returns-in-Ok-None-clause-has_run
-returns-in-Ok-None-clause-has_run g c = rw (sym c.in-Ok-None.ensures.words) tt
+returns-in-Ok-None-clause-has_run g c = rw (sym (rw c.in-Ok-None.field-0-is at c.in-Ok-None.ensures.words)) tt
 
 pub returns-in-Err-clause-has_run : goal.returns-in-Err-clause-has_run
 returns-in-Err-clause-has_run g c = memory-some _ _ _ _ _ _ _

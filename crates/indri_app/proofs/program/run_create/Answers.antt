@@ -42,7 +42,7 @@ returns-in-Err-clause-has_run g c = λ left.
           exists-runs why _ k left _ _ _ _ _ _ _ _ e.0 ends e.3 did.write_later e.2.same_files stands;
       stops = λ k stands.
           let has = stands-there k _ stands in
-          stops-none _ create k left _ _ (did.exists has.0 has.1 has.2).2.no_more;
+          stops-none (g.T.Store.files c.args.store.now) create k left _ _ (did.exists has.0 has.1 has.2).2.no_more;
       made = λ is f told none. made-closed f _ _ _ _ why _ _ _ _ did.write_later did.only (did.broken f told none) ends;
       made_stops = λ is f told none. c.create_repository.ensures.stops f told none;
       scans = λ text is. absurd cc;

@@ -1,0 +1,28 @@
+use Rattle.std.proofs.Common.{◌≡◌, Err, List, Option, ap, sym, subst, ◌∙◌, length}
+use Rattle.ri_base.specs.Documents.{Document}
+use Rattle.store_ends.specs.Files.{Files}
+use Rattle.smoothing.specs.declared.rule.RuleKind.TheVariants.{Dirichlet}
+use Rattle.query_check.specs.Answers.{whole_checked}
+use Rattle.collection_queries.specs.Answer.{IsAnswerText}
+use Rattle.collection_queries.specs.Shown.{told_shown}
+use Rattle.indri_app.proofs.AskingLemmas.{of_files-file}
+use Rattle.indri_app.proofs.OpeningLemmas.{store-of_files, want-of}
+use Rattle.indri_app.proofs.question.answer_checked.Goals as goal
+
+-- a file isn't read
+
+pub returns-in-Err-clause-honest : goal.returns-in-Err-clause-honest
+returns-in-Err-clause-honest g c = λ backed. rw c.of_files.ensures (want-of c.in-Err.fault (c.in-Err.ensures.honest (c.in-Ok.ensures.stored _ backed)))
+
+pub returns-in-Err-clause-only : goal.returns-in-Err-clause-only
+returns-in-Err-clause-only g c = rw c.of_files.ensures (of_files-file c.in-Err.fault)
+
+pub returns-in-Err-clause-store : goal.returns-in-Err-clause-store
+returns-in-Err-clause-store g c = λ e. let one = store-of_files c.in-Err.fault cc in c.in-Err.ensures.store (ap Err one)
+
+-- it is answered
+
+pub returns-in-Ok-reply_to-clause-answered : goal.returns-in-Ok-reply_to-clause-answered
+returns-in-Ok-reply_to-clause-answered g c = λ backed.
+    let told = g.T.Store.files c.args.store.now in
+    (_, rw (c.in-Ok.ensures.documents told) at (c.in-Ok-answer.ensures.exact (c.in-Ok.ensures.stored told backed)), c.in-Ok-reply_to.ensures)

@@ -1,5 +1,5 @@
 -- A run that is over before it has looked at a file.
-use Rattle.std.proofs.Common.{◌≡◌, ◌≤◌, inl, inr, ℕ, List, [], Option, None, Some, refl, sym, subst, true}
+use Rattle.std.proofs.Common.{◌≡◌, ◌≤◌, ◌∙◌, inl, inr, ℕ, List, [], Option, None, Some, refl, sym, subst, true}
 use Rattle.std.specs.Option.{IfSome}
 use Rattle.store_ends.specs.Files.{Files}
 use Rattle.store_ends.proofs.Files.{Leaves-same}
@@ -14,6 +14,10 @@ use Rattle.indri_app.specs.declared.status.Status.{Status}
 use Rattle.indri_app.specs.declared.status.Status.TheVariants as status
 use Rattle.indri_app.proofs.Closing.{stops-none}
 use Rattle.indri_app.proofs.PlainRuns.{scan-runs, scans-memory}
+
+-- a value that is there isn't none
+pub some-none : {A : Type 0} (x : A) (o : Option A) → Some x ≡ o → o ≡ None → ⊥
+some-none x o some none = let both : Some x ≡ None = some ∙ none in absurd cc
 
 memory-runs : (told : Option Files) (asks : Asks) (c : Collection) (left before : Option (List ℕ)) (a z : ℕ) → StandsFor c told → IfSome left (λ bytes. RunsTo status.Memory told asks c bytes before before told a z)
 memory-runs told asks c None before a z stands = tt

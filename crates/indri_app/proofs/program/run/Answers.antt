@@ -1,7 +1,4 @@
-use Rattle.std.proofs.Common.{◌≡◌, None, Some, inr, refl, sym, ◌∙◌}
-use Rattle.command_words.specs.Asked.{told_words}
-use Rattle.command_words.specs.Table.{Asks}
-use Rattle.disk_index.specs.QuietLaws.{IsQuiet-same}
+use Rattle.std.proofs.Common.{sym}
 use Rattle.indri_app.proofs.RunsOver.{memory-some, some-none}
 use Rattle.indri_app.proofs.program.run.Goals as goal
 

@@ -245,7 +245,7 @@ fn what_words_ask_for(rt: HostRuntime) -> Result<(), Fail> {
 fn priors_by_their_names(rt: HostRuntime) -> Result<(), Fail> {
     for line in &["prior|home", "prior|HoMe", "prior|--|home"] {
         let name = prior_named(rt.alloc(), line)?.ok_or("no prior")?;
-        assert_eq!(rt; name.as_bytes(), b"home");
+        assert_eq!(rt; name.as_bytes(), b"home".as_slice());
     }
     Ok(())
 }

@@ -1,8 +1,5 @@
-use Rattle.std.proofs.Common.{◌≡◌, None, Some, inr, refl, sym, ◌∙◌}
-use Rattle.command_words.specs.Asked.{told_words}
-use Rattle.command_words.specs.Table.{Asks}
-use Rattle.disk_index.specs.QuietLaws.{IsQuiet-same}
-use Rattle.indri_app.proofs.RunsOver.{memory-some}
+use Rattle.std.proofs.Common.{sym, ◌∙◌}
+use Rattle.indri_app.proofs.RunsOver.{memory-some, some-not_none}
 use Rattle.indri_app.proofs.program.run.Goals as goal
 
 pub returns-in-Ok-Some-clause-has_run : goal.returns-in-Ok-Some-clause-has_run
@@ -18,4 +15,6 @@ pub returns-in-Ok-Some-clause-usage : goal.returns-in-Ok-Some-clause-usage
 returns-in-Ok-Some-clause-usage g c = λ is. absurd (c.run_words.ensures.has_run.command is)
 
 pub returns-in-Ok-Some-clause-no_command : goal.returns-in-Ok-Some-clause-no_command
-returns-in-Ok-Some-clause-no_command g c = λ none. let some = c.in-Ok-Some.ensures.words in absurd cc
+returns-in-Ok-Some-clause-no_command g c = λ none.
+    let words = rw c.in-Ok-Some.field-0-is at c.in-Ok-Some.ensures.words in
+    absurd (some-not_none _ (words ∙ none))

@@ -5,7 +5,7 @@ use Rattle.indri_app.proofs.RunsOver.{scan-has_run}
 use Rattle.indri_app.proofs.program.run_words.Goals as goal
 
 pub returns-in-Scan-clause-has_run : goal.returns-in-Scan-clause-has_run
-returns-in-Scan-clause-has_run g c = rw c.in-Scan.is (scan-has_run _ _ _ _ _ _ _ _ _ c.run_scan.ensures.only (rw c.deref.ensures.value at c.run_scan.ensures.scans))
+returns-in-Scan-clause-has_run g c = rw c.in-Scan.is (scan-has_run _ _ _ _ _ _ _ _ _ c.run_scan.ensures.only (rw c.deref.ensures at c.run_scan.ensures.scans))
 
 pub returns-in-Create-clause-has_run : goal.returns-in-Create-clause-has_run
 returns-in-Create-clause-has_run g c = rw c.in-Create.is (c.run_create.ensures.has_run _)
@@ -23,10 +23,10 @@ pub run_question-requires : goal.run_question-requires
 run_question-requires g c = let ranges = rw c.in-Query.is at c.requires.ranges in record { rule = ranges.mu; shown = ranges.most; plugs = c.requires.plugs }
 
 pub returns-in-Query-clause-has_run : goal.returns-in-Query-clause-has_run
-returns-in-Query-clause-has_run g c = rw c.in-Query.is (c.run_question.ensures.has_run (query (told_asked c.in-Query.asked)) _ (sym c.deref-in-Query.ensures.value, refl, refl))
+returns-in-Query-clause-has_run g c = rw c.in-Query.is (c.run_question.ensures.has_run (query (told_asked c.in-Query.asked)) _ (sym c.deref-in-Query.ensures, refl, refl))
 
 pub run_question-requires-in-Explain : goal.run_question-requires-in-Explain
 run_question-requires-in-Explain g c = let ranges = rw c.in-Explain.is at c.requires.ranges in record { rule = ranges.2.mu; shown = (ranges.0, ranges.1); plugs = c.requires.plugs }
 
 pub returns-in-Explain-clause-has_run : goal.returns-in-Explain-clause-has_run
-returns-in-Explain-clause-has_run g c = rw c.in-Explain.is (c.run_question-in-Explain.ensures.has_run (explain c.in-Explain.rank (told_asked c.in-Explain.asked)) _ (sym c.deref-in-Explain.ensures.value, refl, refl))
+returns-in-Explain-clause-has_run g c = rw c.in-Explain.is (c.run_question-in-Explain.ensures.has_run (explain c.in-Explain.rank (told_asked c.in-Explain.asked)) _ (sym c.deref-in-Explain.ensures, refl, refl))

@@ -1,9 +1,8 @@
 -- A run of `query` or `explain`.
-use Rattle.std.proofs.Common.{◌≡◌, ◌≤◌, inl, inr, ℕ, List, [], ◌∷◌, Bool, Option, None, Some, true, refl, sym, ap, subst, ◌∙◌}
+use Rattle.std.proofs.Common.{◌≡◌, ◌≤◌, inl, inr, ℕ, List, [], ◌∷◌, Option, None, Some, true, refl, sym, ap, subst, ◌∙◌}
 use Rattle.std.specs.Prelude.{is_some}
 use Rattle.std.specs.Option.{IfSome}
 use Rattle.store_ends.specs.Files.{Files}
-use Rattle.smoothing.specs.declared.rule.RuleKind.TheVariants.{Dirichlet}
 use Rattle.command_words.specs.Table.{Asks, Question, add, create, delete, explain, prior, query, scan}
 use Rattle.query_reader.specs.QueryText.{query_text}
 use Rattle.query_refusals.specs.Lines.{line_of}
@@ -12,7 +11,6 @@ use Rattle.command_pieces.specs.CommandFaults.{IsDamage}
 use Rattle.command_pieces.specs.Written.{Plain, unflushed}
 use Rattle.command_pieces.specs.declared.command_fault.CommandFault.{CommandFault}
 use Rattle.command_pieces.specs.declared.command_fault.CommandFault.TheVariants as fault
-use Rattle.command_pieces.proofs.Joining.{StoppedBetween-none}
 use Rattle.repository.specs.Names.{manifest_name}
 use Rattle.repository.specs.RealLimits.{StandsFor}
 use Rattle.repository.specs.Stands.{Collection}
@@ -21,8 +19,8 @@ use Rattle.collection_queries.specs.Shown.{Shown, explanation, shown_for}
 use Rattle.indri_app.specs.Asked.{IsAsked, IsBrokenOver, IsIntact, IsIntactWithPriors}
 use Rattle.indri_app.specs.Command.{AreAnswer, ArePieces, IsAskedBy, NeedsRepository, query_refusal, text_refusal}
 use Rattle.indri_app.specs.LastLines.{IsClosed}
-use Rattle.indri_app.specs.Opened.{IsAbsentFault, IsOpenFault, IsWant}
-use Rattle.indri_app.specs.Runs.{IsReplyStatus, RunsTo, Tells, WritesBy}
+use Rattle.indri_app.specs.Opened.{IsAbsentFault, IsWant}
+use Rattle.indri_app.specs.Runs.{RunsTo, Tells, WritesBy}
 use Rattle.indri_app.specs.declared.status.Status.{Status}
 use Rattle.indri_app.specs.declared.status.Status.TheVariants as status
 use Rattle.indri_app.proofs.Closing.{closed, want-begun}

@@ -20,7 +20,7 @@ use Rattle.repository.specs.Stands.{Collection, IsPriorListed, Prior as Kept}
 use Rattle.collection_queries.specs.Priors.{names_with, priors_with}
 use Rattle.collection_queries.specs.Shown.{Shown}
 use Rattle.indri_app.specs.Asked.{IfRefused, IsAnswerOver, IsAskBroken, IsAskFault, IsAsked, IsBrokenOver, IsFaultOver, IsOpenAskFault, ask_fault}
-use Rattle.indri_app.specs.Command.{IsQuery, answer_piece, query_refusal}
+use Rattle.indri_app.specs.Command.{IsQuery, query_refusal}
 use Rattle.indri_app.specs.Opened.{IsAbsentFault, IsFileFault, IsOpenFault}
 use Rattle.indri_app.specs.Texts.{IsTextFault}
 use Rattle.indri_app.specs.declared.question.AskFault.{AskFault}

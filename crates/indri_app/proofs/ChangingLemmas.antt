@@ -1,5 +1,5 @@
 -- Why a command is broken off that opens a repository and changes it.
-use Rattle.std.proofs.Common.{◌≡◌, ℕ, Bool, List, Option, Result, Ok, Err, refl, sym, subst, ◌∙◌, arith}
+use Rattle.std.proofs.Common.{◌≡◌, ℕ, Bool, List, Option, Result, Ok, Err, subst, ◌∙◌, arith}
 use Rattle.std.specs.Prelude.{IfErr, OnOk}
 use Rattle.store_ends.specs.Files.{Files, GoesOn, IsQuiet}
 use Rattle.command_pieces.specs.CommandFaults.{IsItemsFault}

@@ -1,14 +1,12 @@
 -- How a run ends, by what its command answers.
 use Rattle.std.proofs.Common.{◌≡◌, ◌≤◌, ◌⊎◌, inl, inr, ℕ, Bool, List, Option, None, Some, Result, Ok, Err, true, false, refl, sym, ap, subst, ◌∙◌, arith, take}
-use Rattle.std.specs.Prelude.{IfErr, IfOk, OnOk, IsTrue, is_some}
+use Rattle.std.specs.Prelude.{IfErr, OnOk, IsTrue, is_some}
 use Rattle.ri_ends.specs.Causes.{Rose}
-use Rattle.store_ends.specs.Files.{Files}
 use Rattle.command_pieces.specs.CommandFaults.{IsDamage}
 use Rattle.command_pieces.specs.Lines.{WritesLine}
 use Rattle.command_pieces.specs.Pieces.{Writes}
 use Rattle.command_pieces.specs.declared.command_fault.CommandFault.{CommandFault}
 use Rattle.command_pieces.specs.declared.command_fault.CommandFault.TheVariants as fault
-use Rattle.repository.specs.Names.{manifest_name}
 use Rattle.indri_app.specs.Changes.{IsFoundFirst, IsOverFault}
 use Rattle.indri_app.specs.LastLines.{IsClosed, absent_line, exists_line, malformed_line, missing_line, status_of}
 use Rattle.indri_app.specs.Opened.{IsAbsentFault}

@@ -1,6 +1,6 @@
 -- The opening of a repository, told of a command.
-use Rattle.std.proofs.Common.{◌≡◌, ℕ, Bool, true, false, List, Option, None, Some, sym, ◌∙◌, refl, ap, subst}
-use Rattle.std.specs.Prelude.{IsSomeAnd, is_some}
+use Rattle.std.proofs.Common.{◌≡◌, ℕ, true, false, List, Option, None, Some, sym, ◌∙◌, refl, ap}
+use Rattle.std.specs.Prelude.{is_some}
 use Rattle.ri_base.specs.Faults.{IsOutside}
 use Rattle.ri_base.specs.declared.seg_fault.SegFault.{SegFault}
 use Rattle.ri_base.specs.declared.seg_fault.SegFault.TheVariants as files
@@ -12,7 +12,6 @@ use Rattle.manifest.specs.declared.manifest.Manifest.{Manifest}
 use Rattle.repository.specs.Names.{manifest_name}
 use Rattle.repository.specs.Opening.{IsOpeningFault, of_all, of_entry, of_manifest, of_outside}
 use Rattle.repository.specs.Stands.{HasManifest}
-use Rattle.indri_app.specs.Asked.{IsBrokenOver}
 use Rattle.indri_app.specs.Opened.{IsAbsentFault, IsOpenFault, IsWant}
 
 pub want-of : (why : SegFault) → IsOutside why → IsWant (of_files why)

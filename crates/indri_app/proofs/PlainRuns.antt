@@ -1,5 +1,5 @@
 -- A run of a command that changes no file.
-use Rattle.std.proofs.Common.{◌≡◌, ◌≤◌, ◌⊎◌, inl, inr, ℕ, Bool, List, [], ◌∷◌, Option, None, Some, Result, Ok, Err, true, false, refl, sym, ap, subst, ◌∙◌}
+use Rattle.std.proofs.Common.{◌≡◌, ◌≤◌, inl, inr, ℕ, Bool, List, [], Option, None, Some, Result, Ok, Err, true, false, refl, sym, ap, subst, ◌∙◌}
 use Rattle.std.specs.Prelude.{IfErr, IfOk, OnOk}
 use Rattle.std.specs.Option.{IfSome}
 use Rattle.ri_base.specs.Expression.{ExprTree}
@@ -12,7 +12,7 @@ use Rattle.query_refusals.specs.declared.refusal.QueryRefusal.{QueryRefusal}
 use Rattle.query_refusals.specs.declared.refusal.QueryRefusal.TheVariants.{Text}
 use Rattle.command_words.specs.Table.{Asks, scan}
 use Rattle.command_pieces.specs.Faults.{IsCut}
-use Rattle.command_pieces.specs.Pieces.{StoppedBetween, some_refused}
+use Rattle.command_pieces.specs.Pieces.{some_refused}
 use Rattle.command_pieces.specs.Written.{AllWritten, AnyFiles, CutBetween, CutWithin, Plain, unflushed}
 use Rattle.command_pieces.specs.declared.command_fault.CommandFault.TheVariants as fault
 use Rattle.command_pieces.specs.declared.fault.Fault.{Fault}

@@ -1,9 +1,9 @@
 -- A run that is over before it has looked at a file.
-use Rattle.std.proofs.Common.{◌≡◌, ◌≤◌, inl, inr, ℕ, List, [], Option, None, Some, refl, sym, subst, true}
+use Rattle.std.proofs.Common.{◌≡◌, inl, inr, ℕ, List, [], Option, None, Some, refl, subst}
 use Rattle.std.specs.Option.{IfSome}
 use Rattle.store_ends.specs.Files.{Files}
 use Rattle.store_ends.proofs.Files.{Leaves-same}
-use Rattle.command_words.specs.Table.{Asks, create, scan}
+use Rattle.command_words.specs.Table.{Asks, scan}
 use Rattle.command_pieces.proofs.Joining.{StoppedBetween-none}
 use Rattle.repository.specs.RealLimits.{StandsFor}
 use Rattle.repository.specs.Stands.{Collection}

@@ -1,5 +1,4 @@
-use Rattle.std.proofs.Common.{◌≡◌, Err, refl, sym, subst}
-use Rattle.store_ends.specs.Files.{Files}
+use Rattle.std.proofs.Common.{◌≡◌, refl, sym, subst}
 use Rattle.command_pieces.specs.declared.command_fault.CommandFault.TheVariants as fault
 use Rattle.repository.specs.RealLimits.{StandsFor}
 use Rattle.collection_commands.specs.Ahead.{IsAhead}

@@ -1,4 +1,4 @@
-use Rattle.std.proofs.Common.{◌≡◌, refl, sym, subst}
+use Rattle.std.proofs.Common.{refl, sym, subst}
 use Rattle.holdings.specs.declared.limits.Limits.{Limits}
 use Rattle.repository.specs.Opening.{IsRepositoryOpened}
 use Rattle.repository.specs.RealLimits.{AreReal}

@@ -1,4 +1,3 @@
-use Rattle.std.proofs.Common.{None}
 use Rattle.repository.specs.Names.{manifest_name}
 use Rattle.indri_app.specs.LastLines.{absent_line}
 use Rattle.indri_app.proofs.ChangingLemmas.{change-needs, change-not_create, change-not_scan, change-reads}

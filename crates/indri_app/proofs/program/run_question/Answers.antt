@@ -1,4 +1,4 @@
-use Rattle.std.proofs.Common.{◌≡◌, None, inl, inr, refl, subst, arith}
+use Rattle.std.proofs.Common.{refl, subst, arith}
 use Rattle.repository.specs.Names.{manifest_name}
 use Rattle.collection_queries.specs.Shown.{told_shown}
 use Rattle.indri_app.specs.Opened.{IsOpenFault}

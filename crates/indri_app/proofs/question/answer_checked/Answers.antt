@@ -1,10 +1,4 @@
-use Rattle.std.proofs.Common.{◌≡◌, Err, List, Option, ap, sym, subst, ◌∙◌, length}
-use Rattle.ri_base.specs.Documents.{Document}
-use Rattle.store_ends.specs.Files.{Files}
-use Rattle.smoothing.specs.declared.rule.RuleKind.TheVariants.{Dirichlet}
-use Rattle.query_check.specs.Answers.{whole_checked}
-use Rattle.collection_queries.specs.Answer.{IsAnswerText}
-use Rattle.collection_queries.specs.Shown.{told_shown}
+use Rattle.std.proofs.Common.{Err, ap}
 use Rattle.indri_app.proofs.AskingLemmas.{of_files-file}
 use Rattle.indri_app.proofs.OpeningLemmas.{store-of_files, want-of}
 use Rattle.indri_app.proofs.question.answer_checked.Goals as goal

@@ -51,9 +51,6 @@ pub memory-some : (found : Option Asks) (left : Option (List ℕ)) (told : Optio
 memory-some None left told past before a z = tt
 memory-some (Some asks) left told past before a z = memory-has_run asks left told past before a z
 
-pub some-not_none : (asks : Asks) → Some asks ≡ None → ⊥
-some-not_none asks e = absurd cc
-
 not-plain : (s t : Status) → IsPlainStatus s → s ≡ t → (IsPlainStatus t → ⊥) → ⊥
 not-plain s t plain e never = never (subst IsPlainStatus e plain)
 

@@ -114,8 +114,9 @@ MARKS = {
 }
 PIECES = {PLAIN: (Bound(5, 56), Bound(6, 80)), "</doc ": (Bound(6.5, 64), Bound(6.5, 64))}
 
-LARGE = (Bound(4, 64), Bound(5, 96))
-DISTINCT = (Bound(4.5, 64), Bound(12, 500))
+# A text of more than 14 bytes lies behind a pointer, in two allocations: these words have 15.
+LARGE = (Bound(4, 128), Bound(5, 128))
+DISTINCT = (Bound(4.5, 128), Bound(12, 500))
 
 ADD_TO_SCAN = 5
 BYTES_A_TOKEN = 80

@@ -25,8 +25,11 @@ pub struct Search {
     snapshot: Snapshot,
     checked: Checked,
     network: Network,
+    tables: Vec<RangeTable>,
+    terms: Terms,
     most: usize,
     at: Place,
+    spent: Spent,
     held: Held,
     usable: bool,
     ghost shown: { is_range (network_tree network).range ≡ true },
@@ -55,10 +58,16 @@ impl Search {
         snapshot: Snapshot,
         checked: Checked,
         stats: &[LeafStats],
+        tables: Vec<RangeTable>,
         most: u32,
     ) -> Result<Search, NoMemory>
         requires each { length stats.now ≡ length checked.leaves.items }
         requires counted { All (λ s. AreLeafStats s) stats.now }
+        requires some { 0 < most }
+        requires tables { length tables.items ≡ length snapshot }
+        requires asked { All (CountsFor (map leaf_tree checked.leaves.items)) tables.items }
+        ensures tables { IfOk result (λ s. s.tables ≡ tables) }
+        ensures spent { IfOk result (λ s. (s.spent.opened ≡ 0) × (s.spent.squared ≡ 0)) }
         ensures snapshot { IfOk result (λ s. s.snapshot ≡ snapshot) }
         ensures checked { IfOk result (λ s. s.checked ≡ checked) }
         ensures network { IfOk result (λ s. network_tree s.network ≡ network_of checked stats.now) }
@@ -86,8 +95,10 @@ impl Search {
     }
 
     /// Passes so many live documents, or all that are left where these are fewer, and answers whether all are passed. After an `Err`
-    /// the search isn't usable.
-    pub fn step<T: Store, F: Fn(u32, u32, u64, u64) -> Fraction>(
+    /// the search isn't usable. A range is passed over where so many candidates of earlier ranges are surely before all of its own, as
+    /// its bounds tell. The first digits are taken of the bounds and of the candidates of the other ranges, the further ones of
+    /// contenders alone. `blocks` counts the blocks that are opened, and `squares` the squarings.
+    pub fn step<T: Store, F: Fn(u32, u32, u64, u64) -> Fraction, B: Ledger, Q: Ledger>(
         &mut self,
         alloc: Global,
         docs: u64,
@@ -95,6 +106,8 @@ impl Search {
         plugs: &mut [Box<dyn BeliefNode>],
         store: &mut T,
         cache: &mut BlockCache,
+        blocks: &mut Steps<B>,
+        squares: &mut Steps<Q>,
     ) -> Result<bool, SegFault>
         requires usable { self.old.usable ≡ true }
         requires rule { Computes F.pre F.post rule.now.kind rule.now.f }
@@ -106,6 +119,20 @@ impl Search {
         ensures done { IfOk result (λ done. (told : Option Files) → done ≡ (self.new.at.credit == length (searched told self.old))) }
         ensures same { IsSameSearch self.old self.new }
         ensures usable { self.new.usable ≡ is_ok result }
+        // What it has spent rises as the counters do.
+        ensures opened { OnOk result (blocks.new + self.old.spent.opened ≡ blocks.old + self.new.spent.opened) }
+        ensures squared { OnOk result (squares.new + self.old.spent.squared ≡ squares.old + self.new.spent.squared) }
+        // A step of n documents opens at most n blocks a term.
+        ensures each { blocks.new ≤ blocks.old + docs * term_count self.old }
+        // Whatever the answer, the whole search has spent no more than this.
+        ensures blocks { AreBacked (T.files store.old) self.old.snapshot → IsCacheBacked (T.files store.old) cache.old
+            → IsTaken rule.now.kind (map (λ plug. meaning plug) plugs.old) (T.files store.old) self.old
+            → blocks.new + self.old.spent.opened ≤ blocks.old
+            + most_blocks (sought rule.now.kind (map (λ plug. meaning plug) plugs.old) self.old) (term_count self.old) (ranges (T.files store.old) self.old.snapshot) }
+        ensures squares { AreBacked (T.files store.old) self.old.snapshot → IsCacheBacked (T.files store.old) cache.old
+            → IsTaken rule.now.kind (map (λ plug. meaning plug) plugs.old) (T.files store.old) self.old
+            → squares.new + self.old.spent.squared ≤ squares.old
+            + most_squares (sought rule.now.kind (map (λ plug. meaning plug) plugs.old) self.old) (ranges (T.files store.old) self.old.snapshot) }
         ensures stay { map (λ plug. meaning plug) plugs.new ≡ map (λ plug. meaning plug) plugs.old }
         ensures honest { AreBacked (T.files store.old) self.old.snapshot → IsCacheBacked (T.files store.old) cache.old → IfErr result IsOutside }
         ensures cache { CacheKeeps (T.files store.old) (IsFileAmong self.old.snapshot) cache.old cache.new }

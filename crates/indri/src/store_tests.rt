@@ -384,7 +384,8 @@ fn queries(rt: HostRuntime) {
 const CUT: &[u8] = b"indriman\x01\0\0\0\x01\0\0\0\0\0\0\0\0\0\0\0\0\0\0\0\0\0\0\0";
 
 /// The manifest of one segment of two documents.
-const ONE: &[u8] = b"indriman\x01\0\0\0\x02\0\0\0\0\0\0\0\x01\0\0\0\x01\0\0\0\0\0\0\0\x02\0\0\0\0\0\0\0\0\0\0\0\0\0\0\0\0";
+const ONE: &[u8] =
+    b"indriman\x01\0\0\0\x02\0\0\0\0\0\0\0\x01\0\0\0\x01\0\0\0\0\0\0\0\x02\0\0\0\0\0\0\0\0\0\0\0\0\0\0\0\0";
 
 /// A store that has this manifest alone.
 fn store_of(alloc: Global, manifest: &[u8]) -> Option<MemStore> {

@@ -2,5 +2,6 @@ pub mod Ahead
 pub mod Creation
 pub mod Deletions
 pub mod Flushing
+pub mod Merging
 pub mod PriorSetting
 pub mod RowRefusals

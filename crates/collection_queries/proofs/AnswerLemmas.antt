@@ -1,5 +1,5 @@
 -- The first results of a ranking.
-use Rattle.std.proofs.Common.{ℕ, ◌≡◌, ◌<◌, true, List, [], ◌∷◌, arith, take, drop, map, Option, Some, ap, sym, ◌∙◌, subst}
+use Rattle.std.proofs.Common.{ℕ, ◌≡◌, ◌<◌, ◌≤◌, true, List, [], ◌∷◌, arith, take, drop, map, Option, Some, ap, sym, ◌∙◌, subst}
 use Rattle.std.specs.Prelude.{All}
 use Rattle.std.proofs.lemmas.Bool.{and_parts}
 use Rattle.std.proofs.lemmas.Bool.Decides.{nat_tests}
@@ -8,6 +8,7 @@ use Rattle.ri_base.specs.Documents.{Document}
 use Rattle.ri_base.specs.declared.hit.Hit.{Hit}
 use Rattle.ri_base.specs.declared.hit.LeafStats.{LeafStats}
 use Rattle.store_ends.specs.Files.{Files}
+use Rattle.command_words.specs.declared.words.TheConstants.{MAX_RESULTS}
 use Rattle.smoothing.specs.declared.rule.RuleKind.{RuleKind}
 use Rattle.query_check.specs.Answers.{whole_checked}
 use Rattle.query_check.specs.Check.{CheckedTree}
@@ -25,7 +26,7 @@ use Rattle.true_order.specs.Ranked.{hit_beliefs}
 use Rattle.true_order.specs.TrueOrder.{IsTrueOrder}
 use Rattle.collection_queries.specs.Answer.{IsAnswerText}
 use Rattle.collection_queries.specs.Ranking.{IsRanking}
-use Rattle.collection_queries.specs.Searching.{HasSearched, wanted}
+use Rattle.collection_queries.specs.Searching.{HasSearched, IsShowable, wanted}
 use Rattle.collection_queries.specs.Shown.{Shown as Told, results, shown_text, told_shown}
 use Rattle.collection_queries.specs.declared.shown.Shown.{Shown as Form}
 
@@ -55,6 +56,13 @@ results-shown rule priors names shown count labels most q docs text is many answ
     let same : most ≡ count = many ∙ ap wanted is in
     let right : IsAnswerText rule priors names (results count labels) q docs text = subst (λ (k : ℕ). IsAnswerText rule priors names (results k labels) q docs text) same answer in
     subst (λ (s : Told). IsAnswerText rule priors names s q docs text) (sym is) right
+
+-- no more results are searched for than may be shown
+pub results-few : (shown : Form) (count : ℕ) (labels : Option (List ℕ × List ℕ)) (most : ℕ) → told_shown shown ≡ results count labels → most ≡ wanted (told_shown shown) → IsShowable (told_shown shown) → most ≤ MAX_RESULTS
+results-few shown count labels most is many fits =
+    let same : most ≡ count = many ∙ ap wanted is in
+    let few : count ≤ MAX_RESULTS = subst (λ (s : Told). IsShowable s) is fits in
+    omega (arith, same, few)
 
 -- ---- a cache and sums in which nothing is
 

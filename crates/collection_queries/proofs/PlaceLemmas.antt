@@ -3,6 +3,7 @@ use Rattle.std.proofs.Common.{◌≡◌, ◌<◌, ◌≤◌, ◌+◌, ℕ, zero,
 use Rattle.std.specs.Prelude.{find}
 use Rattle.std.specs.Str.{bytes_eq}
 use Rattle.std.proofs.lemmas.List.{at_drop_more, drop_all}
+use Rattle.std.proofs.lemmas.Slice.Eq.{bytes_eq-Decides}
 use Rattle.ri_base.specs.Collection.{document_at, empty_document}
 use Rattle.ri_base.specs.Documents.{Document}
 use Rattle.store_ends.specs.Files.{Files}
@@ -89,3 +90,16 @@ part-found docno told parts number m d inside at found =
 
 pub no-part-left : (docno : List ℕ) (told : Option Files) (parts : List Marked) (number : ℕ) → length parts ≤ number → document_with docno (live told (drop number parts)) ≡ None
 no-part-left docno told parts number past = ap (λ ms. document_with docno (live told ms)) (drop_all number parts past)
+
+-- ---- a document that is there is found
+
+pub none-missed : (docno : List ℕ) (docs : List Document) (k : ℕ) (d : Document) → k < length docs → get_or docs k d ≡ d → docno ≡ d.docno → document_with docno docs ≡ None → ⊥
+none-missed docno [] k d inside at named none = absurd (omega (arith, inside))
+none-missed docno (x ∷ docs) zero d inside at named none =
+    let same : bytes_eq docno x.docno ≡ true = (bytes_eq-Decides docno x.docno).1 (named ∙ ap (λ (e : Document). e.docno) (sym at)) in
+    absurd (let here : document_with docno (x ∷ docs) ≡ Some x = rw same refl in cc)
+none-missed docno (x ∷ docs) (suc k) d inside at named none = by (bytes_eq docno x.docno) refl (none-missed docno docs k d (omega (arith, inside)) at named)
+  where
+    by : (b : Bool) → bytes_eq docno x.docno ≡ b → (document_with docno docs ≡ None → ⊥) → ⊥
+    by true e later = absurd (let here : document_with docno (x ∷ docs) ≡ Some x = rw e refl in cc)
+    by false e later = let same : document_with docno (x ∷ docs) ≡ document_with docno docs = rw e refl in later (sym same ∙ none)

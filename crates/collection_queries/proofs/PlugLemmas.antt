@@ -1,5 +1,5 @@
 -- Plugs that are given the rows of priors, each the rows of the prior of its place.
-use Rattle.std.proofs.Common.{◌≡◌, ◌<◌, ◌≤◌, ◌+◌, ℕ, zero, suc, List, [], ◌∷◌, ◌++◌, Option, Contains, drop, get_or, length, map, take, set, refl, sym, ap, subst, ◌∙◌, arith}
+use Rattle.std.proofs.Common.{◌≡◌, ◌<◌, ◌+◌, ℕ, zero, suc, List, [], ◌∷◌, ◌++◌, Option, Contains, drop, get_or, length, map, take, set, refl, sym, ap, subst, ◌∙◌, arith}
 use Rattle.std.specs.Prelude.{slice_set}
 use Rattle.std.specs.List.{AllZip, repeat}
 use Rattle.std.proofs.Math.Seq.{get_or-append_seam, set-append_seam}

@@ -1,10 +1,8 @@
 -- The ranking of a query over the documents of a list.
-use Rattle.std.proofs.Common.{◌≡◌, ◌<◌, ◌≤◌, ◌+◌, ℕ, List, length, map, get_or, sym, ap, subst, ◌∙◌, arith, false}
-use Rattle.std.specs.List.{All}
+use Rattle.std.proofs.Common.{◌≡◌, ◌<◌, ◌≤◌, ◌+◌, ℕ, List, length, map, get_or, ap, subst, ◌∙◌, arith, false}
 use Rattle.std.specs.Ordering.{is_lt, nat_cmp, ordering_then}
 use Rattle.std.specs.declared.cmp.Ordering.{Ordering}
 use Rattle.std.proofs.lemmas.Bool.Decides.{nat_tests}
-use Rattle.std.proofs.lemmas.List.{length-map}
 use Rattle.std.proofs.lemmas.List.Sorted.{IsNonDecreasingBy-from_all_adjacent}
 use Rattle.ri_base.specs.Documents.{Document}
 use Rattle.ri_base.specs.Query.{FilterTree}
@@ -18,7 +16,6 @@ use Rattle.belief_nodes.specs.Priors.{Prior}
 use Rattle.true_order.specs.Ranked.{IsRanked}
 use Rattle.document_scoring.specs.Counts.{stats_of}
 use Rattle.ranker.specs.Ranking.{IsAnswerBy}
-use Rattle.ranker.proofs.RankingLemmas.{answer_by_each, answer_by_few}
 use Rattle.collection_queries.specs.Ranking.{IsAnswer, IsRanking, query_network}
 
 -- The answer by what is told of a query is its answer, where the statistics are those of the documents.
@@ -29,15 +26,6 @@ IsAnswer-by kind priors q filters network stats docs most hits asked is summed h
     let seen : network ≡ query_network q docs = is ∙ ap (λ ss. record { leaves = q.leaves; range = q.range; stats = ss; tree = q.tree }) summed in
     let filtered : IsAnswerBy kind priors q.filters network docs most hits = subst (λ (fs : List FilterTree). IsAnswerBy kind priors fs network docs most hits) asked h in
     subst (λ (n : NetworkTree). IsAnswerBy kind priors q.filters n docs most hits) seen filtered
-
--- as many fractions as leaves
-pub answer_each : (kind : RuleKind) (priors : List Prior) (q : CheckedTree) (docs : List Document) (hits : List Hit) (most : ℕ)
-    → IsAnswer kind priors q docs most hits → All (λ hit. length hit.fractions ≡ length q.leaves) hits
-answer_each kind priors q docs hits most h = answer_by_each kind priors q.filters (query_network q docs) docs hits most (sym (length-map q.leaves (stats_of docs))) h
-
-pub answer_few : (kind : RuleKind) (priors : List Prior) (q : CheckedTree) (docs : List Document) (hits : List Hit) (most : ℕ)
-    → IsAnswer kind priors q docs most hits → length hits ≤ most
-answer_few kind priors q docs hits most h = answer_by_few kind priors q.filters (query_network q docs) docs hits most h
 
 -- ---- rising keys
 

@@ -5,6 +5,7 @@ ghost use Rattle.ri_base.specs.Faults.{IsOutside};
 ghost use Rattle.ri_base.specs.Keeps.{Rose};
 ghost use Rattle.store_ends.specs.Files.{Files, IsQuiet};
 ghost use Rattle.command_words.specs.Asked.{told_labels};
+ghost use Rattle.command_words.specs.declared.words.TheConstants.{MAX_RESULTS};
 ghost use Rattle.smoothing.specs.declared.rule.RuleKind.{RuleKind};
 ghost use Rattle.query_check.specs.Answers.{whole_checked};
 ghost use Rattle.belief_nodes.specs.Network.{network_tree};
@@ -14,7 +15,6 @@ ghost use Rattle.disk_index.specs.Snapshots.{AreBacked, IsFileAmong};
 ghost use Rattle.disk_index.specs.Snapshots as snapshots;
 ghost use Rattle.document_scoring.specs.Counts.{stats_of};
 ghost use Rattle.counts.specs.Reading.{OnlyReads};
-ghost use Rattle.ranked_output.specs.Explained.{explained_text};
 ghost use Rattle.ranker.specs.Searches.{IsTaken, searched};
 ghost use Rattle.collection_queries.specs.Answer.{IsAnswerText, IsRule};
 ghost use Rattle.collection_queries.specs.Searching.{HasNetwork, IsShowable, wanted};
@@ -23,18 +23,18 @@ ghost use Rattle.collection_queries.specs.Shown.{explanation, results, told_show
 use crate::explained::{explain_hit, hit_of_rank};
 use crate::laws::ranking_is_true;
 use crate::leaves::all_stats;
-use crate::results::{are_showable, lines_text};
+use crate::results::lines_text;
 use crate::search::{results_of, search_all};
 use crate::shown::Shown;
 use belief_nodes::BeliefNode;
 use counts::Counts;
 use disk_index::{BlockCache, Snapshot};
 use query_check::Checked;
-use ranked_output::{Explained, explain_lines};
+use ranked_output::explain_lines;
 use ranker::Search;
 use ri_base::{Name, NoMemory, SegFault};
 use smoothing::RuleKind;
-use std::alloc::{AllocError, Global};
+use std::alloc::Global;
 use std::num::NonZeroUsize;
 use store_ends::Store;
 
@@ -63,33 +63,13 @@ fn results_text(
     requires usable { search.now.usable ≡ true }
     requires all { (told : Option Files) → search.now.at.credit ≡ length (searched told search.now) }
     requires network { HasNetwork search.now }
+    requires most { search.now.most ≤ MAX_RESULTS }
     ensures { (kind : RuleKind) (priors : List Prior) (told : Option Files) → IsTaken kind priors told search.now
         → (network_tree search.now.network).stats ≡ map (stats_of (searched told search.now)) (whole_checked search.now.checked).leaves
         → IfOk result (λ text. IsAnswerText kind priors [] (results search.now.most (told_labels labels.now)) (whole_checked search.now.checked) (searched told search.now) (Some text.items)) }
 {
     ranking_is_true();
-    let hits = results_of(search);
-    let checked = search.checked();
-    if !are_showable(hits.as_slice(), checked.leaves.len()) {
-        return Err(AllocError);
-    }
-    lines_text(alloc, labels, checked, hits)
-}
-
-/// The lines of what explains a result. An explanation has the scale of its query; no clause of it says so where the files aren't
-/// backed, and where one hasn't, want of memory is answered.
-fn explained_lines(
-    alloc: Global,
-    checked: &Checked,
-    explained: &Explained,
-) -> Result<Vec<u8>, NoMemory>
-    ensures { IfOk result (λ text. text.items ≡ explained_text explained.now) }
-{
-    if explained.scale != checked.scale {
-        return Err(AllocError);
-    }
-    let text = explain_lines(alloc, explained)?;
-    Ok(text.into_vec())
+    lines_text(alloc, labels, search.checked(), results_of(search))
 }
 
 /// What explains the result of that rank of a search, or none where there are fewer results.
@@ -129,8 +109,8 @@ fn explanation<T: Store>(
         store,
         cache,
     )?;
-    let text = explained_lines(alloc, search.checked(), &explained)?;
-    Ok(Some(text))
+    let text = explain_lines(alloc, &explained)?;
+    Ok(Some(text.into_vec()))
 }
 
 /// What is shown of the results of a search.

@@ -9,6 +9,8 @@ ghost use Rattle.disk_index.specs.Cache.{IsCacheBacked};
 ghost use Rattle.disk_index.specs.Parts.{IsFileOf, IsPartBacked, reads, size};
 ghost use Rattle.disk_index.specs.Snapshots.{AreBacked, IsFileAmong, live};
 ghost use Rattle.counts.specs.Reading.{OnlyReads};
+ghost use Rattle.ranker.specs.Ranking.{candidate_of};
+ghost use Rattle.ranker.specs.Windows.{IsWindowIn};
 ghost use Rattle.result_explanation.specs.Explanation.{IsExplanation};
 ghost use Rattle.collection_queries.specs.Answer.{document_with};
 ghost use Rattle.collection_queries.specs.Places.{IsPlaceIn, document_in};
@@ -52,6 +54,7 @@ fn explain_in<T: Store>(
     requires beliefs { length hit.fractions ≡ length checked.now.leaves.items }
     ensures exact { IsPartBacked (T.files store.old) marked.now.source → IsCacheBacked (T.files store.old) cache.old
         → IfOk result (IsExplanation names.now (whole_checked checked.now) stats.now (document_at (reads (T.files store.old) marked.now.source) id) rank hit) }
+    ensures scale { IfOk result (λ explained. explained.scale ≡ checked.now.scale) }
     ensures honest { IsPartBacked (T.files store.old) marked.now.source → IsCacheBacked (T.files store.old) cache.old → IfErr result IsOutside }
     ensures reads { OnlyReads T.files T.layers T.clock T.since T.longest T.held T.faults (IsFileOf marked.now.source) store.old store.new cache.old cache.new }
     ensures store { result ≡ Err SegFault.Store → Rose (T.faults store.old) (T.faults store.new) }
@@ -79,6 +82,7 @@ fn explain_at<T: Store>(
     requires beliefs { length hit.fractions ≡ length checked.now.leaves.items }
     ensures exact { AreBacked (T.files store.old) parts.now → IsCacheBacked (T.files store.old) cache.old
         → IfOk result (IsExplanation names.now (whole_checked checked.now) stats.now (document_in (T.files store.old) parts.now place) rank hit) }
+    ensures scale { IfOk result (λ explained. explained.scale ≡ checked.now.scale) }
     ensures honest { AreBacked (T.files store.old) parts.now → IsCacheBacked (T.files store.old) cache.old → IfErr result IsOutside }
     ensures reads { OnlyReads T.files T.layers T.clock T.since T.longest T.held T.faults (IsFileAmong parts.now) store.old store.new cache.old cache.new }
     ensures store { result ≡ Err SegFault.Store → Rose (T.faults store.old) (T.faults store.new) }
@@ -90,9 +94,7 @@ fn explain_at<T: Store>(
     )
 }
 
-/// Explains a hit in the live document of the parts with its docno. Each result of a search has that document, a window and as many
-/// beliefs as the query has leaves; no clause of a search says so where the files aren't backed, and where one lacks it, want of memory
-/// is answered.
+/// Explains a hit, which is a window of a live document of the parts, in the one with its docno.
 pub fn explain_hit<T: Store>(
     alloc: Global,
     names: &[Name],
@@ -105,21 +107,19 @@ pub fn explain_hit<T: Store>(
     cache: &mut BlockCache,
 ) -> Result<Explained, SegFault>
     requires stats { length stats.now ≡ length checked.now.leaves.items }
+    requires hit { ∥ IsWindowIn (live (T.files store.old) parts.now) (length checked.now.leaves.items) (candidate_of hit) ∥₁ }
     ensures exact { AreBacked (T.files store.old) parts.now → IsCacheBacked (T.files store.old) cache.old
         → IfOk result (λ explained. (d : Document) × (document_with hit.docno (live (T.files store.old) parts.now) ≡ Some d)
         × IsExplanation names.now (whole_checked checked.now) stats.now d rank hit explained) }
+    ensures scale { IfOk result (λ explained. explained.scale ≡ checked.now.scale) }
     ensures honest { AreBacked (T.files store.old) parts.now → IsCacheBacked (T.files store.old) cache.old → IfErr result IsOutside }
     ensures reads { OnlyReads T.files T.layers T.clock T.since T.longest T.held T.faults (IsFileAmong parts.now) store.old store.new cache.old cache.new }
     ensures store { result ≡ Err SegFault.Store → Rose (T.faults store.old) (T.faults store.new) }
 {
-    let beliefs = hit.fractions.as_slice().len();
-    if hit.begin >= hit.end || beliefs != checked.leaves.len() {
-        return Err(SegFault::Memory);
-    }
     match place_of(parts, &hit.docno) {
         Some(place) => explain_at(
             alloc, names, checked, stats, parts, place, rank, hit, store, cache,
         ),
-        None => Err(SegFault::Memory),
+        None => unreachable!(),
     }
 }

@@ -1,12 +1,11 @@
 // The lines of a ranking.
-ghost use Rattle.std.specs.Prelude.{◌≡◌, ◌≤◌, length, All, IfOk, IsTrue};
+ghost use Rattle.std.specs.Prelude.{◌≡◌, ◌≤◌, length, All, IfOk};
 ghost use Rattle.command_words.specs.Asked.{told_labels};
 ghost use Rattle.command_words.specs.declared.words.TheConstants.{MAX_RESULTS};
 ghost use Rattle.ranked_output.specs.Marks.{IsScale};
 ghost use Rattle.ranked_output.specs.Texts.{line_of, lines_of};
 ghost use Rattle.collection_queries.specs.Shown.{shown_line, shown_text};
 
-use command_words::MAX_RESULTS;
 use query_check::Checked;
 use ranked_output::{Mark, line, mark, trec_line};
 use ri_base::{Bytes, Hit, Hits, NoMemory};
@@ -28,23 +27,6 @@ fn shown_line(
         Some((topic, run)) => trec_line(alloc, topic, rank, hit, scale, run),
         None => line(alloc, rank, mark, hit, scale),
     }
-}
-
-/// Whether there are no more hits than may be shown, and each has as many beliefs as a query has leaves. Those of a search have; no
-/// clause of it says so where the files aren't backed.
-pub fn are_showable(hits: &[Hit], leaves: usize) -> bool
-    ensures few { IsTrue result → length hits.now ≤ MAX_RESULTS }
-    ensures each { IsTrue result → All (λ hit. length hit.fractions ≡ leaves) hits.now }
-{
-    if hits.len() > MAX_RESULTS as usize {
-        return false;
-    }
-    for hit in hits {
-        if hit.fractions.as_slice().len() != leaves {
-            return false;
-        }
-    }
-    true
 }
 
 /// The lines of results.

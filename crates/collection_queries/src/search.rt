@@ -9,11 +9,13 @@ ghost use Rattle.smoothing.specs.Fractions.{IsMu, dirichlet};
 ghost use Rattle.smoothing.specs.declared.rule.RuleKind.{RuleKind};
 ghost use Rattle.query_check.specs.Answers.{whole_checked};
 ghost use Rattle.belief_nodes.specs.Leaves.{AreLeafStats};
+ghost use Rattle.belief_nodes.specs.Network.{network_tree};
 ghost use Rattle.belief_nodes.specs.Priors.{Prior};
 ghost use Rattle.disk_index.specs.Cache.{IsCacheBacked};
 ghost use Rattle.disk_index.specs.Snapshots.{AreBacked, IsFileAmong};
 ghost use Rattle.counts.specs.Reading.{OnlyReads};
 ghost use Rattle.ranker.specs.Searches.{IsAnswerOf, IsTaken, searched};
+ghost use Rattle.ranker.specs.Windows.{AreWindows};
 ghost use Rattle.collection_queries.specs.Answer.{IsRule};
 ghost use Rattle.collection_queries.specs.Searching.{HasSearched};
 
@@ -72,6 +74,7 @@ pub fn results_of(search: &Search) -> &Hits
     requires all { (told : Option Files) → search.now.at.credit ≡ length (searched told search.now) }
     ensures answer { (kind : RuleKind) (priors : List Prior) (told : Option Files) → IsTaken kind priors told search.now
         → IsAnswerOf kind priors search.now (searched told search.now) result.now }
+    ensures windows { (told : Option Files) → ∥ AreWindows (searched told search.now) (length (network_tree search.now.network).leaves) search.now.most result.now ∥₁ }
 {
     match search.results() {
         Some(hits) => hits,

@@ -1,10 +1,10 @@
 -- What the answer of `read_words` says.
 use Rattle.std.specs.Prelude.{ℕ, ◌≤◌, List, Option, String, option_map, string_bytes}
 use Rattle.smoothing.specs.Fractions.{IsMu}
-use Rattle.command_words.specs.Table.{Asks, Question, add, create, delete, explain, prior, query, scan}
+use Rattle.command_words.specs.Table.{Asks, Question, add, create, delete, explain, merge, prior, query, scan}
 use Rattle.command_words.specs.declared.words.Asked.{Asked}
 use Rattle.command_words.specs.declared.words.Words.{Words}
-use Rattle.command_words.specs.declared.words.Words.TheVariants.{Add, Create, Delete, Explain, Prior, Query, Scan}
+use Rattle.command_words.specs.declared.words.Words.TheVariants.{Add, Create, Delete, Explain, Merge, Prior, Query, Scan}
 use Rattle.command_words.specs.declared.words.TheConstants.{MAX_RESULTS}
 
 abbrev pub told_labels : {Z : Type 0} → Option (String Z × String Z) → Option (List ℕ × List ℕ)
@@ -20,6 +20,7 @@ told_words (Explain rank asked) = explain rank (told_asked asked)
 told_words Create = create
 told_words Add = add
 told_words Delete = delete
+told_words Merge = merge
 told_words (Prior name) = prior name
 
 -- the numbers of a query are in their ranges
@@ -35,4 +36,5 @@ AreInRange (Explain rank asked) = (1 ≤ rank) × (rank ≤ MAX_RESULTS) × IsIn
 AreInRange Create = Unit {0}
 AreInRange Add = Unit {0}
 AreInRange Delete = Unit {0}
+AreInRange Merge = Unit {0}
 AreInRange (Prior name) = Unit {0}

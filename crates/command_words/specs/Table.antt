@@ -26,6 +26,7 @@ pub data Asks : Type 0 where
   create : Asks
   add : Asks
   delete : Asks
+  merge : Asks
   prior : List ℕ → Asks
 
 -- ---- the topic and the run: both or neither, each of 1 to 64 bytes from 33 to 126
@@ -93,6 +94,7 @@ command_by command given =
     else if bytes_eq command (codes "create") then bare_by create given
     else if bytes_eq command (codes "add") then bare_by add given
     else if bytes_eq command (codes "delete") then bare_by delete given
+    else if bytes_eq command (codes "merge") then bare_by merge given
     else if bytes_eq command (codes "prior") then prior_by given
     else None
 

@@ -49,6 +49,8 @@ pub enum Words {
     Add,
     /// The collection without the documents whose docnos the input names.
     Delete,
+    /// The live documents in new parts, and no others.
+    Merge,
     /// The rows of the input, for the prior of this name.
     Prior(Name),
 }
@@ -191,6 +193,7 @@ fn command_words(alloc: Global, command: &str, given: &Given) -> Result<Option<W
         "create" => Ok(bare_words(given, Words::Create)),
         "add" => Ok(bare_words(given, Words::Add)),
         "delete" => Ok(bare_words(given, Words::Delete)),
+        "merge" => Ok(bare_words(given, Words::Merge)),
         "prior" => prior_words(alloc, given),
         _ => Ok(None),
     }

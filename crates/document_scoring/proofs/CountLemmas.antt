@@ -9,7 +9,6 @@ use Rattle.ri_base.specs.declared.expression.ExtentExpr.{ExtentExpr}
 use Rattle.field_extents.specs.Extents.{AreInOrder, begin_count}
 use Rattle.field_extents.specs.Fields.{covered_count, lies_in_some}
 use Rattle.field_extents.proofs.Laws.{AreInOrder-filter}
-use Rattle.extent_lists.specs.Pairs.{pair}
 use Rattle.extent_evaluation.specs.Listed.{extent_list}
 use Rattle.query_check.specs.Leaves.{LeafTree, leaf_tree}
 use Rattle.query_check.specs.declared.leaf_kind.LeafKind.{LeafKind}

@@ -1,15 +1,15 @@
 -- The windows of a document as the candidates that they are.
-use Rattle.std.proofs.Common.{◌≡◌, ℕ, Bool, true, false, ◌||◌, List, [], ◌∷◌, ◌++◌, length, map, filter, flat_map, zip, refl, sym, ap, subst, ◌∙◌, arith, append-nil, append_assoc}
+use Rattle.std.proofs.Common.{◌≡◌, ◌<◌, ◌≤◌, ℕ, Bool, true, false, ◌||◌, List, [], ◌∷◌, ◌++◌, length, map, filter, flat_map, get_or, refl, sym, ap, subst, ◌∙◌, arith, append-nil, append_assoc}
 use Rattle.std.specs.Bool.{nat_lt}
-use Rattle.std.specs.List.{list_all, list_any}
+use Rattle.std.specs.List.{All, list_all, list_any}
 use Rattle.std.proofs.lemmas.List.{length-map, map-append}
-use Rattle.std.proofs.lemmas.List.Elements.{All-append, All-cons, All-nil, filter-append, filter_agree}
+use Rattle.std.proofs.lemmas.List.Elements.{All-append, All-cons, All-filter, All-head, All-map, All-nil, All-tail, filter-append, filter_agree}
 use Rattle.log_chain.specs.Chain.{chain}
 use Rattle.log_chain.specs.declared.chain.TheConstants.{LAST}
 use Rattle.ri_base.specs.Collection.{document_at}
-use Rattle.ri_base.specs.Documents.{Document, Field}
+use Rattle.ri_base.specs.Documents.{AreFields, Document, Field}
 use Rattle.ri_base.specs.Pair.{Pair}
-use Rattle.ri_base.specs.Query.{FilterTree}
+use Rattle.ri_base.specs.Query.{FilterTree, is_range}
 use Rattle.ri_base.specs.Ratio.{Ratio, ratio_of}
 use Rattle.ri_base.specs.declared.fraction.Fraction.{Fraction}
 use Rattle.ri_base.specs.declared.hit.LeafStats.{LeafStats}
@@ -21,20 +21,15 @@ use Rattle.belief_nodes.specs.Network.{NetworkTree}
 use Rattle.belief_nodes.specs.Priors.{Prior}
 use Rattle.belief_nodes.specs.declared.leaf_count.LeafCount.{LeafCount}
 use Rattle.windows.specs.Windows.{windows}
-use Rattle.document_scoring.specs.Candidates.{Candidate, beliefs, candidate, document_candidates, occurs, passes, some_occurs}
+use Rattle.windows.proofs.OrderLemmas.{windows-some, windows-within}
+use Rattle.document_scoring.specs.Candidates.{Candidate, IsWindowOf, beliefs, candidate, document_candidates, occurs, passes, some_occurs}
 use Rattle.document_scoring.specs.Counters.{found_count}
 use Rattle.document_scoring.specs.Counts.{count_in}
 use Rattle.document_scoring.specs.declared.found.LeafExtents.{LeafExtents}
-use Rattle.document_scoring.specs.Rows.{Adds, AddsWindows, IsKeyed, row_candidate, window_candidate}
+use Rattle.document_scoring.specs.Rows.{Adds, AddsRows, AddsWindows, IsKeyed, row_candidate, window_candidate}
 use Rattle.document_scoring.specs.declared.scoring.Row.{Row}
 
 -- ---- as many fractions as leaves
-
-pub joined_length : {X Y : Type 0} (f : X → Y → Ratio) (xs : List X) (ys : List Y) → length xs ≡ length ys → length (map (λ leaf. f leaf.0 leaf.1) (zip xs ys)) ≡ length xs
-joined_length f [] [] h = refl
-joined_length f [] (y ∷ ys) h = absurd (omega (arith, h))
-joined_length f (x ∷ xs) [] h = absurd (omega (arith, h))
-joined_length f (x ∷ xs) (y ∷ ys) h = let rest = joined_length f xs ys (omega (arith, h)) in omega (arith, rest)
 
 fractions_length : (kind : RuleKind) (priors : List Prior) (docno : List ℕ) (tokens : ℕ) (leaves : List LeafTree) (counts : List LeafCount) (stats : List LeafStats)
     → length counts ≡ length leaves → length stats ≡ length leaves → length (leaf_fractions kind priors docno tokens leaves counts stats) ≡ length leaves
@@ -184,3 +179,31 @@ counted_is docs read last id w fields found items leaves asked same later fields
     ∙ ap (map (found_count d.fields w)) found_is
     ∙ subst (λ (ds : List Document). map (found_count (document_at ds id).fields w) items ≡ map (count_in (document_at ds id) w) asked) same h
     ∙ ap (map (count_in d w)) is
+
+-- ---- rows as windows
+
+pub no_rows : (d : Document) (leaves : ℕ) (rows : List Row) → AddsRows d leaves rows rows
+no_rows d leaves rows = record { more = []; behind = sym (append-nil rows); each = All-nil (λ row. IsWindowOf d leaves (row_candidate row)) }
+
+of_rows : (P : Candidate → Type 0) (rows : List Row) → All P (map row_candidate rows) → All (λ row. P (row_candidate row)) rows
+of_rows P [] h = All-nil (λ row. P (row_candidate row))
+of_rows P (r ∷ rows) h = All-cons (λ row. P (row_candidate row)) r rows (All-head P (row_candidate r) (map row_candidate rows) h) (of_rows P rows (All-tail P (row_candidate r) (map row_candidate rows) h))
+
+-- the rows of a document's windows, by counts of as many leaves as there are
+pub rows_of_windows : (kind : RuleKind) (priors : List Prior) (network : NetworkTree) (d : Document) (docno : List ℕ) (tokens : ℕ) (fields : List Field) (counts : Pair → List LeafCount) (rows next : List Row)
+    → docno ≡ d.docno → tokens ≡ length d.tokens → AreFields tokens fields → is_range network.range ≡ true → length network.stats ≡ length network.leaves → ((w : Pair) → length (counts w) ≡ length network.leaves)
+    → AddsWindows kind priors network docno tokens counts (windows network.range tokens fields) rows next → AddsRows d (length network.leaves) rows next
+rows_of_windows kind priors network d docno tokens fields counts rows next named long sound numbers summed counted h =
+    let P : Candidate → Type 0 = IsWindowOf d (length network.leaves) in
+    let f : Pair → Candidate = λ w. window_candidate kind priors network docno tokens (counts w) w in
+    let ws : List Pair = filter (λ w. some_occurs (counts w)) (windows network.range tokens fields) in
+    let some : All (λ (w : Pair). w.begin < w.end) ws = All-filter (λ w. some_occurs (counts w)) (λ (w : Pair). w.begin < w.end) (windows network.range tokens fields) (windows-some tokens fields sound network.range numbers) in
+    let within : All (λ (w : Pair). w.end ≤ tokens) ws = All-filter (λ w. some_occurs (counts w)) (λ (w : Pair). w.end ≤ tokens) (windows network.range tokens fields) (windows-within tokens fields sound network.range numbers) in
+    let each : All P (map f ws) =
+    All-map P f ws (λ k w inside. record {
+      docno_is = named;
+      some = some k w inside;
+      within = subst (λ n. (get_or ws k w).end ≤ n) long (within k w inside);
+      each = fractions_length kind priors docno tokens network.leaves (counts (get_or ws k w)) network.stats (counted (get_or ws k w)) summed;
+    }) in
+    record { more = h.more; behind = h.behind; each = of_rows P h.more (subst (All P) (sym h.candidates) each) }

@@ -1,5 +1,5 @@
 -- The windows of documents that may be shown for a query, with the beliefs of its leaves in them.
-use Rattle.std.specs.Prelude.{ℕ, Bool, true, false, not, nat_lt, if◌then◌else◌, List, [], ◌∷◌, filter, flat_map, length, map, zip}
+use Rattle.std.specs.Prelude.{◌≤◌, ◌<◌, ◌≡◌, ℕ, Bool, true, false, not, nat_lt, if◌then◌else◌, List, [], ◌∷◌, filter, flat_map, length, map, zip}
 use Rattle.std.specs.List.{list_all, list_any}
 use Rattle.ri_base.specs.Documents.{Document}
 use Rattle.ri_base.specs.Pair.{Pair}
@@ -22,6 +22,13 @@ pub record Candidate : Type 0 where
   pub begin : ℕ
   pub end : ℕ
   pub beliefs : List Ratio
+
+-- a window of a document, with so many beliefs
+pub record IsWindowOf (d : Document) (leaves : ℕ) (c : Candidate) : Type 0 where
+  pub docno_is : c.docno ≡ d.docno
+  pub some : c.begin < c.end
+  pub within : c.end ≤ length d.tokens
+  pub each : length c.beliefs ≡ leaves
 
 -- a leaf occurs in the window; a prior doesn't
 abbrev pub occurs : Document → Pair → LeafTree → Bool

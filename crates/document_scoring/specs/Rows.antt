@@ -13,7 +13,7 @@ use Rattle.belief_nodes.specs.Keys.{key_at}
 use Rattle.belief_nodes.specs.Network.{NetworkTree}
 use Rattle.belief_nodes.specs.Priors.{Prior}
 use Rattle.belief_nodes.specs.declared.leaf_count.LeafCount.{LeafCount}
-use Rattle.document_scoring.specs.Candidates.{Candidate, candidates, some_occurs}
+use Rattle.document_scoring.specs.Candidates.{Candidate, IsWindowOf, candidates, some_occurs}
 use Rattle.document_scoring.specs.declared.scoring.Row.{Row}
 
 abbrev pub row_hit : Row → Hit
@@ -50,3 +50,9 @@ pub record AddsWindows (kind : RuleKind) (priors : List Prior) (network : Networ
   pub candidates : map row_candidate more
       ≡ map (λ w. window_candidate kind priors network docno tokens (counts w) w) (filter (λ w. some_occurs (counts w)) windows)
   pub keyed : All (IsKeyed network.tree) more
+
+-- behind the rows of before stand windows of a document, each with so many beliefs
+pub record AddsRows (d : Document) (leaves : ℕ) (before now : List Row) : Type 0 where
+  pub more : List Row
+  pub behind : now ≡ before ++ more
+  pub each : All (λ row. IsWindowOf d leaves (row_candidate row)) more

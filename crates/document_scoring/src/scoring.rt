@@ -13,7 +13,7 @@ ghost use Rattle.belief_nodes.specs.Leaves.{HasPrior, IsLeafCount};
 ghost use Rattle.belief_nodes.specs.Network.{network_tree};
 ghost use Rattle.windows.specs.Windows.{windows};
 ghost use Rattle.document_scoring.specs.Counters.{IsFound, IsReady, counter_count, found_count};
-ghost use Rattle.document_scoring.specs.Rows.{Adds, AddsWindows, IsKeyed, row_candidate, window_candidate};
+ghost use Rattle.document_scoring.specs.Rows.{Adds, AddsRows, AddsWindows, IsKeyed, row_candidate, window_candidate};
 
 use crate::counters::{Counter, count_all, counters_of};
 use crate::counts::some_occurs;
@@ -182,6 +182,10 @@ pub fn score_document<P: Postings, F: Fn(u32, u32, u64, u64) -> Fraction>(
     ensures keeps { Keeps P.documents P.faults P.sound P.quiet part.old part.new }
     ensures exact { P.sound part.old → OnOk result
         (Adds rule.now.kind (map (λ plug. meaning plug) plugs.old) (map filter_tree filters.now) (network_tree network.now) (document_at (P.documents part.old) id) rows.old.items rows.new.items) }
+
+    // Also of a part that isn't sound, what is added are windows of that document.
+    ensures shape { OnOk result (AddsRows (document_at (P.documents part.old) id) (length (network_tree network.now).leaves) rows.old.items rows.new.items) }
+
     ensures stay { map (λ plug. meaning plug) plugs.new ≡ map (λ plug. meaning plug) plugs.old }
     ensures honest { P.sound part.old → IfErr result IsOutside }
     ensures store { result ≡ Err SegFault.Store → Rose (P.faults part.old) (P.faults part.new) }

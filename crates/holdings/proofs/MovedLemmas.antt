@@ -36,7 +36,7 @@ module _ (s t : Source) (same : outlines_of t ≡ outlines_of s) where
   pub docnos-alike : docnos_in t ≡ docnos_in s
   docnos-alike = docnos-outlines t ∙ ap (λ (os : List Entry). map (λ (o : Entry). o.docno) os) same ∙ sym (docnos-outlines s)
 
-  tokens-alike : tokens_in t ≡ tokens_in s
+  pub tokens-alike : tokens_in t ≡ tokens_in s
   tokens-alike = tokens-in t ∙ ap (λ (os : List Entry). sum_by (λ (o : Entry). o.tokens) os) same ∙ sym (tokens-in s)
 
 -- the part that has its documents elsewhere has the same of them

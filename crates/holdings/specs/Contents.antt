@@ -58,3 +58,7 @@ all_closed c = record { parts = sealed c.parts; limits = c.limits; generation = 
 -- a closed part has its documents elsewhere, as those of one in memory are put into a file
 abbrev pub part_moved : Contents → ℕ → Source → Contents
 part_moved c number source = record { parts = moved c.parts number source; limits = c.limits; generation = c.generation }
+
+-- these closed parts are held in place of the others, and none is being filled
+abbrev pub with_parts : Contents → List Marked → Contents
+with_parts c parts = record { parts = record { most = c.limits.part_docs; closed = parts; filling = []; marks = [] }; limits = c.limits; generation = c.generation }

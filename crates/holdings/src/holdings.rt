@@ -8,7 +8,7 @@ ghost use Rattle.store_ends.specs.Files.{Files};
 ghost use Rattle.disk_index.specs.Parts.{OnDisk, outlines_of};
 ghost use Rattle.disk_index.specs.Snapshots as snapshots;
 ghost use Rattle.disk_index.specs.Snapshots.{IsSnapshot, documents_held};
-ghost use Rattle.holdings.specs.Contents.{Answers, Contents, added, all_closed, answer, closed_held, deleted, is_full, none_held, part_moved};
+ghost use Rattle.holdings.specs.Contents.{Answers, Contents, added, all_closed, answer, closed_held, deleted, is_full, none_held, part_moved, with_parts};
 ghost use Rattle.holdings.specs.MarkedParts.{IsWhole, IsWritable, docnos_of, documents_of, filled, tokens_held};
 ghost use Rattle.holdings.specs.Parts.{all_parts, is_live, live, sealed, without};
 ghost use Rattle.holdings.specs.Placing.{IsPartsFault};
@@ -18,7 +18,7 @@ use crate::sums::held_sums;
 use crate::{AddRefusal, Limits, NoSuchDoc, PartsFault};
 use disk_index::{DiskIndex, MarkedPart, Snapshot};
 use ri_base::{Doc, Docno, NoMemory};
-use std::alloc::Global;
+use std::alloc::{AllocError, Global};
 use std::marker::Model;
 use std::rc::Rc;
 
@@ -231,6 +231,43 @@ impl Holdings {
         ensures tokens { tokens_held (all_parts self.new.parts) ≡ tokens_held (all_parts self.old.parts) }
     {
         self.parts.store_part(number, index);
+    }
+
+    /// Holds these closed parts in place of its own, and none that is being filled. Each in memory has no more documents and names of
+    /// fields than a segment can have. They are within the limits, and no two of their live documents have one docno.
+    pub fn exchange(&mut self, alloc: Global, parts: Vec<MarkedPart>) -> Result<(), NoMemory>
+        requires writable { All (λ m. IsWritable m.source) parts.items }
+        requires documents { documents_held parts.items ≤ self.old.limits.held_docs }
+        requires tokens { tokens_held parts.items ≤ self.old.limits.held_tokens }
+        requires distinct { IsDistinct bytes_eq (docnos_of parts.items) }
+        ensures held { OnOk result (self.new ≡ with_parts self.old parts.items) }
+        ensures kept { OnErr result (self.new ≡ self.old) }
+    {
+        match Holdings::of_parts(alloc, self.limits, parts) {
+            Ok(fresh) => {
+                self.take_parts(fresh);
+                Ok(())
+            }
+            Err(PartsFault::Memory) => Err(AllocError),
+            Err(_) => unreachable!(),
+        }
+    }
+
+    /// Holds what the other holds, within the same limits. The generation stays.
+    fn take_parts(&mut self, other: Holdings)
+        requires { other.limits ≡ self.old.limits }
+        ensures { self.new ≡ record { parts = other.parts; limits = self.old.limits; generation = self.old.generation } }
+    {
+        let Holdings {
+            parts,
+            limits: _,
+            documents,
+            tokens,
+            generation: _,
+        } = other;
+        self.parts = parts;
+        self.documents = documents;
+        self.tokens = tokens;
     }
 
     /// The live documents as they are now, of which no two have one docno. The part that is being filled is closed first, where

@@ -1,6 +1,6 @@
 -- What the words of the command line ask for, and the pieces of that command on a collection.
 use Rattle.std.specs.Prelude.{◌≡◌, ◌⊎◌, ℕ, List, [], ◌∷◌, codes, Option, None, Some, Result, Ok, Err}
-use Rattle.command_words.specs.Table.{Asks, Question, add, create, delete, explain, prior, query, scan}
+use Rattle.command_words.specs.Table.{Asks, Question, add, create, delete, explain, merge, prior, query, scan}
 use Rattle.ri_base.specs.Expression.{ExprTree}
 use Rattle.ri_base.specs.Query.{QueryTree}
 use Rattle.smoothing.specs.declared.rule.RuleKind.TheVariants.{Dirichlet}
@@ -22,6 +22,7 @@ use Rattle.holdings.specs.declared.limits.Limits.{Limits}
 use Rattle.repository.specs.RealLimits.{AreReal}
 use Rattle.repository.specs.Stands.{Collection}
 use Rattle.collection_commands.specs.Flushing.{delete_pieces, then_flushed}
+use Rattle.collection_commands.specs.Merging.{merge_pieces}
 use Rattle.collection_commands.specs.PriorSetting.{ArePriorPieces, name_refusal}
 use Rattle.collection_queries.specs.Answer.{IsAnswerText}
 use Rattle.collection_queries.specs.Priors.{names_with, priors_with}
@@ -48,6 +49,7 @@ text_refusal names (scan text) = expr_refusal (expr_text text)
 text_refusal names create = None
 text_refusal names add = None
 text_refusal names delete = None
+text_refusal names merge = None
 text_refusal names (prior name) = None
 text_refusal names (query question) = query_refusal names (query_text question.text)
 text_refusal names (explain rank question) = query_refusal names (query_text question.text)
@@ -87,6 +89,7 @@ ArePieces told (scan text) c bytes pieces = (x : ExprTree) × (expr_text text �
 ArePieces told create c bytes pieces = ⊥
 ArePieces told add c bytes pieces = (limits : Limits) × AreReal limits × (pieces ≡ add_pieces told limits c bytes)
 ArePieces told delete c bytes pieces = pieces ≡ delete_pieces c bytes
+ArePieces told merge c bytes pieces = pieces ≡ merge_pieces c
 ArePieces told (prior name) c bytes pieces = ArePriorPieces (name_refusal c name) c name bytes pieces
 ArePieces told (query question) c bytes pieces = AreAnswer c question (shown_for question) pieces
 ArePieces told (explain rank question) c bytes pieces = AreAnswer c question (explanation rank) pieces
@@ -108,6 +111,7 @@ NeedsRepository (scan text) = ⊥
 NeedsRepository create = ⊥
 NeedsRepository add = Unit {0}
 NeedsRepository delete = Unit {0}
+NeedsRepository merge = Unit {0}
 NeedsRepository (prior name) = Unit {0}
 NeedsRepository (query question) = Unit {0}
 NeedsRepository (explain rank question) = Unit {0}
@@ -118,6 +122,7 @@ ReadsPriors (scan text) = ⊥
 ReadsPriors create = ⊥
 ReadsPriors add = ⊥
 ReadsPriors delete = ⊥
+ReadsPriors merge = ⊥
 ReadsPriors (prior name) = ⊥
 ReadsPriors (query question) = Unit {0}
 ReadsPriors (explain rank question) = Unit {0}
@@ -132,6 +137,7 @@ IsAskedBy (scan t) text mu shown = ⊥
 IsAskedBy create text mu shown = ⊥
 IsAskedBy add text mu shown = ⊥
 IsAskedBy delete text mu shown = ⊥
+IsAskedBy merge text mu shown = ⊥
 IsAskedBy (prior name) text mu shown = ⊥
 IsAskedBy (query question) text mu shown = (question.text ≡ text) × (question.mu ≡ mu) × (shown_for question ≡ shown)
 IsAskedBy (explain rank question) text mu shown = (question.text ≡ text) × (question.mu ≡ mu) × (explanation rank ≡ shown)

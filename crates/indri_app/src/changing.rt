@@ -2,20 +2,20 @@
 ghost use Rattle.std.specs.Prelude.{◌≡◌, ◌≤◌, None, Some, true, IfErr, IfOk, IfSome, IsErrOf, OnOk};
 ghost use Rattle.ri_ends.specs.Causes.{Rose};
 ghost use Rattle.store_ends.specs.Files.{Files, GoesOn, IsQuiet};
-ghost use Rattle.command_pieces.specs.CommandFaults.{IsItemsFault};
+ghost use Rattle.command_pieces.specs.CommandFaults.{IsDamage};
 ghost use Rattle.repository.specs.Names.{manifest_name};
 ghost use Rattle.repository.specs.Priors.{AreStored};
 ghost use Rattle.repository.specs.RealLimits.{StandsFor};
 ghost use Rattle.repository.specs.Stands.{Collection};
 ghost use Rattle.collection_commands.specs.Ahead.{IsAhead};
 ghost use Rattle.indri_app.specs.Asked.{IsIntact};
-ghost use Rattle.indri_app.specs.Changes.{IsFoundFirst, IsOverFault, told_change};
+ghost use Rattle.indri_app.specs.Changes.{IsFoundFirst, IsOverFault, IsWorkFault, told_change};
 ghost use Rattle.indri_app.specs.Opened.{IsAbsentFault};
 ghost use Rattle.indri_app.specs.Runs.{IsBegun, IsDone, StopsAlong};
 
 use crate::addition::add;
 use crate::opening::open_repository;
-use collection_commands::{delete, set_prior};
+use collection_commands::{delete, merge, set_prior};
 use command_pieces::CommandFault;
 use repository::Repository;
 use ri_base::Name;
@@ -30,6 +30,8 @@ pub enum Change {
     Add,
     /// The documents that the input names are deleted.
     Delete,
+    /// The live documents stand in new parts, and no others.
+    Merge,
     /// The rows of the input become those of the prior of this name.
     Prior(Name),
 }
@@ -45,13 +47,18 @@ fn change_repository<S: Source, K: Sink, T: Store>(
 ) -> Result<bool, CommandFault>
     requires usable { repository.usable ≡ true }
     requires stored { AreStored repository }
+    requires none { repository.merge ≡ None }
     ensures done { (c : Collection) → IsAhead (T.files store.old) repository c c
         → IfOk result (λ refused. IfSome (S.left source.old) (λ bytes. IsDone (T.files store.old) (told_change what) c bytes refused (K.taken sink.old) (K.taken sink.new) (T.files store.new))) }
     ensures broken { (c : Collection) → IsAhead (T.files store.old) repository c c
         → IfErr result (λ why. IfSome (S.left source.old) (λ bytes. IsBegun why (T.files store.old) (told_change what) c bytes (K.taken sink.old) (K.taken sink.new) (T.files store.new))) }
     ensures stops { (c : Collection) → IsAhead (T.files store.old) repository c c
         → IfSome (S.left source.old) (λ bytes. StopsAlong (T.files store.old) (told_change what) c bytes (T.since store.old) (T.since store.new)) }
-    ensures only { IfErr result IsItemsFault }
+
+    // Damage is found before anything is done.
+    ensures damage { IfErr result (λ why. IsDamage why
+        → IsQuiet T.files T.layers T.clock T.since T.longest T.held store.old store.new × (source.new ≡ source.old) × (K.taken sink.new ≡ K.taken sink.old)) }
+    ensures only { IfErr result IsWorkFault }
     ensures goes_on { GoesOn T.layers T.clock T.longest T.held store.old store.new }
     ensures layers { S.layers source.new ≡ S.layers source.old }
     ensures held { S.held source.new ≡ S.held source.old }
@@ -67,6 +74,11 @@ fn change_repository<S: Source, K: Sink, T: Store>(
         Change::Delete => {
             let mut repository = repository;
             delete(alloc, &mut repository, source, sink, store)
+        }
+        Change::Merge => {
+            let mut repository = repository;
+            merge(alloc, &mut repository, sink, store)?;
+            Ok(false)
         }
         Change::Prior(name) => {
             let mut repository = repository;

@@ -166,6 +166,7 @@ fn run_words<S: Source, K: Sink, T: Store>(
         Words::Create => run_create(alloc, sink, store),
         Words::Add => run_change(alloc, Change::Add, source, sink, store),
         Words::Delete => run_change(alloc, Change::Delete, source, sink, store),
+        Words::Merge => run_change(alloc, Change::Merge, source, sink, store),
         Words::Prior(name) => run_change(alloc, Change::Prior(name), source, sink, store),
         Words::Query(asked) => {
             let Asked { text, k, mu, trec } = asked;

@@ -14,7 +14,7 @@ use Rattle.merge_job.specs.NewParts.{all_docs, all_marks}
 use Rattle.merge_job.specs.declared.merged.MergedPart.{MergedPart}
 use Rattle.merge_job.proofs.WalkLemmas.{length-unmarked}
 
-unmarked-append : {A : Type 0} (xs ys : List A) (ms ns : List Bool) → length ms ≡ length xs → unmarked (xs ++ ys) (ms ++ ns) ≡ unmarked xs ms ++ unmarked ys ns
+pub unmarked-append : {A : Type 0} (xs ys : List A) (ms ns : List Bool) → length ms ≡ length xs → unmarked (xs ++ ys) (ms ++ ns) ≡ unmarked xs ms ++ unmarked ys ns
 unmarked-append [] ys [] ns e = refl
 unmarked-append [] ys (m ∷ ms) ns e = absurd (omega (arith, e))
 unmarked-append (x ∷ xs) ys [] ns e = absurd (omega (arith, e))
@@ -22,7 +22,7 @@ unmarked-append (x ∷ xs) ys (true ∷ ms) ns e = unmarked-append xs ys ms ns (
 unmarked-append (x ∷ xs) ys (false ∷ ms) ns e = ap (λ l. x ∷ l) (unmarked-append xs ys ms ns (omega (arith, e)))
 
 -- the marks of now, told of what wasn't marked before, leave what they leave of all
-twice : {A : Type 0} (xs : List A) (before now : List Bool) → HasGrown before now → unmarked (unmarked xs before) (mapped before now) ≡ unmarked xs now
+pub twice : {A : Type 0} (xs : List A) (before now : List Bool) → HasGrown before now → unmarked (unmarked xs before) (mapped before now) ≡ unmarked xs now
 twice [] before now grown = refl
 twice (x ∷ xs) [] [] grown = refl
 twice (x ∷ xs) [] (n ∷ now) grown = absurd grown
@@ -33,7 +33,7 @@ twice (x ∷ xs) (false ∷ before) (true ∷ now) grown = twice xs before now g
 twice (x ∷ xs) (false ∷ before) (false ∷ now) grown = ap (λ l. x ∷ l) (twice xs before now grown.1)
 
 -- the same of several parts
-live-under : (told : Option Files) (parts : List Marked) (nows : List (List Bool)) → AllZip (λ m marks. length marks ≡ size m.source) parts nows → HaveGrown parts nows
+pub live-under : (told : Option Files) (parts : List Marked) (nows : List (List Bool)) → AllZip (λ m marks. length marks ≡ size m.source) parts nows → HaveGrown parts nows
     → unmarked (live told parts) (all_mapped parts nows) ≡ live told (under parts nows)
 live-under told [] nows same grown = refl
 live-under told (m ∷ ms) [] same grown = absurd grown
@@ -44,7 +44,7 @@ live-under told (m ∷ ms) (now ∷ nows) same grown =
     ∙ ap (λ (l : List Document). unmarked (reads told m.source) now ++ l) (live-under told ms nows same.1 grown.1)
 
 -- parts that are cut in any way read as their documents together under their marks together
-new-together : (parts : List MergedPart) → All (λ p. length p.marks ≡ length p.docs) parts → live_new parts ≡ unmarked (all_docs parts) (all_marks parts)
+pub new-together : (parts : List MergedPart) → All (λ p. length p.marks ≡ length p.docs) parts → live_new parts ≡ unmarked (all_docs parts) (all_marks parts)
 new-together [] whole = refl
 new-together (p ∷ ps) whole =
     ap (λ (l : List Document). unmarked p.docs p.marks ++ l) (new-together ps (All-tail (λ (p : MergedPart). length p.marks ≡ length p.docs) p ps whole))

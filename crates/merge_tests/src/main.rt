@@ -2,11 +2,17 @@
 #![tactic(auto)]
 
 #[cfg(test)]
+mod deeds;
+#[cfg(test)]
 mod fault;
 #[cfg(test)]
 mod job;
 #[cfg(test)]
 mod parts;
+#[cfg(test)]
+mod sessions;
+#[cfg(test)]
+mod stops;
 #[cfg(test)]
 mod turns;
 

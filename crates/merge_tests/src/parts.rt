@@ -23,10 +23,16 @@ fn terms(alloc: Global, text: &str) -> Option<Terms>
     Some(terms)
 }
 
-/// The document with this number: its docno and its one word are the number.
-fn document(alloc: Global, number: u32) -> Option<Doc> {
+/// The docno that a number is.
+pub fn docno(alloc: Global, number: u32) -> Option<Docno> {
     let text = format!(in alloc; "{number}").ok()?;
-    let docno = Docno::new(alloc, text.as_bytes()).ok()??;
+    Docno::new(alloc, text.as_bytes()).ok()?
+}
+
+/// The document with this number: its docno and its one word are the number.
+pub fn document(alloc: Global, number: u32) -> Option<Doc> {
+    let text = format!(in alloc; "{number}").ok()?;
+    let docno = docno(alloc, number)?;
     let terms = terms(alloc, text.as_str())?;
     Doc::new(alloc, docno, terms, Spans::new(alloc)).ok()
 }

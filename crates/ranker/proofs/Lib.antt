@@ -5,3 +5,4 @@ pub mod PlaceLemmas
 pub mod RankingLemmas
 pub mod ReadingLemmas
 pub mod SkippingLemmas
+pub mod WindowLemmas

@@ -3,3 +3,4 @@ pub mod Held
 pub mod Passed
 pub mod Ranking
 pub mod Searches
+pub mod Windows

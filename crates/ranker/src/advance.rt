@@ -1,5 +1,6 @@
 // A step of what a search holds.
 ghost use Rattle.std.specs.Prelude.{◌≡◌, ◌<◌, ◌≤◌, ◌+◌, Option, true, length, map, min, nat_lt, All, Err, IfErr, OnOk, ℕ, List, []};
+ghost use Rattle.ri_base.specs.Documents.{Document};
 ghost use Rattle.ri_base.specs.Faults.{IsOutside};
 ghost use Rattle.ri_base.specs.Keeps.{Rose};
 ghost use Rattle.ri_base.specs.Query.{FilterTree, filter_tree, is_range};
@@ -13,6 +14,7 @@ ghost use Rattle.disk_index.specs.Cache.{CacheKeeps, IsCacheBacked};
 ghost use Rattle.disk_index.specs.Snapshots.{AreBacked, IsFileAmong, IsSnapshot, live};
 ghost use Rattle.ranker.specs.Held.{IsHeld, is_open};
 ghost use Rattle.ranker.specs.Passed.{IsAheadAt, IsPlace, passed};
+ghost use Rattle.ranker.specs.Windows.{HasWindows};
 
 use crate::held::Held;
 use crate::place::Place;
@@ -54,6 +56,8 @@ pub fn advance<T: Store, F: Fn(u32, u32, u64, u64) -> Fraction>(
     ensures taken { AreBacked (T.files store.old) parts.now → IsCacheBacked (T.files store.old) cache.old → IsAheadAt (map filter_tree filters.now) (network_tree network.now).leaves (T.files store.old) parts.now at.old → OnOk result ((most : ℕ)
         → IsHeld rule.now.kind (map (λ plug. meaning plug) plugs.old) (map filter_tree filters.now) (network_tree network.now) (passed (T.files store.old) parts.now at.old) most held.old
         → IsHeld rule.now.kind (map (λ plug. meaning plug) plugs.old) (map filter_tree filters.now) (network_tree network.now) (passed (T.files store.old) parts.now at.new) most held.new) }
+    ensures windows { OnOk result ((told : Option Files) (most : ℕ)
+        → HasWindows (live told parts.now) (length (network_tree network.now).leaves) most held.old → HasWindows (live told parts.now) (length (network_tree network.now).leaves) most held.new) }
     ensures open { OnOk result (is_open held.new ≡ nat_lt at.new.credit count) }
     ensures place { IsPlace parts.now at.new }
     ensures credit { OnOk result (at.new.credit ≡ min (at.old.credit + docs) count) }
@@ -80,6 +84,7 @@ pub fn advance<T: Store, F: Fn(u32, u32, u64, u64) -> Fraction>(
 /// What is held before the first of so many live documents.
 pub fn first_held(alloc: Global, most: usize, count: u32) -> Held
     ensures open { is_open result ≡ nat_lt 0 count }
+    ensures windows { (docs : List Document) (leaves : ℕ) → HasWindows docs leaves most result }
     ensures held { (kind : RuleKind) (priors : List Prior) (filters : List FilterTree) (network : NetworkTree) → IsHeld kind priors filters network [] most result }
 {
     if count == 0 {

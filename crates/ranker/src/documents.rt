@@ -12,6 +12,7 @@ ghost use Rattle.disk_index.specs.Snapshots.{unmarked};
 ghost use Rattle.range_masks.specs.May.{query_may};
 ghost use Rattle.ranker.specs.First.{Advances, HoldsFirst};
 ghost use Rattle.ranker.specs.Passed.{live_ids};
+ghost use Rattle.ranker.specs.Windows.{KeepsWindows};
 
 use belief_nodes::{BeliefNode, Network};
 use deletion_list::DelList;
@@ -40,6 +41,7 @@ fn offer_document<P: Postings, F: Fn(u32, u32, u64, u64) -> Fraction>(
     ensures first { P.sound part.old → OnOk result ((docs : List Document) (most : ℕ)
         → HoldsFirst rule.now.kind (map (λ plug. meaning plug) plugs.old) (map filter_tree filters.now) (network_tree network.now) docs most first.old
         → HoldsFirst rule.now.kind (map (λ plug. meaning plug) plugs.old) (map filter_tree filters.now) (network_tree network.now) (docs ++ document_at (P.documents part.old) id ∷ []) most first.new) }
+    ensures windows { OnOk result (KeepsWindows (length (network_tree network.now).leaves) (document_at (P.documents part.old) id ∷ []) first.old first.new) }
     ensures stay { map (λ plug. meaning plug) plugs.new ≡ map (λ plug. meaning plug) plugs.old }
     ensures honest { P.sound part.old → IfErr result IsOutside }
     ensures store { result ≡ Err SegFault.Store → Rose (P.faults part.old) (P.faults part.new) }
@@ -73,6 +75,7 @@ pub fn pass_document<P: Postings, F: Fn(u32, u32, u64, u64) -> Fraction>(
     ensures first { P.sound part.old
         → (may_have ≡ false → query_may (map filter_tree filters.now) (network_tree network.now).leaves (document_at (P.documents part.old) id) ≡ false)
         → OnOk result (Advances rule.now.kind (map (λ plug. meaning plug) plugs.old) (map filter_tree filters.now) (network_tree network.now) (unmarked (take id (P.documents part.old)) marks.now) (unmarked (take (id + 1) (P.documents part.old)) marks.now) first.old first.new) }
+    ensures windows { OnOk result (KeepsWindows (length (network_tree network.now).leaves) (unmarked (P.documents part.old) marks.now) first.old first.new) }
     ensures docs { IfOk result (λ docs. live_ids marks.now (id + 1) ≡ live_ids marks.now id + docs) }
     ensures one { IfOk result (λ docs. docs ≤ 1) }
     ensures stay { map (λ plug. meaning plug) plugs.new ≡ map (λ plug. meaning plug) plugs.old }

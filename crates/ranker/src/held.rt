@@ -24,12 +24,14 @@ pub enum Held {
 impl Held {
     ghost use Rattle.std.specs.Prelude.{false};
     ghost use Rattle.ranker.specs.Held.{IsHeld, is_open};
+    ghost use Rattle.ranker.specs.Windows.{HasWindows};
 
     /// The first of the candidates become the results.
     pub fn end(&mut self, alloc: Global) -> Result<(), NoMemory>
         ensures ended { OnOk result (is_open self.new ≡ false) }
         ensures held { OnOk result ((kind : RuleKind) (priors : List Prior) (filters : List FilterTree) (network : NetworkTree) (docs : List Document) (most : ℕ)
             → IsHeld kind priors filters network docs most self.old → IsHeld kind priors filters network docs most self.new) }
+        ensures windows { OnOk result ((docs : List Document) (leaves most : ℕ) → HasWindows docs leaves most self.old → HasWindows docs leaves most self.new) }
     {
         match mem::replace(self, Held::Ended(Hits::of(Vec::new(alloc)))) {
             Held::Open(first) => {

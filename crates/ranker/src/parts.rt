@@ -1,5 +1,5 @@
 // Parts with their marks, one stretch of documents behind the other.
-ghost use Rattle.std.specs.Prelude.{◌≡◌, ◌<◌, ◌≤◌, true, length, map, take, All, Err, IfErr, IfOk};
+ghost use Rattle.std.specs.Prelude.{◌≡◌, ◌<◌, ◌≤◌, true, length, map, take, All, Err, IfErr, IfOk, OnOk};
 ghost use Rattle.ri_base.specs.Faults.{IsOutside};
 ghost use Rattle.ri_base.specs.Keeps.{Keeps, Rose};
 ghost use Rattle.ri_base.specs.Query.{filter_tree, is_range};
@@ -9,6 +9,7 @@ ghost use Rattle.belief_nodes.specs.Network.{network_tree};
 ghost use Rattle.disk_index.specs.Snapshots.{unmarked};
 ghost use Rattle.ranker.specs.First.{Advances};
 ghost use Rattle.ranker.specs.Passed.{IsAhead, IsPassed};
+ghost use Rattle.ranker.specs.Windows.{KeepsWindows};
 
 use crate::ahead::ahead_of;
 use crate::documents::pass_document;
@@ -47,6 +48,7 @@ fn pass_masked<P: TermMasks, F: Fn(u32, u32, u64, u64) -> Fraction>(
     ensures keeps { Keeps P.documents P.faults P.sound P.quiet part.old part.new }
     ensures first { P.sound part.old → IsAhead (map filter_tree filters.now) (network_tree network.now).leaves (P.documents part.old) id ahead → IfOk result (λ to.
         Advances rule.now.kind (map (λ plug. meaning plug) plugs.old) (map filter_tree filters.now) (network_tree network.now) (unmarked (take id (P.documents part.old)) marks.now) (unmarked (take to.id (P.documents part.old)) marks.now) first.old first.new) }
+    ensures windows { OnOk result (KeepsWindows (length (network_tree network.now).leaves) (unmarked (P.documents part.old) marks.now) first.old first.new) }
     ensures ahead { P.sound part.old → IsAhead (map filter_tree filters.now) (network_tree network.now).leaves (P.documents part.old) id ahead → IfOk result (λ to.
         IsAhead (map filter_tree filters.now) (network_tree network.now).leaves (P.documents part.old) to.id to.ahead) }
     ensures passed { IfOk result (IsPassed marks.now id most) }
@@ -104,6 +106,7 @@ fn pass_on<P: TermMasks, F: Fn(u32, u32, u64, u64) -> Fraction>(
     ensures keeps { Keeps P.documents P.faults P.sound P.quiet part.old part.new }
     ensures first { P.sound part.old → IsAhead (map filter_tree filters.now) (network_tree network.now).leaves (P.documents part.old) id ahead → IfOk result (λ to.
         Advances rule.now.kind (map (λ plug. meaning plug) plugs.old) (map filter_tree filters.now) (network_tree network.now) (unmarked (take id (P.documents part.old)) marks.now) (unmarked (take to.id (P.documents part.old)) marks.now) first.old first.new) }
+    ensures windows { OnOk result (KeepsWindows (length (network_tree network.now).leaves) (unmarked (P.documents part.old) marks.now) first.old first.new) }
     ensures ahead { P.sound part.old → IsAhead (map filter_tree filters.now) (network_tree network.now).leaves (P.documents part.old) id ahead → IfOk result (λ to.
         IsAhead (map filter_tree filters.now) (network_tree network.now).leaves (P.documents part.old) to.id to.ahead) }
     ensures passed { IfOk result (IsPassed marks.now id most) }
@@ -143,6 +146,7 @@ pub fn pass_part<P: TermMasks, F: Fn(u32, u32, u64, u64) -> Fraction>(
     ensures keeps { Keeps P.documents P.faults P.sound P.quiet part.old part.new }
     ensures first { P.sound part.old → IsAhead (map filter_tree filters.now) (network_tree network.now).leaves (P.documents part.old) id ahead → IfOk result (λ to.
         Advances rule.now.kind (map (λ plug. meaning plug) plugs.old) (map filter_tree filters.now) (network_tree network.now) (unmarked (take id (P.documents part.old)) marks.now) (unmarked (take to.id (P.documents part.old)) marks.now) first.old first.new) }
+    ensures windows { OnOk result (KeepsWindows (length (network_tree network.now).leaves) (unmarked (P.documents part.old) marks.now) first.old first.new) }
     ensures ahead { P.sound part.old → IsAhead (map filter_tree filters.now) (network_tree network.now).leaves (P.documents part.old) id ahead → IfOk result (λ to.
         IsAhead (map filter_tree filters.now) (network_tree network.now).leaves (P.documents part.old) to.id to.ahead) }
     ensures passed { IfOk result (IsPassed marks.now id most) }

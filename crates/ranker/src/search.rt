@@ -6,6 +6,7 @@ ghost use Rattle.belief_nodes.specs.Network.{network_tree};
 ghost use Rattle.disk_index.specs.Snapshots.{live};
 ghost use Rattle.ranker.specs.Held.{is_open};
 ghost use Rattle.ranker.specs.Passed.{IsPlace};
+ghost use Rattle.ranker.specs.Windows.{HasWindows};
 
 use crate::advance::{advance, first_held};
 use crate::held::Held;
@@ -32,6 +33,7 @@ pub struct Search {
     ghost shown: { is_range (network_tree network).range ≡ true },
     ghost place: { IsPlace snapshot at },
     ghost open: { usable ≡ true → (told : Option Files) → is_open held ≡ nat_lt at.credit (length (live told snapshot)) },
+    ghost windows: { usable ≡ true → (told : Option Files) → ∥ HasWindows (live told snapshot) (length (network_tree network).leaves) most held ∥₁ },
 }
 
 impl Search {
@@ -47,6 +49,7 @@ impl Search {
     ghost use Rattle.disk_index.specs.Cache.{CacheKeeps, IsCacheBacked};
     ghost use Rattle.disk_index.specs.Snapshots.{AreBacked, IsFileAmong};
     ghost use Rattle.ranker.specs.Searches.{IsAnswerOf, IsSameSearch, IsTaken, searched};
+    ghost use Rattle.ranker.specs.Windows.{AreWindows};
 
     /// A search over the documents of a snapshot that has passed none yet, for at most so many results. The statistics are those of
     /// the query's leaves, in order of their numbers.
@@ -139,6 +142,9 @@ impl Search {
         ensures some { (told : Option Files) → is_some result ≡ (self.now.at.credit == length (searched told self.now)) }
         ensures answer { (kind : RuleKind) (priors : List Prior) (told : Option Files) → IsTaken kind priors told self.now
             → IfSome result (λ hits. IsAnswerOf kind priors self.now (searched told self.now) hits.now) }
+
+        // Whatever the files tell, the results are windows of live documents.
+        ensures windows { (told : Option Files) → IfSome result (λ hits. ∥ AreWindows (searched told self.now) (length (network_tree self.now.network).leaves) self.now.most hits.now ∥₁) }
     {
         match &self.held {
             Held::Open(_) => None,

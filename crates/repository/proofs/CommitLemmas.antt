@@ -62,7 +62,7 @@ pub record IsThere (a c : Option Files) (p q : Marked) : Type 0 where
   pub marks : q.marks ≡ p.marks
 
 module _ (a c : Option Files) where
-  there-reads : (p q : Marked) → IsThere a c p q → reads c q.source ≡ reads a p.source
+  pub there-reads : (p q : Marked) → IsThere a c p q → reads c q.source ≡ reads a p.source
   there-reads p q there = ap (reads c) there.source ∙ reads-backed c there.kept (reads a p.source) there.backed
 
   there-size : (p q : Marked) → IsThere a c p q → size q.source ≡ size p.source
@@ -76,7 +76,7 @@ module _ (a c : Option Files) where
       let number : number_in q.source ≡ there.kept.number = ap number_in there.source in
       record { has = subst (λ (n : ℕ). HasSegment c n (reads a p.source)) (sym number) there.backed.has; count = reads-length a p.source ∙ sym (there-size p q there) }
 
-  there-part : (p q : Marked) → IsThere a c p q → IsPartBacked c q.source
+  pub there-part : (p q : Marked) → IsThere a c p q → IsPartBacked c q.source
   there-part p q there = subst (IsPartBacked c) (sym there.source) (reads a p.source, there.backed)
 
   there-unmarked : (p q : Marked) → IsThere a c p q → IsWhole p → unmarked (reads a p.source) (marks_from 0 (length (reads a p.source)) (entry_for q).marks) ≡ unmarked (reads a p.source) p.marks
@@ -170,7 +170,7 @@ module _ (a b c : Option Files) (f : Files) (told : c ≡ Some f) (own : ℕ →
     part = h.part;
   }
 
-  part-there : (p q : Marked) → AreWithin kept (numbers_in p.source) → IsPartBacked a p.source → IsSaved b taken p q → IsOnDisk q.source → IsThere a c p q
+  pub part-there : (p q : Marked) → AreWithin kept (numbers_in p.source) → IsPartBacked a p.source → IsSaved b taken p q → IsOnDisk q.source → IsThere a c p q
   part-there p q within backed saved stored = by p.source q.source refl refl within backed saved.1 stored
     where
       by : (s t : Source) → s ≡ p.source → t ≡ q.source → AreWithin kept (numbers_in s) → IsPartBacked a s → SavedSource b taken s t → IsOnDisk t → IsThere a c p q
@@ -215,7 +215,7 @@ priors-replaced b c (e ∷ es) (p ∷ ps) others all =
 
 -- ---- nothing is being filled
 
-filling-by : (p : Parts) (docs : List Document) → docs ≡ p.filling → (closed_by p docs).filling ≡ []
+pub filling-by : (p : Parts) (docs : List Document) → docs ≡ p.filling → (closed_by p docs).filling ≡ []
 filling-by p [] e = sym e
 filling-by p (d ∷ docs) e = refl
 
@@ -244,11 +244,30 @@ pub record AreFit (k : Contents) : Type 0 where
   pub tokens : tokens_held k.parts.closed ≤ k.limits.held_tokens
   pub few : documents_held k.parts.closed ≤ MAX_HELD_DOCS
 
+-- what is known of the files of its parts and priors, whatever the manifest lists
+pub record AreFiled (told : Option Files) (s : State) : Type 0 where
+  pub files : Files
+  pub is_told : told ≡ Some files
+  pub parts : All (λ (m : Marked). IsPartBacked told m.source) s.held.parts.closed
+  pub parts_within : AreWithin (kept_numbers s) (part_numbers s.held.parts.closed)
+  pub priors : (ps : List Prior) × AllZip (IsPriorListed told) s.priors ps
+  pub priors_within : AreWithin (kept_numbers s) (prior_numbers s.priors)
+
+pub filed : (told : Option Files) (s : State) → IsBacked told s → AreFiled told s
+filed told s backed = record {
+  files = backed.has.files;
+  is_told = backed.has.is_told;
+  parts = backed.parts;
+  parts_within = parts-within told s backed;
+  priors = backed.priors;
+  priors_within = priors-within told s backed;
+}
+
 abbrev pub listed_text : Contents → ℕ → List ℕ → List PriorEntry → List ℕ
 listed_text k after stale priors = manifest_text (listing after (entries_for k.parts.closed) stale priors)
 
-abbrev pub state_of : Contents → ℕ → List ℕ → List PriorEntry → State
-state_of k after stale priors = record { held = k; next = after; stale = stale; priors = priors; usable = true }
+abbrev pub state_of : State → Contents → ℕ → List ℕ → State
+state_of s k after stale = record { held = k; next = after; stale = stale; priors = s.priors; merge = s.merge; usable = true }
 
 module _ (a b c : Option Files) (s : State) (k : Contents) (after : ℕ) (stale others : List ℕ) (own : ℕ → Type 0) (clear : (n : ℕ) → own n → is_among n (kept_numbers s) ≡ false)
     (same : SameWhere (IsOther own) a b) (saved : AllSaved b others s.next after s.held k) (form : IsListing after (entries_for k.parts.closed) stale s.priors) (fit : AreFit k)
@@ -262,14 +281,14 @@ module _ (a b c : Option Files) (s : State) (k : Contents) (after : ℕ) (stale 
   filling-now : k.parts.filling ≡ []
   filling-now = ap (λ (x : Contents). x.parts.filling) saved.rest ∙ sealed-filling
 
-  module _ (backed : IsBacked a s) where
+  module _ (backed : AreFiled a s) where
     abbrev before : (g : Files) × (b ≡ Some g)
-    before = SameWhere-told (IsOther own) a b backed.has.files same backed.has.is_told
+    before = SameWhere-told (IsOther own) a b backed.files same backed.is_told
 
-    abbrev files-now : Files
+    abbrev pub files-now : Files
     files-now = with_file manifest_name (Some (listed_text k after stale s.priors)) before.0
 
-    told-now : c ≡ Some files-now
+    pub told-now : c ≡ Some files-now
     told-now = put ∙ ap (option_map (with_file manifest_name (Some (listed_text k after stale s.priors)))) before.1
 
     has-now : HasManifest c (listing after (entries_for k.parts.closed) stale s.priors)
@@ -281,18 +300,18 @@ module _ (a b c : Option Files) (s : State) (k : Contents) (after : ℕ) (stale 
     }
 
     within : AreWithin (kept_numbers s) (part_numbers closed-now)
-    within = subst (AreWithin (kept_numbers s)) (sym (numbers-sealed s.held.parts)) (parts-within a s backed)
+    within = subst (AreWithin (kept_numbers s)) (sym (numbers-sealed s.held.parts)) backed.parts_within
 
-    there : AllZip (IsThere a c) closed-now k.parts.closed
+    pub there : AllZip (IsThere a c) closed-now k.parts.closed
     there =
         parts-there a b c files-now told-now own (kept_numbers s) clear same (replaced-others b c (listed_text k after stale s.priors) put) saved.taken closed-now k.parts.closed within
         (backed-by a s.held.parts s.held.parts.filling backed.parts) saved.parts saved.on_disk
 
     priors-now : (ps : List Prior) → AllZip (IsPriorListed a) s.priors ps → AllZip (IsPriorListed c) s.priors ps
     priors-now ps all =
-        priors-replaced b c s.priors ps (replaced-others b c (listed_text k after stale s.priors) put) (priors-same own (kept_numbers s) clear a b same s.priors ps (priors-within a s backed) all)
+        priors-replaced b c s.priors ps (replaced-others b c (listed_text k after stale s.priors) put) (priors-same own (kept_numbers s) clear a b same s.priors ps backed.priors_within all)
 
-    pub backed-now : IsBacked c (state_of k after stale s.priors)
+    pub backed-now : IsBacked c (state_of s k after stale)
     backed-now = record {
       list = listing after (entries_for k.parts.closed) stale s.priors;
       has = has-now;
@@ -316,7 +335,7 @@ module _ (a b c : Option Files) (s : State) (k : Contents) (after : ℕ) (stale 
     tokens-now = tokens-whole k.parts filling-now ∙ tokens-there a c closed-now k.parts.closed there ∙ sym (tokens-whole (sealed s.held.parts) sealed-filling) ∙ tokens-sealed s.held.parts
 
     module _ (d : Collection) (read : ReadsAs a s d) where
-      pub reads-now : ReadsAs c (state_of k after stale s.priors) d
+      pub reads-now : ReadsAs c (state_of s k after stale) d
       reads-now = record {
         live_are = live-now ∙ read.live_are;
         documents_are = documents-now ∙ read.documents_are;
@@ -351,15 +370,15 @@ module _ (a b c : Option Files) (s : State) (k : Contents) (after : ℕ) (stale 
         priors = priors-now d.priors read.priors_are;
       }
 
-  limits-now : k.limits ≡ s.held.limits
+  pub limits-now : k.limits ≡ s.held.limits
   limits-now = ap (λ (x : Contents). x.limits) saved.rest
 
   -- the call is done
-  pub wrote-now : Wrote (λ d. d) a c s (state_of k after stale s.priors)
+  pub wrote-now : Wrote (λ d. d) a c s (state_of s k after stale)
   wrote-now = record {
-    reads = λ d backed read. reads-now backed d read;
-    stands = λ d backed read. stands-now backed d read;
-    backed = λ backed. backed-now backed;
+    reads = λ d backed read. reads-now (filed a s backed) d read;
+    stands = λ d backed read. stands-now (filed a s backed) d read;
+    backed = λ backed. backed-now (filed a s backed);
   }
 
 -- ---- while it goes on
@@ -433,12 +452,12 @@ module _ {S : Type 0} (files : S → Option Files) (since : S → ℕ → Files 
       stops = λ c d backed stands read.
           stops-listed (since old) (since mid) (since new) (files old) (files mid) s own clear same first (listed_text k after stale s.priors) second c d backed stands
           (λ f put. subst (λ (l : Limits). Stands l (Some f) d) (limits-now (files old) (files mid) (Some f) s k after stale others own clear same saved form fit put)
-          (stands-now (files old) (files mid) (Some f) s k after stale others own clear same saved form fit put backed d read));
+          (stands-now (files old) (files mid) (Some f) s k after stale others own clear same saved form fit put (filed (files old) s backed) d read));
     }
 
 -- ---- the state behind it
 
-pub saved-as : (b : Option Files) (s : State) (k : Contents) (after : ℕ) (stale others : List ℕ) → AllSaved b others s.next after s.held k → IsSavedAs s (state_of k after stale s.priors) stale
+pub saved-as : (b : Option Files) (s : State) (k : Contents) (after : ℕ) (stale others : List ℕ) → AllSaved b others s.next after s.held k → IsSavedAs s (state_of s k after stale) stale
 saved-as b s k after stale others saved = record {
   on_disk = saved.on_disk;
   none_filling = ap (λ (x : Contents). x.parts.filling) saved.rest ∙ filling-by s.held.parts s.held.parts.filling refl;
@@ -449,10 +468,11 @@ saved-as b s k after stale others saved = record {
   next = saved.rises;
   stale = refl;
   priors = refl;
+  merge = refl;
 }
 
 pub numbered-now : (b : Option Files) (s : State) (k : Contents) (after : ℕ) (stale others : List ℕ) → IsNumbered s → AllSaved b others s.next after s.held k → IsListing after (entries_for k.parts.closed) stale s.priors
-    → IsNumbered (state_of k after stale s.priors)
+    → IsNumbered (state_of s k after stale)
 numbered-now b s k after stale others n saved form = record {
   list = listing after (entries_for k.parts.closed) stale s.priors;
   form = manifest-of after (entries_for k.parts.closed) stale s.priors form;
@@ -500,9 +520,9 @@ module _ {S : Type 0} (files : S → Option Files) (since : S → ℕ → Files 
         subst (λ (x : State). Writes files since (own x) (λ d. d) x old new) view
         (writes-listed files since s (own s) clear old mid same first new k after stale others saved form fit changed' second')
 
-    pub wrote : files new ≡ option_map (with_file manifest_name (Some (manifest_text (listing after (entries_for ms) st ps)))) (files mid) → Wrote (λ d. d) (files old) (files new) t (state_of k after stale s.priors)
+    pub wrote : files new ≡ option_map (with_file manifest_name (Some (manifest_text (listing after (entries_for ms) st ps)))) (files mid) → Wrote (λ d. d) (files old) (files new) t (state_of s k after stale)
     wrote put =
         let text = text-handed after ms k.parts.closed st stale ps s.priors parts left rows in
         let put' = put ∙ ap (λ (l : List ℕ). option_map (with_file manifest_name (Some l)) (files mid)) text in
-        subst (λ (x : State). Wrote (λ d. d) (files old) (files new) x (state_of k after stale s.priors)) view
+        subst (λ (x : State). Wrote (λ d. d) (files old) (files new) x (state_of s k after stale)) view
         (wrote-now (files old) (files mid) (files new) s k after stale others (own s) clear same saved form fit put')

@@ -9,11 +9,11 @@ use Rattle.repository.specs.Priors.{is_same, number_named, with_entry}
 use Rattle.repository.specs.Stale.{with_old, with_stale}
 use Rattle.repository.proofs.NumberLemmas.{clash}
 
-abbrev one : ℕ → ℕ → ℕ
+abbrev pub one : ℕ → ℕ → ℕ
 one k n = cond (k == n) 1 0
 
 -- how often a number is among others
-abbrev count : ℕ → List ℕ → ℕ
+abbrev pub count : ℕ → List ℕ → ℕ
 count k [] = 0
 count k (n ∷ ns) = one k n + count k ns
 
@@ -29,14 +29,14 @@ own n = ap (λ b. cond b 1 0) (eq-eqb n n refl)
 
 -- ---- once at most
 
-none-count : (k : ℕ) (ns : List ℕ) → IsNoneOf k ns → count k ns ≡ 0
+pub none-count : (k : ℕ) (ns : List ℕ) → IsNoneOf k ns → count k ns ≡ 0
 none-count k [] none = refl
 none-count k (n ∷ ns) none = elim (decide k n) [
   | inl same ↦ absurd (none.0 same.0)
   | inr other ↦ omega (arith, other.1, none-count k ns none.1)
 ]
 
-count-none : (k : ℕ) (ns : List ℕ) → count k ns ≡ 0 → IsNoneOf k ns
+pub count-none : (k : ℕ) (ns : List ℕ) → count k ns ≡ 0 → IsNoneOf k ns
 count-none k [] zero = tt
 count-none k (n ∷ ns) zero =
     let here : one k n ≡ 0 = omega (arith, zero) in
@@ -69,16 +69,20 @@ once-numbered next (n ∷ ns) once =
     fewer k = (let all = once k in (omega (arith, all.0), λ some. all.1 (omega (arith, some))))
 
 -- what is counted alike is numbered alike
-counted-numbered : (next : ℕ) (ns ms : List ℕ) → ((k : ℕ) → count k ms ≡ count k ns) → AreNumbered next ns → AreNumbered next ms
+pub counted-numbered : (next : ℕ) (ns ms : List ℕ) → ((k : ℕ) → count k ms ≡ count k ns) → AreNumbered next ns → AreNumbered next ms
 counted-numbered next ns ms same numbered = once-numbered next ms (λ k. (let once = numbered-once next ns numbered k in (omega (arith, same k, once.0), λ some. once.1 (omega (arith, same k, some)))))
+
+-- some of them fewer
+pub fewer-numbered : (next : ℕ) (ns ms : List ℕ) → ((k : ℕ) → count k ms ≤ count k ns) → AreNumbered next ns → AreNumbered next ms
+fewer-numbered next ns ms fewer numbered = once-numbered next ms (λ k. (let once = numbered-once next ns numbered k in (omega (arith, fewer k, once.0), λ some. once.1 (omega (arith, fewer k, some)))))
 
 -- ---- lists
 
-count-append : (k : ℕ) (xs ys : List ℕ) → count k (xs ++ ys) ≡ count k xs + count k ys
+pub count-append : (k : ℕ) (xs ys : List ℕ) → count k (xs ++ ys) ≡ count k xs + count k ys
 count-append k [] ys = sym (zero-add (count k ys))
 count-append k (x ∷ xs) ys = (let rest = count-append k xs ys in omega (arith, rest))
 
-count-stale : (k n : ℕ) (ns : List ℕ) → count k (with_stale ns n) ≡ one k n + count k ns
+pub count-stale : (k n : ℕ) (ns : List ℕ) → count k (with_stale ns n) ≡ one k n + count k ns
 count-stale k n [] = refl
 count-stale k n (m ∷ ms) = by (nat_le n m) (count-stale k n ms)
   where

@@ -1,5 +1,5 @@
 -- The ways out of flush, by the lists that are handed on.
-use Rattle.std.proofs.Common.{◌≡◌, ℕ, List, ◌++◌, Option, Some, sym, subst}
+use Rattle.std.proofs.Common.{◌≡◌, ℕ, List, ◌++◌, Option, Some, IfSome, ap, sym, subst, ◌∙◌}
 use Rattle.std.specs.Option.{option_map}
 use Rattle.store_ends.specs.Files.{Files, Leaves, OldOrNew, SameWhere, with_file}
 use Rattle.manifest.specs.Listing.{AreNumbered, IsListing, listing, prior_numbers}
@@ -9,10 +9,13 @@ use Rattle.disk_index.specs.Snapshots.{Marked}
 use Rattle.holdings.specs.Contents.{Contents}
 use Rattle.repository.specs.Entries.{entries_for}
 use Rattle.repository.specs.Names.{manifest_name}
+use Rattle.repository.specs.Merges.{IsOpenMerging}
 use Rattle.repository.specs.Saved.{AllSaved, IsUnlisted}
 use Rattle.repository.specs.States.{IsNumbered, State, listed_numbers, part_numbers}
+use Rattle.repository.specs.Ties.{IsTied}
 use Rattle.repository.specs.Writes.{IsOther, IsSavedAs, Wrote, Writes}
-use Rattle.repository.proofs.CommitLemmas.{AreFit, begun, form-handed, form-now, listed, numbered-now, others-handed, saved-as, state_of, unlisted-clear, wrote}
+use Rattle.repository.proofs.CommitLemmas.{AreFit, begun, form-handed, form-now, listed, numbered-now, others-handed, saved-as, state_of, text-handed, unlisted-clear, wrote}
+use Rattle.repository.proofs.KeepLemmas.{merging-saved}
 use Rattle.repository.proofs.ListedLemmas.{all-listed, stale-listed}
 
 -- numbers of parts, of stale files and of priors
@@ -53,11 +56,11 @@ module _ {S : Type 0} (files : S → Option Files) (since : S → ℕ → Files 
         let left = stale-listed s numbered in
         form-now (files mid) s k after s.stale (s.stale ++ prior_numbers s.priors) numbered all_saved fit left.0 left.1 all_saved.numbered
 
-    pub flush-numbered : IsNumbered (state_of k after s.stale s.priors)
+    pub flush-numbered : IsNumbered (state_of s k after s.stale)
     flush-numbered = numbered-now (files mid) s k after s.stale (s.stale ++ prior_numbers s.priors) numbered all_saved form
 
-    pub flush-saved : IsSavedAs t (state_of k after s.stale s.priors) t.stale
-    flush-saved = subst (λ (x : State). IsSavedAs x (state_of k after s.stale s.priors) x.stale) view (saved-as (files mid) s k after s.stale (s.stale ++ prior_numbers s.priors) all_saved)
+    pub flush-saved : IsSavedAs t (state_of s k after s.stale) t.stale
+    flush-saved = subst (λ (x : State). IsSavedAs x (state_of s k after s.stale) x.stale) view (saved-as (files mid) s k after s.stale (s.stale ++ prior_numbers s.priors) all_saved)
 
     module _ (ms : List Marked) (left : List ℕ) (rows : List PriorEntry) (parts : ms ≡ k.parts.closed) (left_are : left ≡ s.stale) (rows_are : rows ≡ s.priors) where
       pub flush-form : IsListing after (entries_for ms) left rows
@@ -69,6 +72,15 @@ module _ {S : Type 0} (files : S → Option Files) (since : S → ℕ → Files 
           listed files since s t view (λ x. IsUnlisted (listed_numbers x)) (unlisted-clear s) old mid known known_stops k after s.stale (s.stale ++ prior_numbers s.priors) all_saved form fit ms left rows parts left_are rows_are new changed second
 
       pub flush-wrote : (new : S) → files new ≡ option_map (with_file manifest_name (Some (manifest_text (listing after (entries_for ms) left rows)))) (files mid)
-          → Wrote (λ d. d) (files old) (files new) t (state_of k after s.stale s.priors)
+          → Wrote (λ d. d) (files old) (files new) t (state_of s k after s.stale)
       flush-wrote new put =
           wrote files since s t view (λ x. IsUnlisted (listed_numbers x)) (unlisted-clear s) old mid known known_stops k after s.stale (s.stale ++ prior_numbers s.priors) all_saved form fit ms left rows parts left_are rows_are new put
+
+      -- the condition of an open merge is kept
+      pub flush-merging : (new : S) → files new ≡ option_map (with_file manifest_name (Some (manifest_text (listing after (entries_for ms) left rows)))) (files mid) → IfSome s.merge (IsTied s.held) → IsOpenMerging (files old) t
+          → IsOpenMerging (files new) (state_of s k after s.stale)
+      flush-merging new put tied open_now =
+          let text = text-handed after ms k.parts.closed left s.stale rows s.priors parts left_are rows_are in
+          let put' = put ∙ ap (λ (l : List ℕ). option_map (with_file manifest_name (Some l)) (files mid)) text in
+          merging-saved (files old) (files mid) (files new) s k after s.stale (s.stale ++ prior_numbers s.priors) (IsUnlisted (listed_numbers s)) (unlisted-clear s) known all_saved form fit put' tied
+          (subst (λ (x : State). IsOpenMerging (files old) x) (sym view) open_now)

@@ -1,10 +1,15 @@
+pub mod BeginLemmas
 pub mod CommitLemmas
 pub mod CountLemmas
+pub mod EndCalls
+pub mod EndLemmas
 pub mod EntryLemmas
+pub mod ExchangeLemmas
 pub mod FirstLemmas
 pub mod FlushLemmas
 pub mod FrameLemmas
 pub mod GoingLemmas
+pub mod KeepLemmas
 pub mod ListedLemmas
 pub mod ManifestLemmas
 pub mod MarkLemmas
@@ -19,6 +24,10 @@ pub mod SaveLemmas
 pub mod SetLemmas
 pub mod StaleLemmas
 pub mod RealLemmas
+pub mod StayLemmas
 pub mod StepLemmas
 pub mod StoredLemmas
 pub mod SweepLemmas
+pub mod TieLemmas
+pub mod TurnLemmas
+pub mod WholeLemmas

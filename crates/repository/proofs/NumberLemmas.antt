@@ -111,7 +111,7 @@ none-left : (n : ℕ) (xs ys : List ℕ) → IsNoneOf n (xs ++ ys) → IsNoneOf 
 none-left n [] ys a = tt
 none-left n (x ∷ xs) ys a = (a.0, none-left n xs ys a.1)
 
-none-right : (n : ℕ) (xs ys : List ℕ) → IsNoneOf n (xs ++ ys) → IsNoneOf n ys
+pub none-right : (n : ℕ) (xs ys : List ℕ) → IsNoneOf n (xs ++ ys) → IsNoneOf n ys
 none-right n [] ys a = a
 none-right n (x ∷ xs) ys a = none-right n xs ys a.1
 

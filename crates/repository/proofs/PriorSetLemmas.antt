@@ -13,6 +13,7 @@ use Rattle.manifest.specs.Spelling.{manifest_text}
 use Rattle.manifest.specs.declared.manifest.PriorEntry.{PriorEntry}
 use Rattle.disk_index.specs.Snapshots.{Marked}
 use Rattle.holdings.specs.Contents.{Contents}
+use Rattle.merge_job.specs.Merge.{Merging}
 use Rattle.repository.specs.Entries.{entries_for}
 use Rattle.repository.specs.Names.{prior_name}
 use Rattle.repository.specs.Numbers.{IsNewNumber, Taken, greatest, is_among, next_after}
@@ -113,8 +114,8 @@ pub record IsSetAs (s : State) (name : List ℕ) (n next : ℕ) (parts : List Ma
   pub stale_are : stale ≡ with_old s.stale (number_named s.priors name)
   pub priors_are : priors ≡ with_entry s.priors name n
 
-abbrev state : Contents → ℕ → List ℕ → List PriorEntry → State
-state h k ns ps = record { held = h; next = k; stale = ns; priors = ps; usable = true }
+abbrev state : Option Merging → Contents → ℕ → List ℕ → List PriorEntry → State
+state merge h k ns ps = record { held = h; next = k; stale = ns; priors = ps; merge = merge; usable = true }
 
 module _ (s : State) (name : List ℕ) (n next : ℕ) (parts : List Marked) (stale : List ℕ) (priors : List PriorEntry) (is : IsSetAs s name n next parts stale priors) where
   pub listing-is : IsListing (prior_set s name n).next (entries_for s.held.parts.closed) (prior_set s name n).stale (prior_set s name n).priors → IsListing next (entries_for parts) stale priors
@@ -131,8 +132,9 @@ module _ (s : State) (name : List ℕ) (n next : ℕ) (parts : List Marked) (sta
       ∙ ap (λ (ns : List ℕ). manifest_text (listing (next_after s.next) (entries_for s.held.parts.closed) ns priors)) is.stale_are
       ∙ ap (λ (ps : List PriorEntry). manifest_text (listing (next_after s.next) (entries_for s.held.parts.closed) (with_old s.stale (number_named s.priors name)) ps)) is.priors_are
 
-  pub state-is : (held : Contents) → held ≡ s.held → record { held = held; next = next; stale = stale; priors = priors; usable = true } ≡ prior_set s name n
-  state-is held same =
-      ap (λ (h : Contents). state h next stale priors) same ∙ ap (λ (k : ℕ). state s.held k stale priors) is.next_is
-      ∙ ap (λ (ns : List ℕ). state s.held (next_after s.next) ns priors) is.stale_are
-      ∙ ap (λ (ps : List PriorEntry). state s.held (next_after s.next) (with_old s.stale (number_named s.priors name)) ps) is.priors_are
+  pub state-is : (held : Contents) (merge : Option Merging) → held ≡ s.held → merge ≡ s.merge → record { held = held; next = next; stale = stale; priors = priors; merge = merge; usable = true } ≡ prior_set s name n
+  state-is held merge same open_now =
+      ap (λ (h : Contents). state merge h next stale priors) same ∙ ap (λ (k : ℕ). state merge s.held k stale priors) is.next_is
+      ∙ ap (λ (ns : List ℕ). state merge s.held (next_after s.next) ns priors) is.stale_are
+      ∙ ap (λ (ps : List PriorEntry). state merge s.held (next_after s.next) (with_old s.stale (number_named s.priors name)) ps) is.priors_are
+      ∙ ap (λ (m : Option Merging). state m s.held (next_after s.next) (with_old s.stale (number_named s.priors name)) (with_entry s.priors name n)) open_now

@@ -262,7 +262,7 @@ outlines-kept : (n : ℕ) (docs : List Document) → (kept_of n docs).outlines �
 unfolding kept_of
 outlines-kept n docs = refl
 
-source-outlines : (told : Option Files) (taken : List ℕ) (p q : Source) → SavedSource told taken p q → outlines_of q ≡ outlines_of p
+pub source-outlines : (told : Option Files) (taken : List ℕ) (p q : Source) → SavedSource told taken p q → outlines_of q ≡ outlines_of p
 source-outlines told taken (InMemory docs) (InMemory d) saved = ap (λ (ds : List Document). map entry_of ds) saved
 source-outlines told taken (InMemory docs) (OnDisk k) saved = ap (λ (x : Kept). x.outlines) saved.0 ∙ outlines-kept k.number docs
 source-outlines told taken (OnDisk k) (InMemory docs) saved = absurd saved

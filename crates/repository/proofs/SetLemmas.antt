@@ -119,7 +119,7 @@ listing-set next later n es stale ps name l numbered some fits form other room f
 -- ---- of a repository
 
 -- numbers that rise below another are fewer than that
-rising-short : (low next : ℕ) (ns : List ℕ) → low ≤ next → AreRising low ns → ((k : ℕ) → is_among k ns ≡ true → k < next) → low + length ns ≤ next
+pub rising-short : (low next : ℕ) (ns : List ℕ) → low ≤ next → AreRising low ns → ((k : ℕ) → is_among k ns ≡ true → k < next) → low + length ns ≤ next
 rising-short low next [] least rise below = omega (arith, least)
 rising-short low next (n ∷ ns) least rise below =
     let here : n < next = below n (among-own n ns) in

@@ -57,14 +57,14 @@ backed-held told s h backed numbers stored = record {
 }
 
 -- one part in memory more, or none
-abbrev Closes : Parts → List Marked → Type 0
+abbrev pub Closes : Parts → List Marked → Type 0
 Closes p closed = (closed ≡ p.closed) ⊎ (closed ≡ p.closed ++ filled p.filling p.marks ∷ [])
 
-closes-by : (p : Parts) (docs : List Document) → Closes p (closed_by p docs).closed
+pub closes-by : (p : Parts) (docs : List Document) → Closes p (closed_by p docs).closed
 closes-by p [] = inl refl
 closes-by p (d ∷ docs) = inr refl
 
-closes-with : (p : Parts) (d : Document) → Closes p (parts.with_document p d).closed
+pub closes-with : (p : Parts) (d : Document) → Closes p (parts.with_document p d).closed
 closes-with p d = by (has_room p d)
   where
     by : (b : Bool) → Closes p (cond b p (sealed p)).closed

@@ -1,5 +1,5 @@
 -- Where the stale files are removed, and what is held is saved behind that.
-use Rattle.std.proofs.Common.{◌≡◌, ◌<◌, ◌^◌, inl, inr, ℕ, true, false, List, [], ◌++◌, get_or, Option, Some, sym, subst, ◌∙◌, arith}
+use Rattle.std.proofs.Common.{◌≡◌, ◌<◌, ◌^◌, inl, inr, ℕ, true, false, List, [], ◌++◌, get_or, Option, Some, IfSome, ap, sym, subst, ◌∙◌, arith}
 use Rattle.std.specs.List.{All}
 use Rattle.std.specs.Option.{option_map}
 use Rattle.store_ends.specs.Files.{Files, Leaves, OldOrNew, SameWhere, with_file}
@@ -13,13 +13,16 @@ use Rattle.disk_index.specs.Snapshots.{Marked}
 use Rattle.holdings.specs.Contents.{Contents}
 use Rattle.repository.specs.Entries.{entries_for}
 use Rattle.repository.specs.Names.{manifest_name, prior_name}
+use Rattle.repository.specs.Merges.{IsOpenMerging}
 use Rattle.repository.specs.Numbers.{is_among}
 use Rattle.repository.specs.Saved.{AllSaved, IsUnlisted}
 use Rattle.repository.specs.States.{IsNumbered, State, kept_numbers, listed_numbers, part_numbers}
+use Rattle.repository.specs.Ties.{IsTied}
 use Rattle.repository.specs.Writes.{AreGone, IsOther, IsSavedAs, Wrote, Writes}
-use Rattle.repository.proofs.CommitLemmas.{AreFit, begun, form-handed, form-now, listed, numbered-now, saved-as, state_of, unlisted-clear, wrote}
+use Rattle.repository.proofs.CommitLemmas.{AreFit, begun, form-handed, form-now, listed, numbered-now, saved-as, state_of, text-handed, unlisted-clear, wrote}
 use Rattle.repository.proofs.FlushLemmas.{files_of, same-handed, saved-handed, stops-handed}
 use Rattle.repository.proofs.FrameLemmas.{other-prior, other-segment}
+use Rattle.repository.proofs.KeepLemmas.{merging-saved}
 use Rattle.repository.proofs.ListedLemmas.{all-listed}
 use Rattle.repository.proofs.NumberLemmas.{among-behind, among-either, among-left, below-next, clash, free-of, numbered-apart, numbered-less, numbered-right}
 use Rattle.repository.proofs.RemovalLemmas.{IsAmong, among-at, gone-listed, gone-same}
@@ -113,13 +116,13 @@ module _ {S : Type 0} (files : S → Option Files) (since : S → ℕ → Files 
           form-now (files mid) s k after [] (s.stale ++ prior_numbers s.priors) numbered all_saved fit (omega arith) tt fewer
 
       module _ (left : List ℕ) (none : left ≡ []) where
-        pub sweep-numbered : IsNumbered (state_of k after left s.priors)
-        sweep-numbered = subst (λ (l : List ℕ). IsNumbered (state_of k after l s.priors)) (sym none) (numbered-now (files mid) s k after [] (s.stale ++ prior_numbers s.priors) numbered all_saved form)
+        pub sweep-numbered : IsNumbered (state_of s k after left)
+        sweep-numbered = subst (λ (l : List ℕ). IsNumbered (state_of s k after l)) (sym none) (numbered-now (files mid) s k after [] (s.stale ++ prior_numbers s.priors) numbered all_saved form)
 
-        pub sweep-saved : IsSavedAs t (state_of k after left s.priors) []
+        pub sweep-saved : IsSavedAs t (state_of s k after left) []
         sweep-saved =
-            subst (λ (l : List ℕ). IsSavedAs t (state_of k after l s.priors) []) (sym none)
-            (subst (λ (x : State). IsSavedAs x (state_of k after [] s.priors) []) view (saved-as (files mid) s k after [] (s.stale ++ prior_numbers s.priors) all_saved))
+            subst (λ (l : List ℕ). IsSavedAs t (state_of s k after l) []) (sym none)
+            (subst (λ (x : State). IsSavedAs x (state_of s k after []) []) view (saved-as (files mid) s k after [] (s.stale ++ prior_numbers s.priors) all_saved))
 
         module _ (ms : List Marked) (listed_stale : List ℕ) (rows : List PriorEntry) (parts : ms ≡ k.parts.closed) (stale_are : listed_stale ≡ left) (rows_are : rows ≡ s.priors) where
           pub sweep-form : IsListing after (entries_for ms) listed_stale rows
@@ -132,7 +135,17 @@ module _ {S : Type 0} (files : S → Option Files) (since : S → ℕ → Files 
               last
 
           pub sweep-wrote : (new : S) → files new ≡ option_map (with_file manifest_name (Some (manifest_text (listing after (entries_for ms) listed_stale rows)))) (files mid)
-              → Wrote (λ d. d) (files old) (files new) t (state_of k after left s.priors)
+              → Wrote (λ d. d) (files old) (files new) t (state_of s k after left)
           sweep-wrote new put =
-              subst (λ (l : List ℕ). Wrote (λ d. d) (files old) (files new) t (state_of k after l s.priors)) (sym none)
+              subst (λ (l : List ℕ). Wrote (λ d. d) (files old) (files new) t (state_of s k after l)) (sym none)
               (wrote files since s t view (λ x. IsUnlisted (kept_numbers x)) (λ n free. free) old mid same stops k after [] (s.stale ++ prior_numbers s.priors) all_saved form fit ms listed_stale rows parts (stale_are ∙ none) rows_are new put)
+
+          -- the condition of an open merge is kept
+          pub sweep-merging : (new : S) → files new ≡ option_map (with_file manifest_name (Some (manifest_text (listing after (entries_for ms) listed_stale rows)))) (files mid) → IfSome s.merge (IsTied s.held) → IsOpenMerging (files old) t
+              → IsOpenMerging (files new) (state_of s k after left)
+          sweep-merging new put tied open_now =
+              let text = text-handed after ms k.parts.closed listed_stale [] rows s.priors parts (stale_are ∙ none) rows_are in
+              let put' = put ∙ ap (λ (l : List ℕ). option_map (with_file manifest_name (Some l)) (files mid)) text in
+              subst (λ (l : List ℕ). IsOpenMerging (files new) (state_of s k after l)) (sym none)
+              (merging-saved (files old) (files mid) (files new) s k after [] (s.stale ++ prior_numbers s.priors) (IsUnlisted (kept_numbers s)) (λ n free. free) same all_saved form fit put' tied
+              (subst (λ (x : State). IsOpenMerging (files old) x) (sym view) open_now))

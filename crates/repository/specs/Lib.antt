@@ -1,4 +1,5 @@
 pub mod Entries
+pub mod Merges
 pub mod Names
 pub mod Numbers
 pub mod Opening
@@ -9,4 +10,5 @@ pub mod RealLimits
 pub mod Stands
 pub mod States
 pub mod Steps
+pub mod Ties
 pub mod Writes

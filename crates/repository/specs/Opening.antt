@@ -1,5 +1,5 @@
 -- What the opening of a repository gives, and why it is refused.
-use Rattle.std.specs.Prelude.{◌≡◌, ◌≤◌, ◌<◌, ℕ, true, List, ◌∷◌, ◌++◌, Option, Some, Err, length, slice_index_or}
+use Rattle.std.specs.Prelude.{◌≡◌, ◌≤◌, ◌<◌, ℕ, true, List, ◌∷◌, ◌++◌, Option, None, Some, Err, length, slice_index_or}
 use Rattle.std.specs.List.{AllZip, IsDistinct}
 use Rattle.std.specs.Str.{bytes_eq}
 use Rattle.ri_base.specs.Documents.{Document}
@@ -60,11 +60,12 @@ pub record IsRepositoryOpened (told : Option Files) (limits : Limits) (s : State
   pub priors_are : s.priors ≡ list.priors
   pub usable : s.usable ≡ true
 
--- it may be used, within these limits, and nothing was added or deleted yet
+-- it may be used, within these limits, nothing was added or deleted yet, and no merge is open
 pub record IsFresh (limits : Limits) (s : State) : Type 0 where
   pub usable : s.usable ≡ true
   pub limits_are : s.held.limits ≡ limits
   pub none_yet : s.held.generation ≡ 0
+  pub unmerged : s.merge ≡ None
 
 -- ---- why it is refused
 

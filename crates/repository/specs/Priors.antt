@@ -55,7 +55,7 @@ is_full es name = not (is_named es name) && nat_le MAX_PRIORS (length es)
 
 -- the prior of this name has the file of this number, a new one; the one that it had is stale
 abbrev pub prior_set : State → List ℕ → ℕ → State
-prior_set s name n = record { held = s.held; next = next_after s.next; stale = with_old s.stale (number_named s.priors name); priors = with_entry s.priors name n; usable = true }
+prior_set s name n = record { held = s.held; next = next_after s.next; stale = with_old s.stale (number_named s.priors name); priors = with_entry s.priors name n; merge = s.merge; usable = true }
 
 -- ---- its rows are read
 

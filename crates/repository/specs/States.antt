@@ -12,14 +12,17 @@ use Rattle.disk_index.specs.Snapshots.{Marked, documents_held}
 use Rattle.holdings.specs.Contents.{Contents}
 use Rattle.holdings.specs.MarkedParts.{tokens_held}
 use Rattle.holdings.specs.Parts.{all_parts, live}
+use Rattle.merge_job.specs.Merge.{Merging}
 use Rattle.repository.specs.Stands.{Collection, HasManifest, IsPriorListed, Prior}
 
--- what is held in memory, the number of the next file, the stale files and the priors; it is usable until a change of its files fails
+-- What is held in memory, the number of the next file, the stale files and the priors, and the merge that is open. It is usable until
+-- a change of its files fails.
 pub record State : Type 0 where
   pub held : Contents
   pub next : ℕ
   pub stale : List ℕ
   pub priors : List PriorEntry
+  pub merge : Option Merging
   pub usable : Bool
 
 -- Together with the files it is this collection.

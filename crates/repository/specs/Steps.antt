@@ -16,4 +16,4 @@ without_docno c docno = record { live = without docno c.live; documents = c.docu
 
 -- other contents are held, and all else stays
 abbrev pub with_held : State → Contents → State
-with_held s held = record { held = held; next = s.next; stale = s.stale; priors = s.priors; usable = s.usable }
+with_held s held = record { held = held; next = s.next; stale = s.stale; priors = s.priors; merge = s.merge; usable = s.usable }

@@ -46,7 +46,7 @@ pub record Wrote (into : Collection → Collection) (before now : Option Files) 
   pub stands : (d : Collection) → IsBacked before s → ReadsAs before s d → Stands t.held.limits now (into d)
   pub backed : IsBacked before s → IsBacked now t
 
--- All that was held is in files that are listed, those of before among them; of the priors nothing changes.
+-- All that was held is in files that are listed, those of before among them; of the priors and of an open merge nothing changes.
 pub record IsSavedAs (s t : State) (left : List ℕ) : Type 0 where
   pub on_disk : All (λ m. IsOnDisk m.source) t.held.parts.closed
   pub none_filling : t.held.parts.filling ≡ []
@@ -57,3 +57,4 @@ pub record IsSavedAs (s t : State) (left : List ℕ) : Type 0 where
   pub next : s.next ≤ t.next
   pub stale : t.stale ≡ left
   pub priors : t.priors ≡ s.priors
+  pub merge : t.merge ≡ s.merge

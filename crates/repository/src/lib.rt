@@ -3,6 +3,7 @@
 
 mod across;
 mod creation;
+mod exchange;
 mod files;
 mod listing;
 mod names;
@@ -15,7 +16,11 @@ mod saving;
 mod segments;
 mod stale;
 mod stored;
+mod turned;
+mod whole_merge;
 
 pub use creation::create;
 pub use names::prior_name;
 pub use repository::Repository;
+pub use turned::{MergeRefusal, Turned};
+pub use whole_merge::{merge_around, merge_whole};

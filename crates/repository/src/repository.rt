@@ -15,6 +15,7 @@ ghost use Rattle.disk_index.specs.Snapshots.{AreBacked};
 ghost use Rattle.holdings.specs.Contents.{Answers, added, all_closed, answer, deleted};
 ghost use Rattle.holdings.specs.MarkedParts.{docnos_of};
 ghost use Rattle.holdings.specs.Parts.{is_live, live, sealed};
+ghost use Rattle.repository.specs.Merges.{IsOpenMerging};
 ghost use Rattle.repository.specs.Names.{manifest_name};
 ghost use Rattle.repository.specs.Numbers.{IsNewNumber};
 ghost use Rattle.repository.specs.Opening.{IsAcrossFault, IsEntryFault, IsFresh, IsOpeningFault, IsRepositoryOpened};
@@ -24,6 +25,8 @@ ghost use Rattle.repository.specs.Stands.{AreHeld, Collection, HasManifest, IsLi
 ghost use Rattle.repository.specs.States.{IsBacked, ReadsAs, kept_numbers, listed_numbers, part_numbers};
 ghost use Rattle.repository.specs.Steps.{with_document, with_held, without_docno};
 ghost use Rattle.repository.specs.Writes.{AreGone, IsSavedAs, Wrote, Writes};
+
+mod merging;
 
 use crate::listing::list_files;
 use crate::numbers::Numbers;
@@ -36,6 +39,7 @@ use crate::stored::are_on_disk;
 use disk_index::Snapshot;
 use holdings::{AddRefusal, Holdings, Limits, NoSuchDoc};
 use manifest::{Manifest, PriorEntry, PriorRows};
+use merge_job::MergeJob;
 use ri_base::{Doc, Docno, Name, NoMemory, SegFault};
 use std::alloc::Global;
 use std::marker::Model;
@@ -48,18 +52,21 @@ pub struct Repository {
     next: u64,
     stale: Vec<u64>,
     priors: Vec<PriorEntry>,
+    merge: Option<MergeJob>,
     usable: bool,
 }
 
 impl Model for Repository {
-    ghost use Rattle.std.specs.Prelude.{◌≡◌, true};
+    ghost use Rattle.std.specs.Prelude.{◌≡◌, true, IfSome};
     ghost use Rattle.repository.specs.States.{IsNumbered, State};
+    ghost use Rattle.repository.specs.Ties.{IsTied};
 
     ghost Value = { State };
 
-    ghost view = { λ r. record { held = r.held; next = r.next; stale = r.stale.items; priors = r.priors.items; usable = r.usable } };
+    ghost view = { λ r. record { held = r.held; next = r.next; stale = r.stale.items; priors = r.priors.items; merge = r.merge; usable = r.usable } };
 
-    ghost invariant = { λ r. r.usable ≡ true → IsNumbered (record { held = r.held; next = r.next; stale = r.stale.items; priors = r.priors.items; usable = r.usable }) };
+    ghost invariant = { λ r. (r.usable ≡ true → IsNumbered (record { held = r.held; next = r.next; stale = r.stale.items; priors = r.priors.items; merge = r.merge; usable = r.usable }))
+        × (r.usable ≡ true → IfSome r.merge (IsTied r.held)) };
 }
 
 impl Repository {
@@ -100,6 +107,7 @@ impl Repository {
         ensures added { OnOk result (self.new ≡ with_held self.old (added self.old.held doc.now)) }
         ensures reads { OnOk result ((told : Option Files) (c : Collection) → ReadsAs told self.old c → ReadsAs told self.new (with_document c doc.now)) }
         ensures backed { (told : Option Files) → IsBacked told self.old → IsBacked told self.new }
+        ensures merging { (told : Option Files) → IsOpenMerging told self.old → IsOpenMerging told self.new }
         ensures kept { OnErr result (self.new ≡ self.old) }
         ensures usable { self.new.usable ≡ self.old.usable }
     {
@@ -113,6 +121,7 @@ impl Repository {
         ensures deleted { OnOk result (self.new ≡ with_held self.old (deleted self.old.held docno.now)) }
         ensures reads { OnOk result ((told : Option Files) (c : Collection) → ReadsAs told self.old c → ReadsAs told self.new (without_docno c docno.now)) }
         ensures backed { (told : Option Files) → IsBacked told self.old → IsBacked told self.new }
+        ensures merging { (told : Option Files) → IsOpenMerging told self.old → IsOpenMerging told self.new }
         ensures kept { OnErr result (self.new ≡ self.old) }
         ensures usable { self.new.usable ≡ self.old.usable }
     {
@@ -135,6 +144,7 @@ impl Repository {
         ensures left { OnErr result ((self.new ≡ self.old) ⊎ (self.new ≡ with_held self.old (all_closed self.old.held))) }
         ensures reads { (told : Option Files) (c : Collection) → ReadsAs told self.old c → ReadsAs told self.new c }
         ensures backed { (told : Option Files) → IsBacked told self.old → IsBacked told self.new }
+        ensures merging { (told : Option Files) → IsOpenMerging told self.old → IsOpenMerging told self.new }
         ensures usable { self.new.usable ≡ self.old.usable }
     {
         self.held.snapshot(alloc)
@@ -150,6 +160,7 @@ impl Repository {
 
         // It reads as before, and the files stand for just that.
         ensures wrote { OnOk result (Wrote (λ c. c) (T.files store.old) (T.files store.new) self.old self.new) }
+        ensures merging { OnOk result (IsOpenMerging (T.files store.old) self.old → IsOpenMerging (T.files store.new) self.new) }
         ensures saved { OnOk result (IsSavedAs self.old self.new self.old.stale) }
         ensures usable { OnOk result (self.new.usable ≡ true) }
         ensures broken { OnErr result (self.new.usable ≡ false) }
@@ -184,6 +195,7 @@ impl Repository {
 
         // It reads as before, and the files stand for just that.
         ensures wrote { OnOk result (Wrote (λ c. c) (T.files store.old) (T.files store.new) self.old self.new) }
+        ensures merging { OnOk result (IsOpenMerging (T.files store.old) self.old → IsOpenMerging (T.files store.new) self.new) }
         ensures saved { OnOk result (IsSavedAs self.old self.new []) }
         ensures gone { OnOk result (AreGone self.old.stale (T.files store.new)) }
         ensures usable { OnOk result (self.new.usable ≡ true) }
@@ -403,6 +415,7 @@ fn of_manifest<T: Store>(
         next,
         stale: stale.into_vec(),
         priors: priors.into_vec(),
+        merge: None,
         usable: true,
     })
 }

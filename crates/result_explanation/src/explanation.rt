@@ -60,6 +60,7 @@ pub fn explain<P: Postings>(
     ensures keeps { Keeps P.documents P.faults P.sound P.quiet part.old part.new }
     ensures exact { P.sound part.old → IfOk result
         (IsExplanation names.now (whole_checked checked.now) stats.now (document_at (P.documents part.old) id) rank hit) }
+    ensures scale { IfOk result (λ explained. explained.scale ≡ checked.now.scale) }
     ensures honest { P.sound part.old → IfErr result IsOutside }
     ensures store { result ≡ Err SegFault.Store → Rose (P.faults part.old) (P.faults part.new) }
 {

@@ -3,8 +3,6 @@
 
 mod counted;
 mod explanation;
-mod laws;
 mod leaf;
 
 pub use explanation::explain;
-pub use laws::candidates_are_of_documents;

@@ -6,7 +6,6 @@ use Rattle.query_check.specs.Leaves.{leaf_tree}
 use Rattle.query_check.specs.declared.leaf_kind.LeafKind.{LeafKind}
 use Rattle.document_scoring.specs.Counts.{stats_of}
 use Rattle.belief_nodes.specs.Priors.{Prior}
-use Rattle.disk_index.specs.Cache.{IsCacheBacked}
 use Rattle.disk_index.specs.QuietLaws.{IsQuiet-then}
 use Rattle.disk_index.specs.Snapshots.{AreBacked, Marked, live}
 use Rattle.counts.proofs.ReadingLemmas.{cache-backed, rose-earlier}

@@ -3,7 +3,7 @@ use Rattle.command_words.specs.Asked.{told_labels}
 use Rattle.query_check.specs.Answers.{whole_checked}
 use Rattle.ranker.specs.Searches.{searched}
 use Rattle.collection_queries.specs.Shown.{told_shown}
-use Rattle.collection_queries.proofs.AnswerLemmas.{results-shown}
+use Rattle.collection_queries.proofs.AnswerLemmas.{results-few, results-shown}
 use Rattle.collection_queries.proofs.answering.show.Goals as goal
 
 pub returns-in_ok-results_text-in-Results-clause-exact : goal.returns-in_ok-results_text-in-Results-clause-exact
@@ -15,3 +15,7 @@ returns-in_ok-results_text-in-Results-clause-exact g c = λ kind priors backed c
 
 pub returns-in-Explanation-clause-exact : goal.returns-in-Explanation-clause-exact
 returns-in-Explanation-clause-exact g c = λ kind priors backed cached taken summed. rw c.in-Explanation.is (c.explanation.ensures.exact kind priors backed cached taken summed)
+
+pub results_text-requires-clause-most : goal.results_text-requires-clause-most
+results_text-requires-clause-most g c =
+    results-few c.args.shown.now c.in-Results.count (told_labels c.in-Results.labels) c.args.search.now.most (ap told_shown c.in-Results.is) c.requires.most c.requires.shown

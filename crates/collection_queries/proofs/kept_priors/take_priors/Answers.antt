@@ -1,4 +1,4 @@
-use Rattle.std.proofs.Common.{◌≡◌, ◌<◌, ◌≤◌, ◌+◌, ◌++◌, ◌∷◌, [], List, Option, Some, drop, length, map, take, inr, ap, refl, sym, subst, ◌∙◌, arith}
+use Rattle.std.proofs.Common.{◌≡◌, ◌<◌, ◌≤◌, ◌+◌, ◌++◌, ◌∷◌, [], List, Option, drop, length, map, inr, ap, refl, sym, subst, ◌∙◌, arith}
 use Rattle.std.specs.List.{AllZip}
 use Rattle.std.proofs.lemmas.List.{length-map, length-set, length_push, take_all}
 use Rattle.std.proofs.lemmas.Result.{err_from_is_err_and}
@@ -6,7 +6,7 @@ use Rattle.std.proofs.lemmas.Slice.Zip.{AllZip-long}
 use Rattle.store_ends.specs.Files.{Files}
 use Rattle.disk_index.specs.QuietLaws.{IsQuiet-same, IsQuiet-then}
 use Rattle.manifest.specs.declared.manifest.PriorEntry.{PriorEntry}
-use Rattle.repository.specs.Stands.{Collection, IsPriorListed, Prior}
+use Rattle.repository.specs.Stands.{IsPriorListed}
 use Rattle.repository.specs.States.{ReadsAs}
 use Rattle.collection_queries.specs.Priors.{run_priors}
 use Rattle.collection_queries.proofs.PlugLemmas.{entry-at, is-free, listed-next, plug-next, priors-all, reads-next, told_prior}

@@ -1,7 +1,6 @@
-use Rattle.std.proofs.Common.{◌≡◌, ◌<◌, false, get_or, length, map, take, ap, sym, subst, ◌∙◌, arith}
-use Rattle.std.proofs.lemmas.List.{get_or-map, length-map}
+use Rattle.std.proofs.Common.{◌≡◌, false, ap, sym, subst, ◌∙◌}
 use Rattle.belief_nodes.specs.Priors.{Prior, has_row, with_row}
-use Rattle.manifest.specs.Priors.{Row, row_of}
+use Rattle.manifest.specs.Priors.{row_of}
 use Rattle.collection_queries.proofs.PriorLemmas.{no-row-yet, row-at, row-next}
 use Rattle.collection_queries.proofs.kept_priors.take_rows.Goals as goal
 

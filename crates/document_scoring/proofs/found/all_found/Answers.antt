@@ -5,7 +5,7 @@ use Rattle.std.proofs.lemmas.List.Elements.{All-push}
 use Rattle.ri_base.specs.Collection.{document_at}
 use Rattle.ri_base.specs.Documents.{Document}
 use Rattle.ri_base.specs.Pair.{Pair}
-use Rattle.query_check.specs.Leaves.{LeafTree, leaf_tree, prior}
+use Rattle.query_check.specs.Leaves.{leaf_tree, prior}
 use Rattle.document_scoring.specs.Counters.{IsFound, found_count}
 use Rattle.document_scoring.specs.Counts.{count_in}
 use Rattle.document_scoring.specs.declared.found.LeafExtents.{LeafExtents}

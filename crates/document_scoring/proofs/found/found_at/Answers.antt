@@ -1,7 +1,4 @@
-use Rattle.std.proofs.Common.{◌≡◌, ◌<◌, get_or, length, map, take, sym, ap, ◌∙◌, arith}
 use Rattle.ri_base.specs.Collection.{document_at}
-use Rattle.query_check.specs.Leaves.{leaf_tree, prior}
-use Rattle.document_scoring.specs.Counters.{IsFound}
 use Rattle.document_scoring.proofs.FirstsLemmas.{copied, read}
 use Rattle.document_scoring.proofs.found.found_at.Goals as goal
 

@@ -1,11 +1,12 @@
-use Rattle.std.proofs.Common.{List, length, map, ap, sym, ◌∙◌}
+use Rattle.std.proofs.Common.{◌≡◌, List, length, map, ap, subst, sym, ◌∙◌}
+use Rattle.std.proofs.lemmas.List.{length-map}
 use Rattle.ri_base.specs.Collection.{document_at}
-use Rattle.ri_base.specs.Documents.{Document}
+use Rattle.ri_base.specs.Documents.{AreFields, Document}
 use Rattle.ri_base.specs.Query.{filter_tree}
 use Rattle.query_check.specs.Leaves.{leaf_tree}
 use Rattle.belief_nodes.specs.Network.{network_tree}
 use Rattle.document_scoring.specs.Counters.{found_count}
-use Rattle.document_scoring.proofs.ScoringLemmas.{adds_document, counted_is, not_passed}
+use Rattle.document_scoring.proofs.ScoringLemmas.{adds_document, counted_is, no_rows, not_passed, rows_of_windows}
 use Rattle.document_scoring.proofs.scoring.score_document.Goals as goal
 
 pub returns-then-not-branch-clause-exact : goal.returns-then-not-branch-clause-exact
@@ -31,4 +32,28 @@ returns-clause-exact g c = λ sound.
     (c.spans.ensures.exact ∙ ap (λ (ds : List Document). (document_at ds id).fields) later)
     (λ w. counted_is docs read last id w c.spans.result.now c.deref.result.now c.in_ok-found.found.items network.leaves (map leaf_tree c.leaves.result.now) pass.documents_stay later c.spans.ensures.exact c.deref.ensures.value
     (c.in_ok-found.ensures.exact (pass.sound_stays sound) w) c.leaves.ensures)
+    c.in_ok-score_found.ensures.adds
+
+-- ---- also of a part that isn't sound
+
+pub returns-then-not-branch-clause-shape : goal.returns-then-not-branch-clause-shape
+returns-then-not-branch-clause-shape g c = no_rows (document_at (g.P.Postings.documents c.args.part.now) c.args.id) (length (network_tree c.args.network.now).leaves) c.args.rows.now.items
+
+pub returns-clause-shape : goal.returns-clause-shape
+returns-clause-shape g c =
+    let docs = g.P.Postings.documents c.args.part.now in
+    let read = g.P.Postings.documents c.all_pass.new.part in
+    let id = c.args.id in
+    let later = c.in_ok-found.ensures.keeps.documents_stay ∙ c.in_ok-all_pass.ensures.keeps.documents_stay in
+    let spans = c.spans.result.now in
+    let leaves : length (network_tree c.args.network.now).leaves ≡ length c.leaves.result.now = ap length (sym c.leaves.ensures) ∙ length-map c.leaves.result.now leaf_tree in
+    let found : length c.deref.result.now ≡ length (network_tree c.args.network.now).leaves = ap length c.deref.ensures.value ∙ c.in_ok-found.ensures.each ∙ sym leaves in
+    rows_of_windows c.args.rule.now.kind (map (λ b. (goal.BeliefNode-dyn g (b.vtable, b.value)).meaning b.value) c.args.plugs.now) (network_tree c.args.network.now) (document_at docs id)
+    c.docno.result.now c.length.result spans (λ w. map (found_count spans w) c.deref.result.now) c.args.rows.now.items c.score_found.new.rows.items
+    (c.docno.ensures ∙ ap (λ (ds : List Document). (document_at ds id).docno) later)
+    (c.length.ensures.exact ∙ ap (λ (ds : List Document). length (document_at ds id).tokens) later)
+    (subst (λ n. AreFields n spans) (sym c.length.ensures.exact) c.spans.ensures.form.sound)
+    c.requires.range
+    c.args.network.now.kept.each
+    (λ w. length-map c.deref.result.now (found_count spans w) ∙ found)
     c.in_ok-score_found.ensures.adds

@@ -5,6 +5,7 @@ use Rattle.disk_index.specs.Snapshots.{live}
 use Rattle.ranker.specs.Passed.{passed}
 use Rattle.ranker.proofs.HeldLemmas.{IsHeld-on, ended-credit}
 use Rattle.ranker.proofs.PlaceLemmas.{credit-le}
+use Rattle.ranker.proofs.WindowLemmas.{HasWindows-on}
 use Rattle.ranker.proofs.advance.advance.Goals as goal
 
 pub returns-in_default-clause-credit : goal.returns-in_default-clause-credit
@@ -40,3 +41,13 @@ returns-clause-taken g c = λ backed cached known most h.
     c.in_ok-end.ensures.held kind priors filters network (passed told parts c.pass_parts.new.at) most
     (IsHeld-on kind priors filters network (passed told parts c.args.at.now) (passed told parts c.pass_parts.new.at) most
     c.args.held.now c.in-Open.first c.pass_parts.new.first c.in-Open.is (c.in_ok-pass_parts.ensures.first backed cached known) h)
+
+pub returns-then-at-count-clause-windows : goal.returns-then-at-count-clause-windows
+returns-then-at-count-clause-windows g c = λ told most h.
+    HasWindows-on (length (network_tree c.args.network.now).leaves) told (g.T.Store.files c.args.store.now) c.args.parts.now most c.args.held.now c.in-Open.first c.pass_parts.new.first c.in-Open.is c.in_ok-pass_parts.ensures.windows h
+
+pub returns-clause-windows : goal.returns-clause-windows
+returns-clause-windows g c = λ told most h.
+    let leaves = length (network_tree c.args.network.now).leaves in
+    c.in_ok-end.ensures.windows (live told c.args.parts.now) leaves most
+    (HasWindows-on leaves told (g.T.Store.files c.args.store.now) c.args.parts.now most c.args.held.now c.in-Open.first c.pass_parts.new.first c.in-Open.is c.in_ok-pass_parts.ensures.windows h)

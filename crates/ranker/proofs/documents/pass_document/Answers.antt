@@ -1,7 +1,8 @@
-use Rattle.std.proofs.Common.{map, sym, arith, ◌∙◌}
+use Rattle.std.proofs.Common.{length, map, sym, arith, ◌∙◌}
 use Rattle.ri_base.specs.Query.{filter_tree}
 use Rattle.belief_nodes.specs.Network.{network_tree}
 use Rattle.ranker.proofs.PassedLemmas.{Advances-dead, Advances-live, Advances-unseen, ids-dead, ids-live}
+use Rattle.ranker.proofs.WindowLemmas.{KeepsWindows-live, KeepsWindows-same}
 use Rattle.ranker.proofs.documents.pass_document.Goals as goal
 
 -- ---- it is dead
@@ -14,6 +15,9 @@ returns-then-is_marked-clause-first g c = λ sound none.
 pub returns-then-is_marked-clause-docs : goal.returns-then-is_marked-clause-docs
 returns-then-is_marked-clause-docs g c = ids-dead c.args.marks.now c.args.id (omega (arith, c.requires.id, c.requires.marks)) (sym c.is_marked.ensures ∙ c.if-is_marked.true)
 
+pub returns-then-is_marked-clause-windows : goal.returns-then-is_marked-clause-windows
+returns-then-is_marked-clause-windows g c = KeepsWindows-same _ _ _
+
 -- ---- it has nothing to show
 
 pub returns-then-not-may_have-clause-first : goal.returns-then-not-may_have-clause-first
@@ -24,6 +28,9 @@ returns-then-not-may_have-clause-first g c = λ sound none.
 pub returns-then-not-may_have-clause-docs : goal.returns-then-not-may_have-clause-docs
 returns-then-not-may_have-clause-docs g c = ids-live c.args.marks.now c.args.id (omega (arith, c.requires.id, c.requires.marks)) (sym c.is_marked.ensures ∙ c.if-is_marked.false)
 
+pub returns-then-not-may_have-clause-windows : goal.returns-then-not-may_have-clause-windows
+returns-then-not-may_have-clause-windows g c = KeepsWindows-same _ _ _
+
 -- ---- its candidates are offered
 
 pub returns-clause-first : goal.returns-clause-first
@@ -33,3 +40,8 @@ returns-clause-first g c = λ sound none.
 
 pub returns-clause-docs : goal.returns-clause-docs
 returns-clause-docs g c = ids-live c.args.marks.now c.args.id (omega (arith, c.requires.id, c.requires.marks)) (sym c.is_marked.ensures ∙ c.if-is_marked.false)
+
+pub returns-clause-windows : goal.returns-clause-windows
+returns-clause-windows g c =
+    KeepsWindows-live (length (network_tree c.args.network.now).leaves) (g.P.Postings.documents c.args.part.now) c.args.marks.now c.args.id c.args.first.now c.offer_document.new.first
+    c.requires.id c.requires.marks (sym c.is_marked.ensures ∙ c.if-is_marked.false) c.in_ok-offer_document.ensures.windows

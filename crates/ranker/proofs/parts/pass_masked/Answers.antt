@@ -1,4 +1,4 @@
-use Rattle.std.proofs.Common.{◌≡◌, ◌≤◌, ◌+◌, ◌%◌, false, cond, List, map, take, refl, ap, sym, subst, ◌∙◌, arith}
+use Rattle.std.proofs.Common.{◌≡◌, ◌≤◌, ◌+◌, ◌%◌, false, cond, List, length, map, take, refl, ap, sym, subst, ◌∙◌, arith}
 use Rattle.std.specs.Int.{bit_at}
 use Rattle.ri_base.specs.Collection.{document_at}
 use Rattle.ri_base.specs.Documents.{Document}
@@ -7,8 +7,10 @@ use Rattle.belief_nodes.specs.Network.{network_tree}
 use Rattle.disk_index.specs.Snapshots.{unmarked}
 use Rattle.extent_lists.proofs.KeepsLemmas.{Keeps-then}
 use Rattle.range_masks.specs.May.{query_may}
+use Rattle.ranker.specs.Windows.{KeepsWindows}
 use Rattle.ranker.proofs.AheadLemmas.{IsAhead-on}
 use Rattle.ranker.proofs.PassedLemmas.{Advances-read, Advances-same, Advances-then}
+use Rattle.ranker.proofs.WindowLemmas.{KeepsWindows-same, KeepsWindows-then}
 use Rattle.ranker.proofs.parts.pass_masked.Goals as goal
 
 pub loop-at-init : goal.loop-at-init
@@ -16,6 +18,7 @@ loop-at-init g c = record {
   keeps = record { documents_stay = refl; no_fault_lost = omega arith; sound_stays = λ u. u; stays_quiet = g.met.P.Postings.quiet_same _ };
   stay = refl;
   so_far = λ sound known. Advances-same _ _ _ _ _ _;
+  windows = KeepsWindows-same _ _ _;
   ids = omega arith;
   from = omega arith;
   inside = omega (arith, c.requires.id, c.requires.end, c.docs.ensures);
@@ -47,6 +50,8 @@ loop-at-preserved g c =
           Advances-then kind priors filters network (unmarked (take c.args.id docs) marks) (unmarked (take at docs) marks) (unmarked (take (at + 1) docs) marks) c.args.first.now c.loop-at.first c.pass_document.new.first
           (c.loop-at.invariant.so_far sound known)
           (Advances-read kind _ priors filters network read docs marks at (at + 1) c.loop-at.first c.pass_document.new.first c.loop-at.invariant.stay keeps.documents_stay (c.in_ok-passed.ensures.first (keeps.sound_stays sound) none));
+      windows = KeepsWindows-then (length network.leaves) (unmarked docs marks) c.args.first.now c.loop-at.first c.pass_document.new.first c.loop-at.invariant.windows
+          (subst (λ (ds : List Document). KeepsWindows (length network.leaves) (unmarked ds marks) c.loop-at.first c.pass_document.new.first) keeps.documents_stay c.in_ok-passed.ensures.windows);
       ids = omega (arith, c.loop-at.invariant.ids, c.in_ok-passed.ensures.docs);
       from = omega (arith, c.loop-at.invariant.from, c.in_ok-passed.ensures.one);
       inside = omega (arith, c.loop-at-test.true);

@@ -3,6 +3,7 @@ use Rattle.ri_base.specs.Query.{filter_tree}
 use Rattle.belief_nodes.specs.Network.{network_tree}
 use Rattle.ranker.proofs.AheadLemmas.{IsAhead-on, IsAhead-read, bare}
 use Rattle.ranker.proofs.PassedLemmas.{Advances-bare}
+use Rattle.ranker.proofs.WindowLemmas.{KeepsWindows-same}
 use Rattle.ranker.proofs.parts.pass_on.Goals as goal
 
 -- ---- no document is looked at
@@ -28,6 +29,9 @@ returns-then-ahead-eq0-clause-ahead g c = λ sound known.
     IsAhead-on (map filter_tree c.args.filters.now) (network_tree c.args.network.now).leaves (g.P.Postings.documents c.args.part.now) c.args.id to.id c.in_ok-ahead.ahead to.ahead c.pass_unseen.ensures.back c.pass_unseen.ensures.same
     (c.in_ok-ahead.ensures.ahead sound known)
 
+pub returns-then-ahead-eq0-clause-windows : goal.returns-then-ahead-eq0-clause-windows
+returns-then-ahead-eq0-clause-windows g c = KeepsWindows-same _ _ _
+
 -- ---- those with a bit are
 
 pub returns-clause-first : goal.returns-clause-first
@@ -45,3 +49,6 @@ returns-clause-ahead g c = λ sound known.
     let read = g.P.Postings.documents c.ahead_of.new.part in
     let here = IsAhead-read (map filter_tree c.args.filters.now) (network_tree c.args.network.now).leaves docs read c.args.id c.in_ok-ahead.ahead (sym keeps.documents_stay) (c.in_ok-ahead.ensures.ahead sound known) in
     rw keeps.documents_stay at (c.pass_masked.ensures.ahead (keeps.sound_stays sound) here)
+
+pub returns-clause-windows : goal.returns-clause-windows
+returns-clause-windows g c = rw c.ahead_of.ensures.keeps.documents_stay at c.pass_masked.ensures.windows

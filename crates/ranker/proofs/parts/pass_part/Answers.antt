@@ -1,11 +1,14 @@
-use Rattle.std.proofs.Common.{map, take, refl, sym, ◌∙◌, arith}
+use Rattle.std.proofs.Common.{List, length, map, take, refl, sym, subst, ◌∙◌, arith}
+use Rattle.ri_base.specs.Documents.{Document}
 use Rattle.ri_base.specs.Query.{filter_tree}
 use Rattle.belief_nodes.specs.Network.{network_tree}
 use Rattle.disk_index.specs.Snapshots.{unmarked}
 use Rattle.extent_lists.proofs.KeepsLemmas.{Keeps-then}
 use Rattle.ranker.specs.Passed.{IsAhead}
+use Rattle.ranker.specs.Windows.{KeepsWindows}
 use Rattle.ranker.proofs.AheadLemmas.{IsAhead-read}
 use Rattle.ranker.proofs.PassedLemmas.{Advances-read, Advances-same, Advances-then}
+use Rattle.ranker.proofs.WindowLemmas.{KeepsWindows-same, KeepsWindows-then}
 use Rattle.ranker.proofs.parts.pass_part.Goals as goal
 
 pub loop-at-init : goal.loop-at-init
@@ -14,6 +17,7 @@ loop-at-init g c = record {
   stay = refl;
   so_far = λ sound known. Advances-same _ _ _ _ _ _;
   ahead = λ sound known. known;
+  windows = KeepsWindows-same _ _ _;
   ids = omega arith;
   inside = omega (arith, c.requires.id, c.docs-size.ensures);
   few = omega arith;
@@ -42,6 +46,8 @@ loop-at-preserved g c =
           (c.loop-at.invariant.so_far sound known)
           (Advances-read kind _ priors filters network read docs marks at to.id c.loop-at.first c.pass_on.new.first c.loop-at.invariant.stay keeps.documents_stay (c.in_ok-to.ensures.first (keeps.sound_stays sound) (here sound known)));
       ahead = λ sound known. IsAhead-read filters network.leaves read docs to.id to.ahead keeps.documents_stay (c.in_ok-to.ensures.ahead (keeps.sound_stays sound) (here sound known));
+      windows = KeepsWindows-then (length network.leaves) (unmarked docs marks) c.args.first.now c.loop-at.first c.pass_on.new.first c.loop-at.invariant.windows
+          (subst (λ (ds : List Document). KeepsWindows (length network.leaves) (unmarked ds marks) c.loop-at.first c.pass_on.new.first) keeps.documents_stay c.in_ok-to.ensures.windows);
       ids = omega (arith, c.loop-at.invariant.ids, passed.docs);
       inside = omega (arith, passed.inside, c.requires.marks, c.docs-size.ensures);
       few = omega (arith, c.loop-at.invariant.few, passed.few);

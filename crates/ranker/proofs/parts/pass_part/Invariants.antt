@@ -1,10 +1,11 @@
-use Rattle.std.proofs.Common.{◌≡◌, ◌≤◌, ◌+◌, ◌-◌, map, take}
+use Rattle.std.proofs.Common.{◌≡◌, ◌≤◌, ◌+◌, ◌-◌, length, map, take}
 use Rattle.ri_base.specs.Keeps.{Keeps}
 use Rattle.ri_base.specs.Query.{filter_tree}
 use Rattle.belief_nodes.specs.Network.{network_tree}
 use Rattle.disk_index.specs.Snapshots.{unmarked}
 use Rattle.ranker.specs.First.{Advances}
 use Rattle.ranker.specs.Passed.{IsAhead, live_ids}
+use Rattle.ranker.specs.Windows.{KeepsWindows}
 use Rattle.ranker.proofs.parts.pass_part.Given as goal
 
 abbrev pub invariant-loop-at : goal.invariant-loop-at
@@ -15,6 +16,7 @@ invariant-loop-at g l = record {
       → Advances l.rule.kind (map (λ b. (goal.BeliefNode-dyn g (b.vtable, b.value)).meaning b.value) l.fn.plugs) (map filter_tree l.filters) (network_tree l.network) (unmarked (take l.id (g.P.Postings.documents l.fn.part)) l.marks) (unmarked (take l.at (g.P.Postings.documents l.fn.part)) l.marks) l.fn.first l.first;
   ahead : g.P.Postings.sound l.fn.part → IsAhead (map filter_tree l.filters) (network_tree l.network).leaves (g.P.Postings.documents l.fn.part) l.id l.fn.ahead
       → IsAhead (map filter_tree l.filters) (network_tree l.network).leaves (g.P.Postings.documents l.fn.part) l.at l.known;
+  windows : KeepsWindows (length (network_tree l.network).leaves) (unmarked (g.P.Postings.documents l.fn.part) l.marks) l.fn.first l.first;
   ids : live_ids l.marks l.at ≡ live_ids l.marks l.id + l.docs;
   inside : l.at ≤ l.size;
   few : l.docs ≤ l.most;

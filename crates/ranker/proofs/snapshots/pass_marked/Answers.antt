@@ -1,4 +1,4 @@
-use Rattle.std.proofs.Common.{◌≡◌, Bool, IfOk, List, Option, length, map, take, ap, subst, sym, ◌∙◌, arith}
+use Rattle.std.proofs.Common.{◌≡◌, Bool, IfOk, OnOk, List, Option, length, map, take, ap, subst, sym, ◌∙◌, arith}
 use Rattle.ri_base.specs.Documents.{Document}
 use Rattle.ri_base.specs.Query.{filter_tree}
 use Rattle.store_ends.specs.Files.{Files}
@@ -8,6 +8,7 @@ use Rattle.disk_index.specs.Snapshots.{unmarked}
 use Rattle.disk_index.proofs.RebuiltLemmas.{reads-length}
 use Rattle.ranker.specs.First.{Advances}
 use Rattle.ranker.specs.Passed.{IsAhead}
+use Rattle.ranker.specs.Windows.{KeepsWindows}
 use Rattle.ranker.specs.declared.place.Passed.{Passed}
 use Rattle.ranker.proofs.AheadLemmas.{IsAhead-read}
 use Rattle.ranker.proofs.ReadingLemmas.{sound-of}
@@ -62,3 +63,16 @@ returns-clause-ahead g c = λ part cached known.
     let there = sound-of told here m.source own c.args.cache.now c.new-reader.result.cache.now same_told same_part c.new-reader.ensures.cache part cached in
     subst (λ (ds : List Document). IfOk c.pass_part.result (λ (to : Passed). IsAhead filters leaves ds to.id to.ahead)) docs
     (c.pass_part.ensures.ahead there (IsAhead-read filters leaves (reads told m.source) (reads here own) c.args.id c.args.ahead (sym docs) known))
+
+pub returns-clause-windows : goal.returns-clause-windows
+returns-clause-windows g c =
+    let told = g.T.Store.files c.args.store.now in
+    let here = g.T.Store.files c.new-reader.result.store.now in
+    let m = c.args.marked.now in
+    let own = source_of c.new-reader.result.part.now in
+    let leaves = length (network_tree c.args.network.now).leaves in
+    let same_told : here ≡ told = ap g.T.Store.files c.new-reader.ensures.store in
+    let same_part : own ≡ m.source = ap source_of c.new-reader.ensures.part ∙ c.part.ensures.part in
+    let docs : reads here own ≡ reads told m.source = ap (λ (t : Option Files). reads t own) same_told ∙ ap (reads told) same_part in
+    subst (λ (ds : List Document). OnOk c.pass_part.result (KeepsWindows leaves (unmarked ds m.marks) c.args.first.now c.pass_part.new.first)) docs
+    (subst (λ (ms : List Bool). OnOk c.pass_part.result (KeepsWindows leaves (unmarked (reads here own) ms) c.args.first.now c.pass_part.new.first)) c.marks.ensures.marks c.pass_part.ensures.windows)

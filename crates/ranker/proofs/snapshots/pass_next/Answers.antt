@@ -1,14 +1,15 @@
-use Rattle.std.proofs.Common.{Contains, map, ap, sym, subst, ◌∙◌, arith}
+use Rattle.std.proofs.Common.{Contains, length, map, ap, sym, subst, ◌∙◌, arith}
 use Rattle.std.proofs.lemmas.List.Elements.{All-contains, Contains-get_or}
 use Rattle.std.proofs.lemmas.Result.{err_from_is_err_and}
 use Rattle.ri_base.specs.Query.{filter_tree}
 use Rattle.belief_nodes.specs.Network.{network_tree}
 use Rattle.disk_index.specs.Parts.{IsPartBacked, reads, size}
-use Rattle.disk_index.specs.Snapshots.{Marked}
+use Rattle.disk_index.specs.Snapshots.{Marked, live, live_in}
 use Rattle.ranker.specs.First.{Advances}
 use Rattle.ranker.specs.Passed.{IsAhead, IsAheadAt, IsPlace, behind, passed}
 use Rattle.ranker.specs.declared.place.Place.{Place}
 use Rattle.ranker.proofs.PlaceLemmas.{Advances-place, IsAheadAt-behind, IsPlace-behind, blocks-among, credit-behind, credit-few, part-behind, part-is}
+use Rattle.ranker.proofs.WindowLemmas.{KeepsWindows-among, live-among}
 use Rattle.ranker.proofs.snapshots.pass_next.Goals as goal
 
 pub pass_marked-requires-clause-id : goal.pass_marked-requires-clause-id
@@ -60,6 +61,14 @@ returns-clause-ahead g c = λ backed cached known.
     subst (λ (p : Place). IsAheadAt filters leaves told parts p) (sym c.place_behind.ensures)
     (IsAheadAt-behind filters leaves told parts at to c.args.most m is
     (c.in_ok-to.ensures.ahead own cached (subst (λ (p : Marked). IsAhead filters leaves (reads told p.source) at.id at.ahead) is known)))
+
+pub returns-clause-windows : goal.returns-clause-windows
+returns-clause-windows g c =
+    let told = g.T.Store.files c.args.store.now in
+    let parts = c.args.parts.now in
+    let m = c.index-parts-at.result in
+    KeepsWindows-among (length (network_tree c.args.network.now).leaves) (live_in told m) (live told parts) c.args.first.now c.pass_marked.new.first
+    (live-among told parts c.args.at.now.part m c.requires.some c.index-parts-at.is) c.in_ok-to.ensures.windows
 
 pub returns-clause-place : goal.returns-clause-place
 returns-clause-place g c =

@@ -1,14 +1,16 @@
-use Rattle.std.proofs.Common.{◌≡◌, Option, map, refl, subst, sym, ◌∙◌, arith}
+use Rattle.std.proofs.Common.{◌≡◌, Option, length, map, refl, subst, sym, ◌∙◌, arith}
 use Rattle.std.proofs.lemmas.Result.{err_from_is_err_and}
 use Rattle.ri_base.specs.Query.{filter_tree}
 use Rattle.store_ends.specs.Files.{Files}
 use Rattle.belief_nodes.specs.Network.{network_tree}
 use Rattle.disk_index.specs.Cache.{IsCacheBacked}
 use Rattle.disk_index.specs.QuietLaws.{CacheKeeps-after, CacheKeeps-same, IsCacheBacked-kept, IsQuiet-same, IsQuiet-then}
-use Rattle.disk_index.specs.Snapshots.{AreBacked, IsFileAmong}
+use Rattle.disk_index.specs.Snapshots.{AreBacked, IsFileAmong, live}
 use Rattle.ranker.specs.Passed.{passed}
+use Rattle.ranker.specs.Windows.{KeepsWindows}
 use Rattle.ranker.proofs.PassedLemmas.{Advances-same, Advances-then}
 use Rattle.ranker.proofs.PlaceLemmas.{Advances-later, IsAheadAt-later, credit-min}
+use Rattle.ranker.proofs.WindowLemmas.{KeepsWindows-same, KeepsWindows-then}
 use Rattle.ranker.proofs.snapshots.pass_parts.Goals as goal
 
 pub loop-left-init : goal.loop-left-init
@@ -16,6 +18,7 @@ loop-left-init g c = record {
   stay = refl;
   so_far = λ backed cached known. Advances-same _ _ _ _ _ _;
   ahead = λ backed cached known. known;
+  windows = KeepsWindows-same _ _ _;
   place = c.requires.place;
   credit = refl;
   cache = CacheKeeps-same (g.T.Store.files c.args.store.now) (IsFileAmong c.args.parts.now) c.args.cache.now;
@@ -50,6 +53,8 @@ loop-left-preserved g c =
           subst (λ (f : Option Files). IsCacheBacked f c.loop-left.cache) (sym same) (IsCacheBacked-kept told (IsFileAmong parts) c.args.cache.now c.loop-left.cache inv.cache cached) in
           IsAheadAt-later filters network.leaves here told parts c.pass_next.new.at same
           (c.in_ok-passed.ensures.ahead there blocks (IsAheadAt-later filters network.leaves told here parts c.loop-left.at (sym same) (inv.ahead backed cached known)));
+      windows = KeepsWindows-then (length network.leaves) (live told parts) c.args.first.now c.loop-left.first c.pass_next.new.first inv.windows
+          (subst (λ (f : Option Files). KeepsWindows (length network.leaves) (live f parts) c.loop-left.first c.pass_next.new.first) same c.in_ok-passed.ensures.windows);
       place = c.pass_next.ensures.place;
       credit = omega (arith, docs, inv.credit);
       cache = CacheKeeps-after told here (IsFileAmong parts) c.args.cache.now c.loop-left.cache c.pass_next.new.cache same inv.cache c.pass_next.ensures.cache;

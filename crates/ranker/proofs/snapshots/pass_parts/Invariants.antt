@@ -3,9 +3,10 @@ use Rattle.ri_base.specs.Query.{filter_tree}
 use Rattle.store_ends.specs.Files.{IsQuiet}
 use Rattle.belief_nodes.specs.Network.{network_tree}
 use Rattle.disk_index.specs.Cache.{CacheKeeps, IsCacheBacked}
-use Rattle.disk_index.specs.Snapshots.{AreBacked, IsFileAmong}
+use Rattle.disk_index.specs.Snapshots.{AreBacked, IsFileAmong, live}
 use Rattle.ranker.specs.First.{Advances}
 use Rattle.ranker.specs.Passed.{IsAheadAt, IsPlace, passed}
+use Rattle.ranker.specs.Windows.{KeepsWindows}
 use Rattle.ranker.proofs.snapshots.pass_parts.Given as goal
 
 abbrev pub invariant-loop-left : goal.invariant-loop-left
@@ -17,6 +18,7 @@ invariant-loop-left g l = record {
   ahead : AreBacked (g.T.Store.files l.fn.store) l.parts → IsCacheBacked (g.T.Store.files l.fn.store) l.fn.cache
       → IsAheadAt (map filter_tree l.filters) (network_tree l.network).leaves (g.T.Store.files l.fn.store) l.parts l.fn.at
       → IsAheadAt (map filter_tree l.filters) (network_tree l.network).leaves (g.T.Store.files l.fn.store) l.parts l.at;
+  windows : KeepsWindows (length (network_tree l.network).leaves) (live (g.T.Store.files l.fn.store) l.parts) l.fn.first l.first;
   place : IsPlace l.parts l.at;
   credit : l.at.credit + l.left ≡ l.fn.at.credit + l.docs;
   cache : CacheKeeps (g.T.Store.files l.fn.store) (IsFileAmong l.parts) l.fn.cache l.cache;

@@ -1,4 +1,6 @@
-use Rattle.std.proofs.Common.{arith}
+use Rattle.std.proofs.Common.{nat_lt, refl, ap, ◌∙◌, arith}
+use Rattle.ri_base.specs.Query.{is_range}
+use Rattle.belief_nodes.specs.Network.{NetworkTree}
 use Rattle.ranker.specs.Passed.{nothing_known}
 use Rattle.ranker.proofs.AheadLemmas.{IsAhead-nothing, IsAhead-on}
 use Rattle.ranker.proofs.search.Search.new.Goals as goal
@@ -7,4 +9,12 @@ pub returns-clause-taken : goal.returns-clause-taken
 returns-clause-taken c = λ kind priors told. record {
   held = c.first_held-held.ensures.held kind priors _ _;
   ahead = IsAhead-on _ _ _ 0 0 nothing_known c.nothing.result (omega arith) c.nothing.ensures (IsAhead-nothing _ _ _ 0);
+}
+
+pub invariant_of-result : goal.invariant_of-result
+invariant_of-result c = record {
+  shown = ap (λ (n : NetworkTree). is_range n.range) c.in_ok-network.ensures ∙ c.args.checked.kept.within.sound_range;
+  place = record { part = omega arith; id = omega arith; credit = λ told. refl };
+  «open» = λ usable told. c.first_held-held.ensures.open ∙ ap (nat_lt 0) (c.live_count.ensures told);
+  windows = λ usable told. ∣ c.first_held-held.ensures.windows _ _ ∣₁;
 }

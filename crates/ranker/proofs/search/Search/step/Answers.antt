@@ -1,4 +1,5 @@
 use Rattle.std.proofs.Common.{None, nat_lt, ap, refl, sym, ◌∙◌}
+use Rattle.std.proofs.Math.Logic.{∥∥₁_map}
 use Rattle.ranker.proofs.search.Search.step.Goals as goal
 
 pub advance-requires-clause-open : goal.advance-requires-clause-open
@@ -14,4 +15,12 @@ pub returns-clause-taken : goal.returns-clause-taken
 returns-clause-taken g c = λ backed cached h. record {
   held = (rw c.deref.ensures.value at (rw c.parts.ensures.parts at c.in_ok-advance.ensures.taken)) backed cached h.ahead c.args.self.now.most h.held;
   ahead = (rw c.deref.ensures.value at (rw c.parts.ensures.parts at c.in_ok-advance.ensures.ahead)) backed cached h.ahead;
+}
+
+pub invariant_of-self-2 : goal.invariant_of-self-2
+invariant_of-self-2 g c = record {
+  shown = c.args.self.now.shown;
+  place = rw c.parts.ensures.parts at c.in_ok-advance.ensures.place;
+  «open» = λ usable told. c.in_ok-advance.ensures.open ∙ ap (nat_lt c.advance.new.at.credit) (c.from-live.ensures ∙ c.live_count.ensures told);
+  windows = λ usable told. ∥∥₁_map (c.args.self.now.windows c.requires.usable told) (λ h. (rw c.parts.ensures.parts at c.in_ok-advance.ensures.windows) told c.args.self.now.most h);
 }

@@ -7,5 +7,5 @@ use Rattle.repository.proofs.repository.Repository.priors.Goals as goal
 pub returns-clause-few : goal.returns-clause-few
 returns-clause-few c = λ usable.
     let s = c.self.inside in
-    let view : State = record { held = s.held; next = s.next; stale = s.stale.items; priors = s.priors.items; usable = s.usable } in
-    subst (λ (x : State). length x.priors ≤ MAX_PRIORS) c.self.view_is (few-kept view (c.self.invariant (ap (λ (x : State). x.usable) c.self.view_is ∙ usable)))
+    let view : State = record { held = s.held; next = s.next; stale = s.stale.items; priors = s.priors.items; merge = s.merge; usable = s.usable } in
+    subst (λ (x : State). length x.priors ≤ MAX_PRIORS) c.self.view_is (few-kept view (c.self.invariant.0 (ap (λ (x : State). x.usable) c.self.view_is ∙ usable)))

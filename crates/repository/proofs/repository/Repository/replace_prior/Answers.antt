@@ -29,7 +29,7 @@ pub list_files-requires-clause-form : goal.list_files-requires-clause-form
 list_files-requires-clause-form g c =
     let s = c.args.self.now in
     let n = c.in_ok-number.number in
-    let numbered : IsNumbered s = subst IsNumbered c.self.view_is (c.self.invariant (ap (λ (x : State). x.usable) c.self.view_is ∙ c.requires.usable)) in
+    let numbered : IsNumbered s = subst IsNumbered c.self.view_is (c.self.invariant.0 (ap (λ (x : State). x.usable) c.self.view_is ∙ c.requires.usable)) in
     let takes : Takes s c.in_ok-numbers.numbers = record { next = c.in_ok-numbers.ensures.next; numbers = c.in_ok-numbers.ensures.numbers } in
     let next = c.next-after.ensures.next ∙ c.in_ok-number.ensures.next ∙ ap next_after takes.next in
     let below : n < next_after s.next = subst (λ (m : ℕ). n < m) (c.in_ok-number.ensures.next ∙ ap next_after takes.next) c.in_ok-number.ensures.bounds.1 in
@@ -45,22 +45,25 @@ list_files-requires-clause-form g c =
     listing-is s c.args.name n c.next-after.result c.closed_parts-parts.result.now c.deref.result.now c.deref-2.result.now is form
 
 pub invariant_of-self-2 : goal.invariant_of-self-2
-invariant_of-self-2 g c = λ usable.
-    let s = c.args.self.now in
-    let n = c.in_ok-number.number in
-    let numbered : IsNumbered s = subst IsNumbered c.self.view_is (c.self.invariant (ap (λ (x : State). x.usable) c.self.view_is ∙ c.requires.usable)) in
-    let takes : Takes s c.in_ok-numbers.numbers = record { next = c.in_ok-numbers.ensures.next; numbers = c.in_ok-numbers.ensures.numbers } in
-    let below : n < next_after s.next = subst (λ (m : ℕ). n < m) (c.in_ok-number.ensures.next ∙ ap next_after takes.next) c.in_ok-number.ensures.bounds.1 in
-    let is : IsSetAs s c.args.name n c.next-after.result s.held.parts.closed c.list_prior.new.stale.items c.list_prior.new.priors.items = record {
-      next_is = c.next-after.ensures.next ∙ c.in_ok-number.ensures.next ∙ ap next_after takes.next;
-      parts_are = refl;
-      stale_are = c.in_ok-list_prior.ensures.stale ∙ ap (λ (x : State). with_old x.stale (number_named x.priors c.args.name)) c.self.view_is;
-      priors_are = c.in_ok-list_prior.ensures.priors ∙ ap (λ (x : State). with_entry x.priors c.args.name n) c.self.view_is;
-    } in
-    let now = set-numbered s c.args.name n numbered c.requires.stored (subst (λ (x : State). All IsWhole x.held.parts.closed) c.self.view_is c.closed_parts-parts.ensures.whole)
-    (subst (λ (x : State). documents_held x.held.parts.closed ≤ MAX_HELD_DOCS) c.self.view_is c.closed_parts-parts.ensures.fits.few) (sym (ap is_name c.as_bytes-form.ensures.bytes) ∙ c.as_bytes-form.ensures.form) c.requires.name
-    c.requires.room (new-number s c.in_ok-numbers.numbers n takes c.in_ok-number.ensures.new) c.in_ok-number.ensures.bounds.0 below in
-    subst IsNumbered (sym (state-is s c.args.name n c.next-after.result s.held.parts.closed c.list_prior.new.stale.items c.list_prior.new.priors.items is c.self.inside.held (ap (λ (x : State). x.held) c.self.view_is))) now
+invariant_of-self-2 g c = (
+  λ usable.
+      let s = c.args.self.now in
+      let n = c.in_ok-number.number in
+      let numbered : IsNumbered s = subst IsNumbered c.self.view_is (c.self.invariant.0 (ap (λ (x : State). x.usable) c.self.view_is ∙ c.requires.usable)) in
+      let takes : Takes s c.in_ok-numbers.numbers = record { next = c.in_ok-numbers.ensures.next; numbers = c.in_ok-numbers.ensures.numbers } in
+      let below : n < next_after s.next = subst (λ (m : ℕ). n < m) (c.in_ok-number.ensures.next ∙ ap next_after takes.next) c.in_ok-number.ensures.bounds.1 in
+      let is : IsSetAs s c.args.name n c.next-after.result s.held.parts.closed c.list_prior.new.stale.items c.list_prior.new.priors.items = record {
+        next_is = c.next-after.ensures.next ∙ c.in_ok-number.ensures.next ∙ ap next_after takes.next;
+        parts_are = refl;
+        stale_are = c.in_ok-list_prior.ensures.stale ∙ ap (λ (x : State). with_old x.stale (number_named x.priors c.args.name)) c.self.view_is;
+        priors_are = c.in_ok-list_prior.ensures.priors ∙ ap (λ (x : State). with_entry x.priors c.args.name n) c.self.view_is;
+      } in
+      let now = set-numbered s c.args.name n numbered c.requires.stored (subst (λ (x : State). All IsWhole x.held.parts.closed) c.self.view_is c.closed_parts-parts.ensures.whole)
+      (subst (λ (x : State). documents_held x.held.parts.closed ≤ MAX_HELD_DOCS) c.self.view_is c.closed_parts-parts.ensures.fits.few) (sym (ap is_name c.as_bytes-form.ensures.bytes) ∙ c.as_bytes-form.ensures.form) c.requires.name
+      c.requires.room (new-number s c.in_ok-numbers.numbers n takes c.in_ok-number.ensures.new) c.in_ok-number.ensures.bounds.0 below in
+      subst IsNumbered (sym (state-is s c.args.name n c.next-after.result s.held.parts.closed c.list_prior.new.stale.items c.list_prior.new.priors.items is c.self.inside.held c.self.inside.merge (ap (λ (x : State). x.held) c.self.view_is) (ap (λ (x : State). x.merge) c.self.view_is))) now,
+  λ usable. c.self.invariant.1 (ap (λ (x : State). x.usable) c.self.view_is ∙ c.requires.usable),
+)
 
 -- ---- the ways out
 
@@ -88,7 +91,7 @@ returns-in_err-list_files-clause-writes g c =
     let s = c.args.self.now in
     let n = c.in_ok-number.number in
     let k = c.in_ok-numbers.numbers in
-    let numbered : IsNumbered s = subst IsNumbered c.self.view_is (c.self.invariant (ap (λ (x : State). x.usable) c.self.view_is ∙ c.requires.usable)) in
+    let numbered : IsNumbered s = subst IsNumbered c.self.view_is (c.self.invariant.0 (ap (λ (x : State). x.usable) c.self.view_is ∙ c.requires.usable)) in
     let takes : Takes s k = record { next = c.in_ok-numbers.ensures.next; numbers = c.in_ok-numbers.ensures.numbers } in
     let below : n < next_after s.next = subst (λ (m : ℕ). n < m) (c.in_ok-number.ensures.next ∙ ap next_after takes.next) c.in_ok-number.ensures.bounds.1 in
     let is : IsSetAs s c.args.name n c.next-after.result c.closed_parts-parts.result.now c.deref.result.now c.deref-2.result.now = record {
@@ -111,7 +114,7 @@ returns-clause-writes g c =
     let s = c.args.self.now in
     let n = c.in_ok-number.number in
     let k = c.in_ok-numbers.numbers in
-    let numbered : IsNumbered s = subst IsNumbered c.self.view_is (c.self.invariant (ap (λ (x : State). x.usable) c.self.view_is ∙ c.requires.usable)) in
+    let numbered : IsNumbered s = subst IsNumbered c.self.view_is (c.self.invariant.0 (ap (λ (x : State). x.usable) c.self.view_is ∙ c.requires.usable)) in
     let takes : Takes s k = record { next = c.in_ok-numbers.ensures.next; numbers = c.in_ok-numbers.ensures.numbers } in
     let below : n < next_after s.next = subst (λ (m : ℕ). n < m) (c.in_ok-number.ensures.next ∙ ap next_after takes.next) c.in_ok-number.ensures.bounds.1 in
     let is : IsSetAs s c.args.name n c.next-after.result c.closed_parts-parts.result.now c.deref.result.now c.deref-2.result.now = record {
@@ -143,7 +146,7 @@ returns-clause-set g c =
     } in (
       n,
       new-number s k n takes c.in_ok-number.ensures.new,
-      state-is s c.args.name n c.next-after.result s.held.parts.closed c.list_prior.new.stale.items c.list_prior.new.priors.items is c.self.inside.held (ap (λ (x : State). x.held) c.self.view_is),
+      state-is s c.args.name n c.next-after.result s.held.parts.closed c.list_prior.new.stale.items c.list_prior.new.priors.items is c.self.inside.held c.self.inside.merge (ap (λ (x : State). x.held) c.self.view_is) (ap (λ (x : State). x.merge) c.self.view_is),
     )
 
 pub returns-clause-wrote : goal.returns-clause-wrote
@@ -151,7 +154,7 @@ returns-clause-wrote g c =
     let s = c.args.self.now in
     let n = c.in_ok-number.number in
     let k = c.in_ok-numbers.numbers in
-    let numbered : IsNumbered s = subst IsNumbered c.self.view_is (c.self.invariant (ap (λ (x : State). x.usable) c.self.view_is ∙ c.requires.usable)) in
+    let numbered : IsNumbered s = subst IsNumbered c.self.view_is (c.self.invariant.0 (ap (λ (x : State). x.usable) c.self.view_is ∙ c.requires.usable)) in
     let takes : Takes s k = record { next = c.in_ok-numbers.ensures.next; numbers = c.in_ok-numbers.ensures.numbers } in
     let below : n < next_after s.next = subst (λ (m : ℕ). n < m) (c.in_ok-number.ensures.next ∙ ap next_after takes.next) c.in_ok-number.ensures.bounds.1 in
     let is : IsSetAs s c.args.name n c.next-after.result c.closed_parts-parts.result.now c.list_prior.new.stale.items c.list_prior.new.priors.items = record {
@@ -173,4 +176,4 @@ returns-clause-wrote g c =
     let done = c.in_ok-list_files.ensures.done ∙ ap (λ (bytes : List ℕ). option_map (with_file manifest_name (Some bytes)) (g.T.Store.files c.put_rows.new.store)) text in
     let wrote = wrote-set a (g.T.Store.files c.put_rows.new.store) z s c.args.name n c.args.rows.now c.put_rows.ensures.form c.requires.stored fit c.in_ok-number.ensures.done (same-listed s k _ _ takes c.put_rows.ensures.same) form done in
     subst (λ (x : State). Wrote (λ (d : Collection). with_prior d c.args.name c.args.rows.now) a z s x)
-    (sym (state-is s c.args.name n c.next-after.result c.closed_parts-parts.result.now c.list_prior.new.stale.items c.list_prior.new.priors.items is c.self.inside.held (ap (λ (x : State). x.held) c.self.view_is))) wrote
+    (sym (state-is s c.args.name n c.next-after.result c.closed_parts-parts.result.now c.list_prior.new.stale.items c.list_prior.new.priors.items is c.self.inside.held c.self.inside.merge (ap (λ (x : State). x.held) c.self.view_is) (ap (λ (x : State). x.merge) c.self.view_is))) wrote

@@ -8,31 +8,32 @@ use Rattle.repository.specs.States.{IsNumbered, State}
 use Rattle.repository.proofs.CommitLemmas.{AreFit}
 use Rattle.repository.proofs.FlushLemmas.{all-handed}
 use Rattle.repository.proofs.ListedLemmas.{next-some}
-use Rattle.repository.proofs.SweepLemmas.{sweep-begun, sweep-form, sweep-gone, sweep-listed, sweep-numbered, sweep-saved, sweep-saving, sweep-wrote}
+use Rattle.repository.proofs.SweepLemmas.{sweep-begun, sweep-form, sweep-gone, sweep-listed, sweep-merging, sweep-numbered, sweep-saved, sweep-saving, sweep-wrote}
+use Rattle.repository.proofs.TieLemmas.{tied-all_saved}
 use Rattle.repository.proofs.repository.Repository.sweep.Goals as goal
 
 pub returns-in_err-remove_files-clause-writes : goal.returns-in_err-remove_files-clause-writes
 returns-in_err-remove_files-clause-writes g c =
-    let s : State = record { held = c.self.inside.held; next = c.self.inside.next; stale = c.self.inside.stale.items; priors = c.self.inside.priors.items; usable = c.self.inside.usable } in
-    let numbered : IsNumbered s = c.self.invariant (ap (λ (x : State). x.usable) c.self.view_is ∙ c.requires) in
+    let s : State = record { held = c.self.inside.held; next = c.self.inside.next; stale = c.self.inside.stale.items; priors = c.self.inside.priors.items; merge = c.self.inside.merge; usable = c.self.inside.usable } in
+    let numbered : IsNumbered s = c.self.invariant.0 (ap (λ (x : State). x.usable) c.self.view_is ∙ c.requires) in
     sweep-begun g.T.Store.files g.T.Store.since s c.args.self.now c.self.view_is numbered c.deref.result.now c.deref.ensures.value c.args.store.now c.remove_files.new.store c.remove_files.ensures.same c.remove_files.ensures.stops
 
 pub save-requires-clause-some : goal.save-requires-clause-some
 save-requires-clause-some g c =
-    let s : State = record { held = c.self.inside.held; next = c.self.inside.next; stale = c.self.inside.stale.items; priors = c.self.inside.priors.items; usable = c.self.inside.usable } in
-    let numbered : IsNumbered s = c.self.invariant (ap (λ (x : State). x.usable) c.self.view_is ∙ c.requires) in
+    let s : State = record { held = c.self.inside.held; next = c.self.inside.next; stale = c.self.inside.stale.items; priors = c.self.inside.priors.items; merge = c.self.inside.merge; usable = c.self.inside.usable } in
+    let numbered : IsNumbered s = c.self.invariant.0 (ap (λ (x : State). x.usable) c.self.view_is ∙ c.requires) in
     next-some s numbered
 
 pub save-requires-clause-numbered : goal.save-requires-clause-numbered
 save-requires-clause-numbered g c =
-    let s : State = record { held = c.self.inside.held; next = c.self.inside.next; stale = c.self.inside.stale.items; priors = c.self.inside.priors.items; usable = c.self.inside.usable } in
-    let numbered : IsNumbered s = c.self.invariant (ap (λ (x : State). x.usable) c.self.view_is ∙ c.requires) in
+    let s : State = record { held = c.self.inside.held; next = c.self.inside.next; stale = c.self.inside.stale.items; priors = c.self.inside.priors.items; merge = c.self.inside.merge; usable = c.self.inside.usable } in
+    let numbered : IsNumbered s = c.self.invariant.0 (ap (λ (x : State). x.usable) c.self.view_is ∙ c.requires) in
     all-handed s c.deref-2.result.now c.deref-3.result.now c.deref-2.ensures.value c.deref-3.ensures.value numbered
 
 pub returns-in_err-after-clause-writes : goal.returns-in_err-after-clause-writes
 returns-in_err-after-clause-writes g c =
-    let s : State = record { held = c.self.inside.held; next = c.self.inside.next; stale = c.self.inside.stale.items; priors = c.self.inside.priors.items; usable = c.self.inside.usable } in
-    let numbered : IsNumbered s = c.self.invariant (ap (λ (x : State). x.usable) c.self.view_is ∙ c.requires) in
+    let s : State = record { held = c.self.inside.held; next = c.self.inside.next; stale = c.self.inside.stale.items; priors = c.self.inside.priors.items; merge = c.self.inside.merge; usable = c.self.inside.usable } in
+    let numbered : IsNumbered s = c.self.invariant.0 (ap (λ (x : State). x.usable) c.self.view_is ∙ c.requires) in
     sweep-saving g.T.Store.files g.T.Store.since s c.args.self.now c.self.view_is numbered c.deref.result.now c.deref.ensures.value c.args.store.now c.remove_files.new.store c.remove_files.ensures.same c.remove_files.ensures.stops
     c.deref-2.result.now c.deref-3.result.now c.deref-2.ensures.value c.deref-3.ensures.value c.save.new.store c.save.ensures.same c.save.ensures.stops
 
@@ -41,8 +42,8 @@ list_files-requires-clause-on_disk g c = subst (λ (ms : List Marked). All (λ (
 
 pub list_files-requires-clause-form : goal.list_files-requires-clause-form
 list_files-requires-clause-form g c =
-    let s : State = record { held = c.self.inside.held; next = c.self.inside.next; stale = c.self.inside.stale.items; priors = c.self.inside.priors.items; usable = c.self.inside.usable } in
-    let numbered : IsNumbered s = c.self.invariant (ap (λ (x : State). x.usable) c.self.view_is ∙ c.requires) in
+    let s : State = record { held = c.self.inside.held; next = c.self.inside.next; stale = c.self.inside.stale.items; priors = c.self.inside.priors.items; merge = c.self.inside.merge; usable = c.self.inside.usable } in
+    let numbered : IsNumbered s = c.self.invariant.0 (ap (λ (x : State). x.usable) c.self.view_is ∙ c.requires) in
     let parts = c.closed_parts-parts.ensures in
     let fit : AreFit c.save.new.held = record { whole = parts.whole; distinct = parts.distinct; documents = parts.documents; tokens = parts.tokens; few = parts.fits.few } in
     sweep-form g.T.Store.files g.T.Store.since s c.args.self.now c.self.view_is numbered c.deref.result.now c.deref.ensures.value c.args.store.now c.remove_files.new.store c.remove_files.ensures.same c.remove_files.ensures.stops
@@ -51,8 +52,8 @@ list_files-requires-clause-form g c =
 
 pub returns-in_err-list_files-clause-writes : goal.returns-in_err-list_files-clause-writes
 returns-in_err-list_files-clause-writes g c =
-    let s : State = record { held = c.self.inside.held; next = c.self.inside.next; stale = c.self.inside.stale.items; priors = c.self.inside.priors.items; usable = c.self.inside.usable } in
-    let numbered : IsNumbered s = c.self.invariant (ap (λ (x : State). x.usable) c.self.view_is ∙ c.requires) in
+    let s : State = record { held = c.self.inside.held; next = c.self.inside.next; stale = c.self.inside.stale.items; priors = c.self.inside.priors.items; merge = c.self.inside.merge; usable = c.self.inside.usable } in
+    let numbered : IsNumbered s = c.self.invariant.0 (ap (λ (x : State). x.usable) c.self.view_is ∙ c.requires) in
     let parts = c.closed_parts-parts.ensures in
     let fit : AreFit c.save.new.held = record { whole = parts.whole; distinct = parts.distinct; documents = parts.documents; tokens = parts.tokens; few = parts.fits.few } in
     sweep-listed g.T.Store.files g.T.Store.since s c.args.self.now c.self.view_is numbered c.deref.result.now c.deref.ensures.value c.args.store.now c.remove_files.new.store c.remove_files.ensures.same c.remove_files.ensures.stops
@@ -62,8 +63,8 @@ returns-in_err-list_files-clause-writes g c =
 
 pub returns-clause-writes : goal.returns-clause-writes
 returns-clause-writes g c =
-    let s : State = record { held = c.self.inside.held; next = c.self.inside.next; stale = c.self.inside.stale.items; priors = c.self.inside.priors.items; usable = c.self.inside.usable } in
-    let numbered : IsNumbered s = c.self.invariant (ap (λ (x : State). x.usable) c.self.view_is ∙ c.requires) in
+    let s : State = record { held = c.self.inside.held; next = c.self.inside.next; stale = c.self.inside.stale.items; priors = c.self.inside.priors.items; merge = c.self.inside.merge; usable = c.self.inside.usable } in
+    let numbered : IsNumbered s = c.self.invariant.0 (ap (λ (x : State). x.usable) c.self.view_is ∙ c.requires) in
     let parts = c.closed_parts-parts.ensures in
     let fit : AreFit c.save.new.held = record { whole = parts.whole; distinct = parts.distinct; documents = parts.documents; tokens = parts.tokens; few = parts.fits.few } in
     sweep-listed g.T.Store.files g.T.Store.since s c.args.self.now c.self.view_is numbered c.deref.result.now c.deref.ensures.value c.args.store.now c.remove_files.new.store c.remove_files.ensures.same c.remove_files.ensures.stops
@@ -73,8 +74,8 @@ returns-clause-writes g c =
 
 pub returns-clause-wrote : goal.returns-clause-wrote
 returns-clause-wrote g c =
-    let s : State = record { held = c.self.inside.held; next = c.self.inside.next; stale = c.self.inside.stale.items; priors = c.self.inside.priors.items; usable = c.self.inside.usable } in
-    let numbered : IsNumbered s = c.self.invariant (ap (λ (x : State). x.usable) c.self.view_is ∙ c.requires) in
+    let s : State = record { held = c.self.inside.held; next = c.self.inside.next; stale = c.self.inside.stale.items; priors = c.self.inside.priors.items; merge = c.self.inside.merge; usable = c.self.inside.usable } in
+    let numbered : IsNumbered s = c.self.invariant.0 (ap (λ (x : State). x.usable) c.self.view_is ∙ c.requires) in
     let parts = c.closed_parts-parts.ensures in
     let fit : AreFit c.save.new.held = record { whole = parts.whole; distinct = parts.distinct; documents = parts.documents; tokens = parts.tokens; few = parts.fits.few } in
     sweep-wrote g.T.Store.files g.T.Store.since s c.args.self.now c.self.view_is numbered c.deref.result.now c.deref.ensures.value c.args.store.now c.remove_files.new.store c.remove_files.ensures.same c.remove_files.ensures.stops
@@ -82,10 +83,21 @@ returns-clause-wrote g c =
     c.in_ok-after.ensures.saved fit c.clear.new.self.items c.clear.ensures.items c.closed_parts-parts.result.now c.deref-4.result.now c.deref-5.result.now parts.parts c.deref-4.ensures.value c.deref-5.ensures.value
     c.list_files.new.store c.in_ok-list_files.ensures.done
 
+pub returns-clause-merging : goal.returns-clause-merging
+returns-clause-merging g c =
+    let s : State = record { held = c.self.inside.held; next = c.self.inside.next; stale = c.self.inside.stale.items; priors = c.self.inside.priors.items; merge = c.self.inside.merge; usable = c.self.inside.usable } in
+    let numbered : IsNumbered s = c.self.invariant.0 (ap (λ (x : State). x.usable) c.self.view_is ∙ c.requires) in
+    let parts = c.closed_parts-parts.ensures in
+    let fit : AreFit c.save.new.held = record { whole = parts.whole; distinct = parts.distinct; documents = parts.documents; tokens = parts.tokens; few = parts.fits.few } in
+    sweep-merging g.T.Store.files g.T.Store.since s c.args.self.now c.self.view_is numbered c.deref.result.now c.deref.ensures.value c.args.store.now c.remove_files.new.store c.remove_files.ensures.same c.remove_files.ensures.stops
+    c.deref-2.result.now c.deref-3.result.now c.deref-2.ensures.value c.deref-3.ensures.value c.save.new.store c.save.ensures.same c.save.ensures.stops c.save.new.held c.in_ok-after.after
+    c.in_ok-after.ensures.saved fit c.clear.new.self.items c.clear.ensures.items c.closed_parts-parts.result.now c.deref-4.result.now c.deref-5.result.now parts.parts c.deref-4.ensures.value c.deref-5.ensures.value
+    c.list_files.new.store c.in_ok-list_files.ensures.done (c.self.invariant.1 (ap (λ (x : State). x.usable) c.self.view_is ∙ c.requires))
+
 pub returns-clause-saved : goal.returns-clause-saved
 returns-clause-saved g c =
-    let s : State = record { held = c.self.inside.held; next = c.self.inside.next; stale = c.self.inside.stale.items; priors = c.self.inside.priors.items; usable = c.self.inside.usable } in
-    let numbered : IsNumbered s = c.self.invariant (ap (λ (x : State). x.usable) c.self.view_is ∙ c.requires) in
+    let s : State = record { held = c.self.inside.held; next = c.self.inside.next; stale = c.self.inside.stale.items; priors = c.self.inside.priors.items; merge = c.self.inside.merge; usable = c.self.inside.usable } in
+    let numbered : IsNumbered s = c.self.invariant.0 (ap (λ (x : State). x.usable) c.self.view_is ∙ c.requires) in
     let parts = c.closed_parts-parts.ensures in
     let fit : AreFit c.save.new.held = record { whole = parts.whole; distinct = parts.distinct; documents = parts.documents; tokens = parts.tokens; few = parts.fits.few } in
     sweep-saved g.T.Store.files g.T.Store.since s c.args.self.now c.self.view_is numbered c.deref.result.now c.deref.ensures.value c.args.store.now c.remove_files.new.store c.remove_files.ensures.same c.remove_files.ensures.stops
@@ -94,18 +106,22 @@ returns-clause-saved g c =
 
 pub returns-clause-gone : goal.returns-clause-gone
 returns-clause-gone g c =
-    let s : State = record { held = c.self.inside.held; next = c.self.inside.next; stale = c.self.inside.stale.items; priors = c.self.inside.priors.items; usable = c.self.inside.usable } in
-    let numbered : IsNumbered s = c.self.invariant (ap (λ (x : State). x.usable) c.self.view_is ∙ c.requires) in
+    let s : State = record { held = c.self.inside.held; next = c.self.inside.next; stale = c.self.inside.stale.items; priors = c.self.inside.priors.items; merge = c.self.inside.merge; usable = c.self.inside.usable } in
+    let numbered : IsNumbered s = c.self.invariant.0 (ap (λ (x : State). x.usable) c.self.view_is ∙ c.requires) in
     sweep-gone g.T.Store.files g.T.Store.since s c.args.self.now c.self.view_is numbered c.deref.result.now c.deref.ensures.value c.args.store.now c.remove_files.new.store c.remove_files.ensures.same c.remove_files.ensures.stops
     c.deref-2.result.now c.deref-3.result.now c.deref-2.ensures.value c.deref-3.ensures.value c.save.new.store c.save.ensures.same c.save.ensures.stops
     (manifest_text (listing c.in_ok-after.after (entries_for c.closed_parts-parts.result.now) c.deref-4.result.now c.deref-5.result.now)) c.list_files.new.store c.in_ok-remove_files.ensures.gone c.in_ok-list_files.ensures.done
 
 pub invariant_of-self-2 : goal.invariant_of-self-2
-invariant_of-self-2 g c = λ usable.
-    let s : State = record { held = c.self.inside.held; next = c.self.inside.next; stale = c.self.inside.stale.items; priors = c.self.inside.priors.items; usable = c.self.inside.usable } in
-    let numbered : IsNumbered s = c.self.invariant (ap (λ (x : State). x.usable) c.self.view_is ∙ c.requires) in
-    let parts = c.closed_parts-parts.ensures in
-    let fit : AreFit c.save.new.held = record { whole = parts.whole; distinct = parts.distinct; documents = parts.documents; tokens = parts.tokens; few = parts.fits.few } in
-    sweep-numbered g.T.Store.files g.T.Store.since s c.args.self.now c.self.view_is numbered c.deref.result.now c.deref.ensures.value c.args.store.now c.remove_files.new.store c.remove_files.ensures.same c.remove_files.ensures.stops
-    c.deref-2.result.now c.deref-3.result.now c.deref-2.ensures.value c.deref-3.ensures.value c.save.new.store c.save.ensures.same c.save.ensures.stops c.save.new.held c.in_ok-after.after
-    c.in_ok-after.ensures.saved fit c.clear.new.self.items c.clear.ensures.items
+invariant_of-self-2 g c = (
+  λ usable.
+      let s : State = record { held = c.self.inside.held; next = c.self.inside.next; stale = c.self.inside.stale.items; priors = c.self.inside.priors.items; merge = c.self.inside.merge; usable = c.self.inside.usable } in
+      let numbered : IsNumbered s = c.self.invariant.0 (ap (λ (x : State). x.usable) c.self.view_is ∙ c.requires) in
+      let parts = c.closed_parts-parts.ensures in
+      let fit : AreFit c.save.new.held = record { whole = parts.whole; distinct = parts.distinct; documents = parts.documents; tokens = parts.tokens; few = parts.fits.few } in
+      sweep-numbered g.T.Store.files g.T.Store.since s c.args.self.now c.self.view_is numbered c.deref.result.now c.deref.ensures.value c.args.store.now c.remove_files.new.store c.remove_files.ensures.same c.remove_files.ensures.stops
+      c.deref-2.result.now c.deref-3.result.now c.deref-2.ensures.value c.deref-3.ensures.value c.save.new.store c.save.ensures.same c.save.ensures.stops c.save.new.held c.in_ok-after.after
+      c.in_ok-after.ensures.saved fit c.clear.new.self.items c.clear.ensures.items,
+  λ usable.
+      tied-all_saved (g.T.Store.files c.save.new.store) _ _ _ c.self.inside.held c.save.new.held c.self.inside.merge c.in_ok-after.ensures.saved (c.self.invariant.1 (ap (λ (x : State). x.usable) c.self.view_is ∙ c.requires)),
+)

@@ -1,0 +1,197 @@
+// Repositories in which documents are added and deleted while a merge is open.
+use crate::deeds::{Deed, Row, Told, answered_by};
+use holdings::Limits;
+use repository::create;
+use std::alloc::Global;
+use store_ends::MemStore;
+
+/// At most how many documents a part has, and how many are held; what is done with a repository in which nothing is; and what is
+/// answered where its files are opened again.
+struct Session {
+    part_docs: u32,
+    held_docs: u64,
+    rows: &'static [Row],
+    again: &'static [Row],
+}
+
+static SESSIONS: [Session; 6] = [
+    // The dead of the start are no longer held.
+    Session {
+        part_docs: 2,
+        held_docs: 3,
+        rows: &[
+            (Deed::Add(1), Told::Done),
+            (Deed::Add(2), Told::Done),
+            (Deed::Add(3), Told::Done),
+            (Deed::Add(4), Told::Full),
+            (Deed::Delete(1), Told::Done),
+            (Deed::Add(4), Told::Full),
+            (Deed::Begin, Told::Count(2)),
+            (Deed::Turn(2), Told::Done),
+            (Deed::Add(4), Told::Done),
+            (Deed::Flush, Told::Done),
+        ],
+        again: &[
+            (Deed::Live, Told::Count(3)),
+            (Deed::Add(5), Told::Full),
+            (Deed::Add(2), Told::Repeated),
+            (Deed::Delete(1), Told::Absent),
+            (Deed::Delete(4), Told::Done),
+        ],
+    },
+    // A document is deleted once it is copied, and added again.
+    Session {
+        part_docs: 100,
+        held_docs: 100,
+        rows: &[
+            (Deed::Add(1), Told::Done),
+            (Deed::Add(2), Told::Done),
+            (Deed::Begin, Told::Count(2)),
+            (Deed::Turn(1), Told::Open(1, 2)),
+            (Deed::Delete(1), Told::Done),
+            (Deed::Add(1), Told::Done),
+            (Deed::Turn(1), Told::Done),
+            (Deed::Live, Told::Count(2)),
+        ],
+        again: &[
+            (Deed::Live, Told::Count(2)),
+            (Deed::Delete(1), Told::Done),
+            (Deed::Delete(1), Told::Absent),
+            (Deed::Delete(2), Told::Done),
+        ],
+    },
+    // There is nothing to copy, or all that was added is dead.
+    Session {
+        part_docs: 100,
+        held_docs: 2,
+        rows: &[
+            (Deed::Begin, Told::Count(0)),
+            (Deed::Turn(1), Told::Done),
+            (Deed::Add(1), Told::Done),
+            (Deed::Flush, Told::Done),
+            (Deed::Add(2), Told::Done),
+            (Deed::Delete(1), Told::Done),
+            (Deed::Delete(2), Told::Done),
+            (Deed::Begin, Told::Count(0)),
+            (Deed::Turn(7), Told::Done),
+            (Deed::Add(1), Told::Done),
+            (Deed::Add(2), Told::Done),
+            (Deed::Flush, Told::Done),
+        ],
+        again: &[(Deed::Live, Told::Count(2))],
+    },
+    // A merge is given up, and another one is opened.
+    Session {
+        part_docs: 100,
+        held_docs: 100,
+        rows: &[
+            (Deed::Turn(1), Told::Refused),
+            (Deed::Add(1), Told::Done),
+            (Deed::Add(2), Told::Done),
+            (Deed::Begin, Told::Count(2)),
+            (Deed::Begin, Told::Refused),
+            (Deed::Turn(1), Told::Open(1, 2)),
+            (Deed::GiveUp, Told::Done),
+            (Deed::Turn(1), Told::Refused),
+            (Deed::Add(3), Told::Done),
+            (Deed::Begin, Told::Count(3)),
+            (Deed::Turn(5), Told::Done),
+        ],
+        again: &[(Deed::Live, Told::Count(3)), (Deed::Delete(3), Told::Done)],
+    },
+    // Parts in memory are written between two turns, and stale files removed; documents are deleted before they are copied, behind
+    // that, and at the last turn.
+    Session {
+        part_docs: 2,
+        held_docs: 100,
+        rows: &[
+            (Deed::Add(1), Told::Done),
+            (Deed::Add(2), Told::Done),
+            (Deed::Add(3), Told::Done),
+            (Deed::Flush, Told::Done),
+            (Deed::Add(4), Told::Done),
+            (Deed::Add(5), Told::Done),
+            (Deed::Delete(2), Told::Done),
+            (Deed::Begin, Told::Count(4)),
+            (Deed::Turn(1), Told::Open(1, 4)),
+            (Deed::Flush, Told::Done),
+            (Deed::Delete(1), Told::Done),
+            (Deed::Add(2), Told::Done),
+            (Deed::Delete(4), Told::Done),
+            (Deed::Turn(2), Told::Open(3, 4)),
+            (Deed::Sweep, Told::Done),
+            (Deed::Delete(5), Told::Done),
+            (Deed::Add(5), Told::Done),
+            (Deed::Turn(1), Told::Done),
+            (Deed::Live, Told::Count(3)),
+            (Deed::Sweep, Told::Done),
+        ],
+        again: &[
+            (Deed::Live, Told::Count(3)),
+            (Deed::Delete(1), Told::Absent),
+            (Deed::Delete(4), Told::Absent),
+            (Deed::Delete(2), Told::Done),
+            (Deed::Delete(3), Told::Done),
+            (Deed::Delete(5), Told::Done),
+        ],
+    },
+    // What was deleted before it was copied stays deleted in the new parts, where nothing is added behind them.
+    Session {
+        part_docs: 2,
+        held_docs: 3,
+        rows: &[
+            (Deed::Add(1), Told::Done),
+            (Deed::Add(2), Told::Done),
+            (Deed::Add(3), Told::Done),
+            (Deed::Begin, Told::Count(3)),
+            (Deed::Delete(3), Told::Done),
+            (Deed::Turn(3), Told::Done),
+            (Deed::Add(4), Told::Full),
+            (Deed::Begin, Told::Count(2)),
+            (Deed::Turn(3), Told::Done),
+            (Deed::Add(4), Told::Done),
+        ],
+        again: &[
+            (Deed::Live, Told::Count(2)),
+            (Deed::Delete(3), Told::Absent),
+        ],
+    },
+];
+
+/// At most so many documents a part and so many in all, a hundred each at most.
+fn limits_of(session: &Session) -> Limits {
+    Limits {
+        part_docs: session.part_docs.clamp(1, 100),
+        held_docs: session.held_docs.min(100),
+        held_tokens: 100,
+    }
+}
+
+/// A repository in which nothing is.
+fn made(alloc: Global) -> Option<MemStore> {
+    let mut store = MemStore::new(alloc, Vec::new(alloc), Vec::new(alloc));
+    if create(alloc, &mut store).ok()? {
+        Some(store)
+    } else {
+        None
+    }
+}
+
+/// How many rows of a session are answered as they are to be, and how many behind it.
+fn answered(alloc: Global, session: &Session) -> Option<(usize, usize)> {
+    let limits = limits_of(session);
+    let mut store = made(alloc)?;
+    let first = answered_by(alloc, &mut store, limits, session.rows)?;
+    let again = answered_by(alloc, &mut store, limits, session.again)?;
+    Some((first, again))
+}
+
+#[test]
+fn documents_change_while_a_merge_is_open(rt: HostRuntime) {
+    for session in &SESSIONS {
+        assert_eq!(rt;
+            answered(rt.alloc(), session),
+            Some((session.rows.len(), session.again.len()))
+        );
+    }
+}

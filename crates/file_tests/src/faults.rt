@@ -1,4 +1,5 @@
 // The places of faults in files whose bytes are changed or cut.
+use crate::written::is_written_again;
 use manifest::{read_manifest, read_prior};
 use ri_base::{FileName, SegFault};
 use seg_codec::read_segment;
@@ -49,19 +50,28 @@ fn put(bytes: &mut [u8], at: usize, others: &[u8]) -> bool {
     true
 }
 
-/// The place of the fault once these changes are made of at most 160 bytes, where there is one.
-fn fault_with(alloc: Global, kind: Kind, bytes: &[u8], changes: &[(usize, &[u8])]) -> Option<u64> {
-    if bytes.len() > 160 {
-        return Some(OTHER);
-    }
-    let mut room = [0; 160];
-    room[..bytes.len()].copy_from_slice(bytes);
+/// The bytes once these changes are made; nothing where there aren't so many.
+fn changed(alloc: Global, bytes: &[u8], changes: &[(usize, &[u8])]) -> Option<Vec<u8>> {
+    let mut room = bytes.to_vec(alloc).ok()?;
     for (at, others) in changes {
         if !put(&mut room, *at, others) {
-            return Some(OTHER);
+            return None;
         }
     }
-    fault_in(alloc, kind, &room[..bytes.len()])
+    Some(room)
+}
+
+/// The place of the fault once these changes are made, where there is one.
+pub fn fault_with(
+    alloc: Global,
+    kind: Kind,
+    bytes: &[u8],
+    changes: &[(usize, &[u8])],
+) -> Option<u64> {
+    match changed(alloc, bytes, changes) {
+        Some(changed) => fault_in(alloc, kind, &changed),
+        None => Some(OTHER),
+    }
 }
 
 /// The first of these rows with another fault, if one has another.
@@ -103,4 +113,30 @@ pub fn first_wrong_front(
         }
     }
     None
+}
+
+/// Whether the file with that byte raised by one is refused. Where it is read, it is the file of what is read of it, and so that of
+/// another value; nothing where it isn't.
+fn is_refused_raised(alloc: Global, kind: Kind, bytes: &[u8], at: usize) -> Option<bool> {
+    let raised = [bytes.get(at)?.wrapping_add(1)];
+    let changed = changed(alloc, bytes, &[(at, &raised)])?;
+    if fault_in(alloc, kind, &changed).is_some() {
+        return Some(true);
+    }
+    if is_written_again(alloc, kind, &changed) {
+        Some(false)
+    } else {
+        None
+    }
+}
+
+/// At how many bytes the file is refused where this one is raised by one; nothing where it is read as no other value.
+pub fn refused_raised(alloc: Global, kind: Kind, bytes: &[u8]) -> Option<usize> {
+    let mut count = 0usize;
+    for at in 0..bytes.len() {
+        if is_refused_raised(alloc, kind, bytes, at)? {
+            count = count.saturating_add(1);
+        }
+    }
+    Some(count)
 }

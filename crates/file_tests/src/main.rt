@@ -2,12 +2,18 @@
 #![tactic(auto)]
 
 #[cfg(test)]
+mod documents;
+#[cfg(test)]
 mod faults;
 #[cfg(test)]
 mod manifests;
 #[cfg(test)]
 mod priors;
 #[cfg(test)]
+mod sections;
+#[cfg(test)]
 mod segments;
+#[cfg(test)]
+mod written;
 
 fn main() {}

@@ -1,5 +1,5 @@
 // Manifests that were written out by hand.
-use crate::faults::{Kind, Row, first_wrong, first_wrong_front};
+use crate::faults::{Kind, Row, first_wrong, first_wrong_front, refused_raised};
 
 /// No file, and the next number is 1. A byte stands behind it.
 static EMPTY: [u8; 34] = [
@@ -8,6 +8,14 @@ static EMPTY: [u8; 34] = [
 ];
 
 static EMPTY_BEGINS: [usize; 7] = [0, 8, 12, 20, 24, 32, 33];
+
+/// The next number is 2, and the segment 1 has two documents, none of them dead.
+static ONE: [u8; 49] = [
+    0x69, 0x6e, 0x64, 0x72, 0x69, 0x6d, 0x61, 0x6e, 1, 0, 0, 0, 2, 0, 0, 0, 0, 0, 0, 0, 1, 0, 0, 0,
+    1, 0, 0, 0, 0, 0, 0, 0, 2, 0, 0, 0, 0, 0, 0, 0, 0, 0, 0, 0, 0, 0, 0, 0, 0,
+];
+
+static ONE_BEGINS: [usize; 10] = [0, 8, 12, 20, 24, 32, 36, 40, 48, 49];
 
 /// The next number is 9. Segment 3 has three documents, the first and the last of them dead. The files 4 and 5 are stale.
 /// The prior `ab` has the file 8.
@@ -24,6 +32,7 @@ static ALL_BEGINS: [usize; 17] = [
 #[test]
 fn fronts(rt: HostRuntime) {
     assert!(rt; first_wrong_front(rt.alloc(), Kind::Manifest, &EMPTY, &EMPTY_BEGINS).is_none());
+    assert!(rt; first_wrong_front(rt.alloc(), Kind::Manifest, &ONE, &ONE_BEGINS).is_none());
     assert!(rt; first_wrong_front(rt.alloc(), Kind::Manifest, &ALL, &ALL_BEGINS).is_none());
 }
 
@@ -51,12 +60,6 @@ static CHANGED: [Row; 16] = [
 fn changed_bytes(rt: HostRuntime) {
     assert!(rt; first_wrong(rt.alloc(), Kind::Manifest, &ALL, &CHANGED).is_none());
 }
-
-/// The next number is 2, and the segment 1 has two documents, none of them dead.
-static ONE: [u8; 49] = [
-    0x69, 0x6e, 0x64, 0x72, 0x69, 0x6d, 0x61, 0x6e, 1, 0, 0, 0, 2, 0, 0, 0, 0, 0, 0, 0, 1, 0, 0, 0,
-    1, 0, 0, 0, 0, 0, 0, 0, 2, 0, 0, 0, 0, 0, 0, 0, 0, 0, 0, 0, 0, 0, 0, 0, 0,
-];
 
 /// Very many segments; numbers of files that are just not too great, and one too great; as many documents as there may be, one more,
 /// and none; eight priors, which aren't there, and nine.
@@ -86,4 +89,11 @@ static LIMITS: [Row; 8] = [
 #[test]
 fn numbers_at_their_limits(rt: HostRuntime) {
     assert!(rt; first_wrong(rt.alloc(), Kind::Manifest, &ONE, &LIMITS).is_none());
+}
+
+// Each byte of the next number may be greater, and of the number of documents the first three.
+#[test]
+fn raised_bytes(rt: HostRuntime) {
+    assert!(rt; refused_raised(rt.alloc(), Kind::Manifest, &EMPTY[..33]) == Some(33 - 8));
+    assert!(rt; refused_raised(rt.alloc(), Kind::Manifest, &ONE) == Some(49 - 11));
 }

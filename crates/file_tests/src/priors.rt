@@ -1,5 +1,5 @@
 // The file of a prior that was written out by hand.
-use crate::faults::{Kind, Row, first_wrong, first_wrong_front};
+use crate::faults::{Kind, Row, first_wrong, first_wrong_front, refused_raised};
 
 /// Documents without a row have 1 / 2, `a` has 1 / 3, and `b` has 2 / 2.
 static BYTES: [u8; 65] = [
@@ -51,4 +51,10 @@ static CHANGED: [Row; 16] = [
 #[test]
 fn changed_bytes(rt: HostRuntime) {
     assert!(rt; first_wrong(rt.alloc(), Kind::Prior, &BYTES, &CHANGED).is_none());
+}
+
+// Each byte of a q may be greater, the first one of a p that is less than its q, and the docno of the last row.
+#[test]
+fn raised_bytes(rt: HostRuntime) {
+    assert!(rt; refused_raised(rt.alloc(), Kind::Prior, &BYTES) == Some(65 - 27));
 }

@@ -1,5 +1,5 @@
 // A segment that was written out by hand.
-use crate::faults::{Kind, Row, first_wrong, first_wrong_front};
+use crate::faults::{Kind, Row, first_wrong, first_wrong_front, refused_raised};
 
 /// `d1` has the tokens `a b`, and `d2` the token `a`.
 static BYTES: [u8; 155] = [
@@ -84,4 +84,10 @@ static ACROSS: [Row; 6] = [
 #[test]
 fn places_across_blocks(rt: HostRuntime) {
     assert!(rt; first_wrong(rt.alloc(), Kind::Segment, &BYTES, &ACROSS).is_none());
+}
+
+// The bytes of the docnos may be others, and that of the last term.
+#[test]
+fn raised_bytes(rt: HostRuntime) {
+    assert!(rt; refused_raised(rt.alloc(), Kind::Segment, &BYTES) == Some(155 - 5));
 }

@@ -14,6 +14,21 @@ fn failing_at(alloc: Global, call: u64) -> Option<Vec<StoreFail>> {
     Some(fails)
 }
 
+/// What is read where this call fails, with room for so many blocks.
+fn reading(alloc: Global, call: u64, slots: usize) -> Option<bool> {
+    let fails = failing_at(alloc, call)?;
+    let mut store = store_of(alloc, &BYTES, fails).ok()?;
+    are_read(alloc, &mut store, slots)
+}
+
+// With room for one block the first one is read once more, with room for both none is.
+#[test]
+fn kept_blocks_are_not_read(rt: HostRuntime) {
+    assert!(rt; reading(rt.alloc(), CALLS + 1, 1).is_none());
+    assert!(rt; reading(rt.alloc(), CALLS + 2, 1) == Some(true));
+    assert!(rt; reading(rt.alloc(), CALLS + 1, 2) == Some(true));
+}
+
 /// What is read where this call fails, and what is read then.
 fn readings(alloc: Global, call: u64) -> Option<(Option<bool>, Option<bool>)> {
     let fails = failing_at(alloc, call)?;

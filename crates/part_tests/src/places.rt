@@ -61,10 +61,15 @@ fn are_read_in_memory(alloc: Global, slots: usize) -> Option<bool> {
     are_read(alloc, &mut store, slots)
 }
 
+// A cache of one block, which the other one takes the place of, tells the same as one of many.
 #[test]
-fn in_memory(rt: HostRuntime) {
-    assert!(rt; are_read_in_memory(rt.alloc(), 1) == Some(true));
-    assert!(rt; are_read_in_memory(rt.alloc(), 2) == Some(true));
+fn with_one_slot_and_many(rt: HostRuntime) {
+    for slots in [1, 2, 1000] {
+        assert!(rt;
+            are_read_in_memory(rt.alloc(), slots) == Some(true),
+            "{slots}"
+        );
+    }
 }
 
 fn put(store: &mut FolderStore<'_, HostRuntime>) -> bool {

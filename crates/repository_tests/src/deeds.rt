@@ -149,21 +149,34 @@ fn seen<S: Store>(alloc: Global, store: &mut S, repository: &Repository) -> Opti
     Some((repository.live_count(), first_belief(&rows)))
 }
 
-/// Parts have two documents at most, and there are a hundred documents and tokens at most.
-fn opened<S: Store>(alloc: Global, store: &mut S) -> Option<Repository> {
-    let limits = Limits {
+/// Parts have two documents at most, and so many documents and tokens may be held, at most a hundred.
+pub fn limits_of(held_docs: u64, held_tokens: u64) -> Limits {
+    Limits {
         part_docs: 2,
-        held_docs: 100,
-        held_tokens: 100,
-    };
+        held_docs: held_docs.min(100),
+        held_tokens: held_tokens.min(100),
+    }
+}
+
+fn opened<S: Store>(alloc: Global, store: &mut S, limits: Limits) -> Option<Repository> {
     Repository::open(alloc, store, limits).ok()?
 }
 
 /// What is seen of the repository of these files behind these rows; nothing where one goes otherwise, or the files can't be opened.
-pub fn seen_behind<S: Store>(alloc: Global, store: &mut S, rows: &[Row]) -> Option<Seen> {
-    let mut repository = opened(alloc, store)?;
+pub fn seen_within<S: Store>(
+    alloc: Global,
+    store: &mut S,
+    limits: Limits,
+    rows: &[Row],
+) -> Option<Seen> {
+    let mut repository = opened(alloc, store, limits)?;
     if !are_done(alloc, store, &mut repository, rows) {
         return None;
     }
     seen(alloc, store, &repository)
+}
+
+/// The same where a hundred documents and tokens may be held.
+pub fn seen_behind<S: Store>(alloc: Global, store: &mut S, rows: &[Row]) -> Option<Seen> {
+    seen_within(alloc, store, limits_of(100, 100), rows)
 }

@@ -91,3 +91,18 @@ pub fn are_left<S: Store>(store: &mut S, files: &[File]) -> bool {
     }
     true
 }
+
+fn put<S: Store>(store: &mut S, file: &File) -> bool {
+    let (name, bytes) = file;
+    name.len() <= 30 && store.put(name, bytes).is_ok()
+}
+
+/// Puts these files into a store.
+pub fn put_all<S: Store>(store: &mut S, files: &[File]) -> bool {
+    for file in files {
+        if !put(store, file) {
+            return false;
+        }
+    }
+    true
+}

@@ -2,7 +2,7 @@
 use crate::deeds::{Deed, Row, Seen, seen_behind};
 use crate::files::{
     AT_END, ENDED, FIRST, File, HALF, HOME, MANIFEST, MARKED, ONE, PRIOR_THREE, PRIOR_TWO, SECOND,
-    SEGMENT, STALE, SWEPT, THIRD, are_left, files_of,
+    SEGMENT, STALE, SWEPT, THIRD, are_left, files_of, put_all,
 };
 use repository::create;
 use std::alloc::Global;
@@ -76,15 +76,40 @@ fn are_right_once_made<S: Store>(alloc: Global, store: &mut S) -> bool {
     create(alloc, store).ok() == Some(true) && are_right(alloc, store, &STEPS)
 }
 
+fn are_right_in_memory(alloc: Global) -> bool {
+    let mut store = MemStore::new(alloc, Vec::new(alloc), Vec::new(alloc));
+    are_right_once_made(alloc, &mut store)
+}
+
+/// Files that no manifest lists.
+static OTHERS: [File; 3] = [
+    ("note", b"x"),
+    ("seg-00000000000000ff", SEGMENT),
+    ("pri-00000000000000ff", b""),
+];
+
+/// Whether the steps go so where other files are there, one of them with the name of the first segment, and leave these.
+fn are_right_beside_others<S: Store>(alloc: Global, store: &mut S) -> bool {
+    put_all(store, &OTHERS)
+        && put_all(store, &[(FIRST, b"x")])
+        && are_right_once_made(alloc, store)
+        && are_left(store, &OTHERS)
+}
+
+fn are_right_beside_others_in_memory(alloc: Global) -> bool {
+    let mut store = MemStore::new(alloc, Vec::new(alloc), Vec::new(alloc));
+    are_right_beside_others(alloc, &mut store)
+}
+
 #[test]
 fn in_memory(rt: HostRuntime) {
-    let mut store = MemStore::new(rt.alloc(), Vec::new(rt.alloc()), Vec::new(rt.alloc()));
-    assert!(rt; are_right_once_made(rt.alloc(), &mut store));
+    assert!(rt; are_right_in_memory(rt.alloc()));
+    assert!(rt; are_right_beside_others_in_memory(rt.alloc()));
 }
 
 fn are_right_in(rt: &HostRuntime, path: &str) -> bool {
     match FolderStore::new(rt, path) {
-        Ok(mut store) => are_right_once_made(rt.alloc(), &mut store),
+        Ok(mut store) => are_right_beside_others(rt.alloc(), &mut store),
         Err(_) => false,
     }
 }

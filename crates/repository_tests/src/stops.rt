@@ -3,6 +3,7 @@ use crate::deeds::{Deed, Row, Seen, seen_behind};
 use crate::files::{
     FIRST, File, HALF, HOME, MANIFEST, ONE, PRIOR_THREE, PRIOR_TWO, SEGMENT, STALE, THIRD, files_of,
 };
+use repository::create;
 use std::alloc::{AllocError, Global};
 use store_ends::{Left, MemStore, StoreFail};
 
@@ -16,9 +17,9 @@ struct Case {
     new: Seen,
 }
 
-/// A flush of two parts, a prior that is replaced, and a sweep with a document to be saved. The first six calls open the repository,
-/// and the last ones read the prior.
-static CASES: [Case; 3] = [
+/// A flush of two parts, one of a mark alone, a prior that is set, one that is replaced, and a sweep, without and with a document to be
+/// saved. The first six calls open the repository, and the last ones read the prior.
+static CASES: [Case; 6] = [
     Case {
         files: &[(MANIFEST, ONE), (FIRST, SEGMENT)],
         rows: &[
@@ -33,10 +34,36 @@ static CASES: [Case; 3] = [
         new: (4, None),
     },
     Case {
+        files: &[(MANIFEST, ONE), (FIRST, SEGMENT)],
+        rows: &[(Deed::Delete("d1"), true), (Deed::Flush, true)],
+        calls: 7,
+        old: (2, None),
+        new: (1, None),
+    },
+    Case {
+        files: &[(MANIFEST, ONE), (FIRST, SEGMENT)],
+        rows: &[(Deed::Prior(HALF), true)],
+        calls: 10,
+        old: (2, None),
+        new: (2, Some((1, 2))),
+    },
+    Case {
         files: &[(MANIFEST, HOME), (FIRST, SEGMENT), (PRIOR_TWO, HALF)],
         rows: &[(Deed::Prior(THIRD), true)],
         calls: 10,
         old: (1, Some((1, 2))),
+        new: (1, Some((1, 3))),
+    },
+    Case {
+        files: &[
+            (MANIFEST, STALE),
+            (FIRST, SEGMENT),
+            (PRIOR_TWO, HALF),
+            (PRIOR_THREE, THIRD),
+        ],
+        rows: &[(Deed::Sweep, true)],
+        calls: 11,
+        old: (1, Some((1, 3))),
         new: (1, Some((1, 3))),
     },
     Case {
@@ -79,16 +106,28 @@ fn leaves_either(alloc: Global, case: &Case, call: u64, left: Left) -> bool {
     }
 }
 
+/// The first half of a segment is left.
+fn half(alloc: Global) -> Left {
+    match SEGMENT[..77].to_vec(alloc) {
+        Ok(bytes) => Left::Torn(bytes),
+        Err(_) => Left::Old,
+    }
+}
+
 /// The same in whichever way it fails.
 fn leaves_either_way(alloc: Global, case: &Case, call: u64) -> bool {
     leaves_either(alloc, case, call, Left::Old)
         && leaves_either(alloc, case, call, Left::New)
         && leaves_either(alloc, case, call, Left::Torn(Vec::new(alloc)))
+        && leaves_either(alloc, case, call, half(alloc))
 }
 
-/// Whether the new collection is left where no call fails; none has the number 0.
+/// Whether the new collection is left where no call fails: none has the number 0, and the one behind all of them opens the files again.
 fn leaves_new(alloc: Global, case: &Case) -> bool {
+    let (first, again) = seen_twice(alloc, case, case.calls.saturating_add(1), Left::Old);
     seen_twice(alloc, case, 0, Left::Old) == (Some(case.new), Some(case.new))
+        && first == Some(case.new)
+        && again.is_none()
 }
 
 #[test]
@@ -99,4 +138,25 @@ fn each_call_fails_in_each_way(rt: HostRuntime) {
         }
         assert!(rt; leaves_new(rt.alloc(), case));
     }
+}
+
+/// Whether a repository is made where this call fails, and what is seen of it then.
+fn made(alloc: Global, call: u64, left: Left) -> (Option<bool>, Option<Seen>) {
+    match failing(alloc, &[], call, left) {
+        Ok(mut store) => (
+            create(alloc, &mut store).ok(),
+            seen_behind(alloc, &mut store, &[]),
+        ),
+        Err(_) => (None, None),
+    }
+}
+
+// The two calls are the length of the manifest and its replacement.
+#[test]
+fn each_call_of_create_fails_in_each_way(rt: HostRuntime) {
+    assert!(rt; made(rt.alloc(), 1, Left::New) == (None, None));
+    assert!(rt; made(rt.alloc(), 2, Left::Old) == (None, None));
+    assert!(rt; made(rt.alloc(), 2, Left::New) == (None, Some((0, None))));
+    assert!(rt; made(rt.alloc(), 2, half(rt.alloc())) == (None, None));
+    assert!(rt; made(rt.alloc(), 0, Left::Old) == (Some(true), Some((0, None))));
 }

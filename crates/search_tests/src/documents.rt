@@ -17,8 +17,11 @@ static WORDS: [&str; 9] = [
     "a",
 ];
 
-/// Two documents have the word `e`, in later ranges than the first.
+/// Of the first 130 documents two have the word `e`, in later ranges than the first. Those from 200 on have all the same words.
 fn words_of(number: u32) -> &'static str {
+    if number >= 200 {
+        return "a b";
+    }
     if number == 69 || number == 129 {
         return "a e";
     }

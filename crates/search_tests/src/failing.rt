@@ -6,6 +6,7 @@ use store_ends::{Left, StoreFail};
 
 static DOCUMENTS: Documents = Documents {
     part: 9,
+    first: 0,
     in_files: 9,
     all: 9,
 };
@@ -30,8 +31,8 @@ fn failing_at(alloc: Global, call: u64) -> Option<Vec<StoreFail>> {
 fn searches(alloc: Global, call: u64) -> Option<(Option<bool>, Option<bool>)> {
     let fails = failing_at(alloc, call)?;
     let mut opened = open(alloc, DOCUMENTS, fails)?;
-    let first = is_order(alloc, &mut opened, &ROW, 2);
-    Some((first, is_order(alloc, &mut opened, &ROW, 2)))
+    let first = is_order(alloc, &mut opened, &ROW, 10, 2);
+    Some((first, is_order(alloc, &mut opened, &ROW, 10, 2)))
 }
 
 #[test]

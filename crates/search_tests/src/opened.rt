@@ -7,10 +7,11 @@ use std::alloc::Global;
 use std::num::NonZeroUsize;
 use store_ends::{MemStore, StoreFail};
 
-/// Documents in parts of so many, of which the first ones are in files and the others in memory.
+/// Documents from a number on, in parts of so many. Those below another number are in files, and those from there on in memory.
 #[derive(Clone, Copy)]
 pub struct Documents {
     pub part: u32,
+    pub first: u32,
     pub in_files: u32,
     pub all: u32,
 }
@@ -70,8 +71,8 @@ fn add_all(alloc: Global, repository: &mut Repository, from: u32, to: u32) -> bo
     true
 }
 
-fn delete_dead(alloc: Global, repository: &mut Repository, to: u32) -> bool {
-    for number in 0..to {
+fn delete_dead(alloc: Global, repository: &mut Repository, from: u32, to: u32) -> bool {
+    for number in from..to {
         if is_dead(number) && !delete(alloc, repository, number) {
             return false;
         }
@@ -88,10 +89,10 @@ fn snapshot(alloc: Global, repository: &mut Repository) -> Option<Snapshot> {
 
 fn snapshot_of(alloc: Global, store: &mut MemStore, documents: Documents) -> Option<Snapshot> {
     let mut repository = made(alloc, store, documents.part)?;
-    if add_all(alloc, &mut repository, 0, documents.in_files)
+    if add_all(alloc, &mut repository, documents.first, documents.in_files)
         && flush(alloc, store, &mut repository)
         && add_all(alloc, &mut repository, documents.in_files, documents.all)
-        && delete_dead(alloc, &mut repository, documents.all)
+        && delete_dead(alloc, &mut repository, documents.first, documents.all)
     {
         snapshot(alloc, &mut repository)
     } else {

@@ -18,14 +18,14 @@ use std::alloc::Global;
 /// A query, and the docnos of its results in order, with one space between them.
 pub type Row = (&'static str, &'static str);
 
-/// A search for a query, for at most ten results, that has passed no document yet.
-fn begin(alloc: Global, opened: &mut Opened, text: &str) -> Option<Search>
+/// A search for a query, for at most so many results, that has passed no document yet.
+fn begin(alloc: Global, opened: &mut Opened, text: &str, most: u32) -> Option<Search>
     ensures { IfSome result (λ s. All (HasPrior 0) (network_tree s.network).leaves) }
 {
     let checked = query(alloc, text)?;
     let stats = all_stats(alloc, &checked.leaves, opened)?;
     let snapshot = shared(alloc, &opened.snapshot)?;
-    Search::new(alloc, snapshot, checked, &stats, 10).ok()
+    Search::new(alloc, snapshot, checked, &stats, most).ok()
 }
 
 /// Passes so many documents, with a mu of 1; whether all are passed by now.
@@ -70,9 +70,9 @@ fn passes(alloc: Global, search: &mut Search, opened: &mut Opened, docs: u64) ->
     false
 }
 
-/// Whether these have the docnos of the text, in order.
-fn have_docnos(hits: &[Hit], docnos: &str) -> bool {
-    let mut wanted = docnos.split_whitespace();
+/// Whether these have the first docnos of the text, so many at most, in order.
+fn have_docnos(hits: &[Hit], docnos: &str, most: u32) -> bool {
+    let mut wanted = docnos.split_whitespace().take(most as usize);
     for hit in hits {
         match wanted.next() {
             Some(docno) if docno.as_bytes() == hit.docno.as_bytes() => {}
@@ -82,23 +82,29 @@ fn have_docnos(hits: &[Hit], docnos: &str) -> bool {
     wanted.next().is_none()
 }
 
-/// Whether the search has these results.
-fn has_results(search: &Search, docnos: &str) -> bool {
+/// Whether the search has the first of these results, so many at most.
+fn has_results(search: &Search, docnos: &str, most: u32) -> bool {
     if !search.usable() {
         return false;
     }
     match search.results() {
-        Some(hits) => have_docnos(hits.as_slice(), docnos),
+        Some(hits) => have_docnos(hits.as_slice(), docnos, most),
         None => false,
     }
 }
 
-/// Whether a query has just these results, by steps of so many documents; nothing where it fails.
-pub fn is_order(alloc: Global, opened: &mut Opened, row: &Row, docs: u64) -> Option<bool> {
+/// Whether a search for at most so many results has just the first ones of the row, by steps of so many documents; nothing where it fails.
+pub fn is_order(
+    alloc: Global,
+    opened: &mut Opened,
+    row: &Row,
+    most: u32,
+    docs: u64,
+) -> Option<bool> {
     let (text, docnos) = row;
-    let mut search = begin(alloc, opened, text)?;
+    let mut search = begin(alloc, opened, text, most)?;
     if !passes(alloc, &mut search, opened, docs) {
         return None;
     }
-    Some(has_results(&search, docnos))
+    Some(has_results(&search, docnos, most))
 }

@@ -53,6 +53,7 @@ fn are_told(alloc: Global, opened: &mut Opened, counts: &mut Counts, rows: &[Row
 /// Six live documents with the words `a b c`, `c a a b`, `b c`, `c c a`, `c` and `a`, the first one of each in a field `t`.
 static DOCUMENTS: Documents = Documents {
     part: 3,
+    first: 0,
     in_files: 6,
     all: 9,
 };

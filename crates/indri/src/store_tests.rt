@@ -2,18 +2,18 @@
 use crate::run_words;
 use indri_app::Status;
 use ri_base::ArgList;
-use ri_ends::{MemSink, MemSource, SinkFail};
+use ri_ends::{MemSink, MemSource};
 use std::alloc::Global;
 use store_ends::{Left, MemStore, Store, StoreFail};
 
 const D1: &str = "<DOC><DOCNO>d1</DOCNO>a b</DOC>";
 
-const TWO: &str = "<DOC><DOCNO>d1</DOCNO>a b</DOC><DOC><DOCNO>d2</DOCNO>a</DOC>";
+pub const TWO: &str = "<DOC><DOCNO>d1</DOCNO>a b</DOC><DOC><DOCNO>d2</DOCNO>a</DOC>";
 
 /// A run: the words behind the folder, the input, the status, and what is written.
-type Step = (&'static [&'static str], &'static str, Status, &'static str);
+pub type Step = (&'static [&'static str], &'static str, Status, &'static str);
 
-fn words_of(alloc: Global, texts: &[&str]) -> Option<ArgList> {
+pub fn words_of(alloc: Global, texts: &[&str]) -> Option<ArgList> {
     let mut words = ArgList::new(alloc);
     words.push(".").ok()?;
     for text in texts {
@@ -28,7 +28,7 @@ fn source_of(alloc: Global, input: &str) -> Option<MemSource> {
 }
 
 /// Whether the run ends and writes so.
-fn is_ended<T: Store>(alloc: Global, store: &mut T, step: &Step) -> bool {
+pub fn is_ended<T: Store>(alloc: Global, store: &mut T, step: &Step) -> bool {
     let (texts, input, status, text) = step;
     let Some(words) = words_of(alloc, texts) else {
         return false;
@@ -44,7 +44,7 @@ fn is_ended<T: Store>(alloc: Global, store: &mut T, step: &Step) -> bool {
 }
 
 /// The first of these runs that ends otherwise, if one does.
-fn first_wrong<T: Store>(alloc: Global, store: &mut T, steps: &[Step]) -> Option<usize> {
+pub fn first_wrong<T: Store>(alloc: Global, store: &mut T, steps: &[Step]) -> Option<usize> {
     for (place, step) in steps.iter().enumerate() {
         if !is_ended(alloc, store, step) {
             return Some(place);
@@ -59,9 +59,9 @@ fn are_ended(alloc: Global, steps: &[Step]) -> bool {
     first_wrong(alloc, &mut store, steps).is_none()
 }
 
-const CREATE: Step = (&["create"], "", Status::Done, "created\n");
+pub const CREATE: Step = (&["create"], "", Status::Done, "created\n");
 
-const ADD_TWO: Step = (
+pub const ADD_TWO: Step = (
     &["add"],
     TWO,
     Status::Done,
@@ -432,8 +432,8 @@ fn stands(alloc: Global, store: &mut MemStore) -> bool {
     false
 }
 
-/// Whether a store whose call of that number fails, and leaves the file so, stands for one of these collections: behind `create`, and
-/// `add` of one document and then of another.
+/// Whether a store whose call of that number fails, and leaves the file so, stands for one of these collections: behind `create`, `add` of
+/// one document and then of another, `delete` of that, and `merge`.
 fn stands_behind(alloc: Global, call: u64, left: Left) -> bool {
     let mut fails = Vec::new(alloc);
     if fails.push(StoreFail { call, left }).is_err() {
@@ -441,7 +441,13 @@ fn stands_behind(alloc: Global, call: u64, left: Left) -> bool {
     }
     let mut store = MemStore::new(alloc, Vec::new(alloc), fails);
     let second = "<DOC><DOCNO>d2</DOCNO>a</DOC>";
-    for (texts, input) in [("create", ""), ("add", D1), ("add", second)] {
+    for (texts, input) in [
+        ("create", ""),
+        ("add", D1),
+        ("add", second),
+        ("delete", "d2"),
+        ("merge", ""),
+    ] {
         let Some(words) = words_of(alloc, &[texts]) else {
             return false;
         };
@@ -465,38 +471,5 @@ fn each_call_of_the_store_fails(rt: HostRuntime) {
         assert!(rt; stands_behind(rt.alloc(), call, Left::Old));
         assert!(rt; stands_behind(rt.alloc(), call, Left::New));
         assert!(rt; stands_behind(rt.alloc(), call, Left::Torn(Vec::new(rt.alloc()))));
-    }
-}
-
-/// Whether a sink that fails at that call, having taken so many bytes, ends `add` with status 5, and the store stands for the collection
-/// before or behind it.
-fn breaks_at(alloc: Global, call: u64, taken: usize) -> bool {
-    let mut store = MemStore::new(alloc, Vec::new(alloc), Vec::new(alloc));
-    if !is_ended(alloc, &mut store, &CREATE) {
-        return false;
-    }
-    let Some(words) = words_of(alloc, &["add"]) else {
-        return false;
-    };
-    let Some(mut source) = source_of(alloc, TWO) else {
-        return false;
-    };
-    let mut fails = Vec::new(alloc);
-    if fails.push(SinkFail { call, taken }).is_err() {
-        return false;
-    }
-    let mut sink = MemSink::new(alloc, fails);
-    match run_words(alloc, &words, &mut source, &mut sink, &mut store) {
-        Ok(Status::WriteFault) => stands(alloc, &mut store),
-        _ => false,
-    }
-}
-
-#[test]
-fn each_write_of_add_fails(rt: HostRuntime) {
-    for call in 1..4 {
-        assert!(rt; breaks_at(rt.alloc(), call, 0));
-        assert!(rt; breaks_at(rt.alloc(), call, 1));
-        assert!(rt; breaks_at(rt.alloc(), call, 99));
     }
 }

@@ -6,14 +6,14 @@ use ri_ends::{MemSink, MemSource, SinkFail};
 use std::alloc::Global;
 use store_ends::{Left, MemStore, Store, StoreFail};
 
-const D1: &str = "<DOC><DOCNO>d1</DOCNO>a b</DOC>";
+pub const D1: &str = "<DOC><DOCNO>d1</DOCNO>a b</DOC>";
 
 const TWO: &str = "<DOC><DOCNO>d1</DOCNO>a b</DOC><DOC><DOCNO>d2</DOCNO>a</DOC>";
 
 /// A run: the words behind the folder, the input, the status, and what is written.
-type Step = (&'static [&'static str], &'static str, Status, &'static str);
+pub type Step = (&'static [&'static str], &'static str, Status, &'static str);
 
-fn words_of(alloc: Global, texts: &[&str]) -> Option<ArgList> {
+pub fn words_of(alloc: Global, texts: &[&str]) -> Option<ArgList> {
     let mut words = ArgList::new(alloc);
     words.push(".").ok()?;
     for text in texts {
@@ -22,13 +22,13 @@ fn words_of(alloc: Global, texts: &[&str]) -> Option<ArgList> {
     Some(words)
 }
 
-fn source_of(alloc: Global, input: &str) -> Option<MemSource> {
+pub fn source_of(alloc: Global, input: &str) -> Option<MemSource> {
     let bytes = input.as_bytes().to_vec(alloc).ok()?;
     Some(MemSource::new(bytes, 7, Vec::new(alloc)))
 }
 
 /// Whether the run ends and writes so.
-fn is_ended<T: Store>(alloc: Global, store: &mut T, step: &Step) -> bool {
+pub fn is_ended<T: Store>(alloc: Global, store: &mut T, step: &Step) -> bool {
     let (texts, input, status, text) = step;
     let Some(words) = words_of(alloc, texts) else {
         return false;
@@ -44,7 +44,7 @@ fn is_ended<T: Store>(alloc: Global, store: &mut T, step: &Step) -> bool {
 }
 
 /// The first of these runs that ends otherwise, if one does.
-fn first_wrong<T: Store>(alloc: Global, store: &mut T, steps: &[Step]) -> Option<usize> {
+pub fn first_wrong<T: Store>(alloc: Global, store: &mut T, steps: &[Step]) -> Option<usize> {
     for (place, step) in steps.iter().enumerate() {
         if !is_ended(alloc, store, step) {
             return Some(place);
@@ -54,14 +54,14 @@ fn first_wrong<T: Store>(alloc: Global, store: &mut T, steps: &[Step]) -> Option
 }
 
 /// Whether all runs end so over a store that has no file at first.
-fn are_ended(alloc: Global, steps: &[Step]) -> bool {
+pub fn are_ended(alloc: Global, steps: &[Step]) -> bool {
     let mut store = MemStore::new(alloc, Vec::new(alloc), Vec::new(alloc));
     first_wrong(alloc, &mut store, steps).is_none()
 }
 
-const CREATE: Step = (&["create"], "", Status::Done, "created\n");
+pub const CREATE: Step = (&["create"], "", Status::Done, "created\n");
 
-const ADD_TWO: Step = (
+pub const ADD_TWO: Step = (
     &["add"],
     TWO,
     Status::Done,
@@ -340,7 +340,7 @@ fn has_results(alloc: Global, row: &Row) -> bool {
 }
 
 /// Whether the run ends so, whatever it writes.
-fn is_run(
+pub fn is_run(
     alloc: Global,
     store: &mut MemStore,
     texts: &[&str],
@@ -361,7 +361,7 @@ fn is_run(
 }
 
 /// Whether a run without input is done and writes this.
-fn writes(alloc: Global, store: &mut MemStore, texts: &[&str], text: &str) -> bool {
+pub fn writes(alloc: Global, store: &mut MemStore, texts: &[&str], text: &str) -> bool {
     let Some(words) = words_of(alloc, texts) else {
         return false;
     };

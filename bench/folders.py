@@ -5,12 +5,12 @@ usage: bench/folders.py [--size MB] [--stops N] [--seed N] [--program FILE] [day
 
 Without a name both are tried:
 
-    days    a collection of 20 MB of newswire text, which --size changes, is made, queried, grown, partly deleted, given a prior,
-            and grown again. Behind each change a folder is made anew to which the live documents alone are added, in their
-            order, and each query must have the same answer over both
-    stops   `add`, `delete` and `prior` are killed at random moments, --stops of each (50). The folder must then answer as before
-            the command or as behind it. Then the command is run again to its end, and the folder must answer as behind it and
-            have no file that its manifest doesn't list
+    days    a collection of 20 MB of newswire text, which --size changes, is made, queried, grown, partly deleted, merged, given a
+            prior, and grown again. Behind each change a folder is made anew to which the live documents alone are added, in
+            their order, and each query must have the same answer over both. Behind a merge the segments must be the same too
+    stops   `add`, `delete`, `prior` and `merge` are killed at random moments, --stops of each (50). The folder must then answer as
+            before the command or as behind it, which is the same for `merge`. Then the command is run again to its end, and the
+            folder must answer as behind it and have no file that its manifest doesn't list
 
 Half of the moments are spread over the time that the command takes when it isn't stopped, and half over the time that is left once
 its last line but one is written, in which it writes files. Printed is how many answers were compared, and how often a stop left the
@@ -136,8 +136,11 @@ class Day:
         wanted = [f"prior home {sum(docno != '*' for docno, _, _ in rows)}"]
         self.program.is_same("the line of prior", self.program.do(self.folder, "prior", "home", text=self.rows), wanted)
 
-    def compare(self, shown):
-        """The same answers come from a new folder with the live documents alone."""
+    def merge(self):
+        self.program.is_same("the line of merge", self.program.do(self.folder, "merge"), [f"merged {len(self.live)}"])
+
+    def compare(self, shown, is_merged=False):
+        """The same answers come from a new folder with the live documents alone, and behind a merge it has the same segments."""
         self.fresh += 1
         folder = repository(self.program, self.place / f"fresh{self.fresh}")
         if self.live:
@@ -146,11 +149,18 @@ class Day:
         if self.rows:
             self.program.do(folder, "prior", "home", text=self.rows)
             queries += [["query", "rain #prior(home)"], ["explain", "2", "#weight(2 rain 1 #prior(HOME) 1 #prior(length))"]]
+        if is_merged:
+            self.program.is_same(f"{shown}: the segments", segments(self.folder), segments(folder))
         pairs = zip(queries, self.program.answers(self.folder, queries), self.program.answers(folder, queries))
         same = sum(self.program.is_same(f"{shown}: {' '.join(words)}", found, wanted) for words, found, wanted in pairs)
         files = sum(file.stat().st_size for file in self.folder.iterdir())
         print(f"{shown:<44} {len(self.live):7} live   {files / MEGA:6.1f} MB   {same} of {len(queries)} answers the same", flush=True)
         shutil.rmtree(folder)
+
+
+def segments(folder):
+    """The bytes of the segments, by their numbers."""
+    return [file.read_bytes() for file in sorted(folder.glob("seg-*"))]
 
 
 def docno_of(document):
@@ -180,6 +190,8 @@ def try_days(program, place, pick, chosen):
     gone = pick.sample(documents[: count * 9 // 10], count // 3)
     day.delete([docno for docno, _ in gone] + ["nothing", gone[0][0]])
     day.compare("deleted a third")
+    day.merge()
+    day.compare("merged", is_merged=True)
     ranked = pick.sample(list(day.live), min(500, len(day.live) // 2))
     day.set_prior([("*", 1, 3), *((docno, 1 + i % 9, 10) for i, docno in enumerate(ranked))])
     day.compare("set a prior")
@@ -187,8 +199,12 @@ def try_days(program, place, pick, chosen):
     day.compare("added a tenth, and changed documents")
     day.delete([docno for docno, _ in first if docno in day.live])
     day.compare("deleted what is left of the six tenths")
+    day.merge()
+    day.compare("merged", is_merged=True)
     day.delete(list(day.live))
     day.compare("deleted all")
+    day.merge()
+    day.compare("merged", is_merged=True)
 
 
 # Stops.
@@ -287,17 +303,27 @@ def try_stops_of(program, place, pick, stops, begun, words, text):
     print(f"{words[0]:<8} {stops} stops within {moments.whole:5.2f} s, {running} while it ran   {counts}", flush=True)
 
 
+def text_of(documents):
+    return "".join(document for _, document in documents).encode()
+
+
+def lines_of(docnos):
+    return "".join(f"{docno}\n" for docno in docnos).encode()
+
+
 def try_stops(program, place, pick, chosen):
     documents = newswire_documents(pick, chosen.size * MEGA // 2)
-    half = len(documents) // 2
+    quarter, half = len(documents) // 4, len(documents) // 2
     begun = repository(program, place / "begun")
     docnos = [docno for docno, _ in documents[:half]]
-    program.do(begun, "add", text="".join(document for _, document in documents[:half]).encode())
+    program.do(begun, "add", text=text_of(documents[:quarter]))
+    program.do(begun, "add", text=text_of(documents[quarter:half]))
+    program.do(begun, "delete", text=lines_of(docnos[1::6]))
     program.do(begun, "prior", "home", text="".join(f"{docno} 1/2\n" for docno in docnos[::2]).encode())
-    added = "".join(document for _, document in documents[half:]).encode()
+    added = text_of(documents[half:])
     rows = "".join(f"{docno} {1 + i % 7}/9\n" for i, docno in enumerate(docnos)).encode()
-    deleted = "".join(f"{docno}\n" for docno in docnos[::3]).encode()
-    for words, text in ((["add"], added), (["delete"], deleted), (["prior", "home"], rows)):
+    deleted = lines_of(docnos[::3])
+    for words, text in ((["add"], added), (["delete"], deleted), (["prior", "home"], rows), (["merge"], b"")):
         try_stops_of(program, place, pick, chosen.stops, begun, words, text)
 
 

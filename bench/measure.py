@@ -20,6 +20,8 @@ The inputs are made in a temporary folder, the same ones each time, and so are t
     matches       131,072 documents of 20 words: queries of a word, of three words, of a phrase and of a window, of which 128 to
                   131,072 documents have each
     delete        60,000 documents of 25 words, of which one, a tenth or all are deleted, and a query behind it
+    merge         60,000 documents of 25 words, and 6,000 of 300 words, in four segments, all of them live or every second one:
+                  `merge`, against an `add` of the live ones alone
     prior         100,000 rows of a prior, and a query with it, against the same query without
     windows       one document of 1,000,000 tokens, half of which are words of the windows: scans and queries
     fields        65,535 fields of distinct names, one inside the other; as many of one name, one inside the other and one
@@ -134,6 +136,12 @@ MATCHED = {"one{n}": 8, "one{n} two{n} three{n}": 16, "#1(one{n} two{n})": 16, "
 # What each line of `delete` costs beyond the first, in microseconds; a query behind it against one before.
 DELETE_MICROSECONDS = 8
 LIVE_TO_ALL = 1.2
+
+# A merge against an `add` of the same documents, which holds them in memory as parts: the most times of its time and its peak.
+MERGED = ((60_000, 25), (6_000, 300))
+MERGE_PARTS = 4
+MERGE_TO_ADD = 3
+MERGE_PEAK_TO_ADD = 2
 
 # What a row of `prior` costs, in microseconds; a query with the prior against the same without.
 PRIOR_ROWS = 100_000
@@ -524,6 +532,41 @@ def measure_delete(table):
         table.row(f"delete {shown} of 60,000 documents", f"{times[shown]:7.1f} ms of {count}", cell, f"manifest {manifest} bytes", asked)
 
 
+def write_live(path, paths, every):
+    """The lines of these files, each of which is a document, without those of each so many. The answer is how many are left."""
+    lines = [line for part in paths for line in part.read_text().splitlines(keepends=True)]
+    live = [line for i, line in enumerate(lines) if every == 0 or i % every]
+    path.write_text("".join(live))
+    return len(live)
+
+
+def measure_merge(table):
+    live, docnos = table.folder / "live", table.folder / "docnos"
+    whole, begun, changed = table.folder / "whole", table.folder / "begun", table.folder / "merged"
+    merge = Job(table.words(changed, "merge"), begun=begun, changed=changed)
+    for most, words in MERGED:
+        documents = table.sized(most)
+        each = documents // MERGE_PARTS
+        paths = [table.folder / f"part{i}" for i in range(MERGE_PARTS)]
+        for i, path in enumerate(paths):
+            inputs.short_documents(path, i * each, each, words)
+        table.collection(whole.name, *paths)
+        for shown, every in (("all live", 0), ("every second dead", 2)):
+            count = write_live(live, paths, every)
+            docnos.write_text("".join(f"d{i}\n" for i in range(0, each * MERGE_PARTS, every)) if every else "")
+            copied(whole, begun)
+            table.make(begun, "delete", path=docnos)
+            (added, held), (taken, peak) = table.best(table.add(live), merge)
+            table.row(
+                f"merge, {most:,} documents of {words} words, {shown}",
+                f"{taken:7.3f} s",
+                f"{count / taken:7.0f} documents/s",
+                table.at_most(f"{taken / added:5.2f} times add", taken / added, MERGE_TO_ADD),
+                f"peak {peak:4.0f} MiB",
+                table.at_most(f"{peak / held:4.2f} times that of add", peak / held, MERGE_PEAK_TO_ADD),
+            )
+
+
 def measure_prior(table):
     documents = table.sized(PRIOR_ROWS)
     path, rows = table.folder / "ranked", table.folder / "rows"
@@ -670,6 +713,7 @@ GROUPS = {
     "segments": measure_segments,
     "matches": measure_matches,
     "delete": measure_delete,
+    "merge": measure_merge,
     "prior": measure_prior,
     "windows": measure_windows,
     "fields": measure_fields,

@@ -7,6 +7,8 @@ ghost use Rattle.belief_nodes.specs.Priors.{no_prior};
 #[cfg(test)]
 mod failing;
 #[cfg(test)]
+mod merge_tests;
+#[cfg(test)]
 mod store_tests;
 #[cfg(test)]
 mod tests;

@@ -6,7 +6,7 @@ use ri_ends::{MemSink, MemSource};
 use std::alloc::Global;
 use store_ends::{Left, MemStore, Store, StoreFail};
 
-const D1: &str = "<DOC><DOCNO>d1</DOCNO>a b</DOC>";
+pub const D1: &str = "<DOC><DOCNO>d1</DOCNO>a b</DOC>";
 
 pub const TWO: &str = "<DOC><DOCNO>d1</DOCNO>a b</DOC><DOC><DOCNO>d2</DOCNO>a</DOC>";
 
@@ -22,7 +22,7 @@ pub fn words_of(alloc: Global, texts: &[&str]) -> Option<ArgList> {
     Some(words)
 }
 
-fn source_of(alloc: Global, input: &str) -> Option<MemSource> {
+pub fn source_of(alloc: Global, input: &str) -> Option<MemSource> {
     let bytes = input.as_bytes().to_vec(alloc).ok()?;
     Some(MemSource::new(bytes, 7, Vec::new(alloc)))
 }
@@ -54,7 +54,7 @@ pub fn first_wrong<T: Store>(alloc: Global, store: &mut T, steps: &[Step]) -> Op
 }
 
 /// Whether all runs end so over a store that has no file at first.
-fn are_ended(alloc: Global, steps: &[Step]) -> bool {
+pub fn are_ended(alloc: Global, steps: &[Step]) -> bool {
     let mut store = MemStore::new(alloc, Vec::new(alloc), Vec::new(alloc));
     first_wrong(alloc, &mut store, steps).is_none()
 }
@@ -340,7 +340,7 @@ fn has_results(alloc: Global, row: &Row) -> bool {
 }
 
 /// Whether the run ends so, whatever it writes.
-fn is_run(
+pub fn is_run(
     alloc: Global,
     store: &mut MemStore,
     texts: &[&str],
@@ -361,7 +361,7 @@ fn is_run(
 }
 
 /// Whether a run without input is done and writes this.
-fn writes(alloc: Global, store: &mut MemStore, texts: &[&str], text: &str) -> bool {
+pub fn writes(alloc: Global, store: &mut MemStore, texts: &[&str], text: &str) -> bool {
     let Some(words) = words_of(alloc, texts) else {
         return false;
     };

@@ -10,7 +10,7 @@ use store_ends::MemStore;
 
 const TWO: &[u8] = b"<DOC><DOCNO>d1</DOCNO>a b</DOC><DOC><DOCNO>d2</DOCNO>a</DOC>";
 
-const USAGE: &str =
+pub const USAGE: &str =
     "usage: indri DIR scan|create|add|delete|merge|prior|query|explain|session|gen\n";
 
 fn words_of(alloc: Global, texts: &[&str]) -> Result<ArgList, Fail> {

@@ -14,7 +14,7 @@ struct Session {
     again: &'static [Row],
 }
 
-static SESSIONS: [Session; 6] = [
+static SESSIONS: [Session; 7] = [
     // The dead of the start are no longer held.
     Session {
         part_docs: 2,
@@ -58,6 +58,41 @@ static SESSIONS: [Session; 6] = [
             (Deed::Delete(1), Told::Done),
             (Deed::Delete(1), Told::Absent),
             (Deed::Delete(2), Told::Done),
+        ],
+    },
+    // A document is deleted and added again before it is copied, behind that, and before the last turn.
+    Session {
+        part_docs: 2,
+        held_docs: 6,
+        rows: &[
+            (Deed::Add(1), Told::Done),
+            (Deed::Add(2), Told::Done),
+            (Deed::Add(3), Told::Done),
+            (Deed::Begin, Told::Count(3)),
+            (Deed::Delete(2), Told::Done),
+            (Deed::Add(2), Told::Done),
+            (Deed::Add(2), Told::Repeated),
+            (Deed::Turn(2), Told::Open(2, 3)),
+            (Deed::Delete(1), Told::Done),
+            (Deed::Add(1), Told::Done),
+            (Deed::Delete(3), Told::Done),
+            (Deed::Add(3), Told::Done),
+            (Deed::Add(4), Told::Full),
+            (Deed::Turn(1), Told::Done),
+            (Deed::Live, Told::Count(3)),
+            (Deed::Add(4), Told::Full),
+            (Deed::Begin, Told::Count(3)),
+            (Deed::Turn(3), Told::Done),
+            (Deed::Add(4), Told::Done),
+            (Deed::Flush, Told::Done),
+        ],
+        again: &[
+            (Deed::Live, Told::Count(4)),
+            (Deed::Delete(1), Told::Done),
+            (Deed::Delete(2), Told::Done),
+            (Deed::Delete(3), Told::Done),
+            (Deed::Delete(4), Told::Done),
+            (Deed::Delete(1), Told::Absent),
         ],
     },
     // There is nothing to copy, or all that was added is dead.
@@ -158,12 +193,12 @@ static SESSIONS: [Session; 6] = [
     },
 ];
 
-/// At most so many documents a part and so many in all, a hundred each at most.
+/// At most so many documents a part and so many in all, a hundred each at most, and eight words.
 fn limits_of(session: &Session) -> Limits {
     Limits {
         part_docs: session.part_docs.clamp(1, 100),
         held_docs: session.held_docs.min(100),
-        held_tokens: 100,
+        held_tokens: 8,
     }
 }
 

@@ -6,7 +6,7 @@ ghost use Rattle.repository.specs.Priors.{is_same};
 use crate::documents::{doc, docno};
 use holdings::Limits;
 use manifest::{PriorRows, read_prior};
-use repository::Repository;
+use repository::{Repository, merge_whole};
 use ri_base::Name;
 use std::alloc::Global;
 use store_ends::Store;
@@ -18,6 +18,8 @@ pub enum Deed {
     Delete(&'static str),
     Flush,
     Sweep,
+    /// All live documents are merged in one turn.
+    Merge,
     /// The prior `home` gets the rows of these bytes.
     Prior(&'static [u8]),
 }
@@ -56,6 +58,12 @@ fn sweep<S: Store>(alloc: Global, store: &mut S, repository: &mut Repository) ->
     requires { repository.old.usable ≡ true }
 {
     repository.sweep(alloc, store).is_ok()
+}
+
+fn merge<S: Store>(alloc: Global, store: &mut S, repository: &mut Repository) -> bool
+    requires { repository.old.usable ≡ true }
+{
+    !repository.merge_open() && merge_whole(alloc, repository, store).is_ok()
 }
 
 /// The name `home`, which isn't `length`.
@@ -114,6 +122,7 @@ fn is_done<S: Store>(
         Deed::Delete(name) => delete(alloc, repository, name),
         Deed::Flush => flush(alloc, store, repository),
         Deed::Sweep => sweep(alloc, store, repository),
+        Deed::Merge => merge(alloc, store, repository),
         Deed::Prior(bytes) => set_prior(alloc, store, repository, bytes),
     }
 }

@@ -22,6 +22,14 @@ pub const STALE: &[u8] =
 pub const SWEPT: &[u8] =
     b"indriman\x01\0\0\0\x04\0\0\0\0\0\0\0\x01\0\0\0\x01\0\0\0\0\0\0\0\x02\0\0\0\x01\0\0\0\0\0\0\0\0\0\0\0\0\0\0\0\x01\x04home\x03\0\0\0\0\0\0\0";
 
+/// Segment 5 of two documents stands in the place of the segments 1 and 4, which are stale. The next file has number 6.
+pub const MERGED: &[u8] =
+    b"indriman\x01\0\0\0\x06\0\0\0\0\0\0\0\x01\0\0\0\x05\0\0\0\0\0\0\0\x02\0\0\0\0\0\0\0\x02\0\0\0\0\0\0\0\x01\0\0\0\0\0\0\0\x04\0\0\0\0\0\0\0\x01\x04home\x03\0\0\0\0\0\0\0";
+
+/// The same without the stale files.
+pub const MERGED_ALONE: &[u8] =
+    b"indriman\x01\0\0\0\x06\0\0\0\0\0\0\0\x01\0\0\0\x05\0\0\0\0\0\0\0\x02\0\0\0\0\0\0\0\0\0\0\0\0\0\0\0\x01\x04home\x03\0\0\0\0\0\0\0";
+
 /// Nothing is listed, and the next file has the greatest number.
 pub const AT_END: &[u8] =
     b"indriman\x01\0\0\0\xff\xff\xff\xff\xff\xff\xff\xff\0\0\0\0\0\0\0\0\0\0\0\0\0";
@@ -38,6 +46,10 @@ pub const TWO: &[u8] =
 pub const SEGMENT: &[u8] =
     b"indriseg\x01\0\0\0\x02\0\0\0\x03\0\0\0\0\0\0\0\x02\0\0\0\0\0\0\0\x40\0\0\0\0\0\0\0\x52\0\0\0\0\0\0\0\x7e\0\0\0\0\0\0\0\x9b\0\0\0\0\0\0\0\x02d1\x02\0\0\0\0\0\x02d2\x01\0\0\0\0\0\x01a\x01\0\0\0\0\0\0\0\x7e\0\0\0\0\0\0\0\x13\0\0\0\x01b\x01\0\0\0\0\0\0\0\x91\0\0\0\0\0\0\0\x0a\0\0\0\x02\0\x01\0\0\0\0\0\0\0\x01\x01\0\0\0\0\0\0\0\x01\0\x01\0\0\0\x01\0\0\0";
 
+/// `d2` with the token `a`, and `d1` with the token `a`.
+pub const TURNED: &[u8] =
+    b"indriseg\x01\0\0\0\x02\0\0\0\x02\0\0\0\0\0\0\0\x01\0\0\0\0\0\0\0\x40\0\0\0\0\0\0\0\x52\0\0\0\0\0\0\0\x68\0\0\0\0\0\0\0\x7b\0\0\0\0\0\0\0\x02d2\x01\0\0\0\0\0\x02d1\x01\0\0\0\0\0\x01a\x01\0\0\0\0\0\0\0\x68\0\0\0\0\0\0\0\x13\0\0\0\x02\0\x01\0\0\0\0\0\0\0\x01\x01\0\0\0\0\0\0\0";
+
 /// One row: `d1` has 1 / 2.
 pub const HALF: &[u8] = b"indripri\0\x01\0\0\0\x02d1\x01\0\0\0\0\0\0\0\x02\0\0\0\0\0\0\0";
 
@@ -49,6 +61,10 @@ pub const MANIFEST: &str = "manifest";
 pub const FIRST: &str = "seg-0000000000000001";
 
 pub const SECOND: &str = "seg-0000000000000002";
+
+pub const FOURTH: &str = "seg-0000000000000004";
+
+pub const FIFTH: &str = "seg-0000000000000005";
 
 pub const PRIOR_TWO: &str = "pri-0000000000000002";
 

@@ -1,8 +1,9 @@
 // Documents and priors that stay, in memory and in a folder.
 use crate::deeds::{Deed, Row, Seen, seen_behind};
 use crate::files::{
-    AT_END, ENDED, FIRST, File, HALF, HOME, MANIFEST, MARKED, ONE, PRIOR_THREE, PRIOR_TWO, SECOND,
-    SEGMENT, STALE, SWEPT, THIRD, are_left, files_of, put_all,
+    AT_END, ENDED, FIFTH, FIRST, FOURTH, File, HALF, HOME, MANIFEST, MARKED, MERGED, MERGED_ALONE,
+    ONE, PRIOR_THREE, PRIOR_TWO, SECOND, SEGMENT, STALE, SWEPT, THIRD, TURNED, are_left, files_of,
+    put_all,
 };
 use repository::create;
 use std::alloc::Global;
@@ -14,7 +15,7 @@ use store_ends::{FolderStore, MemStore, Store};
 type Step = (&'static [Row], Seen, &'static [File]);
 
 /// Each step begins with what the one before left.
-static STEPS: [Step; 6] = [
+static STEPS: [Step; 8] = [
     (
         &[
             (Deed::Add("d1", 2), true),
@@ -58,6 +59,27 @@ static STEPS: [Step; 6] = [
         &[(Deed::Add("d1", 1), true), (Deed::Flush, true)],
         (2, Some((1, 3))),
         &[(FIRST, SEGMENT), (PRIOR_THREE, THIRD)],
+    ),
+    (
+        &[(Deed::Merge, true)],
+        (2, Some((1, 3))),
+        &[
+            (MANIFEST, MERGED),
+            (FIRST, SEGMENT),
+            (FIFTH, TURNED),
+            (PRIOR_THREE, THIRD),
+        ],
+    ),
+    (
+        &[(Deed::Sweep, true), (Deed::Add("d1", 1), false)],
+        (2, Some((1, 3))),
+        &[
+            (MANIFEST, MERGED_ALONE),
+            (FIRST, b""),
+            (FOURTH, b""),
+            (FIFTH, TURNED),
+            (PRIOR_THREE, THIRD),
+        ],
     ),
 ];
 

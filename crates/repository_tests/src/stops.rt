@@ -1,7 +1,8 @@
 // Each call of the store fails in each way where files are written.
 use crate::deeds::{Deed, Row, Seen, seen_behind};
 use crate::files::{
-    FIRST, File, HALF, HOME, MANIFEST, ONE, PRIOR_THREE, PRIOR_TWO, SEGMENT, STALE, THIRD, files_of,
+    FIRST, File, HALF, HOME, MANIFEST, MARKED, ONE, PRIOR_THREE, PRIOR_TWO, SEGMENT, STALE, THIRD,
+    files_of,
 };
 use repository::create;
 use std::alloc::{AllocError, Global};
@@ -17,9 +18,10 @@ struct Case {
     new: Seen,
 }
 
-/// A flush of two parts, one of a mark alone, a prior that is set, one that is replaced, and a sweep, without and with a document to be
-/// saved. The first six calls open the repository, and the last ones read the prior.
-static CASES: [Case; 6] = [
+/// A flush of two parts, one of a mark alone, a prior that is set, one that is replaced, a sweep, without and with a document to be
+/// saved, and a merge that leaves a dead document out. The first six calls open the repository, and the last ones read the prior, where
+/// there is one.
+static CASES: [Case; 7] = [
     Case {
         files: &[(MANIFEST, ONE), (FIRST, SEGMENT)],
         rows: &[
@@ -77,6 +79,13 @@ static CASES: [Case; 6] = [
         calls: 12,
         old: (1, Some((1, 3))),
         new: (2, Some((1, 3))),
+    },
+    Case {
+        files: &[(MANIFEST, MARKED), (FIRST, SEGMENT)],
+        rows: &[(Deed::Merge, true)],
+        calls: 10,
+        old: (1, None),
+        new: (1, None),
     },
 ];
 

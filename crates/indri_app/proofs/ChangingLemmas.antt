@@ -87,28 +87,41 @@ items-undamaged P (Ok refused) items = tt
 items-undamaged P (Err why) items = λ damage. absurd (items-undamaged_one why items damage)
 
 -- a merge
-pub merge-work : (why : CommandFault) → IsMergeFault why → IsWorkFault why
-merge-work fault.Read merge = absurd merge
-merge-work fault.Write merge = tt
-merge-work fault.Store merge = tt
-merge-work (fault.Malformed f p place) merge = tt
-merge-work (fault.Missing f) merge = tt
-merge-work fault.NoRepository merge = absurd merge
-merge-work fault.Exists merge = absurd merge
-merge-work fault.Memory merge = tt
+merge-work_one : (why : CommandFault) → IsMergeFault why → IsWorkFault why
+merge-work_one fault.Read merge = absurd merge
+merge-work_one fault.Write merge = tt
+merge-work_one fault.Store merge = tt
+merge-work_one (fault.Malformed f p place) merge = tt
+merge-work_one (fault.Missing f) merge = tt
+merge-work_one fault.NoRepository merge = absurd merge
+merge-work_one fault.Exists merge = absurd merge
+merge-work_one fault.Memory merge = tt
 
-pub merge-read : (why : CommandFault) → IsMergeFault why → why ≡ fault.Read → ⊥
-merge-read why merge e = subst IsMergeFault e merge
+broken-undamaged_one : (why : CommandFault) (c : Collection) (pieces : List (Piece Collection)) (start now : Option (List ℕ)) (files : Option Files) → IsBrokenBy why StandsFor c pieces start now files → IsDamage why → ⊥
+broken-undamaged_one fault.Read c pieces start now files broken damage = damage
+broken-undamaged_one fault.Write c pieces start now files broken damage = damage
+broken-undamaged_one fault.Store c pieces start now files broken damage = damage
+broken-undamaged_one (fault.Malformed f p place) c pieces start now files broken damage = broken
+broken-undamaged_one (fault.Missing f) c pieces start now files broken damage = broken
+broken-undamaged_one fault.NoRepository c pieces start now files broken damage = damage
+broken-undamaged_one fault.Exists c pieces start now files broken damage = damage
+broken-undamaged_one fault.Memory c pieces start now files broken damage = damage
 
-pub broken-undamaged : (why : CommandFault) (c : Collection) (pieces : List (Piece Collection)) (start now : Option (List ℕ)) (files : Option Files) → IsBrokenBy why StandsFor c pieces start now files → IsDamage why → ⊥
-broken-undamaged fault.Read c pieces start now files broken damage = damage
-broken-undamaged fault.Write c pieces start now files broken damage = damage
-broken-undamaged fault.Store c pieces start now files broken damage = damage
-broken-undamaged (fault.Malformed f p place) c pieces start now files broken damage = broken
-broken-undamaged (fault.Missing f) c pieces start now files broken damage = broken
-broken-undamaged fault.NoRepository c pieces start now files broken damage = damage
-broken-undamaged fault.Exists c pieces start now files broken damage = damage
-broken-undamaged fault.Memory c pieces start now files broken damage = damage
+pub merge-work : (answer : Result Bool CommandFault) → IfErr answer IsMergeFault → IfErr answer IsWorkFault
+merge-work (Ok refused) merge = tt
+merge-work (Err why) merge = merge-work_one why merge
+
+pub merge-read : (answer : Result Bool CommandFault) → IfErr answer IsMergeFault → answer ≡ Err fault.Read → ⊥
+merge-read answer merge e = subst (λ (r : Result Bool CommandFault). IfErr r IsMergeFault) e merge
+
+pub broken-undamaged : (answer : Result Bool CommandFault) (c : Collection) (pieces : List (Piece Collection)) (start now : Option (List ℕ)) (files : Option Files) → IfErr answer (λ why. IsBrokenBy why StandsFor c pieces start now files)
+    → IfErr answer (λ why. IsDamage why → ⊥)
+broken-undamaged (Ok refused) c pieces start now files broken = tt
+broken-undamaged (Err why) c pieces start now files broken = broken-undamaged_one why c pieces start now files broken
+
+pub damage-unread : (P Q R : Type 0) (answer : Result Bool CommandFault) → Q → IfErr answer (λ why. IsDamage why → P × R) → IfErr answer (λ why. IsDamage why → P × Q × R)
+damage-unread P Q R (Ok refused) q damage = tt
+damage-unread P Q R (Err why) q damage = λ is. let both = damage is in (both.0, q, both.1)
 
 -- what an open repository answers: what is found first is damage
 pub work-not_first : (answer : Result Bool CommandFault) → IfErr answer IsWorkFault → IfErr answer (λ why. IsDamage why → ⊥) → IfErr answer (λ why. IsFoundFirst why → ⊥)

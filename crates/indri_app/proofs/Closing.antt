@@ -112,13 +112,21 @@ stops-by told asks c pieces (Some bytes) past since are leaves = (pieces bytes, 
 
 -- ---- a merge, which takes no item
 
-pub merge-done : (told : Option Files) (c : Collection) (left start now : Option (List ℕ)) (files : Option Files) → Finished StandsFor c (merge_pieces c) start now files → IfSome left (λ bytes. IsDone told merge c bytes false start now files)
-merge-done told c None start now files finished = tt
-merge-done told c (Some bytes) start now files finished = (merge_pieces c, refl, refl, finished)
+pub merge-done : (told : Option Files) (c : Collection) (left start now : Option (List ℕ)) (files : Option Files) (answer : Result Bool CommandFault) → IfOk answer (λ refused. refused ≡ false) → OnOk answer (Finished StandsFor c (merge_pieces c) start now files)
+    → IfOk answer (λ refused. IfSome left (λ bytes. IsDone told merge c bytes refused start now files))
+merge-done told c left start now files (Err why) is finished = tt
+merge-done told c None start now files (Ok refused) is finished = tt
+merge-done told c (Some bytes) start now files (Ok refused) is finished = (merge_pieces c, refl, sym is, finished)
 
-pub merge-begun : (told : Option Files) (c : Collection) (left start now : Option (List ℕ)) (files : Option Files) (why : CommandFault) → IsBrokenBy why StandsFor c (merge_pieces c) start now files → IfSome left (λ bytes. IsBegun why told merge c bytes start now files)
-merge-begun told c None start now files why broken = tt
-merge-begun told c (Some bytes) start now files why broken = (merge_pieces c, any-begun why told merge c bytes (merge_pieces c) refl, broken)
+pub merge-begun : (told : Option Files) (c : Collection) (left start now : Option (List ℕ)) (files : Option Files) (answer : Result Bool CommandFault) → IfErr answer (λ why. IsBrokenBy why StandsFor c (merge_pieces c) start now files)
+    → IfErr answer (λ why. IfSome left (λ bytes. IsBegun why told merge c bytes start now files))
+merge-begun told c left start now files (Ok refused) broken = tt
+merge-begun told c None start now files (Err why) broken = tt
+merge-begun told c (Some bytes) start now files (Err why) broken = (merge_pieces c, any-begun why told merge c bytes (merge_pieces c) refl, broken)
+
+pub merge-stops : (told : Option Files) (c : Collection) (left : Option (List ℕ)) (past since : ℕ → Files → Type 0) → Leaves past since (StandsAlong StandsFor c (merge_pieces c)) → IfSome left (λ bytes. StopsAlong told merge c bytes past since)
+merge-stops told c None past since leaves = tt
+merge-stops told c (Some bytes) past since leaves = (merge_pieces c, inr refl, leaves)
 
 -- ---- a prior, whose pieces need a table of the rows
 

@@ -1,13 +1,15 @@
 // The commands that change a repository.
-ghost use Rattle.std.specs.Prelude.{◌≡◌, ◌≤◌, None, Some, true, IfErr, IfOk, IfSome, IsErrOf, OnOk};
+ghost use Rattle.std.specs.Prelude.{◌≡◌, ◌≤◌, None, Some, false, true, IfErr, IfOk, IfSome, IsErrOf, OnOk};
 ghost use Rattle.ri_ends.specs.Causes.{Rose};
-ghost use Rattle.store_ends.specs.Files.{Files, GoesOn, IsQuiet};
-ghost use Rattle.command_pieces.specs.CommandFaults.{IsDamage};
+ghost use Rattle.store_ends.specs.Files.{Files, GoesOn, IsQuiet, Leaves};
+ghost use Rattle.command_pieces.specs.CommandFaults.{IsBrokenBy, IsDamage};
+ghost use Rattle.command_pieces.specs.Pieces.{Finished, StandsAlong};
 ghost use Rattle.repository.specs.Names.{manifest_name};
 ghost use Rattle.repository.specs.Priors.{AreStored};
 ghost use Rattle.repository.specs.RealLimits.{StandsFor};
 ghost use Rattle.repository.specs.Stands.{Collection};
 ghost use Rattle.collection_commands.specs.Ahead.{IsAhead};
+ghost use Rattle.collection_commands.specs.Merging.{IsMergeFault, merge_pieces};
 ghost use Rattle.indri_app.specs.Asked.{IsIntact};
 ghost use Rattle.indri_app.specs.Changes.{IsFoundFirst, IsOverFault, IsWorkFault, told_change};
 ghost use Rattle.indri_app.specs.Opened.{IsAbsentFault};
@@ -34,6 +36,37 @@ pub enum Change {
     Merge,
     /// The rows of the input become those of the prior of this name.
     Prior(Name),
+}
+
+/// Merges the documents of a repository that is open. The answer is whether something is refused, which nothing of a merge is.
+fn merge_documents<K: Sink, T: Store>(
+    alloc: Global,
+    repository: Repository,
+    sink: &mut K,
+    store: &mut T,
+) -> Result<bool, CommandFault>
+    requires usable { repository.usable ≡ true }
+    requires none { repository.merge ≡ None }
+    ensures refused { IfOk result (λ refused. refused ≡ false) }
+    ensures finished { (c : Collection) → IsAhead (T.files store.old) repository c c
+        → OnOk result (Finished StandsFor c (merge_pieces c) (K.taken sink.old) (K.taken sink.new) (T.files store.new)) }
+    ensures broken { (c : Collection) → IsAhead (T.files store.old) repository c c
+        → IfErr result (λ why. IsBrokenBy why StandsFor c (merge_pieces c) (K.taken sink.old) (K.taken sink.new) (T.files store.new)) }
+    ensures stops { (c : Collection) → IsAhead (T.files store.old) repository c c
+        → Leaves (T.since store.old) (T.since store.new) (StandsAlong StandsFor c (merge_pieces c)) }
+    ensures only { IfErr result IsMergeFault }
+    ensures damage { IfErr result (λ why. IsDamage why → IsQuiet T.files T.layers T.clock T.since T.longest T.held store.old store.new × (K.taken sink.new ≡ K.taken sink.old)) }
+    ensures goes_on { GoesOn T.layers T.clock T.longest T.held store.old store.new }
+    ensures write { IsErrOf result CommandFault.Write → Rose (K.faults sink.old) (K.faults sink.new) }
+    ensures store { IsErrOf result CommandFault.Store → Rose (T.faults store.old) (T.faults store.new) }
+    ensures write_later { K.faults sink.old ≤ K.faults sink.new }
+    ensures store_later { T.faults store.old ≤ T.faults store.new }
+{
+    let mut repository = repository;
+    match merge(alloc, &mut repository, sink, store) {
+        Ok(()) => Ok(false),
+        Err(fault) => Err(fault),
+    }
 }
 
 /// Changes a repository that is open. The answer is whether something is refused.
@@ -76,13 +109,7 @@ fn change_repository<S: Source, K: Sink, T: Store>(
             let mut repository = repository;
             delete(alloc, &mut repository, source, sink, store)
         }
-        Change::Merge => {
-            let mut repository = repository;
-            match merge(alloc, &mut repository, sink, store) {
-                Ok(()) => Ok(false),
-                Err(fault) => Err(fault),
-            }
-        }
+        Change::Merge => merge_documents(alloc, repository, sink, store),
         Change::Prior(name) => {
             let mut repository = repository;
             set_prior(alloc, &mut repository, name, source, sink, store)

@@ -1,11 +1,14 @@
+use Rattle.std.proofs.Common.{◌≡◌, ap, Err}
 use Rattle.store_ends.specs.Files.{Leaves}
 use Rattle.trec_reader.specs.Read.{read}
 use Rattle.command_pieces.specs.CommandFaults.{IsBrokenBy}
 use Rattle.command_pieces.specs.Pieces.{Finished, StandsAlong}
+use Rattle.command_pieces.specs.declared.command_fault.CommandFault.TheVariants as command
 use Rattle.document_handlers.specs.Work.{adding, behind_all, input_pieces}
 use Rattle.repository.specs.RealLimits.{StandsFor}
 use Rattle.collection_commands.specs.Flushing.{flush_pieces}
 use Rattle.collection_commands.proofs.ChangeLemmas.{changed-broken, changed-finished, changed-refused, changed-stops, for-some, some-quiet, unchanged-broken}
+use Rattle.collection_commands.proofs.FaultLemmas.{change_items, items_any, items_read, items_store, items_write}
 use Rattle.indri_app.specs.Command.{collection_in}
 use Rattle.indri_app.proofs.AddingLemmas.{added-ahead}
 use Rattle.indri_app.proofs.addition.add.Goals as goal
@@ -24,6 +27,18 @@ returns-in-Err-clause-stops g c = λ k ahead.
     let told = g.T.Store.files c.args.store.now in
     let limits = c.args.repository.held.limits in
     changed-stops (λ bytes. input_pieces (adding told limits k) (read bytes)) (λ bytes. collection_in k (behind_all (adding told limits k) (read bytes).0)) k _ _ _ (some-quiet (λ bytes. collection_in k (behind_all (adding told limits k) (read bytes).0)) k _ _)
+
+pub returns-in-Err-clause-only : goal.returns-in-Err-clause-only
+returns-in-Err-clause-only g c = items_any c.in-Err.fault _ c.of_items.ensures
+
+pub returns-in-Err-clause-read : goal.returns-in-Err-clause-read
+returns-in-Err-clause-read g c = λ e. let one : c.of_items.result ≡ command.Read = cc in c.in-Err.ensures.read (ap Err (items_read c.in-Err.fault _ c.of_items.ensures one))
+
+pub returns-in-Err-clause-write : goal.returns-in-Err-clause-write
+returns-in-Err-clause-write g c = λ e. let one : c.of_items.result ≡ command.Write = cc in c.in-Err.ensures.write (ap Err (items_write c.in-Err.fault _ c.of_items.ensures one))
+
+pub returns-in-Err-clause-store : goal.returns-in-Err-clause-store
+returns-in-Err-clause-store g c = λ e. let one : c.of_items.result ≡ command.Store = cc in absurd (items_store c.in-Err.fault _ c.of_items.ensures one)
 
 -- they are done
 
@@ -64,6 +79,9 @@ returns-clause-broken g c = λ k ahead.
     changed-broken (λ bytes. input_pieces (adding told limits k) (read bytes)) (λ bytes. collection_in k (behind_all (adding told limits k) (read bytes).0)) k c.in-Err-commit.fault _ _ _ _ told _ (c.in-Ok.ensures.finished _ does) ahead.stands
     (for-some (λ d. IsBrokenBy c.in-Err-commit.fault StandsFor k (flush_pieces d) (g.K.Sink.taken c.take_documents.new.sink) (g.K.Sink.taken c.commit.new.sink) (g.T.Store.files c.commit.new.store)) (λ bytes. collection_in k (behind_all (adding told limits k) (read bytes).0)) told c.into_repository-repository.result k _ there
     (λ d is. c.in-Err-commit.ensures.broken k d is))
+
+pub returns-clause-only : goal.returns-clause-only
+returns-clause-only g c = change_items c.in-Err-commit.fault c.in-Err-commit.ensures.only
 
 pub returns-clause-stops : goal.returns-clause-stops
 returns-clause-stops g c = λ k ahead.

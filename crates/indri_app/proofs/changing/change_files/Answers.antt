@@ -38,7 +38,7 @@ pub returns-in-Ok-clause-first : goal.returns-in-Ok-clause-first
 returns-in-Ok-clause-first g c =
     let work = c.change_repository.ensures in
     let quiet = IsQuiet-then g.T.Store.files g.T.Store.layers g.T.Store.clock g.T.Store.since g.T.Store.longest g.T.Store.held g.T.Store.faults _ _ _ c.open_repository.ensures.quiet in
-    work-first _ _ c.change_repository.result (λ same. (quiet same.0, same.1)) work.only work.damage
+    work-first _ _ c.change_repository.result (λ same. (quiet same.0, same.1, same.2)) work.only work.damage
 
 pub returns-in-Ok-clause-absent : goal.returns-in-Ok-clause-absent
 returns-in-Ok-clause-absent g c = λ f told e. absurd (work-not_absent c.change_repository.result c.change_repository.ensures.only e)

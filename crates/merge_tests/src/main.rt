@@ -6,6 +6,8 @@ mod deeds;
 #[cfg(test)]
 mod fault;
 #[cfg(test)]
+mod full;
+#[cfg(test)]
 mod job;
 #[cfg(test)]
 mod parts;

@@ -5,7 +5,7 @@ use std::alloc::Global;
 use std::test::Fail;
 
 /// The words behind a folder with a `|` between two of them, and what they ask for.
-static ASKED: [(&str, &str); 33] = [
+static ASKED: [(&str, &str); 34] = [
     ("scan|a", "Some(Scan(\"a\"))"),
     ("scan|", "Some(Scan(\"\"))"),
     ("scan|-", "Some(Scan(\"-\"))"),
@@ -108,12 +108,13 @@ static ASKED: [(&str, &str); 33] = [
     ("add", "Some(Add)"),
     ("delete", "Some(Delete)"),
     ("delete|--", "Some(Delete)"),
+    ("merge", "Some(Merge)"),
 ];
 
 /// Words behind a folder that are in no row of the table of commands.
 static REFUSED: [&str; 92] = [
     "sing|a",
-    "merge",
+    "merge|a",
     "gen|3",
     "create|a",
     "create|",

@@ -1,5 +1,5 @@
 // What a collection has of the leaves of a query.
-ghost use Rattle.std.specs.Prelude.{◌≡◌, length, map, All, Err, IfErr, IfOk};
+ghost use Rattle.std.specs.Prelude.{◌≡◌, ◌⊎◌, ◌<◌, ◌-◌, ◌^◌, length, map, All, Contains, Err, IfErr, IfOk, OnOk};
 ghost use Rattle.ri_base.specs.Faults.{IsOutside};
 ghost use Rattle.ri_base.specs.Keeps.{Rose};
 ghost use Rattle.query_check.specs.Leaves.{leaf_tree};
@@ -7,7 +7,7 @@ ghost use Rattle.belief_nodes.specs.Leaves.{AreLeafStats};
 ghost use Rattle.disk_index.specs.Cache.{IsCacheBacked};
 ghost use Rattle.disk_index.specs.Snapshots.{AreBacked, IsFileAmong, live};
 ghost use Rattle.document_scoring.specs.Counts.{stats_of};
-ghost use Rattle.counts.specs.Kept.{AreSums};
+ghost use Rattle.counts.specs.Kept.{AreSums, Kept};
 ghost use Rattle.counts.specs.Reading.{OnlyReads};
 
 use counts::Counts;
@@ -31,6 +31,7 @@ fn leaf_stats<T: Store>(
         → IfOk result (λ s. s ≡ stats_of (live (T.files store.old) snapshot.now) (leaf_tree leaf.now)) }
     ensures kept { AreBacked (T.files store.old) snapshot.now → IsCacheBacked (T.files store.old) cache.old → AreSums (live (T.files store.old) snapshot.now) generation counts.old
         → AreSums (live (T.files store.old) snapshot.now) generation counts.new }
+    ensures adds { (e : Kept) → Contains counts.new e → Contains counts.old e ⊎ (e.generation < 2 ^ 64 - 1) }
     ensures range { IfOk result (λ s. AreLeafStats s) }
     ensures honest { AreBacked (T.files store.old) snapshot.now → IsCacheBacked (T.files store.old) cache.old → IfErr result IsOutside }
     ensures reads { OnlyReads T.files T.layers T.clock T.since T.longest T.held T.faults (IsFileAmong snapshot.now) store.old store.new cache.old cache.new }
@@ -57,6 +58,11 @@ pub fn all_stats<T: Store>(
 ) -> Result<Vec<LeafStats>, SegFault>
     ensures exact { AreBacked (T.files store.old) snapshot.now → IsCacheBacked (T.files store.old) cache.old → AreSums (live (T.files store.old) snapshot.now) generation counts.old
         → IfOk result (λ stats. stats.items ≡ map (stats_of (live (T.files store.old) snapshot.now)) (map leaf_tree leaves.now)) }
+
+    // The sums that are kept are right then too, and none of them is kept for the greatest generation that wasn't before.
+    ensures kept { AreBacked (T.files store.old) snapshot.now → IsCacheBacked (T.files store.old) cache.old → AreSums (live (T.files store.old) snapshot.now) generation counts.old
+        → OnOk result (AreSums (live (T.files store.old) snapshot.now) generation counts.new) }
+    ensures adds { (e : Kept) → Contains counts.new e → Contains counts.old e ⊎ (e.generation < 2 ^ 64 - 1) }
     ensures each { IfOk result (λ stats. length stats.items ≡ length leaves.now) }
     ensures range { IfOk result (λ stats. All (λ s. AreLeafStats s) stats.items) }
     ensures honest { AreBacked (T.files store.old) snapshot.now → IsCacheBacked (T.files store.old) cache.old → IfErr result IsOutside }

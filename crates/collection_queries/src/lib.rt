@@ -13,7 +13,9 @@ mod search;
 mod shown;
 
 pub use answering::answer;
+pub use explained::{explain_hit, hit_of_rank};
 pub use kept_priors::{names_of, take_priors};
 pub use laws::ranking_is_true;
+pub use leaves::all_stats;
 pub use priors::length_plug;
 pub use shown::Shown;

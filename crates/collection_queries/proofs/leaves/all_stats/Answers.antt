@@ -1,4 +1,4 @@
-use Rattle.std.proofs.Common.{◌≡◌, ◌+◌, ◌++◌, ◌∷◌, [], List, Option, map, ap, subst, sym, ◌∙◌, rules}
+use Rattle.std.proofs.Common.{◌≡◌, ◌+◌, ◌++◌, ◌∷◌, [], List, Option, map, ap, subst, sym, ◌∙◌, inl, rules}
 use Rattle.std.proofs.lemmas.List.{length_push, take_all}
 use Rattle.std.proofs.lemmas.List.Elements.{All-push}
 use Rattle.ri_base.specs.declared.hit.LeafStats.{LeafStats}
@@ -11,13 +11,14 @@ use Rattle.disk_index.specs.Snapshots.{AreBacked, live}
 use Rattle.document_scoring.specs.Counts.{stats_of}
 use Rattle.counts.specs.Kept.{AreSums}
 use Rattle.counts.proofs.ReadingLemmas.{cache-backed, reads-same, reads-then}
-use Rattle.collection_queries.proofs.LeafLemmas.{stats-next}
+use Rattle.collection_queries.proofs.LeafLemmas.{added-then, stats-next}
 use Rattle.collection_queries.proofs.leaves.all_stats.Goals as goal
 
 pub loop-leaf-init : goal.loop-leaf-init
 loop-leaf-init g c = record {
   exact = λ backed cached are. search rules;
   kept = λ backed cached are. are;
+  adds = λ e there. inl there;
   each = search rules;
   range = search rules;
   reads = reads-same _ _ _ _ _ _ _ _ _ _;
@@ -44,6 +45,7 @@ loop-leaf-preserved g c =
           let held = cache-backed _ _ _ _ _ _ _ _ _ _ _ _ inv.reads cached in
           let sums = subst (λ (f : Option Files). AreSums (live f parts) c.args.generation c.loop-leaf.counts) (sym same) (inv.kept backed cached are) in
           subst (λ (f : Option Files). AreSums (live f parts) c.args.generation c.leaf_stats.new.counts) same (c.in_ok-found.ensures.kept now held sums);
+      adds = λ e there. added-then e c.args.counts.now c.loop-leaf.counts (inv.adds e) (c.leaf_stats.ensures.adds e there);
       each = rw pushed (length_push all found ∙ ap (λ n. n + 1) inv.each);
       range = rw pushed (All-push (λ (s : LeafStats). AreLeafStats s) all found inv.range c.in_ok-found.ensures.range);
       reads = reads-then _ _ _ _ _ _ _ _ _ _ _ _ _ _ inv.reads c.in_ok-found.ensures.reads;
@@ -65,3 +67,15 @@ returns-in_err-found-clause-reads g c = reads-then _ _ _ _ _ _ _ _ _ _ _ _ _ _ c
 
 pub returns-in_err-map_err-clause-reads : goal.returns-in_err-map_err-clause-reads
 returns-in_err-map_err-clause-reads g c = reads-then _ _ _ _ _ _ _ _ _ _ _ _ _ _ c.loop-leaf.invariant.reads c.in_ok-found.ensures.reads
+
+pub returns-clause-kept : goal.returns-clause-kept
+returns-clause-kept g c = c.loop-leaf.invariant.kept
+
+pub returns-clause-adds : goal.returns-clause-adds
+returns-clause-adds g c = c.loop-leaf.invariant.adds
+
+pub returns-in_err-found-clause-adds : goal.returns-in_err-found-clause-adds
+returns-in_err-found-clause-adds g c = λ e there. added-then e c.args.counts.now c.loop-leaf.counts (c.loop-leaf.invariant.adds e) (c.leaf_stats.ensures.adds e there)
+
+pub returns-in_err-map_err-clause-adds : goal.returns-in_err-map_err-clause-adds
+returns-in_err-map_err-clause-adds g c = λ e there. added-then e c.args.counts.now c.loop-leaf.counts (c.loop-leaf.invariant.adds e) (c.leaf_stats.ensures.adds e there)

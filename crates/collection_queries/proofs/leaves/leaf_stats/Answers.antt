@@ -1,4 +1,4 @@
-use Rattle.std.proofs.Common.{◌≡◌, option_copied}
+use Rattle.std.proofs.Common.{◌≡◌, inl, inr, option_copied}
 use Rattle.std.proofs.lemmas.Result.{IfOk-weaker}
 use Rattle.belief_nodes.specs.Leaves.{AreLeafStats}
 use Rattle.disk_index.specs.Snapshots.{live}
@@ -7,7 +7,7 @@ use Rattle.query_check.specs.Leaves.{leaf_tree}
 use Rattle.document_scoring.specs.Counts.{stats_of}
 use Rattle.counts.specs.Sums.{AreBounded, sums}
 use Rattle.counts.proofs.ReadingLemmas.{reads-same}
-use Rattle.collection_queries.proofs.LeafLemmas.{extents-stats, leaf-range, prior-stats}
+use Rattle.collection_queries.proofs.LeafLemmas.{extents-stats, kept-early, leaf-range, prior-stats}
 use Rattle.collection_queries.proofs.leaves.leaf_stats.Goals as goal
 
 pub returns-in-Extents-clause-exact : goal.returns-in-Extents-clause-exact
@@ -28,3 +28,12 @@ returns-in-Prior-clause-exact g c = λ backed cached are. prior-stats (live (g.T
 
 pub returns-in-Prior-clause-reads : goal.returns-in-Prior-clause-reads
 returns-in-Prior-clause-reads g c = reads-same _ _ _ _ _ _ _ _ _ _
+
+pub returns-in-Extents-clause-adds : goal.returns-in-Extents-clause-adds
+returns-in-Extents-clause-adds g c = λ e there. elim (c.leaf.ensures.adds e there) [
+  | inl old ↦ inl old
+  | inr new ↦ inr (kept-early c.args.generation _ _ e c.leaf.result new)
+]
+
+pub returns-in-Prior-clause-adds : goal.returns-in-Prior-clause-adds
+returns-in-Prior-clause-adds g c = λ e there. inl there

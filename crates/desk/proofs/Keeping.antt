@@ -1,0 +1,100 @@
+-- How a desk stays backed, part by part.
+use Rattle.std.proofs.Common.{◌≡◌, ℕ, ◌+◌, ◌^◌, ◌<◌, ◌≤◌, Bool, true, List, [], ◌∷◌, ◌++◌, length, map, min, refl, sym, ap, subst, ◌∙◌, arith, Some, None, Option}
+use Rattle.std.specs.Prelude.{Contains}
+use Rattle.std.specs.List.{All, AllZip}
+use Rattle.std.specs.Option.{IfSome, option_map}
+use Rattle.std.proofs.lemmas.List.Elements.{All-head, All-tail, All-weaker}
+use Rattle.ri_base.specs.Documents.{Document}
+use Rattle.store_ends.specs.Files.{Files, SameWhere}
+use Rattle.smoothing.specs.declared.rule.RuleKind.{RuleKind}
+use Rattle.manifest.specs.declared.manifest.PriorEntry.{PriorEntry}
+use Rattle.disk_index.specs.Cache.{IsCacheBacked, KeptBlock}
+use Rattle.holdings.specs.Parts.{live}
+use Rattle.holdings.specs.declared.limits.Limits.{Limits}
+use Rattle.counts.specs.Kept.{AreSums, Kept}
+use Rattle.repository.specs.Numbers.{is_among}
+use Rattle.repository.specs.Stands.{Prior}
+use Rattle.repository.specs.States as repositories
+use Rattle.repository.specs.Saved.{IsUnlisted}
+use Rattle.repository.specs.States.{IsBacked, listed_numbers, part_numbers}
+use Rattle.repository.specs.Writes.{IsBeside}
+use Rattle.query_check.specs.Answers.{whole_checked}
+use Rattle.collection_queries.specs.Priors.{priors_with}
+use Rattle.ranker.specs.Ranking.{query_network}
+use Rattle.ranker.specs.Searches.{IsTaken}
+use Rattle.desk.proofs.Frames.{Stay, backed-same, cache-same, listed-stays, live-same, taken-same}
+use Rattle.desk.specs.Queries.{AreListed, IsCacheKept, IsQueryBacked, priors_in, query_of}
+use Rattle.desk.specs.State.{Merge, Query, State}
+use Rattle.desk.specs.declared.query.OpenQuery.{OpenQuery}
+
+abbrev pub state_at : List Document → ℕ → ℕ → List Prior → List Query → Option Merge → Limits → RuleKind → State
+state_at live documents tokens priors queries merge limits kind = record { live = live; documents = documents; tokens = tokens; priors = priors; queries = queries; merge = merge; limits = limits; kind = kind }
+
+-- states with the same parts
+pub state-eq : {l l' : List Document} {d d' t t' : ℕ} {p p' : List Prior} {q q' : List Query} {m m' : Option Merge} {b b' : Limits} {k k' : RuleKind} → l ≡ l' → d ≡ d' → t ≡ t' → p ≡ p' → q ≡ q' → m ≡ m' → b ≡ b' → k ≡ k'
+    → state_at l d t p q m b k ≡ state_at l' d' t' p' q' m' b' k'
+state-eq el ed et ep eq em eb ek = λ i. record { live = el i; documents = ed i; tokens = et i; priors = ep i; queries = eq i; merge = em i; limits = eb i; kind = ek i }
+
+-- ---- numbers that are listed stay listed
+
+abbrev pub Lists : repositories.State → repositories.State → Type 0
+Lists s t = (n : ℕ) → is_among n (listed_numbers s) ≡ true → is_among n (listed_numbers t) ≡ true
+
+pub listed-on : (s t : repositories.State) (ns : List ℕ) → Lists s t → AreListed s ns → AreListed t ns
+listed-on s t ns on listed = λ n e. on n (listed n e)
+
+-- ---- the files stay, and so do the priors
+
+-- a query is backed by a repository that lists as much and has the same priors
+pub Query-on : (told : Option Files) (s t : repositories.State) (kind : RuleKind) (q : OpenQuery) → Lists s t → t.priors ≡ s.priors → IsQueryBacked told s kind q → IsQueryBacked told t kind q
+Query-on told s t kind q on same b = record {
+  snapshot = b.snapshot;
+  listed = listed-on s t (part_numbers q.search.snapshot) on b.listed;
+  taken = rw same b.taken;
+  network = b.network;
+}
+
+pub Queries-on : (told : Option Files) (s t : repositories.State) (kind : RuleKind) (qs : List OpenQuery) → Lists s t → t.priors ≡ s.priors → All (IsQueryBacked told s kind) qs → All (IsQueryBacked told t kind) qs
+Queries-on told s t kind qs on same all = All-weaker (IsQueryBacked told s kind) (IsQueryBacked told t kind) (λ q b. Query-on told s t kind q on same b) qs all
+
+pub Cache-on : (told : Option Files) (s t : repositories.State) (cache : List KeptBlock) → Lists s t → IsCacheKept told s cache → IsCacheKept told t cache
+Cache-on told s t cache on b = record { backed = b.backed; listed = λ k c. on k.0.number (b.listed k c) }
+
+-- ---- a commit
+
+-- The files that are listed stay, and so do the priors with their rows.
+pub Query-commit : (a b : Option Files) (s t : repositories.State) (kind : RuleKind) (q : OpenQuery) → IsBacked a s → SameWhere (IsBeside (IsUnlisted (listed_numbers s))) a b → Lists s t
+    → priors_in b t.priors ≡ priors_in a s.priors → IsQueryBacked a s kind q → IsQueryBacked b t kind q
+Query-commit a b s t kind q backed same on priors query =
+    let P = IsBeside (IsUnlisted (listed_numbers s)) in
+    let stay : Stay P (part_numbers q.search.snapshot) = λ j h. listed-stays a s backed j (query.listed j h) in
+    record {
+      snapshot = backed-same P a b same q.search.snapshot stay query.snapshot;
+      listed = listed-on s t (part_numbers q.search.snapshot) on query.listed;
+      taken = subst (λ ps. IsTaken kind (priors_with ps) b q.search) (sym priors) (taken-same P a b same kind (priors_with (priors_in a s.priors)) q.search stay query.taken);
+      network = query.network ∙ ap (query_network (whole_checked q.search.checked)) (sym (live-same P a b same q.search.snapshot stay));
+    }
+
+-- and it reads as it did
+pub query-same : (a b : Option Files) (s : repositories.State) (kind : RuleKind) (q : OpenQuery) → IsBacked a s → SameWhere (IsBeside (IsUnlisted (listed_numbers s))) a b → IsQueryBacked a s kind q → query_of b q ≡ query_of a q
+query-same a b s kind q backed same query =
+    let P = IsBeside (IsUnlisted (listed_numbers s)) in
+    ap (λ (docs : List Document). record { name = q.name; live = docs; query = whole_checked q.search.checked; k = q.search.most; credit = q.search.at.credit })
+    (live-same P a b same q.search.snapshot (λ j h. listed-stays a s backed j (query.listed j h)))
+
+pub Queries-commit : (a b : Option Files) (s t : repositories.State) (kind : RuleKind) (qs : List OpenQuery) → IsBacked a s → SameWhere (IsBeside (IsUnlisted (listed_numbers s))) a b → Lists s t
+    → priors_in b t.priors ≡ priors_in a s.priors → All (IsQueryBacked a s kind) qs → All (IsQueryBacked b t kind) qs
+Queries-commit a b s t kind qs backed same on priors all =
+    All-weaker (IsQueryBacked a s kind) (IsQueryBacked b t kind) (λ q query. Query-commit a b s t kind q backed same on priors query) qs all
+
+pub queries-same : (a b : Option Files) (s : repositories.State) (kind : RuleKind) (qs : List OpenQuery) → IsBacked a s → SameWhere (IsBeside (IsUnlisted (listed_numbers s))) a b → All (IsQueryBacked a s kind) qs
+    → map (query_of b) qs ≡ map (query_of a) qs
+queries-same a b s kind [] backed same all = refl
+queries-same a b s kind (q ∷ qs) backed same all = λ i.
+    query-same a b s kind q backed same (All-head (IsQueryBacked a s kind) q qs all) i ∷ queries-same a b s kind qs backed same (All-tail (IsQueryBacked a s kind) q qs all) i
+
+pub Cache-commit : (a b : Option Files) (s t : repositories.State) (cache : List KeptBlock) → IsBacked a s → SameWhere (IsBeside (IsUnlisted (listed_numbers s))) a b → Lists s t → IsCacheKept a s cache → IsCacheKept b t cache
+Cache-commit a b s t cache backed same on kept = record {
+  backed = cache-same (IsBeside (IsUnlisted (listed_numbers s))) a b cache same (λ e c. listed-stays a s backed e.0.number (kept.listed e c)) kept.backed;
+  listed = λ e c. on e.0.number (kept.listed e c);
+}

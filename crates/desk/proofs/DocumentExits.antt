@@ -32,7 +32,7 @@ use Rattle.desk.specs.State.{collection_of}
 use Rattle.desk.specs.Step.{is_live, refuse, step}
 use Rattle.desk.proofs.Cases.{step-added, step-deleted, step-full, step-nodoc, step-repeated}
 use Rattle.desk.proofs.Exits.{exit, refused-exit, state-by}
-use Rattle.desk.proofs.Keeping.{Cache-on, Lists, Queries-on}
+use Rattle.desk.proofs.Keeping.{Cache-on, Queries-on, listed-held}
 use Rattle.desk.proofs.Reading.{reads-state}
 
 -- with another repository
@@ -52,9 +52,6 @@ sums-later docs more g all none are = record {
 }
 
 -- ---- files that are listed stay listed
-
-pub listed-held : (s : repositories.State) (h : Contents) → part_numbers h.parts.closed ≡ part_numbers s.held.parts.closed → Lists s (with_held s h)
-listed-held s h same = λ n among. subst (λ ns. is_among n (ns ++ (s.stale ++ prior_numbers s.priors)) ≡ true) (sym same) among
 
 numbers-with : (p : Parts) (d : Document) → part_numbers (parts.with_document p d).closed ≡ part_numbers p.closed
 numbers-with p d = by (has_room p d)

@@ -7,22 +7,28 @@ use Rattle.std.proofs.lemmas.List.Elements.{All-head, All-tail, All-weaker}
 use Rattle.ri_base.specs.Documents.{Document}
 use Rattle.store_ends.specs.Files.{Files, SameWhere}
 use Rattle.smoothing.specs.declared.rule.RuleKind.{RuleKind}
+use Rattle.manifest.specs.Listing.{prior_numbers}
 use Rattle.manifest.specs.declared.manifest.PriorEntry.{PriorEntry}
 use Rattle.disk_index.specs.Cache.{IsCacheBacked, KeptBlock}
+use Rattle.holdings.specs.Contents.{Contents}
 use Rattle.holdings.specs.Parts.{live}
 use Rattle.holdings.specs.declared.limits.Limits.{Limits}
 use Rattle.counts.specs.Kept.{AreSums, Kept}
+use Rattle.merge_job.specs.Merge.{Merging}
+use Rattle.repository.specs.Merges.{IsMerging}
 use Rattle.repository.specs.Numbers.{is_among}
 use Rattle.repository.specs.Stands.{Prior}
 use Rattle.repository.specs.States as repositories
 use Rattle.repository.specs.Saved.{IsUnlisted}
 use Rattle.repository.specs.States.{IsBacked, listed_numbers, part_numbers}
+use Rattle.repository.specs.Steps.{with_held}
 use Rattle.repository.specs.Writes.{IsBeside}
 use Rattle.query_check.specs.Answers.{whole_checked}
 use Rattle.collection_queries.specs.Priors.{priors_with}
 use Rattle.ranker.specs.Ranking.{query_network}
 use Rattle.ranker.specs.Searches.{IsTaken}
 use Rattle.desk.proofs.Frames.{Stay, backed-same, cache-same, listed-stays, live-same, taken-same}
+use Rattle.desk.specs.Backed.{IsMergeBacked}
 use Rattle.desk.specs.Queries.{AreListed, IsCacheKept, IsQueryBacked, priors_in, query_of}
 use Rattle.desk.specs.State.{Merge, Query, State}
 use Rattle.desk.specs.declared.query.OpenQuery.{OpenQuery}
@@ -42,6 +48,22 @@ Lists s t = (n : ℕ) → is_among n (listed_numbers s) ≡ true → is_among n 
 
 pub listed-on : (s t : repositories.State) (ns : List ℕ) → Lists s t → AreListed s ns → AreListed t ns
 listed-on s t ns on listed = λ n e. on n (listed n e)
+
+-- other parts with the same files are held
+pub listed-held : (s : repositories.State) (h : Contents) → part_numbers h.parts.closed ≡ part_numbers s.held.parts.closed → Lists s (with_held s h)
+listed-held s h same = λ n among. subst (λ ns. is_among n (ns ++ (s.stale ++ prior_numbers s.priors)) ≡ true) (sym same) among
+
+-- ---- the open merge
+
+-- its condition is that of the repository
+pub merge-condition : (told : Option Files) (s : repositories.State) (m : Option Merging) → IfSome m (IsMergeBacked told s) → IfSome m (IsMerging told s)
+merge-condition told s None backed = tt
+merge-condition told s (Some m) backed = backed.merging
+
+-- it stays backed by a repository that keeps its condition and lists as much
+pub Merge-on : (told now : Option Files) (s t : repositories.State) (m : Option Merging) → Lists s t → IfSome m (IsMergeBacked told s) → IfSome m (IsMerging now t) → IfSome m (IsMergeBacked now t)
+Merge-on told now s t None on backed condition = tt
+Merge-on told now s t (Some m) on backed condition = record { merging = condition; listed = listed-on s t (part_numbers m.snapshot) on backed.listed }
 
 -- ---- the files stay, and so do the priors
 

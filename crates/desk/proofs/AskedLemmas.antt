@@ -4,14 +4,18 @@ use Rattle.std.specs.Prelude.{Result, Ok, Err}
 use Rattle.std.specs.List.{All}
 use Rattle.std.specs.Str.{IsUtf8, is_utf8}
 use Rattle.std.proofs.lemmas.Str.{IsUtf8-from_is_utf8}
+use Rattle.ri_base.specs.Expression.{ExprTree}
 use Rattle.ri_base.specs.Query.{QueryTree}
 use Rattle.query_check.specs.Answers.{Answers, whole_checked}
 use Rattle.query_check.specs.Check.{CheckedTree, checked_or, checked_tree, checks, first_fault, pruned, whole}
 use Rattle.query_check.specs.declared.checked.Checked.{Checked}
 use Rattle.query_check.specs.declared.fault.CheckFault.{CheckFault}
 use Rattle.query_check.specs.declared.fault.CheckFault.TheVariants.{NoWeight, NoLeaf, ScaleTooLarge, UnknownPrior, Memory}
-use Rattle.query_reader.specs.QueryText.{query_text}
-use Rattle.desk.specs.Asked.{IsNotTaken, asked, asked_as, check_fault, checked_as}
+use Rattle.query_reader.specs.Answers as reader
+use Rattle.query_reader.specs.QueryText.{expr_text, query_text}
+use Rattle.query_reader.specs.declared.fault.QueryFault.{QueryFault}
+use Rattle.query_reader.specs.declared.fault.QueryFault.TheVariants as reading
+use Rattle.desk.specs.Asked.{IsNotTaken, asked, asked_as, check_fault, checked_as, scanned, scanned_as, text_fault}
 use Rattle.desk.specs.Keeping.{AsksFor}
 use Rattle.desk.proofs.Known.{leaves-ask}
 
@@ -29,6 +33,20 @@ not_asked names text tree NoLeaf read e = ap (asked_as names) read ∙ ap checke
 not_asked names text tree ScaleTooLarge read e = ap (asked_as names) read ∙ ap checked_as e
 not_asked names text tree (UnknownPrior name) read e = ap (asked_as names) read ∙ ap checked_as e
 not_asked names text tree Memory read e = tt
+
+-- a text that isn't read
+pub not_read : {X : Type 0} (view : X → QueryTree) (names : List (List ℕ)) (text : List ℕ) (f : QueryFault) → reader.Answers view (Err f) (query_text text) → IsNotTaken (asked names text) (text_fault f)
+not_read view names text (reading.Refused kind place) e = ap (asked_as names) e
+not_read view names text reading.Memory e = tt
+
+-- ---- expressions
+
+pub scanned_expr : (text : List ℕ) (x : ExprTree) → expr_text text ≡ Ok x → scanned text ≡ Ok x
+scanned_expr text x e = ap scanned_as e
+
+pub not_scanned : {X : Type 0} (view : X → ExprTree) (text : List ℕ) (f : QueryFault) → reader.Answers view (Err f) (expr_text text) → IsNotTaken (scanned text) (text_fault f)
+not_scanned view text (reading.Refused kind place) e = ap scanned_as e
+not_scanned view text reading.Memory e = tt
 
 -- ---- the priors that a checked query asks for
 

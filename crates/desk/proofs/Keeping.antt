@@ -3,7 +3,7 @@ use Rattle.std.proofs.Common.{◌≡◌, ℕ, ◌+◌, ◌^◌, ◌<◌, ◌≤�
 use Rattle.std.specs.Prelude.{Contains}
 use Rattle.std.specs.List.{All, AllZip}
 use Rattle.std.specs.Option.{IfSome, option_map}
-use Rattle.std.proofs.lemmas.List.Elements.{All-head, All-tail, All-weaker}
+use Rattle.std.proofs.lemmas.List.Elements.{All-head, All-nil, All-tail, All-weaker}
 use Rattle.ri_base.specs.Documents.{Document}
 use Rattle.store_ends.specs.Files.{Files, SameWhere}
 use Rattle.smoothing.specs.declared.rule.RuleKind.{RuleKind}
@@ -25,10 +25,11 @@ use Rattle.repository.specs.Steps.{with_held}
 use Rattle.repository.specs.Writes.{IsBeside}
 use Rattle.query_check.specs.Answers.{whole_checked}
 use Rattle.collection_queries.specs.Priors.{priors_with}
+use Rattle.collection_queries.proofs.AnswerLemmas.{empty-cache, empty-sums}
 use Rattle.ranker.specs.Ranking.{query_network}
 use Rattle.ranker.specs.Searches.{IsTaken}
 use Rattle.desk.proofs.Frames.{Stay, backed-same, cache-same, listed-stays, live-same, taken-same}
-use Rattle.desk.specs.Backed.{IsMergeBacked}
+use Rattle.desk.specs.Backed.{IsDeskBacked, IsMergeBacked, Keeps}
 use Rattle.desk.specs.Queries.{AreListed, IsCacheKept, IsQueryBacked, priors_in, query_of}
 use Rattle.desk.specs.State.{Merge, Query, State}
 use Rattle.desk.specs.declared.query.OpenQuery.{OpenQuery}
@@ -40,6 +41,23 @@ state_at live documents tokens priors queries merge limits kind = record { live 
 pub state-eq : {l l' : List Document} {d d' t t' : ℕ} {p p' : List Prior} {q q' : List Query} {m m' : Option Merge} {b b' : Limits} {k k' : RuleKind} → l ≡ l' → d ≡ d' → t ≡ t' → p ≡ p' → q ≡ q' → m ≡ m' → b ≡ b' → k ≡ k'
     → state_at l d t p q m b k ≡ state_at l' d' t' p' q' m' b' k'
 state-eq el ed et ep eq em eb ek = λ i. record { live = el i; documents = ed i; tokens = et i; priors = ep i; queries = eq i; merge = em i; limits = eb i; kind = ek i }
+
+-- ---- a new desk
+
+-- where nothing is open and nothing kept it is backed as its repository is
+pub backed-new : (told : Option Files) (d : Keeps) → d.queries ≡ [] → d.counts ≡ [] → d.cache ≡ [] → IsBacked told d.repository → IfSome d.repository.merge (IsMergeBacked told d.repository) → IsDeskBacked told d
+backed-new told d none zero empty stored merging =
+    let s = d.repository in
+    record {
+      repository = stored;
+      queries = subst (λ (qs : List OpenQuery). All (IsQueryBacked told s d.kind) qs) (sym none) (All-nil (IsQueryBacked told s d.kind));
+      merge = merging;
+      counts = empty-sums (live told s.held.parts) s.held.generation d.counts zero;
+      cache = record {
+        backed = empty-cache told d.cache empty;
+        listed = λ b there. (let w : Contains [] b = subst (λ (c : List KeptBlock). Contains c b) empty there in absurd (let within = w.1 in omega (arith, within)));
+      };
+    }
 
 -- ---- numbers that are listed stay listed
 

@@ -54,6 +54,7 @@ kept-cleared s t qs cs kept = record { few = omega arith; each = All-nil (IsOpen
 pub open-on : (count : ℕ) (q r : OpenQuery) → IsSameSearch q.search r.search → r.search.usable ≡ true → IsOpen count q → IsOpen count r
 open-on count q r same usable was = record {
   usable = usable;
+  network = same.network ∙ was.network ∙ (λ i. record { leaves = (sym same.checked i).leaves; range = (sym same.checked i).range; stats = (sym same.network i).stats; tree = (sym same.checked i).tree });
   distinct = subst (λ (ms : List Marked). IsDistinct bytes_eq (docnos_of ms)) (sym same.snapshot) was.distinct;
   few = subst (λ n. n ≤ MAX_RESULTS) (sym same.most) was.few;
   priors = subst (λ (n : NetworkTree). All (AsksFor count) n.leaves) (sym same.network) was.priors;

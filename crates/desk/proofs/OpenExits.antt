@@ -1,6 +1,6 @@
 -- Where a query is opened.
 use Rattle.std.proofs.Common.{◌≡◌, ◌∙◌, ◌≤◌, ℕ, Bool, true, false, List, [], ◌∷◌, ◌++◌, length, map, refl, sym, ap, subst, Option}
-use Rattle.std.specs.Prelude.{Ok, is_some, nat_le}
+use Rattle.std.specs.Prelude.{Ok, Result, is_some, nat_le}
 use Rattle.std.specs.List.{All, IsDistinct, position}
 use Rattle.std.specs.Str.{bytes_eq}
 use Rattle.std.proofs.lemmas.List.{length-map, map-append}
@@ -9,6 +9,7 @@ use Rattle.ri_base.specs.Documents.{Document}
 use Rattle.ri_base.specs.declared.hit.LeafStats.{LeafStats}
 use Rattle.store_ends.specs.Files.{Files}
 use Rattle.smoothing.specs.declared.rule.RuleKind.{RuleKind}
+use Rattle.manifest.specs.declared.manifest.PriorEntry.{PriorEntry}
 use Rattle.query_check.specs.Answers.{whole_checked}
 use Rattle.query_check.specs.Check.{CheckedTree}
 use Rattle.query_check.specs.Leaves.{leaf_tree}
@@ -28,26 +29,29 @@ use Rattle.ranker.specs.declared.search.Search.{Search}
 use Rattle.repository.specs.States as repositories
 use Rattle.repository.specs.States.{part_numbers}
 use Rattle.collection_queries.specs.Priors.{priors_with}
+use Rattle.session_events.specs.declared.event.Event.TheVariants as event
 use Rattle.session_events.specs.declared.event.TheConstants.{MAX_RESULTS}
 use Rattle.session_replies.specs.declared.reply.Refusal.{Refusal}
 use Rattle.session_replies.specs.declared.reply.Refusal.TheVariants.{DeskFull, NameTaken}
 use Rattle.session_replies.specs.declared.reply.Reply.{Reply}
 use Rattle.session_replies.specs.declared.reply.Reply.TheVariants as reply
-use Rattle.desk.specs.Backed.{IsDeskBacked, Keeps, StepsTo, state_of}
+use Rattle.desk.specs.Asked.{asked}
+use Rattle.desk.specs.Backed.{IsDeskBacked, Keeps, Steps, StepsTo, state_of}
 use Rattle.desk.specs.Keeping.{AsksFor, IsOpen}
 use Rattle.desk.specs.Queries.{AreListed, IsCacheKept, IsQueryBacked, priors_in, query_of}
 use Rattle.desk.specs.State.{Query, State, collection_of, opened, with_queries}
-use Rattle.desk.specs.Step.{open_step, refuse}
+use Rattle.desk.specs.Step.{open_step, refuse, step}
 use Rattle.desk.specs.Told as replies
-use Rattle.desk.specs.Told.{Shows, Told}
+use Rattle.desk.specs.Told.{RefusesAs, Shows, Told}
 use Rattle.desk.specs.declared.query.OpenQuery.{OpenQuery}
 use Rattle.desk.specs.declared.query.TheConstants.{MAX_QUERIES}
 use Rattle.desk.proofs.CacheLemmas.{listed-now}
-use Rattle.desk.proofs.Cases.{open-full, open-opened, open-taken}
+use Rattle.desk.proofs.Cases.{open-full, open-opened, open-taken, step-open}
 use Rattle.desk.proofs.Closing.{closed, closed-backed, closed-reads, lists-closed}
 use Rattle.desk.proofs.Exits.{of-now, state-by}
 use Rattle.desk.proofs.Keeping.{listed-on}
 use Rattle.desk.proofs.Naming.{is-taken, is_named}
+use Rattle.desk.proofs.ReadingExits.{names-told}
 
 -- the part that was being filled is closed, one query more is open, and sums and blocks were kept
 abbrev pub with_opened : Keeps → OpenQuery → List Kept → List KeptBlock → Keeps
@@ -60,6 +64,20 @@ steps-to to from after n r is state shows backed = record {
   shows = subst (λ (t : Told). Shows t r) (ap (λ (x : State × Told). x.1) (sym is)) shows;
   backed = backed;
 }
+
+-- the step of a query is by what its text asks for, where these are the names of the priors
+pub open-asked : (told : Option Files) (d : Keeps) (name : List ℕ) (k : ℕ) (text : List ℕ) (names : List (List ℕ)) (r : Result CheckedTree Refusal) → names ≡ map (λ (e : PriorEntry). e.name) d.repository.priors → asked names text ≡ r
+    → step (state_of told d) (event.Open name k text) ≡ open_step (state_of told d) name k r
+open-asked told d name k text names r own is =
+    step-open (state_of told d) name k text r (ap (λ ns. asked ns text) (names-told told d.repository.priors ∙ sym own) ∙ is)
+
+pub steps-asked : (told after : Option Files) (d new : Keeps) (name : List ℕ) (k : ℕ) (text : List ℕ) (names : List (List ℕ)) (r : Result CheckedTree Refusal) (y : Reply) → names ≡ map (λ (e : PriorEntry). e.name) d.repository.priors → asked names text ≡ r
+    → StepsTo (open_step (state_of told d) name k r) after new y → Steps (event.Open name k text) told after d new y
+steps-asked told after d new name k text names r y own is done = subst (λ (x : State × Told). StepsTo x after new y) (sym (open-asked told d name k text names r own is)) done
+
+pub refuses-asked : (told : Option Files) (d : Keeps) (name : List ℕ) (k : ℕ) (text : List ℕ) (names : List (List ℕ)) (r : Result CheckedTree Refusal) (y : Reply) → names ≡ map (λ (e : PriorEntry). e.name) d.repository.priors → asked names text ≡ r
+    → RefusesAs y (open_step (state_of told d) name k r).1 → RefusesAs y (step (state_of told d) (event.Open name k text)).1
+refuses-asked told d name k text names r y own is done = subst (λ (x : State × Told). RefusesAs y x.1) (sym (open-asked told d name k text names r own is)) done
 
 -- where the query is refused
 pub open-refusal : (told : Option Files) (d now : Keeps) (name : List ℕ) (k : ℕ) (tree : CheckedTree) (why : Refusal) → d ≡ now → open_step (state_of told d) name k (Ok tree) ≡ refuse (state_of told d) why → IsDeskBacked told now

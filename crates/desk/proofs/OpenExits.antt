@@ -42,7 +42,7 @@ use Rattle.desk.specs.Queries.{AreListed, IsCacheKept, IsQueryBacked, priors_in,
 use Rattle.desk.specs.State.{Query, State, collection_of, opened, with_queries}
 use Rattle.desk.specs.Step.{open_step, refuse, step}
 use Rattle.desk.specs.Told as replies
-use Rattle.desk.specs.Told.{RefusesAs, Shows, Told}
+use Rattle.desk.specs.Told.{RefusesAs, Shows, Told, is_refusal}
 use Rattle.desk.specs.declared.query.OpenQuery.{OpenQuery}
 use Rattle.desk.specs.declared.query.TheConstants.{MAX_QUERIES}
 use Rattle.desk.proofs.CacheLemmas.{listed-now}
@@ -131,6 +131,16 @@ module _ (told : Option Files) (d : Keeps) (name : List ℕ) (k : ℕ) (tree : C
       steps-to _ _ after n (reply.Opened name live_now) (open-accepted free room) (ap (λ (f : Option Files). state_of f n) same ∙ state) (ap (reply.Opened name) count)
       (subst (λ (f : Option Files). IsDeskBacked f n) (sym same) all)
 
+-- whatever the files are, a query is refused so, or it isn't
+pub open-refused-by : (told : Option Files) (d now : Keeps) (name : List ℕ) (k : ℕ) (tree : CheckedTree) (why : Refusal) → d ≡ now → open_step (state_of told d) name k (Ok tree) ≡ refuse (state_of told d) why
+    → (open_step (state_of told now) name k (Ok tree)).1 ≡ replies.refused why
+open-refused-by told d now name k tree why same is = subst (λ (x : Keeps). (open_step (state_of told x) name k (Ok tree)).1 ≡ replies.refused why) same (ap (λ (x : State × Told). x.1) is)
+
+pub open-accepted-by : (told : Option Files) (d now : Keeps) (name : List ℕ) (k : ℕ) (tree : CheckedTree) → d ≡ now → is_some (position (is_named name) d.queries) ≡ false → nat_le MAX_QUERIES (length d.queries) ≡ false
+    → is_refusal (open_step (state_of told now) name k (Ok tree)).1 ≡ false
+open-accepted-by told d now name k tree same free room =
+    subst (λ (x : Keeps). is_refusal (open_step (state_of told x) name k (Ok tree)).1 ≡ false) same (ap (λ (x : State × Told). is_refusal x.1) (open-accepted told d name k tree free room))
+
 -- What a new search is of, whatever the files are.
 pub record IsNewSearch (snapshot : List Marked) (checked : Checked) (stats : List LeafStats) (k : ℕ) (s : Search) : Type 0 where
   pub snapshot_is : s.snapshot ≡ snapshot
@@ -192,10 +202,10 @@ module _ (told : Option Files) (d : Keeps) (name : List ℕ) (k : ℕ) (checked 
       of-now told d now
       (λ (x : Keeps). StepsTo (open_step (state_of told x) name k (Ok (whole_checked checked))) after (opened_with r all counts cache) (reply.Opened told_name live_now)) same
       (λ b.
-          let from = open_step (state_of told d) name k (Ok (whole_checked checked)) in
-          subst (λ (x : repositories.State). StepsTo from after (opened_with x all counts cache) (reply.Opened told_name live_now)) (sym made)
-          (subst (λ (qs : List OpenQuery). StepsTo from after (opened_with (closed d.repository) qs counts cache) (reply.Opened told_name live_now)) (sym pushed)
-          (subst (λ (n : List ℕ). StepsTo from after (opened_with (closed d.repository) (d.queries ++ q ∷ []) counts cache) (reply.Opened n live_now)) (sym copied)
-          (open-exit told d name k (whole_checked checked) after q counts cache live_now stay of-now-new free room (count ∙ ap length documents) (query-new numbers (stored b) taken (counted b))
-          (subst (λ (docs : List Document). AreSums docs d.repository.held.generation counts) documents (sums b)) (kept b) b))))
+      let from = open_step (state_of told d) name k (Ok (whole_checked checked)) in
+      subst (λ (x : repositories.State). StepsTo from after (opened_with x all counts cache) (reply.Opened told_name live_now)) (sym made)
+      (subst (λ (qs : List OpenQuery). StepsTo from after (opened_with (closed d.repository) qs counts cache) (reply.Opened told_name live_now)) (sym pushed)
+      (subst (λ (n : List ℕ). StepsTo from after (opened_with (closed d.repository) (d.queries ++ q ∷ []) counts cache) (reply.Opened n live_now)) (sym copied)
+      (open-exit told d name k (whole_checked checked) after q counts cache live_now stay of-now-new free room (count ∙ ap length documents) (query-new numbers (stored b) taken (counted b))
+      (subst (λ (docs : List Document). AreSums docs d.repository.held.generation counts) documents (sums b)) (kept b) b))))
       backed

@@ -58,7 +58,7 @@ returns-clause-steps g c = λ backed.
     let numbers : part_numbers parts ≡ part_numbers s.repository.held.parts.closed = ap part_numbers own ∙ c.in_ok-snapshot.ensures.numbers in
     scan-done told after view c.args.self.now c.snapshot.new.self text x c.in_ok-lines.lines c.scan.new.cache c.self.view_is c.in_ok-snapshot.ensures.closed c.in_ok-lines.ensures.reads.quiet.same_files is
     (λ b. c.in_ok-lines.ensures.exact (subst (λ (ms : List Marked). AreBacked told ms) (sym own) (c.in_ok-snapshot.ensures.stored told b.repository)) b.cache.backed
-        ∙ ap (λ (ms : List Marked). extents_in x (snapshots.live told ms)) own ∙ ap (extents_in x) (c.in_ok-snapshot.ensures.documents told))
+    ∙ ap (λ (ms : List Marked). extents_in x (snapshots.live told ms)) own ∙ ap (extents_in x) (c.in_ok-snapshot.ensures.documents told))
     (λ b. cache-read told s.repository parts s.cache c.scan.new.cache (listed-now s.repository parts numbers) c.in_ok-lines.ensures.reads.cache b.cache) backed
 
 pub returns-clause-refuses : goal.returns-clause-refuses

@@ -92,10 +92,10 @@ returns-in_ok-clone_in-clause-steps g c = λ told backed.
     let scale : c.checked.result.now.scale ≡ (whole_checked q.search.checked).scale = ap (λ (x : Checked). x.scale) c.checked.ensures in
     of-now told view c.args.self.now (λ (x : Keeps). Steps (event.Show name) told told x x (reply.Results name c.checked.result.now.scale hits)) c.self.view_is
     (λ b.
-        let query : IsQueryBacked told s.repository s.rule.kind q = at-place (IsQueryBacked told s.repository s.rule.kind) s.queries.items c.in-Some.place q place.within there b.queries in
-        let priors = priors_with (priors_in told s.repository.priors) in
-        let answered : IsAnswerOf s.rule.kind priors q.search (searched told q.search) hits = subst (IsAnswerOf s.rule.kind priors q.search (searched told q.search)) (sym same) (c.in-Some-results.ensures.answer s.rule.kind priors told query.taken) in
-        show-exit told view name c.in-Some.place q place there hits c.checked.result.now.scale scale passed (shown-entries told view name c.in-Some.place q place there hits was.distinct query answered) b)
+    let query : IsQueryBacked told s.repository s.rule.kind q = at-place (IsQueryBacked told s.repository s.rule.kind) s.queries.items c.in-Some.place q place.within there b.queries in
+    let priors = priors_with (priors_in told s.repository.priors) in
+    let answered : IsAnswerOf s.rule.kind priors q.search (searched told q.search) hits = subst (IsAnswerOf s.rule.kind priors q.search (searched told q.search)) (sym same) (c.in-Some-results.ensures.answer s.rule.kind priors told query.taken) in
+    show-exit told view name c.in-Some.place q place there hits c.checked.result.now.scale scale passed (shown-entries told view name c.in-Some.place q place there hits was.distinct query answered) b)
     backed
 
 pub returns-in_ok-clone_in-clause-order : goal.returns-in_ok-clone_in-clause-order
@@ -114,10 +114,10 @@ returns-in_ok-clone_in-clause-order g c = λ told backed.
     let scale : c.checked.result.now.scale ≡ q.search.checked.scale = ap (λ (x : Checked). x.scale) c.checked.ensures in
     of-now told view c.args.self.now (λ (x : Keeps). IsTrueReply (state_of told x) (event.Show name) (reply.Results name c.checked.result.now.scale hits)) c.self.view_is
     (λ b.
-        let query : IsQueryBacked told s.repository s.rule.kind q = at-place (IsQueryBacked told s.repository s.rule.kind) s.queries.items c.in-Some.place q place.within there b.queries in
-        let priors = priors_with (priors_in told s.repository.priors) in
-        let answered : IsAnswerOf s.rule.kind priors q.search (searched told q.search) hits = subst (IsAnswerOf s.rule.kind priors q.search (searched told q.search)) (sym same) (c.in-Some-results.ensures.answer s.rule.kind priors told query.taken) in
-        shown-true told view name c.in-Some.place q place there c.ranking_is_true.ensures c.checked.result.now.scale hits scale was.distinct query answered)
+    let query : IsQueryBacked told s.repository s.rule.kind q = at-place (IsQueryBacked told s.repository s.rule.kind) s.queries.items c.in-Some.place q place.within there b.queries in
+    let priors = priors_with (priors_in told s.repository.priors) in
+    let answered : IsAnswerOf s.rule.kind priors q.search (searched told q.search) hits = subst (IsAnswerOf s.rule.kind priors q.search (searched told q.search)) (sym same) (c.in-Some-results.ensures.answer s.rule.kind priors told query.taken) in
+    shown-true told view name c.in-Some.place q place there c.ranking_is_true.ensures c.checked.result.now.scale hits scale was.distinct query answered)
     backed
 
 pub returns-in_ok-clone_in-clause-form : goal.returns-in_ok-clone_in-clause-form

@@ -65,16 +65,16 @@ pub invariant_of-self : goal.invariant_of-self
 invariant_of-self g c = (
   c.self.invariant.0,
   λ usable_now there_now.
-    let s = c.self.inside in
-    let name = c.args.name in
-    let found : position (is_named name) s.queries.items ≡ Some c.in-Some.place = ap (λ (x : Keeps). position (is_named name) x.queries) c.self.view_is ∙ sym c.find.ensures ∙ c.in-Some.is in
-    let kept = c.self.invariant.1 usable_now there_now in
-    let q = c.index_mut.result.now in
-    let there : q ≡ get_or s.queries.items c.in-Some.place q = c.index_mut.ensures.value in
-    let place = found-place name s.queries.items c.in-Some.place q found in
-    let was : IsOpen (length s.repository.priors) q = at-place (IsOpen (length s.repository.priors)) s.queries.items c.in-Some.place q place.within there kept.each in
-    kept-set s.repository s.queries.items s.counts c.in-Some.place c.advance.new.self
-    (open-on (length s.repository.priors) q c.advance.new.self c.advance.ensures.same (c.advance.ensures.usable ∙ ap is_ok c.in-Ok.is) was) kept,
+      let s = c.self.inside in
+      let name = c.args.name in
+      let found : position (is_named name) s.queries.items ≡ Some c.in-Some.place = ap (λ (x : Keeps). position (is_named name) x.queries) c.self.view_is ∙ sym c.find.ensures ∙ c.in-Some.is in
+      let kept = c.self.invariant.1 usable_now there_now in
+      let q = c.index_mut.result.now in
+      let there : q ≡ get_or s.queries.items c.in-Some.place q = c.index_mut.ensures.value in
+      let place = found-place name s.queries.items c.in-Some.place q found in
+      let was : IsOpen (length s.repository.priors) q = at-place (IsOpen (length s.repository.priors)) s.queries.items c.in-Some.place q place.within there kept.each in
+      kept-set s.repository s.queries.items s.counts c.in-Some.place c.advance.new.self
+      (open-on (length s.repository.priors) q c.advance.new.self c.advance.ensures.same (c.advance.ensures.usable ∙ ap is_ok c.in-Ok.is) was) kept,
 )
 
 pub returns-in-Ok-clause-steps : goal.returns-in-Ok-clause-steps
@@ -97,10 +97,10 @@ returns-in-Ok-clause-steps g c = λ backed are.
     of-now told view c.args.self.now
     (λ (x : Keeps). Steps (event.Step name c.args.docs) told after x (with_search view (set s.queries.items c.in-Some.place new) cache) (reply.Stepped name c.in-Ok.credit c.in-Ok.live)) c.self.view_is
     (λ b.
-        let query : IsQueryBacked told s.repository s.rule.kind q = at-place (IsQueryBacked told s.repository s.rule.kind) s.queries.items c.in-Some.place q place.within there b.queries in
-        let now = c.in-Ok.ensures.backed s.repository few was.priors (subst (λ (x : Keeps). ArePlugs (priors_in told x.repository.priors) plugs) (sym c.self.view_is) are) b.cache.backed query in
-        let blocks : IsCacheKept after s.repository cache = subst (λ (f : Option Files). IsCacheKept f s.repository cache) (sym same) (cache-read told s.repository q.search.snapshot s.cache cache query.listed c.advance.ensures.cache b.cache) in
-        step-exit told view name c.in-Some.place q place there after c.args.docs c.in-Ok.credit c.in-Ok.live new cache same (c.in-Ok.ensures.query told) now blocks (c.in-Ok.ensures.credit told) (c.in-Ok.ensures.live told) b)
+    let query : IsQueryBacked told s.repository s.rule.kind q = at-place (IsQueryBacked told s.repository s.rule.kind) s.queries.items c.in-Some.place q place.within there b.queries in
+    let now = c.in-Ok.ensures.backed s.repository few was.priors (subst (λ (x : Keeps). ArePlugs (priors_in told x.repository.priors) plugs) (sym c.self.view_is) are) b.cache.backed query in
+    let blocks : IsCacheKept after s.repository cache = subst (λ (f : Option Files). IsCacheKept f s.repository cache) (sym same) (cache-read told s.repository q.search.snapshot s.cache cache query.listed c.advance.ensures.cache b.cache) in
+    step-exit told view name c.in-Some.place q place there after c.args.docs c.in-Ok.credit c.in-Ok.live new cache same (c.in-Ok.ensures.query told) now blocks (c.in-Ok.ensures.credit told) (c.in-Ok.ensures.live told) b)
     backed
 
 pub returns-in-Ok-clause-refuses : goal.returns-in-Ok-clause-refuses

@@ -1,6 +1,6 @@
 -- How a desk stays backed, part by part.
 use Rattle.std.proofs.Common.{◌≡◌, ℕ, ◌+◌, ◌^◌, ◌<◌, ◌≤◌, Bool, true, List, [], ◌∷◌, ◌++◌, length, map, min, refl, sym, ap, subst, ◌∙◌, arith, Some, None, Option}
-use Rattle.std.specs.Prelude.{Contains}
+use Rattle.std.specs.Prelude.{Contains, unwrap_or}
 use Rattle.std.specs.List.{All, AllZip}
 use Rattle.std.specs.Option.{IfSome, option_map}
 use Rattle.std.proofs.lemmas.List.Elements.{All-head, All-tail, All-weaker}
@@ -9,20 +9,25 @@ use Rattle.store_ends.specs.Files.{Files, SameWhere}
 use Rattle.smoothing.specs.declared.rule.RuleKind.{RuleKind}
 use Rattle.manifest.specs.declared.manifest.PriorEntry.{PriorEntry}
 use Rattle.disk_index.specs.Cache.{IsCacheBacked, KeptBlock}
+use Rattle.disk_index.specs.Snapshots.{Marked}
 use Rattle.holdings.specs.Parts.{live}
 use Rattle.holdings.specs.declared.limits.Limits.{Limits}
 use Rattle.counts.specs.Kept.{AreSums, Kept}
+use Rattle.merge_job.specs.Merge.{Merging}
+use Rattle.repository.specs.Merges.{IsMerging, IsOpenMerging}
 use Rattle.repository.specs.Numbers.{is_among}
 use Rattle.repository.specs.Stands.{Prior}
 use Rattle.repository.specs.States as repositories
 use Rattle.repository.specs.Saved.{IsUnlisted}
 use Rattle.repository.specs.States.{IsBacked, listed_numbers, part_numbers}
 use Rattle.repository.specs.Writes.{IsBeside}
+use Rattle.repository.proofs.TieLemmas.{IfSome-map}
 use Rattle.query_check.specs.Answers.{whole_checked}
 use Rattle.collection_queries.specs.Priors.{priors_with}
 use Rattle.ranker.specs.Ranking.{query_network}
 use Rattle.ranker.specs.Searches.{IsTaken}
 use Rattle.desk.proofs.Frames.{Stay, backed-same, cache-same, listed-stays, live-same, taken-same}
+use Rattle.desk.specs.Backed.{IsMergeBacked}
 use Rattle.desk.specs.Queries.{AreListed, IsCacheKept, IsQueryBacked, priors_in, query_of}
 use Rattle.desk.specs.State.{Merge, Query, State}
 use Rattle.desk.specs.declared.query.OpenQuery.{OpenQuery}
@@ -42,6 +47,23 @@ Lists s t = (n : ℕ) → is_among n (listed_numbers s) ≡ true → is_among n 
 
 pub listed-on : (s t : repositories.State) (ns : List ℕ) → Lists s t → AreListed s ns → AreListed t ns
 listed-on s t ns on listed = λ n e. on n (listed n e)
+
+-- ---- the open merge
+
+pub open-merging : (told : Option Files) (s : repositories.State) → IfSome s.merge (IsMergeBacked told s) → IsOpenMerging told s
+open-merging told s backed = IfSome-map s.merge (IsMergeBacked told s) (IsMerging told s) (λ m b. b.merging) backed
+
+merge-by : (a b : Option Files) (s t : repositories.State) (o p : Option Merging) → p ≡ o → Lists s t → IfSome o (IsMergeBacked a s) → IfSome p (IsMerging b t) → IfSome p (IsMergeBacked b t)
+merge-by a b s t o None same on was now = tt
+merge-by a b s t None (Some m) same on was now = absurd (cc)
+merge-by a b s t (Some k) (Some m) same on was now = record {
+  merging = now;
+  listed = listed-on s t (part_numbers m.snapshot) on (subst (λ (ms : List Marked). AreListed s (part_numbers ms)) (ap (λ (x : Option Merging). (unwrap_or x m).snapshot) (sym same)) was.listed);
+}
+
+-- the merge that was open is open, its condition holds on, and its files stay listed
+pub merge-kept : (a b : Option Files) (s t : repositories.State) → t.merge ≡ s.merge → Lists s t → IsOpenMerging b t → IfSome s.merge (IsMergeBacked a s) → IfSome t.merge (IsMergeBacked b t)
+merge-kept a b s t same on now was = merge-by a b s t s.merge t.merge same on was now
 
 -- ---- the files stay, and so do the priors
 

@@ -23,4 +23,5 @@ pub mod ReadingExits
 pub mod ScanLemmas
 pub mod Staying
 pub mod Telling
+pub mod TurnExits
 pub mod WritingLemmas

@@ -18,7 +18,7 @@ use Rattle.desk.specs.Asked.{asked, scanned}
 use Rattle.desk.specs.Points.{kept_behind}
 use Rattle.desk.specs.State.{Merge, Query, State, closed, collection_of, merged, named, opened, opened_merge, stepped, turned_merge, with_live, with_merge, with_queries}
 use Rattle.desk.specs.Scanning.{extents_in}
-use Rattle.desk.specs.Step.{answer_of, is_full, is_live, line_of, open_step, refuse, step}
+use Rattle.desk.specs.Step.{answer_of, is_full, is_live, line_of, open_step, ranked, refuse, step}
 use Rattle.desk.specs.Told as told
 use Rattle.desk.specs.Told.{Told}
 use Rattle.desk.specs.declared.query.TheConstants.{MAX_QUERIES}
@@ -145,6 +145,10 @@ explain-noname s name rank e = rw e refl
 pub explain-notyet : (s : State) (name : List ℕ) (rank : ℕ) (q : Query) → named name s.queries ≡ Some q → nat_lt q.credit (length q.live) ≡ true → step s (event.Explain name rank) ≡ refuse s (NotYet name)
 unfolding step
 explain-notyet s name rank q e less = rw e (choice-yes (nat_lt q.credit (length q.live)) _ _ less)
+
+pub explain-passed : (s : State) (name : List ℕ) (rank : ℕ) (q : Query) → named name s.queries ≡ Some q → nat_lt q.credit (length q.live) ≡ false → step s (event.Explain name rank) ≡ ranked s name rank q (slice_get (answer_of s q) (rank - 1))
+unfolding step
+explain-passed s name rank q e less = rw (e, less) refl
 
 pub explain-norank : (s : State) (name : List ℕ) (rank : ℕ) (q : Query) → named name s.queries ≡ Some q → nat_lt q.credit (length q.live) ≡ false → slice_get (answer_of s q) (rank - 1) ≡ None → step s (event.Explain name rank) ≡ refuse s (NoSuchRank name)
 unfolding step

@@ -33,7 +33,7 @@ use Rattle.desk.specs.State.{collection_of}
 use Rattle.desk.specs.Step.{is_live, refuse, step}
 use Rattle.desk.proofs.Cases.{step-added, step-deleted, step-full, step-nodoc, step-repeated}
 use Rattle.desk.proofs.Exits.{exit, refused-exit, state-by}
-use Rattle.desk.proofs.Keeping.{Cache-on, Lists, Queries-on, merge-kept, open-merging}
+use Rattle.desk.proofs.Keeping.{Cache-on, Queries-on, listed-held, merge-condition, merge-kept}
 use Rattle.desk.proofs.Reading.{reads-state}
 
 -- with another repository
@@ -53,9 +53,6 @@ sums-later docs more g all none are = record {
 }
 
 -- ---- files that are listed stay listed
-
-pub listed-held : (s : repositories.State) (h : Contents) → part_numbers h.parts.closed ≡ part_numbers s.held.parts.closed → Lists s (with_held s h)
-listed-held s h same = λ n among. subst (λ ns. is_among n (ns ++ (s.stale ++ prior_numbers s.priors)) ≡ true) (sym same) among
 
 numbers-with : (p : Parts) (d : Document) → part_numbers (parts.with_document p d).closed ≡ part_numbers p.closed
 numbers-with p d = by (has_room p d)
@@ -135,7 +132,7 @@ add-done told d now r doc same early made fresh room reads stored merging backed
     let read : ReadsAs told h (with_document c doc) = subst (λ (x : repositories.State). ReadsAs told x (with_document c doc)) made (reads c (reads-state told d inside.repository)) in
     subst (λ (x : Keeps). Steps (event.Document doc) told told x (with_repository d r) (reply.Added doc.docno (length doc.tokens))) same
     (subst (λ (x : repositories.State). Steps (event.Document doc) told told d (with_repository d x) (reply.Added doc.docno (length doc.tokens))) (sym made)
-    (add-exit told d inside early doc fresh room read (subst (IsBacked told) made (stored inside.repository)) (subst (IsOpenMerging told) made (merging (open-merging told d.repository inside.merge)))))
+    (add-exit told d inside early doc fresh room read (subst (IsBacked told) made (stored inside.repository)) (subst (IsOpenMerging told) made (merging (merge-condition told d.repository d.repository.merge inside.merge)))))
 
 pub delete-done : (told : Option Files) (d now : Keeps) (r : repositories.State) (docno : List ℕ) → d ≡ now → AreEarly d.counts → r ≡ with_held d.repository (deleted d.repository.held docno)
     → parts.is_live d.repository.held.parts docno ≡ true → HandsOn told d.repository r (λ c. without_docno c docno) → (IsBacked told d.repository → IsBacked told r)
@@ -148,7 +145,7 @@ delete-done told d now r docno same early made there reads stored merging backed
     let read : ReadsAs told h (without_docno c docno) = subst (λ (x : repositories.State). ReadsAs told x (without_docno c docno)) made (reads c (reads-state told d inside.repository)) in
     subst (λ (x : Keeps). Steps (event.Delete docno) told told x (with_repository d r) (reply.Deleted docno)) same
     (subst (λ (x : repositories.State). Steps (event.Delete docno) told told d (with_repository d x) (reply.Deleted docno)) (sym made)
-    (delete-exit told d inside early docno there read (subst (IsBacked told) made (stored inside.repository)) (subst (IsOpenMerging told) made (merging (open-merging told d.repository inside.merge)))))
+    (delete-exit told d inside early docno there read (subst (IsBacked told) made (stored inside.repository)) (subst (IsOpenMerging told) made (merging (merge-condition told d.repository d.repository.merge inside.merge)))))
 
 -- a call that is refused leaves the repository as it was
 pub refused-done : (told : Option Files) (e : Event) (d now : Keeps) (r : repositories.State) (why : Refusal) → d ≡ now → r ≡ d.repository → step (state_of told d) e ≡ refuse (state_of told d) why → IsDeskBacked told now

@@ -25,7 +25,7 @@ use Rattle.desk.specs.Step.{step}
 use Rattle.desk.proofs.Cases.{kept-flushed, step-flushed}
 use Rattle.desk.proofs.DocumentExits.{with_repository}
 use Rattle.desk.proofs.Exits.{exit, state-by}
-use Rattle.desk.proofs.Keeping.{Cache-commit, Lists, Queries-commit, merge-kept, open-merging, queries-same}
+use Rattle.desk.proofs.Keeping.{Cache-commit, Lists, Queries-commit, merge-condition, merge-kept, queries-same}
 use Rattle.desk.proofs.Reading.{priors-read, reads-state}
 use Rattle.desk.proofs.WritingLemmas.{either-now}
 
@@ -54,7 +54,7 @@ module _ (before after : Option Files) (d : Keeps) (r : repositories.State) (bac
       record {
         repository = wrote.backed backed.repository;
         queries = Queries-commit before after s r d.kind d.queries backed.repository same lists priors backed.queries;
-        merge = merge-kept before after s r saved.merge lists (merging (open-merging before s backed.merge)) backed.merge;
+        merge = merge-kept before after s r saved.merge lists (merging (merge-condition before s s.merge backed.merge)) backed.merge;
         counts = subst (λ g. AreSums (live after r.held.parts) g d.counts) (sym saved.generation) (subst (λ (docs : List Document). AreSums docs s.held.generation d.counts) (sym reads-after.live_are) backed.counts);
         cache = Cache-commit before after s r d.cache backed.repository same lists backed.cache;
       }

@@ -1,15 +1,16 @@
 -- How a desk stays backed, part by part.
 use Rattle.std.proofs.Common.{◌≡◌, ℕ, ◌+◌, ◌^◌, ◌<◌, ◌≤◌, Bool, true, List, [], ◌∷◌, ◌++◌, length, map, min, refl, sym, ap, subst, ◌∙◌, arith, Some, None, Option}
-use Rattle.std.specs.Prelude.{Contains, unwrap_or}
+use Rattle.std.specs.Prelude.{Contains}
 use Rattle.std.specs.List.{All, AllZip}
 use Rattle.std.specs.Option.{IfSome, option_map}
 use Rattle.std.proofs.lemmas.List.Elements.{All-head, All-tail, All-weaker}
 use Rattle.ri_base.specs.Documents.{Document}
 use Rattle.store_ends.specs.Files.{Files, SameWhere}
 use Rattle.smoothing.specs.declared.rule.RuleKind.{RuleKind}
+use Rattle.manifest.specs.Listing.{prior_numbers}
 use Rattle.manifest.specs.declared.manifest.PriorEntry.{PriorEntry}
 use Rattle.disk_index.specs.Cache.{IsCacheBacked, KeptBlock}
-use Rattle.disk_index.specs.Snapshots.{Marked}
+use Rattle.holdings.specs.Contents.{Contents}
 use Rattle.holdings.specs.Parts.{live}
 use Rattle.holdings.specs.declared.limits.Limits.{Limits}
 use Rattle.counts.specs.Kept.{AreSums, Kept}
@@ -20,8 +21,8 @@ use Rattle.repository.specs.Stands.{Prior}
 use Rattle.repository.specs.States as repositories
 use Rattle.repository.specs.Saved.{IsUnlisted}
 use Rattle.repository.specs.States.{IsBacked, listed_numbers, part_numbers}
+use Rattle.repository.specs.Steps.{with_held}
 use Rattle.repository.specs.Writes.{IsBeside}
-use Rattle.repository.proofs.TieLemmas.{IfSome-map}
 use Rattle.query_check.specs.Answers.{whole_checked}
 use Rattle.collection_queries.specs.Priors.{priors_with}
 use Rattle.ranker.specs.Ranking.{query_network}
@@ -48,22 +49,26 @@ Lists s t = (n : ℕ) → is_among n (listed_numbers s) ≡ true → is_among n 
 pub listed-on : (s t : repositories.State) (ns : List ℕ) → Lists s t → AreListed s ns → AreListed t ns
 listed-on s t ns on listed = λ n e. on n (listed n e)
 
+-- other parts with the same files are held
+pub listed-held : (s : repositories.State) (h : Contents) → part_numbers h.parts.closed ≡ part_numbers s.held.parts.closed → Lists s (with_held s h)
+listed-held s h same = λ n among. subst (λ ns. is_among n (ns ++ (s.stale ++ prior_numbers s.priors)) ≡ true) (sym same) among
+
 -- ---- the open merge
 
-pub open-merging : (told : Option Files) (s : repositories.State) → IfSome s.merge (IsMergeBacked told s) → IsOpenMerging told s
-open-merging told s backed = IfSome-map s.merge (IsMergeBacked told s) (IsMerging told s) (λ m b. b.merging) backed
+-- its condition is that of the repository
+pub merge-condition : (told : Option Files) (s : repositories.State) (m : Option Merging) → IfSome m (IsMergeBacked told s) → IfSome m (IsMerging told s)
+merge-condition told s None backed = tt
+merge-condition told s (Some m) backed = backed.merging
 
-merge-by : (a b : Option Files) (s t : repositories.State) (o p : Option Merging) → p ≡ o → Lists s t → IfSome o (IsMergeBacked a s) → IfSome p (IsMerging b t) → IfSome p (IsMergeBacked b t)
-merge-by a b s t o None same on was now = tt
-merge-by a b s t None (Some m) same on was now = absurd (cc)
-merge-by a b s t (Some k) (Some m) same on was now = record {
-  merging = now;
-  listed = listed-on s t (part_numbers m.snapshot) on (subst (λ (ms : List Marked). AreListed s (part_numbers ms)) (ap (λ (x : Option Merging). (unwrap_or x m).snapshot) (sym same)) was.listed);
-}
+-- it stays backed by a repository that keeps its condition and lists as much
+pub Merge-on : (told now : Option Files) (s t : repositories.State) (m : Option Merging) → Lists s t → IfSome m (IsMergeBacked told s) → IfSome m (IsMerging now t) → IfSome m (IsMergeBacked now t)
+Merge-on told now s t None on backed condition = tt
+Merge-on told now s t (Some m) on backed condition = record { merging = condition; listed = listed-on s t (part_numbers m.snapshot) on backed.listed }
 
--- the merge that was open is open, its condition holds on, and its files stay listed
+-- so it is over a call that leaves the merge as it is
 pub merge-kept : (a b : Option Files) (s t : repositories.State) → t.merge ≡ s.merge → Lists s t → IsOpenMerging b t → IfSome s.merge (IsMergeBacked a s) → IfSome t.merge (IsMergeBacked b t)
-merge-kept a b s t same on now was = merge-by a b s t s.merge t.merge same on was now
+merge-kept a b s t same on now was =
+    subst (λ (o : Option Merging). IfSome o (IsMergeBacked b t)) (sym same) (Merge-on a b s t s.merge on was (subst (λ (o : Option Merging). IfSome o (IsMerging b t)) same now))
 
 -- ---- the files stay, and so do the priors
 

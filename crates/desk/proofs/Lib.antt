@@ -1,11 +1,13 @@
 pub mod AskedLemmas
 pub mod CacheLemmas
 pub mod Cases
+pub mod Closing
 pub mod CountLemmas
 pub mod DocumentExits
 pub mod EndExits
 pub mod Exits
 pub mod FlushExits
+pub mod FormLemmas
 pub mod Frames
 pub mod Keeping
 pub mod KeptLemmas

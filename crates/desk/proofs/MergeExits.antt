@@ -34,9 +34,9 @@ use Rattle.desk.specs.State.{Merge, collection_of, opened_merge, turned_merge}
 use Rattle.desk.proofs.Cases.{step-merged, step-merging, step-turned}
 use Rattle.desk.proofs.CacheLemmas.{listed-now}
 use Rattle.desk.proofs.CountLemmas.{documents-closed, length-alike, tokens-alike, tokens-closed}
-use Rattle.desk.proofs.DocumentExits.{listed-held, with_repository}
+use Rattle.desk.proofs.DocumentExits.{with_repository}
 use Rattle.desk.proofs.Exits.{exit, of-now, state-by}
-use Rattle.desk.proofs.Keeping.{Cache-commit, Cache-on, Lists, Queries-commit, Queries-on, queries-same}
+use Rattle.desk.proofs.Keeping.{Cache-commit, Cache-on, Lists, Queries-commit, Queries-on, listed-held, queries-same}
 use Rattle.desk.proofs.Reading.{priors-read, reads-state}
 
 abbrev merge_at : ℕ → ℕ → ℕ → ℕ → Merge

@@ -51,6 +51,7 @@ module _ (told : Option Files) (d : Keeps) (name : List ℕ) (i : ℕ) (q : Open
       (record {
         repository = backed.repository;
         queries = All-remove (IsQueryBacked told d.repository d.kind) d.queries i backed.queries;
+        merge = backed.merge;
         counts = backed.counts;
         cache = backed.cache;
       })
@@ -69,7 +70,8 @@ module _ (told : Option Files) (d : Keeps) (name : List ℕ) (i : ℕ) (q : Open
       (ap (λ (f : Option Files). state_of f n) same ∙ state-eq refl refl refl refl (stepped-at told told name docs d.queries i q new refl place here) refl refl refl) shown
       (record {
         repository = moved.repository;
-        queries = All-set (IsQueryBacked after d.repository d.kind) d.queries i new moved.queries now;
+        queries = All-set (IsQueryBacked after d.repository d.kind) d.queries i new now moved.queries;
+        merge = moved.merge;
         counts = moved.counts;
         cache = kept;
       })

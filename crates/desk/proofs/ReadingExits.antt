@@ -15,19 +15,17 @@ use Rattle.query_check.specs.Answers.{whole_checked}
 use Rattle.belief_nodes.specs.Network.{NetworkTree, network_tree}
 use Rattle.disk_index.specs.Cache.{KeptBlock}
 use Rattle.document_scoring.specs.Counts.{stats_of}
-use Rattle.holdings.specs.Contents.{all_closed}
 use Rattle.holdings.specs.Parts.{live}
-use Rattle.counts.specs.Kept.{AreSums, Kept}
 use Rattle.ranked_output.specs.declared.explained.Explained.{Explained}
 use Rattle.result_explanation.specs.Explanation.{IsExplanation}
 use Rattle.ranker.specs.Searches.{searched}
 use Rattle.repository.specs.Stands.{Prior}
-use Rattle.repository.specs.States.{IsBacked, ReadsAs}
-use Rattle.repository.specs.Steps.{with_held}
-use Rattle.repository.proofs.SaveLemmas.{numbers-sealed}
+use Rattle.repository.specs.States as repositories
 use Rattle.collection_queries.specs.Answer.{document_with}
 use Rattle.collection_queries.specs.Priors.{names_with, priors_with}
+use Rattle.session_events.specs.declared.event.Event.{Event}
 use Rattle.session_events.specs.declared.event.Event.TheVariants as event
+use Rattle.session_replies.specs.declared.reply.Refusal.{Refusal}
 use Rattle.session_replies.specs.declared.reply.Reply.TheVariants as reply
 use Rattle.session_replies.specs.declared.reply.Refusal.TheVariants.{NoSuchRank}
 use Rattle.desk.specs.Answers.{Entry, answer, entry_of}
@@ -35,43 +33,40 @@ use Rattle.desk.specs.Asked.{scanned}
 use Rattle.desk.specs.Backed.{IsDeskBacked, Keeps, Steps, state_of}
 use Rattle.desk.specs.Queries.{IsCacheKept, IsQueryBacked, priors_in, query_of, table_in}
 use Rattle.desk.specs.Scanning.{extents_in}
-use Rattle.desk.specs.State.{collection_of}
-use Rattle.desk.specs.Step.{answer_of, document_named, refuse, step}
+use Rattle.desk.specs.State.{Query, State, collection_of, named}
+use Rattle.desk.specs.Step.{answer_of, document_named, ranked, refuse, step}
+use Rattle.desk.specs.Told.{Told, early, told_early}
 use Rattle.desk.specs.declared.query.OpenQuery.{OpenQuery}
-use Rattle.desk.proofs.Cases.{explain-norank, explain-ranked, scan-found}
-use Rattle.desk.proofs.DocumentExits.{listed-held}
-use Rattle.desk.proofs.Exits.{exit, state-by}
-use Rattle.desk.proofs.Keeping.{Cache-on, Lists, Queries-on}
+use Rattle.desk.proofs.Cases.{explain-norank, explain-passed, explain-ranked, scan-found}
+use Rattle.desk.proofs.Closing.{closed, closed-backed, closed-reads, with_closed}
+use Rattle.desk.proofs.Exits.{exit, of-now, refused-by, state-by}
 use Rattle.desk.proofs.Naming.{IsPlace, named-here}
-
--- the part that was being filled is closed, and other sums and blocks are kept
-abbrev pub with_closed : Keeps → List Kept → List KeptBlock → Keeps
-with_closed d counts cache = record { repository = with_held d.repository (all_closed d.repository.held); kind = d.kind; queries = d.queries; counts = counts; cache = cache; usable = d.usable }
 
 -- other blocks are kept
 abbrev pub with_cache : Keeps → List KeptBlock → Keeps
 with_cache d cache = record { repository = d.repository; kind = d.kind; queries = d.queries; counts = d.counts; cache = cache; usable = d.usable }
 
--- ---- the part that is being filled is closed
+-- ---- a scan
 
-module _ (told : Option Files) (d : Keeps) (counts : List Kept) (cache : List KeptBlock) (backed : IsDeskBacked told d) (stored : IsBacked told (with_held d.repository (all_closed d.repository.held))) where
-  pub closed-backed : AreSums (live told (all_closed d.repository.held).parts) d.repository.held.generation counts → IsCacheKept told d.repository cache → IsDeskBacked told (with_closed d counts cache)
-  closed-backed sums kept =
-      let s = d.repository in
-      let r = with_held s (all_closed s.held) in
-      let lists : Lists s r = listed-held s (all_closed s.held) (numbers-sealed s.held.parts) in
-      record { repository = stored; queries = Queries-on told s r d.kind d.queries lists refl backed.queries; counts = sums; cache = Cache-on told s r cache lists kept }
+-- with that repository, and other blocks
+abbrev with_read : Keeps → repositories.State → List KeptBlock → Keeps
+with_read d r cache = record { repository = r; kind = d.kind; queries = d.queries; counts = d.counts; cache = cache; usable = d.usable }
 
-  -- ---- a scan
-
-  pub scan-exit : (after : Option Files) (text : List ℕ) (x : ExprTree) (lines : List (List ℕ × Pair)) → after ≡ told → scanned text ≡ Ok x → lines ≡ extents_in x (live told d.repository.held.parts)
-      → ReadsAs told (with_held d.repository (all_closed d.repository.held)) (collection_of (state_of told d)) → AreSums (live told (all_closed d.repository.held).parts) d.repository.held.generation counts
-      → IsCacheKept told d.repository cache → Steps (event.Scan text) told after d (with_closed d counts cache) (reply.Extents lines)
-  scan-exit after text x lines same is found reads sums kept =
-      let n = with_closed d counts cache in
-      let state = state-by told n (collection_of (state_of told d)) _ _ _ _ reads refl refl refl refl in
+module _ (told : Option Files) (d : Keeps) (backed : IsDeskBacked told d) where
+  scan-exit : (after : Option Files) (text : List ℕ) (x : ExprTree) (lines : List (List ℕ × Pair)) (cache : List KeptBlock) → after ≡ told → scanned text ≡ Ok x → lines ≡ extents_in x (live told d.repository.held.parts)
+      → IsCacheKept told d.repository cache → Steps (event.Scan text) told after d (with_closed d d.counts cache) (reply.Extents lines)
+  scan-exit after text x lines cache same is found kept =
+      let n = with_closed d d.counts cache in
+      let state = state-by told n (collection_of (state_of told d)) _ _ _ _ (closed-reads told d backed) refl refl refl refl in
       exit (event.Scan text) told after d n (reply.Extents lines) _ (scan-found (state_of told d) text x is) (ap (λ (f : Option Files). state_of f n) same ∙ state) (ap reply.Extents found)
-      (subst (λ (f : Option Files). IsDeskBacked f n) (sym same) (closed-backed sums kept))
+      (subst (λ (f : Option Files). IsDeskBacked f n) (sym same) (closed-backed told d backed d.counts cache backed.counts kept))
+
+pub scan-done : (told after : Option Files) (d now : Keeps) (r : repositories.State) (text : List ℕ) (x : ExprTree) (lines : List (List ℕ × Pair)) (cache : List KeptBlock) → d ≡ now → r ≡ closed d.repository → after ≡ told → scanned text ≡ Ok x
+    → (IsDeskBacked told d → lines ≡ extents_in x (live told d.repository.held.parts)) → (IsDeskBacked told d → IsCacheKept told d.repository cache) → IsDeskBacked told now
+    → Steps (event.Scan text) told after now (with_read d r cache) (reply.Extents lines)
+scan-done told after d now r text x lines cache same made stay is found kept backed =
+    of-now told d now (λ (n : Keeps). Steps (event.Scan text) told after n (with_read d r cache) (reply.Extents lines)) same
+    (λ b. subst (λ (s : repositories.State). Steps (event.Scan text) told after d (with_read d s cache) (reply.Extents lines)) (sym made) (scan-exit told d b after text x lines cache stay is (found b) (kept b))) backed
 
 -- ---- an explanation
 
@@ -104,4 +99,18 @@ module _ (told : Option Files) (d : Keeps) (name : List ℕ) (i : ℕ) (q : Open
       exit (event.Explain name rank) told after d n (reply.Explained e) _
       (explain-ranked (state_of told d) name rank (query_of told q) (entry_of hit) (named-here told name d.queries i q place there) passed (entry-at (Some hit) at)) (ap (λ (f : Option Files). state_of f n) same)
       (e, (refl, (shown, ap entry_of is.hit_is)))
-      (subst (λ (f : Option Files). IsDeskBacked f n) (sym same) (record { repository = backed.repository; queries = backed.queries; counts = backed.counts; cache = kept }))
+      (subst (λ (f : Option Files). IsDeskBacked f n) (sym same) (record { repository = backed.repository; queries = backed.queries; merge = backed.merge; counts = backed.counts; cache = kept }))
+
+-- ---- refusals that rest on no document
+
+-- once all documents are passed, only that of a rank is left
+early-ranked : (s : State) (name : List ℕ) (rank : ℕ) (q : Query) (o : Option Entry) → told_early (ranked s name rank q o).1 ≡ None
+early-ranked s name rank q None = refl
+early-ranked s name rank q (Some e) = refl
+
+pub early-passed : (s : State) (name : List ℕ) (rank : ℕ) (q : Query) → named name s.queries ≡ Some q → nat_lt q.credit (length q.live) ≡ false → told_early (step s (event.Explain name rank)).1 ≡ None
+early-passed s name rank q e passed = ap (λ (r : State × Told). told_early r.1) (explain-passed s name rank q e passed) ∙ early-ranked s name rank q (slice_get (answer_of s q) (rank - 1))
+
+-- an earlier one is refused so, whatever the files are
+pub early-refused : (e : Event) (told : Option Files) (d now : Keeps) (why : Refusal) → d ≡ now → step (state_of told d) e ≡ refuse (state_of told d) why → early why ≡ told_early (step (state_of told now) e).1
+early-refused e told d now why same is = sym (ap told_early (refused-by e told d now why same is))

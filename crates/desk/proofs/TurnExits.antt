@@ -27,7 +27,7 @@ use Rattle.desk.specs.Told.{Told, is_refusal}
 use Rattle.desk.proofs.CacheLemmas.{cache-read}
 use Rattle.desk.proofs.Cases.{kept-merged, kept-nomerge, kept-turned, step-merged, step-nomerge, step-turned}
 use Rattle.desk.proofs.Exits.{accepted, of-now}
-use Rattle.desk.proofs.Keeping.{open-merging}
+use Rattle.desk.proofs.Keeping.{merge-condition}
 use Rattle.desk.proofs.MergeExits.{if-some, merged-exit, none-of, some-of, turned-exit, with_merged}
 use Rattle.desk.proofs.Reading.{reads-state}
 use Rattle.desk.proofs.WritingLemmas.{either-now, none-written}
@@ -99,7 +99,7 @@ module _ {S : Type 0} (files : S → Option Files) (clock : S → ℕ) (since : 
   done = without_dead_of d.repository.merge (collection_of (state_of (files old) d))
 
   leaves : Leaves (since old) (since new) (IsEither d.repository.held.limits kept done)
-  leaves = stops kept (collection_of (state_of (files old) d)) (open-merging (files old) d.repository inside.merge) inside.cache.backed stood (reads-state (files old) d inside.repository)
+  leaves = stops kept (collection_of (state_of (files old) d)) (merge-condition (files old) d.repository d.repository.merge inside.merge) inside.cache.backed stood (reads-state (files old) d inside.repository)
 
   less : nat_lt (length m.copied + docs) (size_of m) ≡ true → length m.copied + docs < size_of m
   less e = ltb-true (length m.copied + docs) (size_of m) e
@@ -149,7 +149,7 @@ module _ (before after : Option Files) (d now : Keeps) (docs credit size : ℕ) 
           let s = d.repository in
           let m = on.before in
           let merging : IsMergeBacked before s m = if-some (IsMergeBacked before s) s.merge m on.was inside.merge in
-          let turns = over (open-merging before s inside.merge) inside.cache.backed in
+          let turns = over (merge-condition before s s.merge inside.merge) inside.cache.backed in
           let kept = cache-read before s m.snapshot d.cache cache merging.listed (if-some (λ (k : Merging). CacheKeeps before (IsFileAmong k.snapshot) d.cache cache) s.merge m on.was keeps) inside.cache in
           let c = collection_of (state_of before d) in
           let shown : reply.Turned credit size ≡ reply.Turned (length m.copied + docs) (size_of m) = λ i. reply.Turned (shown-on.0 i) (shown-on.1 i) in
@@ -178,7 +178,7 @@ module _ (before after : Option Files) (d now : Keeps) (docs : ℕ) (r : reposit
           let s = d.repository in
           let m = to.before in
           let merging : IsMergeBacked before s m = if-some (IsMergeBacked before s) s.merge m to.was inside.merge in
-          let turns = over (open-merging before s inside.merge) inside.cache.backed in
+          let turns = over (merge-condition before s s.merge inside.merge) inside.cache.backed in
           let kept = cache-read before s m.snapshot d.cache cache merging.listed (if-some (λ (k : Merging). CacheKeeps before (IsFileAmong k.snapshot) d.cache cache) s.merge m to.was keeps) inside.cache in
           let c = collection_of (state_of before d) in
           let read : ReadsAs after r (without_dead_of (Some m) c) = subst (λ (o : Option Merging). ReadsAs after r (without_dead_of o c)) to.was (turns.reads c (reads-state before d inside.repository)) in
@@ -188,6 +188,6 @@ module _ (before after : Option Files) (d now : Keeps) (docs : ℕ) (r : reposit
   merged-kept kept backed =
       of-now before d now (λ (x : Keeps). Stands x.repository.held.limits after (kept_behind kept (step (state_of before x) (event.Turn docs)))) same
       (λ inside.
-          let turns = over (open-merging before d.repository inside.merge) inside.cache.backed in
+          let turns = over (merge-condition before d.repository d.repository.merge inside.merge) inside.cache.backed in
           let c = collection_of (state_of before d) in
           subst (λ (k : Collection). Stands d.repository.held.limits after k) (sym (behind-merged before d docs to.before to.was kept past-to)) (turns.stands refl c (reads-state before d inside.repository))) backed

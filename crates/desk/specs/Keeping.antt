@@ -6,6 +6,7 @@ use Rattle.query_check.specs.Leaves.{LeafTree, extents, prior}
 use Rattle.belief_nodes.specs.Network.{network_tree}
 use Rattle.counts.specs.Kept.{Kept}
 use Rattle.holdings.specs.MarkedParts.{docnos_of}
+use Rattle.collection_queries.specs.Searching.{HasNetwork}
 use Rattle.repository.specs.States.{State}
 use Rattle.session_events.specs.declared.event.TheConstants.{MAX_RESULTS}
 use Rattle.desk.specs.declared.query.TheConstants.{MAX_QUERIES}
@@ -16,9 +17,11 @@ abbrev pub AsksFor : ℕ → LeafTree → Type 0
 AsksFor count (extents x context) = ⊤
 AsksFor count (prior n) = (n < count) ⊎ (n ≡ 8)
 
--- an open search may be used, asks for none but so many priors and that of the lengths, and no two of its documents have one docno
+-- An open search may be used, its network is that of its query, and it asks for none but so many priors and that of the lengths. No
+-- two of its documents have one docno.
 pub record IsOpen (count : ℕ) (q : OpenQuery) : Type 0 where
   pub usable : q.search.usable ≡ true
+  pub network : HasNetwork q.search
   pub distinct : IsDistinct bytes_eq (docnos_of q.search.snapshot)
   pub few : q.search.most ≤ MAX_RESULTS
   pub priors : All (AsksFor count) (network_tree q.search.network).leaves

@@ -472,6 +472,7 @@ impl<F: Fn(u32, u32, u64, u64) -> Fraction> Desk<F> {
         let Some(place) = self.find(&name) else {
             return Ok(Reply::Refused(Refusal::NoSuchName(name)));
         };
+        let _few = self.repository.priors();
         match self.queries[place].advance(alloc, docs, &self.rule, plugs, store, &mut self.cache) {
             Ok((credit, live)) => Ok(Reply::Stepped(name, credit, live)),
             Err(fault) => {

@@ -8,7 +8,7 @@ ghost use Rattle.belief_nodes.specs.Leaves.{HasPrior};
 ghost use Rattle.belief_nodes.specs.Network.{network_tree};
 ghost use Rattle.disk_index.specs.Cache.{CacheKeeps, IsCacheBacked};
 ghost use Rattle.disk_index.specs.Snapshots.{IsFileAmong};
-ghost use Rattle.ranker.specs.Searches.{searched};
+ghost use Rattle.ranker.specs.Searches.{IsSameSearch, searched};
 ghost use Rattle.repository.specs.States.{State};
 ghost use Rattle.desk.specs.Queries.{IsQueryBacked, priors_in, query_of};
 ghost use Rattle.desk.specs.Keeping.{AsksFor};
@@ -53,6 +53,7 @@ impl OpenQuery {
         ensures backed { OnOk result ((s : State) → length s.priors ≤ 8 → All (AsksFor (length s.priors)) (network_tree self.old.search.network).leaves
             → ArePlugs (priors_in (T.files store.old) s.priors) (map (λ plug. meaning plug) plugs.old)
             → IsCacheBacked (T.files store.old) cache.old → IsQueryBacked (T.files store.old) s rule.now.kind self.old → IsQueryBacked (T.files store.new) s rule.now.kind self.new) }
+        ensures same { IsSameSearch self.old.search self.new.search }
         ensures usable { self.new.search.usable ≡ is_ok result }
         ensures stay { map (λ plug. meaning plug) plugs.new ≡ map (λ plug. meaning plug) plugs.old }
         ensures honest { (s : State) → IsQueryBacked (T.files store.old) s rule.now.kind self.old → IsCacheBacked (T.files store.old) cache.old → IfErr result IsOutside }

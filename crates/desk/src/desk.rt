@@ -32,7 +32,7 @@ use disk_index::BlockCache;
 use holdings::{AddRefusal, NoSuchDoc};
 use query_check::Checked;
 use ranker::Search;
-use repository::{MergeRefusal, Repository, Turned};
+use repository::{Repository, Turned};
 use ri_base::{Bytes, Doc, Docno, Fraction, Name, NoMemory, SegFault};
 use session_events::Event;
 use session_replies::{Refusal, Reply};
@@ -288,6 +288,7 @@ impl<F: Fn(u32, u32, u64, u64) -> Fraction> Desk<F> {
     fn add(&mut self, alloc: Global, doc: Doc) -> Result<Reply, SegFault>
         requires usable { IsUsable self.old }
         ensures steps { IfOk result (λ reply. (told : Option Files) → IsDeskBacked told self.old → Steps (event.Document doc) told told self.old self.new reply) }
+        ensures form { IfOk result IsReply }
         ensures refuses { IfOk result (λ reply. (told : Option Files) → RefusesAs reply (step (state_of told self.old) (event.Document doc)).1) }
         ensures memory { IfErr result (λ fault. fault ≡ SegFault.Memory) }
         ensures usable { OnOk result (IsUsable self.new) }
@@ -306,6 +307,7 @@ impl<F: Fn(u32, u32, u64, u64) -> Fraction> Desk<F> {
     fn delete(&mut self, docno: Docno) -> Reply
         requires usable { IsUsable self.old }
         ensures steps { (told : Option Files) → IsDeskBacked told self.old → Steps (event.Delete docno) told told self.old self.new result }
+        ensures form { IsReply result }
         ensures refuses { (told : Option Files) → RefusesAs result (step (state_of told self.old) (event.Delete docno)).1 }
         ensures usable { IsUsable self.new }
     {
@@ -318,6 +320,7 @@ impl<F: Fn(u32, u32, u64, u64) -> Fraction> Desk<F> {
     fn flush<T: Store>(&mut self, alloc: Global, store: &mut T) -> Result<Reply, SegFault>
         requires usable { IsUsable self.old }
         ensures steps { IfOk result (λ reply. IsDeskBacked (T.files store.old) self.old → Steps event.Flush (T.files store.old) (T.files store.new) self.old self.new reply) }
+        ensures form { IfOk result IsReply }
         ensures refuses { IfOk result (λ reply. (told : Option Files) → RefusesAs reply (step (state_of told self.old) event.Flush).1) }
         ensures done { OnOk result ((kept : Collection) → IsDeskBacked (T.files store.old) self.old → Stands self.old.repository.held.limits (T.files store.old) kept
             → Stands self.old.repository.held.limits (T.files store.new) (kept_behind kept (step (state_of (T.files store.old) self.old) event.Flush))) }
@@ -338,20 +341,24 @@ impl<F: Fn(u32, u32, u64, u64) -> Fraction> Desk<F> {
     fn merge(&mut self, alloc: Global) -> Result<Reply, SegFault>
         requires usable { IsUsable self.old }
         ensures steps { IfOk result (λ reply. (told : Option Files) → IsDeskBacked told self.old → Steps event.Merge told told self.old self.new reply) }
+        ensures form { IfOk result IsReply }
         ensures refuses { IfOk result (λ reply. (told : Option Files) → RefusesAs reply (step (state_of told self.old) event.Merge).1) }
         ensures memory { IfErr result (λ fault. fault ≡ SegFault.Memory) }
         ensures usable { OnOk result (IsUsable self.new) }
     {
-        match self.repository.begin_merge(alloc) {
-            Ok(size) => Ok(Reply::Merging(size)),
-            Err(MergeRefusal::MergeOpen) => Ok(Reply::Refused(Refusal::MergeOpen)),
-            Err(MergeRefusal::Memory) => Err(SegFault::Memory),
+        if self.repository.merge_open() {
+            return Ok(Reply::Refused(Refusal::MergeOpen));
         }
+        let Ok(size) = self.repository.begin_merge(alloc) else {
+            return Err(SegFault::Memory);
+        };
+        Ok(Reply::Merging(size))
     }
 
     fn turn<T: Store>(&mut self, alloc: Global, docs: u64, store: &mut T) -> Result<Reply, SegFault>
         requires usable { IsUsable self.old }
         ensures steps { IfOk result (λ reply. IsDeskBacked (T.files store.old) self.old → Steps (event.Turn docs) (T.files store.old) (T.files store.new) self.old self.new reply) }
+        ensures form { IfOk result IsReply }
         ensures refuses { IfOk result (λ reply. (told : Option Files) → RefusesAs reply (step (state_of told self.old) (event.Turn docs)).1) }
         ensures done { OnOk result ((kept : Collection) → IsDeskBacked (T.files store.old) self.old → Stands self.old.repository.held.limits (T.files store.old) kept
             → Stands self.old.repository.held.limits (T.files store.new) (kept_behind kept (step (state_of (T.files store.old) self.old) (event.Turn docs)))) }
@@ -589,6 +596,7 @@ impl<F: Fn(u32, u32, u64, u64) -> Fraction> Desk<F> {
     fn end<T: Store>(&mut self, alloc: Global, store: &mut T) -> Result<Reply, SegFault>
         requires usable { IsUsable self.old }
         ensures steps { IfOk result (λ reply. IsDeskBacked (T.files store.old) self.old → Steps event.End (T.files store.old) (T.files store.new) self.old self.new reply) }
+        ensures form { IfOk result IsReply }
         ensures refuses { IfOk result (λ reply. (told : Option Files) → RefusesAs reply (step (state_of told self.old) event.End).1) }
         ensures done { OnOk result ((kept : Collection) → IsDeskBacked (T.files store.old) self.old → Stands self.old.repository.held.limits (T.files store.old) kept
             → Stands self.old.repository.held.limits (T.files store.new) (kept_behind kept (step (state_of (T.files store.old) self.old) event.End))) }

@@ -5,6 +5,7 @@ pub mod Closing
 pub mod CountLemmas
 pub mod DocumentExits
 pub mod EndExits
+pub mod EventExits
 pub mod Exits
 pub mod FlushExits
 pub mod FormLemmas

@@ -168,9 +168,16 @@ impl<F: Fn(u32, u32, u64, u64) -> Fraction> Desk<F> {
         ensures store { result ≡ Err SegFault.Store → Rose (T.faults store.old) (T.faults store.new) }
     {
         let is_last = event.is_end();
-        let answer = self.answer(alloc, event, store, plugs);
-        self.usable = answer.is_ok() && !is_last;
-        answer
+        match self.answer(alloc, event, store, plugs) {
+            Ok(reply) => {
+                self.usable = !is_last;
+                Ok(reply)
+            }
+            Err(fault) => {
+                self.usable = false;
+                Err(fault)
+            }
+        }
     }
 
     /// Does it, and leaves it to its caller whether the desk stays usable.

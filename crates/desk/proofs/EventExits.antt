@@ -54,7 +54,19 @@ writing-outside (event.Turn docs) w i = true≢false (sym i)
 writing-outside event.End w i = true≢false (sym i)
 writing-outside e w i = true≢false (sym w)
 
+-- there are three
+pub write-kinds : (e : Event) → may_write e ≡ true → (e ≡ event.Flush → ⊥) → ((docs : ℕ) → e ≡ event.Turn docs → ⊥) → (e ≡ event.End → ⊥) → ⊥
+write-kinds event.Flush w flush turn end = flush refl
+write-kinds (event.Turn docs) w flush turn end = turn docs refl
+write-kinds event.End w flush turn end = end refl
+write-kinds e w flush turn end = true≢false (sym w)
+
 -- ---- an event that writes nothing
+
+-- only results that are shown claim an order, and these are kept
+pub true-reading : (s : State) (e : Event) (r : Reply) → is_inside e ≡ false → IsTrueReply s e r
+true-reading s (event.Show name) r i = absurd (true≢false i)
+true-reading s e r i = tt
 
 pub end-writes : (e : Event) → may_write e ≡ false → is_end e ≡ true → ⊥
 end-writes event.End w i = true≢false w

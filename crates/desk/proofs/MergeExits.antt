@@ -28,10 +28,12 @@ use Rattle.repository.specs.declared.turned.Turned.TheVariants as turn
 use Rattle.repository.proofs.SaveLemmas.{numbers-sealed}
 use Rattle.session_events.specs.declared.event.Event.TheVariants as event
 use Rattle.session_replies.specs.declared.reply.Reply.TheVariants as reply
+use Rattle.session_replies.specs.declared.reply.Refusal.TheVariants.{MergeOpen}
 use Rattle.desk.specs.Backed.{IsDeskBacked, IsMergeBacked, Keeps, Steps, merge_of, state_of}
 use Rattle.desk.specs.Queries.{AreListed, IsCacheKept, priors_in}
 use Rattle.desk.specs.State.{Merge, collection_of, opened_merge, turned_merge}
-use Rattle.desk.proofs.Cases.{step-merged, step-merging, step-turned}
+use Rattle.desk.specs.Step.{refuse, step}
+use Rattle.desk.proofs.Cases.{step-merged, step-mergeopen, step-merging, step-turned}
 use Rattle.desk.proofs.CacheLemmas.{listed-now}
 use Rattle.desk.proofs.CountLemmas.{documents-closed, length-alike, tokens-alike, tokens-closed}
 use Rattle.desk.proofs.DocumentExits.{with_repository}
@@ -97,6 +99,10 @@ none-of (Some x) e = absurd (true≢false e)
 pub some-of : {X : Type 0} (o : Option X) → is_some o ≡ true → (x : X) × (o ≡ Some x)
 some-of None e = absurd (true≢false (sym e))
 some-of (Some x) e = (x, refl)
+
+-- where one is open, no other is opened
+pub mergeopen-step : (told : Option Files) (d : Keeps) → is_some d.repository.merge ≡ true → step (state_of told d) event.Merge ≡ refuse (state_of told d) MergeOpen
+mergeopen-step told d some = let m = some-of d.repository.merge some in step-mergeopen (state_of told d) (merge_of m.0) (ap (option_map merge_of) m.1)
 
 -- ---- a turn
 

@@ -55,6 +55,16 @@ fn may_write(event: &Event) -> bool
     matches!(event, Event::Flush | Event::Turn(_) | Event::End)
 }
 
+/// Whether it never asks the store.
+fn is_inside(event: &Event) -> bool
+    ensures { result ≡ is_inside event.now }
+{
+    matches!(
+        event,
+        Event::Document(_) | Event::Delete(_) | Event::Merge | Event::Show(_) | Event::Close(_)
+    )
+}
+
 /// A desk over a repository, with its open queries, seen as what it keeps.
 #[derive(Drop)]
 pub struct Desk<F: Fn(u32, u32, u64, u64) -> Fraction> {
@@ -245,17 +255,64 @@ impl<F: Fn(u32, u32, u64, u64) -> Fraction> Desk<F> {
         ensures later { T.faults store.old ≤ T.faults store.new }
         ensures store { result ≡ Err SegFault.Store → Rose (T.faults store.old) (T.faults store.new) }
     {
+        if is_inside(&event) {
+            return self.inside(alloc, event);
+        }
+        self.reading(alloc, event, store, plugs)
+    }
+
+    /// Does an event that never asks the store.
+    fn inside(&mut self, alloc: Global, event: Event) -> Result<Reply, SegFault>
+        requires usable { IsUsable self.old }
+        requires kind { is_inside event ≡ true }
+        ensures steps { IfOk result (λ reply. (told : Option Files) → IsDeskBacked told self.old → Steps event told told self.old self.new reply) }
+        ensures order { IfOk result (λ reply. (told : Option Files) → IsDeskBacked told self.old → IsTrueReply (state_of told self.old) event reply) }
+        ensures form { IfOk result IsReply }
+        ensures refuses { IfOk result (λ reply. (told : Option Files) → RefusesAs reply (step (state_of told self.old) event).1) }
+        ensures memory { IfErr result (λ fault. fault ≡ SegFault.Memory) }
+        ensures usable { OnOk result (IsUsable self.new) }
+    {
         match event {
             Event::Document(doc) => self.add(alloc, doc),
             Event::Delete(docno) => Ok(self.delete(docno)),
             Event::Merge => self.merge(alloc),
+            Event::Show(name) => self.show(alloc, name),
+            Event::Close(name) => Ok(self.close(name)),
+            _ => unreachable!(),
+        }
+    }
+
+    /// Does an event that reads from the store.
+    fn reading<T: Store>(
+        &mut self,
+        alloc: Global,
+        event: Event,
+        store: &mut T,
+        plugs: &mut [Box<dyn BeliefNode>],
+    ) -> Result<Reply, SegFault>
+        requires usable { IsUsable self.old }
+        requires form { IsSessionEvent event }
+        requires nine { length plugs.old ≡ 9 }
+        requires kind { may_write event ≡ false }
+        requires outside { is_inside event ≡ false }
+        ensures steps { IfOk result (λ reply. IsDeskBacked (T.files store.old) self.old → ArePlugs (priors_in (T.files store.old) self.old.repository.priors) (map (λ plug. meaning plug) plugs.old)
+            → Steps event (T.files store.old) (T.files store.new) self.old self.new reply) }
+        ensures form { IfOk result IsReply }
+        ensures refuses { needs_hits event ≡ false → IfOk result (λ reply. (told : Option Files) → RefusesAs reply (step (state_of told self.old) event).1) }
+        ensures early { IfOk result (λ reply. (told : Option Files) → reply_early reply ≡ told_early (step (state_of told self.old) event).1) }
+        ensures usable { OnOk result (IsUsable self.new) }
+        ensures quiet { IsQuiet T.files T.layers T.clock T.since T.longest T.held store.old store.new }
+        ensures stay { map (λ plug. meaning plug) plugs.new ≡ map (λ plug. meaning plug) plugs.old }
+        ensures honest { IsDeskBacked (T.files store.old) self.old → IfErr result IsOutside }
+        ensures later { T.faults store.old ≤ T.faults store.new }
+        ensures store { result ≡ Err SegFault.Store → Rose (T.faults store.old) (T.faults store.new) }
+    {
+        match event {
             Event::Open { name, k, text } => self.open(alloc, name, k, &text, store),
             Event::Step { name, docs } => self.step(alloc, name, docs, store, plugs),
-            Event::Show(name) => self.show(alloc, name),
             Event::Explain { name, rank } => self.explain(alloc, name, rank, store),
             Event::Scan(text) => self.scan(alloc, &text, store),
-            Event::Close(name) => Ok(self.close(name)),
-            Event::Flush | Event::Turn(_) | Event::End => unreachable!(),
+            _ => unreachable!(),
         }
     }
 

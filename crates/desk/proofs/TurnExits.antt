@@ -3,7 +3,9 @@ use Rattle.std.proofs.Common.{◌≡◌, ◌∙◌, ◌+◌, ◌<◌, ◌≤◌,
 use Rattle.std.specs.Prelude.{IfSome, if◌then◌else◌, is_some, nat_lt}
 use Rattle.std.specs.Option.{option_map}
 use Rattle.std.proofs.lemmas.Bool.{ltb-true}
-use Rattle.store_ends.specs.Files.{Files, Leaves, SameWhere}
+use Rattle.ri_base.specs.Faults.{IsOutside}
+use Rattle.ri_base.specs.declared.seg_fault.SegFault.{SegFault}
+use Rattle.store_ends.specs.Files.{Files, IsQuiet, Leaves, SameWhere}
 use Rattle.disk_index.specs.Cache.{CacheKeeps, IsCacheBacked, KeptBlock}
 use Rattle.disk_index.specs.Snapshots.{IsFileAmong}
 use Rattle.holdings.specs.Parts.{live}
@@ -16,6 +18,7 @@ use Rattle.repository.specs.States.{IsBacked, ReadsAs, listed_numbers}
 use Rattle.repository.specs.Writes.{IsBeside, IsEither}
 use Rattle.repository.specs.declared.turned.Turned.{Turned}
 use Rattle.repository.specs.declared.turned.Turned.TheVariants as turn
+use Rattle.repository.proofs.TieLemmas.{IfSome-map}
 use Rattle.session_events.specs.declared.event.Event.TheVariants as event
 use Rattle.session_replies.specs.declared.reply.Reply.TheVariants as reply
 use Rattle.session_replies.specs.declared.reply.Refusal.TheVariants.{NoMerge}
@@ -46,13 +49,31 @@ past-done : (b : Bool) (x y : ℕ) → turn.Done ≡ (if b then turn.Open x y el
 past-done true x y e = absurd (cc)
 past-done false x y e = refl
 
+-- ---- below the size nothing of the store changes
+
+module _ {S : Type 0} (files : S → Option Files) (layers : S → Option (List Files)) (clock : S → ℕ) (since : S → ℕ → Files → Type 0) (longest : S → ℕ) (held : S → List ℕ) (old new : S) (o : Option Merging) (docs : ℕ)
+    (quiet : IfSome o (λ m. length m.copied + docs < size_of m → IsQuiet files layers clock since longest held old new)) where
+  pub same-below : IfSome o (λ m. length m.copied + docs < size_of m → files new ≡ files old)
+  same-below = IfSome-map o (λ (m : Merging). length m.copied + docs < size_of m → IsQuiet files layers clock since longest held old new) (λ (m : Merging). length m.copied + docs < size_of m → files new ≡ files old) (λ m q lt. (q lt).same_files) quiet
+
+  pub none-below : IfSome o (λ m. length m.copied + docs < size_of m → (t : ℕ) (f : Files) → since new t f → since old t f)
+  none-below = IfSome-map o (λ (m : Merging). length m.copied + docs < size_of m → IsQuiet files layers clock since longest held old new)
+      (λ (m : Merging). length m.copied + docs < size_of m → (t : ℕ) (f : Files) → since new t f → since old t f) (λ m q lt. (q lt).no_more) quiet
+
 -- ---- no merge is open
 
 pub nomerge-step : (told : Option Files) (d : Keeps) (docs : ℕ) → is_some d.repository.merge ≡ false → step (state_of told d) (event.Turn docs) ≡ refuse (state_of told d) NoMerge
 nomerge-step told d docs none = step-nomerge (state_of told d) docs (ap (option_map merge_of) (none-of d.repository.merge none))
 
-pub nomerge-kept : (told : Option Files) (d : Keeps) (docs : ℕ) (kept : Collection) → is_some d.repository.merge ≡ false → kept_behind kept (step (state_of told d) (event.Turn docs)) ≡ kept
-nomerge-kept told d docs kept none = kept-nomerge kept (state_of told d) docs (ap (option_map merge_of) (none-of d.repository.merge none))
+nomerge-behind : (told : Option Files) (d : Keeps) (docs : ℕ) (kept : Collection) → is_some d.repository.merge ≡ false → kept_behind kept (step (state_of told d) (event.Turn docs)) ≡ kept
+nomerge-behind told d docs kept none = kept-nomerge kept (state_of told d) docs (ap (option_map merge_of) (none-of d.repository.merge none))
+
+-- the files stand for what they stood for
+pub nomerge-kept : (told : Option Files) (d now : Keeps) (docs : ℕ) (kept : Collection) → d ≡ now → is_some d.repository.merge ≡ false → Stands now.repository.held.limits told kept
+    → Stands now.repository.held.limits told (kept_behind kept (step (state_of told now) (event.Turn docs)))
+nomerge-kept told d now docs kept same none stands =
+    let behind : kept_behind kept (step (state_of told now) (event.Turn docs)) ≡ kept = subst (λ (x : Keeps). kept_behind kept (step (state_of told x) (event.Turn docs)) ≡ kept) same (nomerge-behind told d docs kept none) in
+    subst (λ (c : Collection). Stands now.repository.held.limits told c) (sym behind) stands
 
 -- ---- one is open
 
@@ -125,6 +146,12 @@ module _ {S : Type 0} (files : S → Option Files) (clock : S → ℕ) (since : 
     pub turn-now : IsEither now.repository.held.limits kept (kept_behind kept (step (state_of (files old) now) (event.Turn docs))) (files new)
     turn-now = subst (λ (x : Keeps). IsEither x.repository.held.limits kept (kept_behind kept (step (state_of (files old) x) (event.Turn docs))) (files new)) same
         (now-by (nat_lt (length m.copied + docs) (size_of m)) refl)
+
+-- a fault is none of the files
+pub turn-honest : (told : Option Files) (d now : Keeps) (why : SegFault) → d ≡ now → (IsOpenMerging told d.repository → IsCacheBacked told d.cache → IsOutside why) → IsDeskBacked told now → IsOutside why
+turn-honest told d now why same honest backed =
+    let inside : IsDeskBacked told d = subst (IsDeskBacked told) (sym same) backed in
+    honest (merge-condition told d.repository d.repository.merge inside.merge) inside.cache.backed
 
 -- ---- below the size
 

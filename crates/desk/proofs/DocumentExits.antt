@@ -15,6 +15,7 @@ use Rattle.holdings.specs.Parts as parts
 use Rattle.holdings.specs.Parts.{Parts, all_parts, has_room, live, sealed}
 use Rattle.holdings.proofs.LiveLemmas.{docnos-live}
 use Rattle.counts.specs.Kept.{AreSums, Kept}
+use Rattle.repository.specs.Merges.{IsOpenMerging}
 use Rattle.repository.specs.Numbers.{is_among}
 use Rattle.repository.specs.Stands.{Collection}
 use Rattle.repository.specs.States as repositories
@@ -32,7 +33,7 @@ use Rattle.desk.specs.State.{collection_of}
 use Rattle.desk.specs.Step.{is_live, refuse, step}
 use Rattle.desk.proofs.Cases.{step-added, step-deleted, step-full, step-nodoc, step-repeated}
 use Rattle.desk.proofs.Exits.{exit, refused-exit, state-by}
-use Rattle.desk.proofs.Keeping.{Cache-on, Queries-on, listed-held}
+use Rattle.desk.proofs.Keeping.{Cache-on, Queries-on, listed-held, merge-condition, merge-kept}
 use Rattle.desk.proofs.Reading.{reads-state}
 
 -- with another repository
@@ -68,37 +69,38 @@ numbers-marked docno (m ∷ ms) = ap (λ ns. numbers_in m.source ++ ns) (numbers
 
 module _ (told : Option Files) (d : Keeps) (backed : IsDeskBacked told d) (none : AreEarly d.counts) where
   held-backed : (h : Contents) → part_numbers h.parts.closed ≡ part_numbers d.repository.held.parts.closed → h.generation ≡ next_generation d.repository.held.generation → IsBacked told (with_held d.repository h)
-      → IsDeskBacked told (with_repository d (with_held d.repository h))
-  held-backed h numbers later stored =
+      → IsOpenMerging told (with_held d.repository h) → IsDeskBacked told (with_repository d (with_held d.repository h))
+  held-backed h numbers later stored merging =
       let s = d.repository in
       let lists = listed-held s h numbers in
       record {
         repository = stored;
         queries = Queries-on told s (with_held s h) d.kind d.queries lists refl backed.queries;
+        merge = merge-kept told told s (with_held s h) refl lists merging backed.merge;
         counts = subst (λ g. AreSums (live told h.parts) g d.counts) (sym later) (sums-later (live told s.held.parts) (live told h.parts) s.held.generation d.counts none backed.counts);
         cache = Cache-on told s (with_held s h) d.cache lists backed.cache;
       }
 
   pub add-exit : (doc : Document) → parts.is_live d.repository.held.parts doc.docno ≡ false → contents.is_full d.repository.held doc ≡ false
       → ReadsAs told (with_held d.repository (added d.repository.held doc)) (with_document (collection_of (state_of told d)) doc) → IsBacked told (with_held d.repository (added d.repository.held doc))
-      → Steps (event.Document doc) told told d (with_repository d (with_held d.repository (added d.repository.held doc))) (reply.Added doc.docno (length doc.tokens))
-  add-exit doc fresh room reads stored =
+      → IsOpenMerging told (with_held d.repository (added d.repository.held doc)) → Steps (event.Document doc) told told d (with_repository d (with_held d.repository (added d.repository.held doc))) (reply.Added doc.docno (length doc.tokens))
+  add-exit doc fresh room reads stored merging =
       let s = d.repository in
       let h = added s.held doc in
       let n = with_repository d (with_held s h) in
       let state = state-by told n (with_document (collection_of (state_of told d)) doc) _ _ _ _ reads refl refl refl refl in
       exit (event.Document doc) told told d n (reply.Added doc.docno (length doc.tokens)) _ (step-added (state_of told d) doc (live-told told d doc.docno ∙ fresh) room) state refl
-      (held-backed h (numbers-with s.held.parts doc) refl stored)
+      (held-backed h (numbers-with s.held.parts doc) refl stored merging)
 
   pub delete-exit : (docno : List ℕ) → parts.is_live d.repository.held.parts docno ≡ true → ReadsAs told (with_held d.repository (deleted d.repository.held docno)) (without_docno (collection_of (state_of told d)) docno)
-      → IsBacked told (with_held d.repository (deleted d.repository.held docno)) → Steps (event.Delete docno) told told d (with_repository d (with_held d.repository (deleted d.repository.held docno))) (reply.Deleted docno)
-  delete-exit docno there reads stored =
+      → IsBacked told (with_held d.repository (deleted d.repository.held docno)) → IsOpenMerging told (with_held d.repository (deleted d.repository.held docno)) → Steps (event.Delete docno) told told d (with_repository d (with_held d.repository (deleted d.repository.held docno))) (reply.Deleted docno)
+  delete-exit docno there reads stored merging =
       let s = d.repository in
       let h = deleted s.held docno in
       let n = with_repository d (with_held s h) in
       let state = state-by told n (without_docno (collection_of (state_of told d)) docno) _ _ _ _ reads refl refl refl refl in
       exit (event.Delete docno) told told d n (reply.Deleted docno) _ (step-deleted (state_of told d) docno (live-told told d docno ∙ there)) state refl
-      (held-backed h (numbers-marked docno s.held.parts.closed) refl stored)
+      (held-backed h (numbers-marked docno s.held.parts.closed) refl stored merging)
 
 -- ---- refusals
 
@@ -120,28 +122,30 @@ abbrev HandsOn : Option Files → repositories.State → repositories.State → 
 HandsOn told s r into = (c : Collection) → ReadsAs told s c → ReadsAs told r (into c)
 
 pub add-done : (told : Option Files) (d now : Keeps) (r : repositories.State) (doc : Document) → d ≡ now → AreEarly d.counts → r ≡ with_held d.repository (added d.repository.held doc)
-    → parts.is_live d.repository.held.parts doc.docno ≡ false → contents.is_full d.repository.held doc ≡ false → HandsOn told d.repository r (λ c. with_document c doc) → (IsBacked told d.repository → IsBacked told r) → IsDeskBacked told now
+    → parts.is_live d.repository.held.parts doc.docno ≡ false → contents.is_full d.repository.held doc ≡ false → HandsOn told d.repository r (λ c. with_document c doc) → (IsBacked told d.repository → IsBacked told r)
+    → (IsOpenMerging told d.repository → IsOpenMerging told r) → IsDeskBacked told now
     → Steps (event.Document doc) told told now (with_repository d r) (reply.Added doc.docno (length doc.tokens))
-add-done told d now r doc same early made fresh room reads stored backed =
+add-done told d now r doc same early made fresh room reads stored merging backed =
     let inside : IsDeskBacked told d = subst (IsDeskBacked told) (sym same) backed in
     let h = with_held d.repository (added d.repository.held doc) in
     let c = collection_of (state_of told d) in
     let read : ReadsAs told h (with_document c doc) = subst (λ (x : repositories.State). ReadsAs told x (with_document c doc)) made (reads c (reads-state told d inside.repository)) in
     subst (λ (x : Keeps). Steps (event.Document doc) told told x (with_repository d r) (reply.Added doc.docno (length doc.tokens))) same
     (subst (λ (x : repositories.State). Steps (event.Document doc) told told d (with_repository d x) (reply.Added doc.docno (length doc.tokens))) (sym made)
-    (add-exit told d inside early doc fresh room read (subst (IsBacked told) made (stored inside.repository))))
+    (add-exit told d inside early doc fresh room read (subst (IsBacked told) made (stored inside.repository)) (subst (IsOpenMerging told) made (merging (merge-condition told d.repository d.repository.merge inside.merge)))))
 
 pub delete-done : (told : Option Files) (d now : Keeps) (r : repositories.State) (docno : List ℕ) → d ≡ now → AreEarly d.counts → r ≡ with_held d.repository (deleted d.repository.held docno)
-    → parts.is_live d.repository.held.parts docno ≡ true → HandsOn told d.repository r (λ c. without_docno c docno) → (IsBacked told d.repository → IsBacked told r) → IsDeskBacked told now
+    → parts.is_live d.repository.held.parts docno ≡ true → HandsOn told d.repository r (λ c. without_docno c docno) → (IsBacked told d.repository → IsBacked told r)
+    → (IsOpenMerging told d.repository → IsOpenMerging told r) → IsDeskBacked told now
     → Steps (event.Delete docno) told told now (with_repository d r) (reply.Deleted docno)
-delete-done told d now r docno same early made there reads stored backed =
+delete-done told d now r docno same early made there reads stored merging backed =
     let inside : IsDeskBacked told d = subst (IsDeskBacked told) (sym same) backed in
     let h = with_held d.repository (deleted d.repository.held docno) in
     let c = collection_of (state_of told d) in
     let read : ReadsAs told h (without_docno c docno) = subst (λ (x : repositories.State). ReadsAs told x (without_docno c docno)) made (reads c (reads-state told d inside.repository)) in
     subst (λ (x : Keeps). Steps (event.Delete docno) told told x (with_repository d r) (reply.Deleted docno)) same
     (subst (λ (x : repositories.State). Steps (event.Delete docno) told told d (with_repository d x) (reply.Deleted docno)) (sym made)
-    (delete-exit told d inside early docno there read (subst (IsBacked told) made (stored inside.repository))))
+    (delete-exit told d inside early docno there read (subst (IsBacked told) made (stored inside.repository)) (subst (IsOpenMerging told) made (merging (merge-condition told d.repository d.repository.merge inside.merge)))))
 
 -- a call that is refused leaves the repository as it was
 pub refused-done : (told : Option Files) (e : Event) (d now : Keeps) (r : repositories.State) (why : Refusal) → d ≡ now → r ≡ d.repository → step (state_of told d) e ≡ refuse (state_of told d) why → IsDeskBacked told now

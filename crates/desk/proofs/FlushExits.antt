@@ -1,11 +1,13 @@
 -- Where what is in memory is written.
 use Rattle.std.proofs.Common.{◌≡◌, ◌∙◌, ◌≤◌, ℕ, true, List, ◌++◌, length, map, refl, sym, ap, subst, inl, inr, Option, Some}
+use Rattle.std.specs.Option.{option_map}
 use Rattle.ri_base.specs.Documents.{Document}
 use Rattle.store_ends.specs.Files.{Files, Leaves, SameWhere}
 use Rattle.manifest.specs.Listing.{prior_numbers}
 use Rattle.manifest.specs.declared.manifest.PriorEntry.{PriorEntry}
 use Rattle.holdings.specs.Parts.{live}
 use Rattle.counts.specs.Kept.{AreSums}
+use Rattle.repository.specs.Merges.{IsOpenMerging}
 use Rattle.repository.specs.Numbers.{is_among}
 use Rattle.repository.specs.Saved.{IsUnlisted}
 use Rattle.repository.specs.Stands.{Collection, Stands}
@@ -15,15 +17,15 @@ use Rattle.repository.specs.Writes.{IsBeside, IsEither, IsSavedAs, Writes, Wrote
 use Rattle.repository.proofs.NumberLemmas.{among-behind, among-either, among-left}
 use Rattle.session_events.specs.declared.event.Event.TheVariants as event
 use Rattle.session_replies.specs.declared.reply.Reply.TheVariants as reply
-use Rattle.desk.specs.Backed.{IsDeskBacked, Keeps, Steps, state_of}
+use Rattle.desk.specs.Backed.{IsDeskBacked, Keeps, Steps, merge_of, state_of}
 use Rattle.desk.specs.Points.{kept_behind}
 use Rattle.desk.specs.Queries.{priors_in}
 use Rattle.desk.specs.State.{collection_of}
 use Rattle.desk.specs.Step.{step}
-use Rattle.desk.proofs.Cases.{kept-ended, kept-flushed, step-flushed}
+use Rattle.desk.proofs.Cases.{kept-flushed, step-flushed}
 use Rattle.desk.proofs.DocumentExits.{with_repository}
 use Rattle.desk.proofs.Exits.{exit, state-by}
-use Rattle.desk.proofs.Keeping.{Cache-commit, Lists, Queries-commit, queries-same}
+use Rattle.desk.proofs.Keeping.{Cache-commit, Lists, Queries-commit, merge-condition, merge-kept, queries-same}
 use Rattle.desk.proofs.Reading.{priors-read, reads-state}
 use Rattle.desk.proofs.WritingLemmas.{either-now}
 
@@ -36,13 +38,13 @@ lists-saved s t saved n among = elim (among-either n (part_numbers s.held.parts.
 ]
 
 module _ (before after : Option Files) (d : Keeps) (r : repositories.State) (backed : IsDeskBacked before d) (same : SameWhere (IsBeside (IsUnlisted (listed_numbers d.repository))) before after)
-    (wrote : Wrote (λ c. c) before after d.repository r) (saved : IsSavedAs d.repository r d.repository.stale) where
+    (wrote : Wrote (λ c. c) before after d.repository r) (merging : IsOpenMerging before d.repository → IsOpenMerging after r) (saved : IsSavedAs d.repository r d.repository.stale) where
   reads-after : ReadsAs after r (collection_of (state_of before d))
   reads-after = wrote.reads (collection_of (state_of before d)) backed.repository (reads-state before d backed.repository)
 
   state-after : state_of after (with_repository d r) ≡ state_of before d
   state-after =
-      state-by after (with_repository d r) (collection_of (state_of before d)) _ _ _ _ reads-after (queries-same before after d.repository d.kind d.queries backed.repository same backed.queries) refl saved.limits refl
+      state-by after (with_repository d r) (collection_of (state_of before d)) _ _ _ _ reads-after (queries-same before after d.repository d.kind d.queries backed.repository same backed.queries) (ap (option_map merge_of) saved.merge) saved.limits refl
 
   backed-after : IsDeskBacked after (with_repository d r)
   backed-after =
@@ -52,6 +54,7 @@ module _ (before after : Option Files) (d : Keeps) (r : repositories.State) (bac
       record {
         repository = wrote.backed backed.repository;
         queries = Queries-commit before after s r d.kind d.queries backed.repository same lists priors backed.queries;
+        merge = merge-kept before after s r saved.merge lists (merging (merge-condition before s s.merge backed.merge)) backed.merge;
         counts = subst (λ g. AreSums (live after r.held.parts) g d.counts) (sym saved.generation) (subst (λ (docs : List Document). AreSums docs s.held.generation d.counts) (sym reads-after.live_are) backed.counts);
         cache = Cache-commit before after s r d.cache backed.repository same lists backed.cache;
       }
@@ -83,12 +86,3 @@ module _ {S : Type 0} (files : S → Option Files) (clock : S → ℕ) (since : 
       → IsEither d.repository.held.limits kept (kept_behind kept (step (state_of (files old) d) event.Flush)) (files new)
   flush-now honest still later =
       subst (λ (c : Collection). IsEither d.repository.held.limits kept c (files new)) (sym (kept-flushed kept (state_of (files old) d))) (stands-either honest still later)
-
-  -- of the end the flush is the first part
-  pub end-begun-stops : Leaves (since old) (since new) (IsEither d.repository.held.limits kept (kept_behind kept (step (state_of (files old) d) event.End)))
-  end-begun-stops = subst (λ (c : Collection). Leaves (since old) (since new) (IsEither d.repository.held.limits kept c)) (sym (kept-ended kept (state_of (files old) d))) leaves-either
-
-  pub end-begun-now : ((t : ℕ) (f : Files) → t ≤ clock new → files new ≡ Some f → since new t f) → ((f : Files) → since old (clock old) f → files old ≡ Some f) → clock old ≤ clock new
-      → IsEither d.repository.held.limits kept (kept_behind kept (step (state_of (files old) d) event.End)) (files new)
-  end-begun-now honest still later =
-      subst (λ (c : Collection). IsEither d.repository.held.limits kept c (files new)) (sym (kept-ended kept (state_of (files old) d))) (stands-either honest still later)

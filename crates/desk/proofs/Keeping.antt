@@ -15,7 +15,7 @@ use Rattle.holdings.specs.Parts.{live}
 use Rattle.holdings.specs.declared.limits.Limits.{Limits}
 use Rattle.counts.specs.Kept.{AreSums, Kept}
 use Rattle.merge_job.specs.Merge.{Merging}
-use Rattle.repository.specs.Merges.{IsMerging}
+use Rattle.repository.specs.Merges.{IsMerging, IsOpenMerging}
 use Rattle.repository.specs.Numbers.{is_among}
 use Rattle.repository.specs.Stands.{Prior}
 use Rattle.repository.specs.States as repositories
@@ -82,6 +82,11 @@ merge-condition told s (Some m) backed = backed.merging
 pub Merge-on : (told now : Option Files) (s t : repositories.State) (m : Option Merging) → Lists s t → IfSome m (IsMergeBacked told s) → IfSome m (IsMerging now t) → IfSome m (IsMergeBacked now t)
 Merge-on told now s t None on backed condition = tt
 Merge-on told now s t (Some m) on backed condition = record { merging = condition; listed = listed-on s t (part_numbers m.snapshot) on backed.listed }
+
+-- so it is over a call that leaves the merge as it is
+pub merge-kept : (a b : Option Files) (s t : repositories.State) → t.merge ≡ s.merge → Lists s t → IsOpenMerging b t → IfSome s.merge (IsMergeBacked a s) → IfSome t.merge (IsMergeBacked b t)
+merge-kept a b s t same on now was =
+    subst (λ (o : Option Merging). IfSome o (IsMergeBacked b t)) (sym same) (Merge-on a b s t s.merge on was (subst (λ (o : Option Merging). IfSome o (IsMerging b t)) same now))
 
 -- ---- the files stay, and so do the priors
 

@@ -5,6 +5,7 @@ pub mod Closing
 pub mod CountLemmas
 pub mod DocumentExits
 pub mod EndExits
+pub mod EventExits
 pub mod Exits
 pub mod FlushExits
 pub mod FormLemmas
@@ -25,4 +26,5 @@ pub mod ReadingExits
 pub mod ScanLemmas
 pub mod Staying
 pub mod Telling
+pub mod TurnExits
 pub mod WritingLemmas

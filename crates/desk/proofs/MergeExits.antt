@@ -1,6 +1,6 @@
 -- Where a merge is opened, goes on or is done.
-use Rattle.std.proofs.Common.{◌≡◌, ◌∙◌, ◌+◌, ◌-◌, ◌<◌, ℕ, Bool, false, true, List, [], length, map, refl, sym, ap, subst, arith, Option, None, Some}
-use Rattle.std.specs.Prelude.{IfSome, nat_lt, unwrap_or}
+use Rattle.std.proofs.Common.{◌≡◌, ◌∙◌, ◌+◌, ◌-◌, ◌<◌, ℕ, Bool, false, true, List, [], length, map, refl, sym, ap, subst, arith, Option, None, Some, true≢false}
+use Rattle.std.specs.Prelude.{IfSome, is_some, nat_lt, unwrap_or}
 use Rattle.std.specs.Option.{option_map}
 use Rattle.ri_base.specs.Collection.{token_count}
 use Rattle.ri_base.specs.Documents.{Document}
@@ -19,6 +19,7 @@ use Rattle.repository.specs.Merges as merges
 use Rattle.repository.specs.Merges.{IsMergeEnded, IsMergedTo, IsMerging, IsOpenMerging, IsTurnedOn, IsTurnedOver, dead_documents, dead_tokens, merge_begun, without_dead_of}
 use Rattle.repository.specs.Numbers.{is_among}
 use Rattle.repository.specs.Saved.{IsUnlisted}
+use Rattle.repository.specs.Stands.{Collection}
 use Rattle.repository.specs.States as repositories
 use Rattle.repository.specs.States.{IsBacked, ReadsAs, listed_numbers, part_numbers}
 use Rattle.repository.specs.Writes.{IsBeside}
@@ -27,15 +28,17 @@ use Rattle.repository.specs.declared.turned.Turned.TheVariants as turn
 use Rattle.repository.proofs.SaveLemmas.{numbers-sealed}
 use Rattle.session_events.specs.declared.event.Event.TheVariants as event
 use Rattle.session_replies.specs.declared.reply.Reply.TheVariants as reply
+use Rattle.session_replies.specs.declared.reply.Refusal.TheVariants.{MergeOpen}
 use Rattle.desk.specs.Backed.{IsDeskBacked, IsMergeBacked, Keeps, Steps, merge_of, state_of}
 use Rattle.desk.specs.Queries.{AreListed, IsCacheKept, priors_in}
 use Rattle.desk.specs.State.{Merge, collection_of, opened_merge, turned_merge}
-use Rattle.desk.proofs.Cases.{step-merged, step-merging, step-turned}
+use Rattle.desk.specs.Step.{refuse, step}
+use Rattle.desk.proofs.Cases.{step-merged, step-mergeopen, step-merging, step-turned}
 use Rattle.desk.proofs.CacheLemmas.{listed-now}
 use Rattle.desk.proofs.CountLemmas.{documents-closed, length-alike, tokens-alike, tokens-closed}
-use Rattle.desk.proofs.DocumentExits.{listed-held, with_repository}
-use Rattle.desk.proofs.Exits.{exit, state-by}
-use Rattle.desk.proofs.Keeping.{Cache-commit, Cache-on, Lists, Queries-commit, Queries-on, queries-same}
+use Rattle.desk.proofs.DocumentExits.{with_repository}
+use Rattle.desk.proofs.Exits.{exit, of-now, state-by}
+use Rattle.desk.proofs.Keeping.{Cache-commit, Cache-on, Lists, Queries-commit, Queries-on, listed-held, queries-same}
 use Rattle.desk.proofs.Reading.{priors-read, reads-state}
 
 abbrev merge_at : ℕ → ℕ → ℕ → ℕ → Merge
@@ -75,9 +78,35 @@ merge-exit told d count none is reads stored merging backed =
       cache = Cache-on told s r d.cache lists backed.cache;
     })
 
+-- over the call of the repository, which gives the condition of an open merge
+pub merge-done : (told : Option Files) (d now : Keeps) (r : repositories.State) (count : ℕ) → d ≡ now → d.repository.merge ≡ None → r ≡ merge_begun d.repository → count ≡ length (live told d.repository.held.parts)
+    → ((c : Collection) → ReadsAs told d.repository c → ReadsAs told r c) → (IsBacked told d.repository → IsBacked told r) → (IsBacked told d.repository → IsOpenMerging told r) → IsDeskBacked told now
+    → Steps event.Merge told told now (with_repository d r) (reply.Merging count)
+merge-done told d now r count same none made is reads stored merging backed =
+    of-now told d now (λ (x : Keeps). Steps event.Merge told told x (with_repository d r) (reply.Merging count)) same
+    (λ inside.
+        let c = collection_of (state_of told d) in
+        let read : ReadsAs told (merge_begun d.repository) c = subst (λ (x : repositories.State). ReadsAs told x c) made (reads c (reads-state told d inside.repository)) in
+        subst (λ (x : repositories.State). Steps event.Merge told told d (with_repository d x) (reply.Merging count)) (sym made)
+        (merge-exit told d count none is read (subst (IsBacked told) made (stored inside.repository)) (subst (IsOpenMerging told) made (merging inside.repository)) inside)) backed
+
+-- ---- which merge is open
+
+pub none-of : {X : Type 0} (o : Option X) → is_some o ≡ false → o ≡ None
+none-of None e = refl
+none-of (Some x) e = absurd (true≢false e)
+
+pub some-of : {X : Type 0} (o : Option X) → is_some o ≡ true → (x : X) × (o ≡ Some x)
+some-of None e = absurd (true≢false (sym e))
+some-of (Some x) e = (x, refl)
+
+-- where one is open, no other is opened
+pub mergeopen-step : (told : Option Files) (d : Keeps) → is_some d.repository.merge ≡ true → step (state_of told d) event.Merge ≡ refuse (state_of told d) MergeOpen
+mergeopen-step told d some = let m = some-of d.repository.merge some in step-mergeopen (state_of told d) (merge_of m.0) (ap (option_map merge_of) m.1)
+
 -- ---- a turn
 
-if-some : {X : Type 0} (P : X → Type 0) (o : Option X) (x : X) → o ≡ Some x → IfSome o P → P x
+pub if-some : {X : Type 0} (P : X → Type 0) (o : Option X) (x : X) → o ≡ Some x → IfSome o P → P x
 if-some P o x is h = subst (λ (p : Option X). IfSome p P) is h
 
 some-if : {X : Type 0} (P : X → Type 0) (o : Option X) (x : X) → o ≡ Some x → P x → IfSome o P

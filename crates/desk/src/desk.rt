@@ -32,7 +32,7 @@ use disk_index::BlockCache;
 use holdings::{AddRefusal, NoSuchDoc};
 use query_check::Checked;
 use ranker::Search;
-use repository::{MergeRefusal, Repository, Turned};
+use repository::{Repository, Turned};
 use ri_base::{Bytes, Doc, Docno, Fraction, Name, NoMemory, SegFault};
 use session_events::Event;
 use session_replies::{Refusal, Reply};
@@ -53,6 +53,16 @@ fn may_write(event: &Event) -> bool
     ensures { result ≡ may_write event.now }
 {
     matches!(event, Event::Flush | Event::Turn(_) | Event::End)
+}
+
+/// Whether it never asks the store.
+fn is_inside(event: &Event) -> bool
+    ensures { result ≡ is_inside event.now }
+{
+    matches!(
+        event,
+        Event::Document(_) | Event::Delete(_) | Event::Merge | Event::Show(_) | Event::Close(_)
+    )
 }
 
 /// A desk over a repository, with its open queries, seen as what it keeps.
@@ -168,9 +178,16 @@ impl<F: Fn(u32, u32, u64, u64) -> Fraction> Desk<F> {
         ensures store { result ≡ Err SegFault.Store → Rose (T.faults store.old) (T.faults store.new) }
     {
         let is_last = event.is_end();
-        let answer = self.answer(alloc, event, store, plugs);
-        self.usable = answer.is_ok() && !is_last;
-        answer
+        match self.answer(alloc, event, store, plugs) {
+            Ok(reply) => {
+                self.usable = !is_last;
+                Ok(reply)
+            }
+            Err(fault) => {
+                self.usable = false;
+                Err(fault)
+            }
+        }
     }
 
     /// Does it, and leaves it to its caller whether the desk stays usable.
@@ -238,17 +255,64 @@ impl<F: Fn(u32, u32, u64, u64) -> Fraction> Desk<F> {
         ensures later { T.faults store.old ≤ T.faults store.new }
         ensures store { result ≡ Err SegFault.Store → Rose (T.faults store.old) (T.faults store.new) }
     {
+        if is_inside(&event) {
+            return self.inside(alloc, event);
+        }
+        self.reading(alloc, event, store, plugs)
+    }
+
+    /// Does an event that never asks the store.
+    fn inside(&mut self, alloc: Global, event: Event) -> Result<Reply, SegFault>
+        requires usable { IsUsable self.old }
+        requires kind { is_inside event ≡ true }
+        ensures steps { IfOk result (λ reply. (told : Option Files) → IsDeskBacked told self.old → Steps event told told self.old self.new reply) }
+        ensures order { IfOk result (λ reply. (told : Option Files) → IsDeskBacked told self.old → IsTrueReply (state_of told self.old) event reply) }
+        ensures form { IfOk result IsReply }
+        ensures refuses { IfOk result (λ reply. (told : Option Files) → RefusesAs reply (step (state_of told self.old) event).1) }
+        ensures memory { IfErr result (λ fault. fault ≡ SegFault.Memory) }
+        ensures usable { OnOk result (IsUsable self.new) }
+    {
         match event {
             Event::Document(doc) => self.add(alloc, doc),
             Event::Delete(docno) => Ok(self.delete(docno)),
             Event::Merge => self.merge(alloc),
+            Event::Show(name) => self.show(alloc, name),
+            Event::Close(name) => Ok(self.close(name)),
+            _ => unreachable!(),
+        }
+    }
+
+    /// Does an event that reads from the store.
+    fn reading<T: Store>(
+        &mut self,
+        alloc: Global,
+        event: Event,
+        store: &mut T,
+        plugs: &mut [Box<dyn BeliefNode>],
+    ) -> Result<Reply, SegFault>
+        requires usable { IsUsable self.old }
+        requires form { IsSessionEvent event }
+        requires nine { length plugs.old ≡ 9 }
+        requires kind { may_write event ≡ false }
+        requires outside { is_inside event ≡ false }
+        ensures steps { IfOk result (λ reply. IsDeskBacked (T.files store.old) self.old → ArePlugs (priors_in (T.files store.old) self.old.repository.priors) (map (λ plug. meaning plug) plugs.old)
+            → Steps event (T.files store.old) (T.files store.new) self.old self.new reply) }
+        ensures form { IfOk result IsReply }
+        ensures refuses { needs_hits event ≡ false → IfOk result (λ reply. (told : Option Files) → RefusesAs reply (step (state_of told self.old) event).1) }
+        ensures early { IfOk result (λ reply. (told : Option Files) → reply_early reply ≡ told_early (step (state_of told self.old) event).1) }
+        ensures usable { OnOk result (IsUsable self.new) }
+        ensures quiet { IsQuiet T.files T.layers T.clock T.since T.longest T.held store.old store.new }
+        ensures stay { map (λ plug. meaning plug) plugs.new ≡ map (λ plug. meaning plug) plugs.old }
+        ensures honest { IsDeskBacked (T.files store.old) self.old → IfErr result IsOutside }
+        ensures later { T.faults store.old ≤ T.faults store.new }
+        ensures store { result ≡ Err SegFault.Store → Rose (T.faults store.old) (T.faults store.new) }
+    {
+        match event {
             Event::Open { name, k, text } => self.open(alloc, name, k, &text, store),
             Event::Step { name, docs } => self.step(alloc, name, docs, store, plugs),
-            Event::Show(name) => self.show(alloc, name),
             Event::Explain { name, rank } => self.explain(alloc, name, rank, store),
             Event::Scan(text) => self.scan(alloc, &text, store),
-            Event::Close(name) => Ok(self.close(name)),
-            Event::Flush | Event::Turn(_) | Event::End => unreachable!(),
+            _ => unreachable!(),
         }
     }
 
@@ -288,6 +352,7 @@ impl<F: Fn(u32, u32, u64, u64) -> Fraction> Desk<F> {
     fn add(&mut self, alloc: Global, doc: Doc) -> Result<Reply, SegFault>
         requires usable { IsUsable self.old }
         ensures steps { IfOk result (λ reply. (told : Option Files) → IsDeskBacked told self.old → Steps (event.Document doc) told told self.old self.new reply) }
+        ensures form { IfOk result IsReply }
         ensures refuses { IfOk result (λ reply. (told : Option Files) → RefusesAs reply (step (state_of told self.old) (event.Document doc)).1) }
         ensures memory { IfErr result (λ fault. fault ≡ SegFault.Memory) }
         ensures usable { OnOk result (IsUsable self.new) }
@@ -306,6 +371,7 @@ impl<F: Fn(u32, u32, u64, u64) -> Fraction> Desk<F> {
     fn delete(&mut self, docno: Docno) -> Reply
         requires usable { IsUsable self.old }
         ensures steps { (told : Option Files) → IsDeskBacked told self.old → Steps (event.Delete docno) told told self.old self.new result }
+        ensures form { IsReply result }
         ensures refuses { (told : Option Files) → RefusesAs result (step (state_of told self.old) (event.Delete docno)).1 }
         ensures usable { IsUsable self.new }
     {
@@ -318,6 +384,7 @@ impl<F: Fn(u32, u32, u64, u64) -> Fraction> Desk<F> {
     fn flush<T: Store>(&mut self, alloc: Global, store: &mut T) -> Result<Reply, SegFault>
         requires usable { IsUsable self.old }
         ensures steps { IfOk result (λ reply. IsDeskBacked (T.files store.old) self.old → Steps event.Flush (T.files store.old) (T.files store.new) self.old self.new reply) }
+        ensures form { IfOk result IsReply }
         ensures refuses { IfOk result (λ reply. (told : Option Files) → RefusesAs reply (step (state_of told self.old) event.Flush).1) }
         ensures done { OnOk result ((kept : Collection) → IsDeskBacked (T.files store.old) self.old → Stands self.old.repository.held.limits (T.files store.old) kept
             → Stands self.old.repository.held.limits (T.files store.new) (kept_behind kept (step (state_of (T.files store.old) self.old) event.Flush))) }
@@ -338,20 +405,24 @@ impl<F: Fn(u32, u32, u64, u64) -> Fraction> Desk<F> {
     fn merge(&mut self, alloc: Global) -> Result<Reply, SegFault>
         requires usable { IsUsable self.old }
         ensures steps { IfOk result (λ reply. (told : Option Files) → IsDeskBacked told self.old → Steps event.Merge told told self.old self.new reply) }
+        ensures form { IfOk result IsReply }
         ensures refuses { IfOk result (λ reply. (told : Option Files) → RefusesAs reply (step (state_of told self.old) event.Merge).1) }
         ensures memory { IfErr result (λ fault. fault ≡ SegFault.Memory) }
         ensures usable { OnOk result (IsUsable self.new) }
     {
-        match self.repository.begin_merge(alloc) {
-            Ok(size) => Ok(Reply::Merging(size)),
-            Err(MergeRefusal::MergeOpen) => Ok(Reply::Refused(Refusal::MergeOpen)),
-            Err(MergeRefusal::Memory) => Err(SegFault::Memory),
+        if self.repository.merge_open() {
+            return Ok(Reply::Refused(Refusal::MergeOpen));
         }
+        let Ok(size) = self.repository.begin_merge(alloc) else {
+            return Err(SegFault::Memory);
+        };
+        Ok(Reply::Merging(size))
     }
 
     fn turn<T: Store>(&mut self, alloc: Global, docs: u64, store: &mut T) -> Result<Reply, SegFault>
         requires usable { IsUsable self.old }
         ensures steps { IfOk result (λ reply. IsDeskBacked (T.files store.old) self.old → Steps (event.Turn docs) (T.files store.old) (T.files store.new) self.old self.new reply) }
+        ensures form { IfOk result IsReply }
         ensures refuses { IfOk result (λ reply. (told : Option Files) → RefusesAs reply (step (state_of told self.old) (event.Turn docs)).1) }
         ensures done { OnOk result ((kept : Collection) → IsDeskBacked (T.files store.old) self.old → Stands self.old.repository.held.limits (T.files store.old) kept
             → Stands self.old.repository.held.limits (T.files store.new) (kept_behind kept (step (state_of (T.files store.old) self.old) (event.Turn docs)))) }
@@ -589,6 +660,7 @@ impl<F: Fn(u32, u32, u64, u64) -> Fraction> Desk<F> {
     fn end<T: Store>(&mut self, alloc: Global, store: &mut T) -> Result<Reply, SegFault>
         requires usable { IsUsable self.old }
         ensures steps { IfOk result (λ reply. IsDeskBacked (T.files store.old) self.old → Steps event.End (T.files store.old) (T.files store.new) self.old self.new reply) }
+        ensures form { IfOk result IsReply }
         ensures refuses { IfOk result (λ reply. (told : Option Files) → RefusesAs reply (step (state_of told self.old) event.End).1) }
         ensures done { OnOk result ((kept : Collection) → IsDeskBacked (T.files store.old) self.old → Stands self.old.repository.held.limits (T.files store.old) kept
             → Stands self.old.repository.held.limits (T.files store.new) (kept_behind kept (step (state_of (T.files store.old) self.old) event.End))) }

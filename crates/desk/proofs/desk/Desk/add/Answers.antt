@@ -33,7 +33,7 @@ returns-in-Ok-clause-steps g c = λ told backed.
     let not = answers-ok live full c.args.doc.docno (subst (λ r. Answers r (answer s.repository.held c.args.doc)) c.in-Ok.is c.add.ensures.answer) in
     let shown : reply.Added c.in_ok-docno.docno c.len.result ≡ reply.Added c.args.doc.docno (length c.args.doc.tokens) = search rules in
     subst (λ (r : Reply). Steps (event.Document c.args.doc) told told c.args.self.now (with_repository view c.add.new.self) r) (sym shown)
-    (add-done told view c.args.self.now c.add.new.self c.args.doc c.self.view_is kept.early c.in-Ok.ensures.added not.0 not.1 (c.in-Ok.ensures.reads told) (c.add.ensures.backed told) backed)
+    (add-done told view c.args.self.now c.add.new.self c.args.doc c.self.view_is kept.early c.in-Ok.ensures.added not.0 not.1 (c.in-Ok.ensures.reads told) (c.add.ensures.backed told) (c.add.ensures.merging told) backed)
 
 pub returns-in-Ok-clause-refuses : goal.returns-in-Ok-clause-refuses
 returns-in-Ok-clause-refuses g c = λ told.

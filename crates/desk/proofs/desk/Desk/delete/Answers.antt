@@ -26,7 +26,7 @@ returns-in-Ok-clause-steps g c = λ told backed.
     let view : Keeps = record { repository = s.repository; kind = s.rule.kind; queries = s.queries.items; counts = s.counts; cache = s.cache; usable = s.usable } in
     let kept = c.self.invariant.1 (ap (λ (x : Keeps). x.usable) c.self.view_is ∙ c.requires.0) (ap (λ (x : Keeps). x.repository.usable) c.self.view_is ∙ c.requires.1) in
     delete-done told view c.args.self.now c.delete.new.self c.args.docno c.self.view_is kept.early c.in-Ok.ensures.deleted (live-there c.delete.result (is_live s.repository.held.parts c.args.docno) _ c.delete.ensures.refused c.in-Ok.is)
-    (c.in-Ok.ensures.reads told) (c.delete.ensures.backed told) backed
+    (c.in-Ok.ensures.reads told) (c.delete.ensures.backed told) (c.delete.ensures.merging told) backed
 
 pub returns-in-Ok-clause-refuses : goal.returns-in-Ok-clause-refuses
 returns-in-Ok-clause-refuses g c = λ told.

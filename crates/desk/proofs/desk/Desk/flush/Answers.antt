@@ -34,7 +34,7 @@ returns-clause-steps g c = λ backed.
     let s = c.self.inside in
     let view : Keeps = record { repository = s.repository; kind = s.rule.kind; queries = s.queries.items; counts = s.counts; cache = s.cache; usable = s.usable } in
     of-now (g.T.Store.files c.args.store.now) view c.args.self.now (λ (x : Keeps). Steps event.Flush (g.T.Store.files c.args.store.now) (g.T.Store.files c.flush.new.store) x (with_repository view c.flush.new.self) (reply.Flushed c.live_count.result)) c.self.view_is
-    (λ b. flush-exit (g.T.Store.files c.args.store.now) (g.T.Store.files c.flush.new.store) view c.flush.new.self b c.flush.ensures.writes.others c.in_ok-flush.ensures.wrote c.in_ok-flush.ensures.saved c.live_count.result (c.live_count.ensures (g.T.Store.files c.flush.new.store))) backed
+    (λ b. flush-exit (g.T.Store.files c.args.store.now) (g.T.Store.files c.flush.new.store) view c.flush.new.self b c.flush.ensures.writes.others c.in_ok-flush.ensures.wrote c.in_ok-flush.ensures.merging c.in_ok-flush.ensures.saved c.live_count.result (c.live_count.ensures (g.T.Store.files c.flush.new.store))) backed
 
 pub returns-clause-refuses : goal.returns-clause-refuses
 returns-clause-refuses g c = λ told.
@@ -48,7 +48,7 @@ returns-clause-done g c = λ kept backed stands.
     let view : Keeps = record { repository = s.repository; kind = s.rule.kind; queries = s.queries.items; counts = s.counts; cache = s.cache; usable = s.usable } in
     of-now (g.T.Store.files c.args.store.now) view c.args.self.now (λ (x : Keeps). Stands x.repository.held.limits (g.T.Store.files c.flush.new.store) (kept_behind kept (step (state_of (g.T.Store.files c.args.store.now) x) event.Flush))) c.self.view_is
     (λ b. subst (λ (k : Collection). Stands s.repository.held.limits (g.T.Store.files c.flush.new.store) k) (sym (kept-flushed kept (state_of (g.T.Store.files c.args.store.now) view)))
-    (flush-stands (g.T.Store.files c.args.store.now) (g.T.Store.files c.flush.new.store) view c.flush.new.self b c.flush.ensures.writes.others c.in_ok-flush.ensures.wrote c.in_ok-flush.ensures.saved)) backed
+    (flush-stands (g.T.Store.files c.args.store.now) (g.T.Store.files c.flush.new.store) view c.flush.new.self b c.flush.ensures.writes.others c.in_ok-flush.ensures.wrote c.in_ok-flush.ensures.merging c.in_ok-flush.ensures.saved)) backed
 
 pub returns-clause-now : goal.returns-clause-now
 returns-clause-now g c = λ kept backed stands.

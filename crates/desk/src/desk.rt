@@ -460,6 +460,7 @@ impl<F: Fn(u32, u32, u64, u64) -> Fraction> Desk<F> {
         requires form { IsSessionEvent (event.Open name k text.now) }
         ensures steps { IfOk result (λ reply. IsDeskBacked (T.files store.old) self.old → Steps (event.Open name k text.now) (T.files store.old) (T.files store.new) self.old self.new reply) }
         ensures refuses { IfOk result (λ reply. (told : Option Files) → RefusesAs reply (step (state_of told self.old) (event.Open name k text.now)).1) }
+        ensures form { IfOk result IsReply }
         ensures usable { OnOk result (IsUsable self.new) }
         ensures quiet { IsQuiet T.files T.layers T.clock T.since T.longest T.held store.old store.new }
         ensures honest { IsDeskBacked (T.files store.old) self.old → IfErr result IsOutside }
@@ -488,6 +489,7 @@ impl<F: Fn(u32, u32, u64, u64) -> Fraction> Desk<F> {
         requires asks { All (AsksFor (length self.old.repository.priors)) (whole_checked checked).leaves }
         ensures steps { IfOk result (λ reply. IsDeskBacked (T.files store.old) self.old → StepsTo (open_step (state_of (T.files store.old) self.old) name k (Ok (whole_checked checked))) (T.files store.new) self.new reply) }
         ensures refuses { IfOk result (λ reply. (told : Option Files) → RefusesAs reply (open_step (state_of told self.old) name k (Ok (whole_checked checked))).1) }
+        ensures form { IfOk result IsReply }
         ensures usable { OnOk result (IsUsable self.new) }
         ensures quiet { IsQuiet T.files T.layers T.clock T.since T.longest T.held store.old store.new }
         ensures honest { IsDeskBacked (T.files store.old) self.old → IfErr result IsOutside }
@@ -534,6 +536,7 @@ impl<F: Fn(u32, u32, u64, u64) -> Fraction> Desk<F> {
             → Steps (event.Step name docs) (T.files store.old) (T.files store.new) self.old self.new reply) }
         ensures refuses { IfOk result (λ reply. (told : Option Files) → RefusesAs reply (step (state_of told self.old) (event.Step name docs)).1) }
         ensures stay { map (λ plug. meaning plug) plugs.new ≡ map (λ plug. meaning plug) plugs.old }
+        ensures form { IfOk result IsReply }
         ensures usable { OnOk result (IsUsable self.new) }
         ensures quiet { IsQuiet T.files T.layers T.clock T.since T.longest T.held store.old store.new }
         ensures honest { IsDeskBacked (T.files store.old) self.old → IfErr result IsOutside }
@@ -625,6 +628,7 @@ impl<F: Fn(u32, u32, u64, u64) -> Fraction> Desk<F> {
         requires form { IsSessionEvent (event.Scan text.now) }
         ensures steps { IfOk result (λ reply. IsDeskBacked (T.files store.old) self.old → Steps (event.Scan text.now) (T.files store.old) (T.files store.new) self.old self.new reply) }
         ensures refuses { IfOk result (λ reply. (told : Option Files) → RefusesAs reply (step (state_of told self.old) (event.Scan text.now)).1) }
+        ensures form { IfOk result IsReply }
         ensures usable { OnOk result (IsUsable self.new) }
         ensures quiet { IsQuiet T.files T.layers T.clock T.since T.longest T.held store.old store.new }
         ensures honest { IsDeskBacked (T.files store.old) self.old → IfErr result IsOutside }
@@ -645,6 +649,7 @@ impl<F: Fn(u32, u32, u64, u64) -> Fraction> Desk<F> {
         requires usable { IsUsable self.old }
         ensures steps { (told : Option Files) → IsDeskBacked told self.old → Steps (event.Close name) told told self.old self.new result }
         ensures refuses { (told : Option Files) → RefusesAs result (step (state_of told self.old) (event.Close name)).1 }
+        ensures form { IsReply result }
         ensures usable { IsUsable self.new }
     {
         match self.find(&name) {

@@ -8,6 +8,7 @@ use Rattle.command_pieces.specs.declared.command_fault.CommandFault.{CommandFaul
 use Rattle.command_pieces.specs.declared.command_fault.CommandFault.TheVariants as command
 use Rattle.command_pieces.specs.declared.fault.Fault.{Fault}
 use Rattle.command_pieces.specs.declared.fault.Fault.TheVariants as fault
+use Rattle.collection_commands.specs.Merging.{IsMergeFault}
 
 -- ---- of a call on files
 
@@ -89,3 +90,19 @@ either_change f which = elim which [ inl store ↦ subst IsChangeFault (sym stor
 
 pub either_write : (f : CommandFault) → (f ≡ command.Store) ⊎ (f ≡ command.Memory) → f ≡ command.Write → ⊥
 either_write f which write = elim which [ inl store ↦ cc | inr memory ↦ cc ]
+
+-- ---- of a merge
+
+pub files_merge : (e : SegFault) (f : CommandFault) → f ≡ of_files e → IsMergeFault f
+files_merge (files.Malformed file part place) f is = subst IsMergeFault (sym is) tt
+files_merge (files.Missing file) f is = subst IsMergeFault (sym is) tt
+files_merge files.Store f is = subst IsMergeFault (sym is) tt
+files_merge files.Memory f is = subst IsMergeFault (sym is) tt
+
+pub items_merge : (e : Fault) (f : CommandFault) → (e ≡ fault.Read → ⊥) → f ≡ of_items e → IsMergeFault f
+items_merge fault.Read f unread is = absurd (unread refl)
+items_merge fault.Write f unread is = subst IsMergeFault (sym is) tt
+items_merge fault.Memory f unread is = subst IsMergeFault (sym is) tt
+
+pub either_merge : (f : CommandFault) → (f ≡ command.Store) ⊎ (f ≡ command.Memory) → IsMergeFault f
+either_merge f which = elim which [ inl store ↦ subst IsMergeFault (sym store) tt | inr memory ↦ subst IsMergeFault (sym memory) tt ]

@@ -1,6 +1,8 @@
 -- A merge that is run to its end: the live documents alone are held, and what is live is told.
 use Rattle.std.specs.Prelude.{ℕ, List, [], ◌∷◌, ◌++◌, codes, length}
 use Rattle.std.specs.Fmt.{decimal}
+use Rattle.command_pieces.specs.declared.command_fault.CommandFault.{CommandFault}
+use Rattle.command_pieces.specs.declared.command_fault.CommandFault.TheVariants.{Exists, Malformed, Memory, Missing, NoRepository, Read, Store, Write}
 use Rattle.command_pieces.specs.Pieces.{Piece}
 use Rattle.command_pieces.specs.Written.{Plain, told_piece, with_flush}
 use Rattle.repository.specs.Merges.{without_dead}
@@ -16,3 +18,14 @@ merged_piece c = told_piece (merged_text (length c.live))
 -- all that `merge` does
 abbrev pub merge_pieces : Collection → List (Piece Collection)
 merge_pieces c = with_flush (without_dead c) (merged_piece c) ∷ []
+
+-- A merge is broken off so: it reads no source, and the repository is open.
+abbrev pub IsMergeFault : CommandFault → Type 0
+IsMergeFault Read = ⊥
+IsMergeFault Write = Unit {0}
+IsMergeFault Store = Unit {0}
+IsMergeFault (Malformed file part place) = Unit {0}
+IsMergeFault (Missing file) = Unit {0}
+IsMergeFault NoRepository = ⊥
+IsMergeFault Exists = ⊥
+IsMergeFault Memory = Unit {0}

@@ -9,7 +9,7 @@ ghost use Rattle.repository.specs.RealLimits.{StandsFor};
 ghost use Rattle.repository.specs.Stands.{Collection};
 ghost use Rattle.repository.specs.States.{ReadsAs};
 ghost use Rattle.collection_commands.specs.Ahead.{IsAhead};
-ghost use Rattle.collection_commands.specs.Merging.{merge_pieces, merged_piece, merged_text};
+ghost use Rattle.collection_commands.specs.Merging.{IsMergeFault, merge_pieces, merged_piece, merged_text};
 
 use crate::sweeping::sweep;
 use command_pieces::{CommandFault, Reply};
@@ -52,6 +52,7 @@ fn merge_and_tell<K: Sink, T: Store>(
     ensures stops { (c : Collection) → IsAhead (T.files store.old) repository.old c c
         → Leaves (T.since store.old) (T.since store.new) (StandsAlong StandsFor c (merge_pieces c)) }
     ensures ahead { (c : Collection) → IsAhead (T.files store.old) repository.old c c → OnOk result (IsAhead (T.files store.new) repository.new (without_dead c) (without_dead c)) }
+    ensures only { IfErr result IsMergeFault }
 
     // Damage is found before anything is written.
     ensures damage { IfErr result (λ fault. IsDamage fault → IsQuiet T.files T.layers T.clock T.since T.longest T.held store.old store.new × (sink.new ≡ sink.old)) }
@@ -91,6 +92,7 @@ pub fn merge<K: Sink, T: Store>(
     ensures stops { (c : Collection) → IsAhead (T.files store.old) repository.old c c
         → Leaves (T.since store.old) (T.since store.new) (StandsAlong StandsFor c (merge_pieces c)) }
     ensures none_stale { OnOk result (repository.new.stale ≡ []) }
+    ensures only { IfErr result IsMergeFault }
 
     // Damage is found before anything is written.
     ensures damage { IfErr result (λ fault. IsDamage fault → IsQuiet T.files T.layers T.clock T.since T.longest T.held store.old store.new × (sink.new ≡ sink.old)) }

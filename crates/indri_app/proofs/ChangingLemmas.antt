@@ -2,35 +2,60 @@
 use Rattle.std.proofs.Common.{◌≡◌, ℕ, Bool, List, Option, Result, Ok, Err, subst, ◌∙◌, arith}
 use Rattle.std.specs.Prelude.{IfErr, OnOk}
 use Rattle.store_ends.specs.Files.{Files, GoesOn, IsQuiet}
-use Rattle.command_pieces.specs.CommandFaults.{IsItemsFault}
+use Rattle.command_pieces.specs.CommandFaults.{IsBrokenBy, IsDamage, IsItemsFault}
+use Rattle.command_pieces.specs.Pieces.{Piece}
 use Rattle.command_pieces.specs.declared.command_fault.CommandFault.{CommandFault}
 use Rattle.command_pieces.specs.declared.command_fault.CommandFault.TheVariants as fault
+use Rattle.repository.specs.RealLimits.{StandsFor}
+use Rattle.repository.specs.Stands.{Collection}
+use Rattle.collection_commands.specs.Merging.{IsMergeFault}
 use Rattle.command_words.specs.Table.{create, scan}
-use Rattle.indri_app.specs.Changes.{IsFoundFirst, IsOverFault, told_change}
+use Rattle.indri_app.specs.Changes.{IsFoundFirst, IsOverFault, IsWorkFault, told_change}
 use Rattle.indri_app.specs.Command.{NeedsRepository, ReadsPriors}
 use Rattle.indri_app.specs.declared.changing.Change.{Change}
-use Rattle.indri_app.specs.declared.changing.Change.TheVariants.{Add, Delete, Prior}
+use Rattle.indri_app.specs.declared.changing.Change.TheVariants.{Add, Delete, Merge, Prior}
 use Rattle.indri_app.specs.Opened.{IsOpenFault, IsWant}
 
-items-late : (why : CommandFault) → IsItemsFault why → IsFoundFirst why → ⊥
-items-late fault.Read items first = first
-items-late fault.Write items first = first
-items-late fault.Store items first = first
-items-late (fault.Malformed f p place) items first = items
-items-late (fault.Missing f) items first = items
-items-late fault.NoRepository items first = items
-items-late fault.Exists items first = items
-items-late fault.Memory items first = first
+work-over_one : (why : CommandFault) → IsWorkFault why → IsOverFault why
+work-over_one fault.Read work = tt
+work-over_one fault.Write work = tt
+work-over_one fault.Store work = tt
+work-over_one (fault.Malformed f p place) work = tt
+work-over_one (fault.Missing f) work = tt
+work-over_one fault.NoRepository work = absurd work
+work-over_one fault.Exists work = absurd work
+work-over_one fault.Memory work = tt
 
-items-over_one : (why : CommandFault) → IsItemsFault why → IsOverFault why
-items-over_one fault.Read items = tt
-items-over_one fault.Write items = tt
-items-over_one fault.Store items = tt
-items-over_one (fault.Malformed f p place) items = absurd items
-items-over_one (fault.Missing f) items = absurd items
-items-over_one fault.NoRepository items = absurd items
-items-over_one fault.Exists items = absurd items
-items-over_one fault.Memory items = tt
+-- what is found first where a repository is open is damage
+work-damage : (why : CommandFault) → IsWorkFault why → IsFoundFirst why → IsDamage why
+work-damage fault.Read work first = first
+work-damage fault.Write work first = first
+work-damage fault.Store work first = first
+work-damage (fault.Malformed f p place) work first = tt
+work-damage (fault.Missing f) work first = tt
+work-damage fault.NoRepository work first = work
+work-damage fault.Exists work first = work
+work-damage fault.Memory work first = first
+
+items-work_one : (why : CommandFault) → IsItemsFault why → IsWorkFault why
+items-work_one fault.Read items = tt
+items-work_one fault.Write items = tt
+items-work_one fault.Store items = tt
+items-work_one (fault.Malformed f p place) items = absurd items
+items-work_one (fault.Missing f) items = absurd items
+items-work_one fault.NoRepository items = absurd items
+items-work_one fault.Exists items = absurd items
+items-work_one fault.Memory items = tt
+
+items-undamaged_one : (why : CommandFault) → IsItemsFault why → IsDamage why → ⊥
+items-undamaged_one fault.Read items damage = damage
+items-undamaged_one fault.Write items damage = damage
+items-undamaged_one fault.Store items damage = damage
+items-undamaged_one (fault.Malformed f p place) items damage = items
+items-undamaged_one (fault.Missing f) items damage = items
+items-undamaged_one fault.NoRepository items damage = damage
+items-undamaged_one fault.Exists items damage = damage
+items-undamaged_one fault.Memory items damage = damage
 
 pub open-over : (why : CommandFault) → IsOpenFault why → IsOverFault why
 open-over fault.Read open' = absurd open'
@@ -52,21 +77,54 @@ want-late fault.NoRepository want first = want
 want-late fault.Exists want first = want
 want-late fault.Memory want first = first
 
--- what an open repository answers isn't found first
-pub items-not_first : (answer : Result Bool CommandFault) → IfErr answer IsItemsFault → IfErr answer (λ why. IsFoundFirst why → ⊥)
-items-not_first (Ok refused) items = tt
-items-not_first (Err why) items = items-late why items
+-- a command that takes items and reads no documents of files
+pub items-work : (answer : Result Bool CommandFault) → IfErr answer IsItemsFault → IfErr answer IsWorkFault
+items-work (Ok refused) items = tt
+items-work (Err why) items = items-work_one why items
 
-pub items-first : (Q : Type 0) (answer : Result Bool CommandFault) → IfErr answer IsItemsFault → IfErr answer (λ why. IsFoundFirst why → Q)
-items-first Q (Ok refused) items = tt
-items-first Q (Err why) items = λ first. absurd (items-late why items first)
+pub items-undamaged : (P : Type 0) (answer : Result Bool CommandFault) → IfErr answer IsItemsFault → IfErr answer (λ why. IsDamage why → P)
+items-undamaged P (Ok refused) items = tt
+items-undamaged P (Err why) items = λ damage. absurd (items-undamaged_one why items damage)
 
-pub items-over : (answer : Result Bool CommandFault) → IfErr answer IsItemsFault → IfErr answer IsOverFault
-items-over (Ok refused) items = tt
-items-over (Err why) items = items-over_one why items
+-- a merge
+pub merge-work : (why : CommandFault) → IsMergeFault why → IsWorkFault why
+merge-work fault.Read merge = absurd merge
+merge-work fault.Write merge = tt
+merge-work fault.Store merge = tt
+merge-work (fault.Malformed f p place) merge = tt
+merge-work (fault.Missing f) merge = tt
+merge-work fault.NoRepository merge = absurd merge
+merge-work fault.Exists merge = absurd merge
+merge-work fault.Memory merge = tt
 
-pub items-not_absent : (answer : Result Bool CommandFault) → IfErr answer IsItemsFault → answer ≡ Err fault.NoRepository → ⊥
-items-not_absent answer items e = subst (λ (r : Result Bool CommandFault). IfErr r IsItemsFault) e items
+pub merge-read : (why : CommandFault) → IsMergeFault why → why ≡ fault.Read → ⊥
+merge-read why merge e = subst IsMergeFault e merge
+
+pub broken-undamaged : (why : CommandFault) (c : Collection) (pieces : List (Piece Collection)) (start now : Option (List ℕ)) (files : Option Files) → IsBrokenBy why StandsFor c pieces start now files → IsDamage why → ⊥
+broken-undamaged fault.Read c pieces start now files broken damage = damage
+broken-undamaged fault.Write c pieces start now files broken damage = damage
+broken-undamaged fault.Store c pieces start now files broken damage = damage
+broken-undamaged (fault.Malformed f p place) c pieces start now files broken damage = broken
+broken-undamaged (fault.Missing f) c pieces start now files broken damage = broken
+broken-undamaged fault.NoRepository c pieces start now files broken damage = damage
+broken-undamaged fault.Exists c pieces start now files broken damage = damage
+broken-undamaged fault.Memory c pieces start now files broken damage = damage
+
+-- what an open repository answers: what is found first is damage
+pub work-not_first : (answer : Result Bool CommandFault) → IfErr answer IsWorkFault → IfErr answer (λ why. IsDamage why → ⊥) → IfErr answer (λ why. IsFoundFirst why → ⊥)
+work-not_first (Ok refused) work undamaged = tt
+work-not_first (Err why) work undamaged = λ first. undamaged (work-damage why work first)
+
+pub work-first : (P Q : Type 0) (answer : Result Bool CommandFault) → (P → Q) → IfErr answer IsWorkFault → IfErr answer (λ why. IsDamage why → P) → IfErr answer (λ why. IsFoundFirst why → Q)
+work-first P Q (Ok refused) on work damage = tt
+work-first P Q (Err why) on work damage = λ first. on (damage (work-damage why work first))
+
+pub work-over : (answer : Result Bool CommandFault) → IfErr answer IsWorkFault → IfErr answer IsOverFault
+work-over (Ok refused) work = tt
+work-over (Err why) work = work-over_one why work
+
+pub work-not_absent : (answer : Result Bool CommandFault) → IfErr answer IsWorkFault → answer ≡ Err fault.NoRepository → ⊥
+work-not_absent answer work e = subst (λ (r : Result Bool CommandFault). IfErr r IsWorkFault) e work
 
 pub on-any : (P : Type 0) (answer : Result Bool CommandFault) → P → OnOk answer P
 on-any P (Ok refused) p = p
@@ -87,19 +145,23 @@ module _ {S : Type 0} (files : S → Option Files) (layers : S → Option (List 
 pub change-not_create : (what : Change) → told_change what ≡ create → ⊥
 change-not_create Add e = cc
 change-not_create Delete e = cc
+change-not_create Merge e = cc
 change-not_create (Prior name) e = cc
 
 pub change-not_scan : (what : Change) (text : List ℕ) → told_change what ≡ scan text → ⊥
 change-not_scan Add text e = cc
 change-not_scan Delete text e = cc
+change-not_scan Merge text e = cc
 change-not_scan (Prior name) text e = cc
 
 pub change-needs : (what : Change) → NeedsRepository (told_change what)
 change-needs Add = tt
 change-needs Delete = tt
+change-needs Merge = tt
 change-needs (Prior name) = tt
 
 pub change-reads : (what : Change) → ReadsPriors (told_change what) → ⊥
 change-reads Add reads = reads
 change-reads Delete reads = reads
+change-reads Merge reads = reads
 change-reads (Prior name) reads = reads

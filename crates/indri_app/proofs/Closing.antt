@@ -4,7 +4,7 @@ use Rattle.std.specs.Prelude.{IfErr, IfOk, OnOk}
 use Rattle.std.specs.Option.{IfSome}
 use Rattle.store_ends.specs.Files.{Files, Leaves, LeavesNoMore}
 use Rattle.store_ends.proofs.Files.{Leaves-none, Leaves-same, Leaves-then}
-use Rattle.command_words.specs.Table.{Asks, prior}
+use Rattle.command_words.specs.Table.{Asks, merge, prior}
 use Rattle.command_pieces.specs.CommandFaults.{IsBrokenBy}
 use Rattle.command_pieces.specs.Pieces.{BrokenOff, Finished, Piece, StandsAlong, StoppedBetween, some_refused}
 use Rattle.command_pieces.specs.declared.command_fault.CommandFault.{CommandFault}
@@ -13,6 +13,7 @@ use Rattle.command_pieces.proofs.Ending.{with-line}
 use Rattle.command_pieces.proofs.Joining.{StoppedBetween-none}
 use Rattle.repository.specs.RealLimits.{StandsFor}
 use Rattle.repository.specs.Stands.{Collection}
+use Rattle.collection_commands.specs.Merging.{merge_pieces}
 use Rattle.collection_commands.specs.PriorSetting.{IsPriorBroken, name_refusal}
 use Rattle.collection_commands.specs.PriorSetting as setting
 use Rattle.indri_app.specs.Command.{AreBegun, AreBegunBy, ArePieces}
@@ -108,6 +109,16 @@ pub stops-by : (told : Option Files) (asks : Asks) (c : Collection) (pieces : Li
     → ((bytes : List ℕ) → ArePieces told asks c bytes (pieces bytes)) → IfSome left (λ bytes. Leaves past since (StandsAlong StandsFor c (pieces bytes))) → IfSome left (λ bytes. StopsAlong told asks c bytes past since)
 stops-by told asks c pieces None past since are leaves = tt
 stops-by told asks c pieces (Some bytes) past since are leaves = (pieces bytes, inr (are bytes), leaves)
+
+-- ---- a merge, which takes no item
+
+pub merge-done : (told : Option Files) (c : Collection) (left start now : Option (List ℕ)) (files : Option Files) → Finished StandsFor c (merge_pieces c) start now files → IfSome left (λ bytes. IsDone told merge c bytes false start now files)
+merge-done told c None start now files finished = tt
+merge-done told c (Some bytes) start now files finished = (merge_pieces c, refl, refl, finished)
+
+pub merge-begun : (told : Option Files) (c : Collection) (left start now : Option (List ℕ)) (files : Option Files) (why : CommandFault) → IsBrokenBy why StandsFor c (merge_pieces c) start now files → IfSome left (λ bytes. IsBegun why told merge c bytes start now files)
+merge-begun told c None start now files why broken = tt
+merge-begun told c (Some bytes) start now files why broken = (merge_pieces c, any-begun why told merge c bytes (merge_pieces c) refl, broken)
 
 -- ---- a prior, whose pieces need a table of the rows
 

@@ -55,7 +55,8 @@ fn change_repository<S: Source, K: Sink, T: Store>(
     ensures stops { (c : Collection) → IsAhead (T.files store.old) repository c c
         → IfSome (S.left source.old) (λ bytes. StopsAlong (T.files store.old) (told_change what) c bytes (T.since store.old) (T.since store.new)) }
 
-    // Damage is found before anything is done.
+    // Damage is found before anything is done, and only in files that stand for nothing.
+    ensures honest { (c : Collection) → IsAhead (T.files store.old) repository c c → IfErr result (λ why. IsDamage why → ⊥) }
     ensures damage { IfErr result (λ why. IsDamage why
         → IsQuiet T.files T.layers T.clock T.since T.longest T.held store.old store.new × (source.new ≡ source.old) × (K.taken sink.new ≡ K.taken sink.old)) }
     ensures only { IfErr result IsWorkFault }
@@ -77,8 +78,10 @@ fn change_repository<S: Source, K: Sink, T: Store>(
         }
         Change::Merge => {
             let mut repository = repository;
-            merge(alloc, &mut repository, sink, store)?;
-            Ok(false)
+            match merge(alloc, &mut repository, sink, store) {
+                Ok(()) => Ok(false),
+                Err(fault) => Err(fault),
+            }
         }
         Change::Prior(name) => {
             let mut repository = repository;

@@ -24,6 +24,7 @@ pub fn open_repository<T: Store>(alloc: Global, store: &mut T) -> Result<Reposit
 
     ensures usable { IfOk result (λ r. r.usable ≡ true) }
     ensures stored { IfOk result (λ r. AreStored r) }
+    ensures unmerged { IfOk result (λ r. r.merge ≡ None) }
     ensures real { IfOk result (λ r. AreReal r.held.limits) }
 
     // Whatever the files are: a repository is one that was read from them by the grammar.

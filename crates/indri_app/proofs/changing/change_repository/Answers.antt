@@ -1,8 +1,10 @@
-use Rattle.std.proofs.Common.{refl}
-use Rattle.command_words.specs.Table.{add, delete}
+use Rattle.std.proofs.Common.{ap, refl}
+use Rattle.command_words.specs.Table.{add, delete, merge}
 use Rattle.collection_commands.specs.Flushing.{delete_pieces}
+use Rattle.collection_commands.specs.Merging.{merge_pieces}
 use Rattle.indri_app.specs.Command.{add_pieces}
-use Rattle.indri_app.proofs.Closing.{begun-by, done-by, prior-begun, stops-by}
+use Rattle.indri_app.proofs.ChangingLemmas.{broken-undamaged, items-undamaged, items-work, merge-read, merge-work}
+use Rattle.indri_app.proofs.Closing.{begun-by, done-by, merge-begun, merge-done, prior-begun, stops-by}
 use Rattle.indri_app.proofs.changing.change_repository.Goals as goal
 
 pub returns-in-Add-clause-done : goal.returns-in-Add-clause-done
@@ -46,3 +48,56 @@ returns-in-Prior-clause-broken g c = λ k ahead. rw c.in-Prior.is (prior-begun (
 
 pub returns-in-Prior-clause-stops : goal.returns-in-Prior-clause-stops
 returns-in-Prior-clause-stops g c = λ k ahead. rw c.in-Prior.is (c.set_prior.ensures.stops k ahead)
+
+pub returns-in-Add-clause-honest : goal.returns-in-Add-clause-honest
+returns-in-Add-clause-honest g c = λ k ahead. items-undamaged ⊥ c.add.result c.add.ensures.only
+
+pub returns-in-Add-clause-damage : goal.returns-in-Add-clause-damage
+returns-in-Add-clause-damage g c = items-undamaged _ c.add.result c.add.ensures.only
+
+pub returns-in-Add-clause-only : goal.returns-in-Add-clause-only
+returns-in-Add-clause-only g c = items-work c.add.result c.add.ensures.only
+
+pub returns-in-Delete-clause-honest : goal.returns-in-Delete-clause-honest
+returns-in-Delete-clause-honest g c = λ k ahead. items-undamaged ⊥ c.delete.result c.delete.ensures.only
+
+pub returns-in-Delete-clause-damage : goal.returns-in-Delete-clause-damage
+returns-in-Delete-clause-damage g c = items-undamaged _ c.delete.result c.delete.ensures.only
+
+pub returns-in-Delete-clause-only : goal.returns-in-Delete-clause-only
+returns-in-Delete-clause-only g c = items-work c.delete.result c.delete.ensures.only
+
+pub returns-in-Prior-clause-honest : goal.returns-in-Prior-clause-honest
+returns-in-Prior-clause-honest g c = λ k ahead. items-undamaged ⊥ c.set_prior.result c.set_prior.ensures.only
+
+pub returns-in-Prior-clause-damage : goal.returns-in-Prior-clause-damage
+returns-in-Prior-clause-damage g c = items-undamaged _ c.set_prior.result c.set_prior.ensures.only
+
+pub returns-in-Prior-clause-only : goal.returns-in-Prior-clause-only
+returns-in-Prior-clause-only g c = items-work c.set_prior.result c.set_prior.ensures.only
+
+-- a merge
+
+pub returns-in-Merge-Ok-clause-done : goal.returns-in-Merge-Ok-clause-done
+returns-in-Merge-Ok-clause-done g c = λ k ahead. rw c.in-Merge.is (merge-done (g.T.Store.files c.args.store.now) k _ _ _ _ (c.in-Merge-Ok.ensures.finished k ahead))
+
+pub returns-in-Merge-Ok-clause-stops : goal.returns-in-Merge-Ok-clause-stops
+returns-in-Merge-Ok-clause-stops g c = λ k ahead. rw c.in-Merge.is (stops-by (g.T.Store.files c.args.store.now) merge k (λ bytes. merge_pieces k) _ _ _ (λ bytes. refl) (c.merge.ensures.stops k ahead))
+
+pub returns-in-Merge-Err-clause-broken : goal.returns-in-Merge-Err-clause-broken
+returns-in-Merge-Err-clause-broken g c = λ k ahead. rw c.in-Merge.is (merge-begun (g.T.Store.files c.args.store.now) k _ _ _ _ c.in-Merge-Err.fault (c.in-Merge-Err.ensures.broken k ahead))
+
+pub returns-in-Merge-Err-clause-stops : goal.returns-in-Merge-Err-clause-stops
+returns-in-Merge-Err-clause-stops g c = λ k ahead. rw c.in-Merge.is (stops-by (g.T.Store.files c.args.store.now) merge k (λ bytes. merge_pieces k) _ _ _ (λ bytes. refl) (c.merge.ensures.stops k ahead))
+
+pub returns-in-Merge-Err-clause-honest : goal.returns-in-Merge-Err-clause-honest
+returns-in-Merge-Err-clause-honest g c = λ k ahead. broken-undamaged c.in-Merge-Err.fault k _ _ _ _ (c.in-Merge-Err.ensures.broken k ahead)
+
+pub returns-in-Merge-Err-clause-damage : goal.returns-in-Merge-Err-clause-damage
+returns-in-Merge-Err-clause-damage g c = λ damage. let same = c.in-Merge-Err.ensures.damage damage in (same.0, refl, ap (λ k. g.K.Sink.taken k) same.1)
+
+pub returns-in-Merge-Err-clause-only : goal.returns-in-Merge-Err-clause-only
+returns-in-Merge-Err-clause-only g c = merge-work c.in-Merge-Err.fault c.in-Merge-Err.ensures.only
+
+pub returns-in-Merge-Err-clause-read : goal.returns-in-Merge-Err-clause-read
+returns-in-Merge-Err-clause-read g c = λ e. absurd (merge-read c.in-Merge-Err.fault c.in-Merge-Err.ensures.only cc)

@@ -25,6 +25,9 @@ returns-in-Ok-Some-clause-usable g c = let fresh = rw c.in-Ok-Some.field-0-is at
 pub returns-in-Ok-Some-clause-stored : goal.returns-in-Ok-Some-clause-stored
 returns-in-Ok-Some-clause-stored g c = rw c.in-Ok-Some.field-0-is at c.in-Ok-Some.ensures.stored
 
+pub returns-in-Ok-Some-clause-unmerged : goal.returns-in-Ok-Some-clause-unmerged
+returns-in-Ok-Some-clause-unmerged g c = let fresh = rw c.in-Ok-Some.field-0-is at c.in-Ok-Some.ensures.fresh in fresh.unmerged
+
 pub returns-in-Ok-Some-clause-real : goal.returns-in-Ok-Some-clause-real
 returns-in-Ok-Some-clause-real g c =
     let limits = c.real.ensures in

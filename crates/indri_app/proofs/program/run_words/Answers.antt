@@ -16,6 +16,9 @@ returns-in-Add-clause-has_run g c = rw c.in-Add.is c.run_change.ensures.has_run
 pub returns-in-Delete-clause-has_run : goal.returns-in-Delete-clause-has_run
 returns-in-Delete-clause-has_run g c = rw c.in-Delete.is c.run_change-in-Delete.ensures.has_run
 
+pub returns-in-Merge-clause-has_run : goal.returns-in-Merge-clause-has_run
+returns-in-Merge-clause-has_run g c = rw c.in-Merge.is c.run_change-in-Merge.ensures.has_run
+
 pub returns-in-Prior-clause-has_run : goal.returns-in-Prior-clause-has_run
 returns-in-Prior-clause-has_run g c = rw c.in-Prior.is c.run_change-in-Prior.ensures.has_run
 

@@ -12,7 +12,7 @@ use Rattle.session_events.specs.declared.event.Event.{Event}
 use Rattle.session_events.specs.declared.event.Event.TheVariants as event
 use Rattle.session_replies.specs.declared.reply.Reply.{Reply}
 use Rattle.session_replies.specs.declared.reply.Reply.TheVariants as reply
-use Rattle.desk.specs.Backed.{IsDeskBacked, Keeps, Steps, state_of}
+use Rattle.desk.specs.Backed.{IsDeskBacked, Keeps, Steps, state_of, with_usable}
 use Rattle.desk.specs.Orders.{IsTrueReply}
 use Rattle.desk.specs.Points.{is_inside, kept_behind, may_write}
 use Rattle.desk.specs.State.{State}
@@ -106,18 +106,13 @@ two-faults e = cc
 pub never-store : {A : Type 0} (r : Result A SegFault) (Q : Type 0) → IfErr r (λ why. why ≡ fault.Memory) → r ≡ Err fault.Store → Q
 never-store {A} r Q memory is = absurd (two-faults (subst (λ (x : Result A SegFault). IfErr x (λ why. why ≡ fault.Memory)) is memory))
 
--- ---- whether it may be used on
+-- ---- whether it may be used on is read by no state, and no file is tied to it
 
-abbrev pub with_usable : Keeps → Bool → Keeps
-with_usable d usable = record { repository = d.repository; kind = d.kind; queries = d.queries; counts = d.counts; cache = d.cache; usable = usable }
-
--- isn't read by a state, and no file is tied to it
-pub usable-set : (e : Event) (before after : Option Files) (old new view : Keeps) (usable : Bool) (r : Reply) → view ≡ new → Steps e before after old new r → Steps e before after old (with_usable view usable) r
-usable-set e before after old new view usable r same steps =
-    let s : Steps e before after old view r = subst (λ (x : Keeps). Steps e before after old x r) (sym same) steps in
-    let b = s.backed in
+pub usable-set : (e : Event) (before after : Option Files) (old new : Keeps) (usable : Bool) (r : Reply) → Steps e before after old new r → Steps e before after old (with_usable new usable) r
+usable-set e before after old new usable r steps =
+    let b = steps.backed in
     record {
-      state = s.state;
-      shows = s.shows;
+      state = steps.state;
+      shows = steps.shows;
       backed = record { repository = b.repository; queries = b.queries; merge = b.merge; counts = b.counts; cache = b.cache };
     }

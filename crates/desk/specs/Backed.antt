@@ -31,6 +31,10 @@ pub record Keeps : Type 0 where
   pub cache : List KeptBlock
   pub usable : Bool
 
+-- the same, usable or not
+abbrev pub with_usable : Keeps → Bool → Keeps
+with_usable d usable = record { repository = d.repository; kind = d.kind; queries = d.queries; counts = d.counts; cache = d.cache; usable = usable }
+
 -- ---- what it reads as, whatever the files are
 
 abbrev pub merge_of : Merging → Merge

@@ -3,6 +3,7 @@
 
 mod asking;
 mod desk;
+mod kept;
 mod query;
 mod scanning;
 

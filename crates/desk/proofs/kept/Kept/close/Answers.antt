@@ -13,10 +13,10 @@ use Rattle.desk.proofs.Exits.{accepted-by, of-now, refused-by, refused-now}
 use Rattle.desk.proofs.KeptLemmas.{kept-removed}
 use Rattle.desk.proofs.NamedExits.{close-exit, with_queries}
 use Rattle.desk.proofs.Naming.{found-place, is_named, named-here, named-none}
-use Rattle.desk.proofs.desk.Desk.close.Goals as goal
+use Rattle.desk.proofs.kept.Kept.close.Goals as goal
 
 pub invariant_of-self : goal.invariant_of-self
-invariant_of-self g c = (
+invariant_of-self c = (
   c.self.invariant.0,
   λ usable there.
       let s = c.self.inside in
@@ -26,32 +26,32 @@ invariant_of-self g c = (
 )
 
 pub returns-in-None-clause-steps : goal.returns-in-None-clause-steps
-returns-in-None-clause-steps g c = λ told backed.
+returns-in-None-clause-steps c = λ told backed.
     let s = c.self.inside in
-    let view : Keeps = record { repository = s.repository; kind = s.rule.kind; queries = s.queries.items; counts = s.counts; cache = s.cache; usable = s.usable } in
+    let view : Keeps = record { repository = s.repository; kind = s.kind; queries = s.queries.items; counts = s.counts; cache = s.cache; usable = s.usable } in
     let none : position (is_named c.args.name) s.queries.items ≡ None = ap (λ (x : Keeps). position (is_named c.args.name) x.queries) c.self.view_is ∙ sym c.find.ensures ∙ c.in-None.is in
     refused-now (event.Close c.args.name) told view c.args.self.now (NoSuchName c.args.name) c.self.view_is (close-noname (state_of told view) c.args.name (named-none told c.args.name s.queries.items none)) backed
 
 pub returns-in-None-clause-refuses : goal.returns-in-None-clause-refuses
-returns-in-None-clause-refuses g c = λ told.
+returns-in-None-clause-refuses c = λ told.
     let s = c.self.inside in
-    let view : Keeps = record { repository = s.repository; kind = s.rule.kind; queries = s.queries.items; counts = s.counts; cache = s.cache; usable = s.usable } in
+    let view : Keeps = record { repository = s.repository; kind = s.kind; queries = s.queries.items; counts = s.counts; cache = s.cache; usable = s.usable } in
     let none : position (is_named c.args.name) s.queries.items ≡ None = ap (λ (x : Keeps). position (is_named c.args.name) x.queries) c.self.view_is ∙ sym c.find.ensures ∙ c.in-None.is in
     refused-by (event.Close c.args.name) told view c.args.self.now (NoSuchName c.args.name) c.self.view_is (close-noname (state_of told view) c.args.name (named-none told c.args.name s.queries.items none))
 
 pub returns-clause-steps : goal.returns-clause-steps
-returns-clause-steps g c = λ told backed.
+returns-clause-steps c = λ told backed.
     let s = c.self.inside in
-    let view : Keeps = record { repository = s.repository; kind = s.rule.kind; queries = s.queries.items; counts = s.counts; cache = s.cache; usable = s.usable } in
+    let view : Keeps = record { repository = s.repository; kind = s.kind; queries = s.queries.items; counts = s.counts; cache = s.cache; usable = s.usable } in
     let found : position (is_named c.args.name) s.queries.items ≡ Some c.in-Some.place = ap (λ (x : Keeps). position (is_named c.args.name) x.queries) c.self.view_is ∙ sym c.find.ensures ∙ c.in-Some.is in
     let place = found-place c.args.name s.queries.items c.in-Some.place c.remove.result found in
     of-now told view c.args.self.now (λ (x : Keeps). Steps (event.Close c.args.name) told told x (with_queries view c.remove.new.self.items) (reply.Closed c.args.name)) c.self.view_is
     (λ b. subst (λ (qs : List OpenQuery). Steps (event.Close c.args.name) told told view (with_queries view qs) (reply.Closed c.args.name)) (sym c.remove.ensures.items) (close-exit told view c.args.name c.in-Some.place c.remove.result place c.remove.ensures.value b)) backed
 
 pub returns-clause-refuses : goal.returns-clause-refuses
-returns-clause-refuses g c = λ told.
+returns-clause-refuses c = λ told.
     let s = c.self.inside in
-    let view : Keeps = record { repository = s.repository; kind = s.rule.kind; queries = s.queries.items; counts = s.counts; cache = s.cache; usable = s.usable } in
+    let view : Keeps = record { repository = s.repository; kind = s.kind; queries = s.queries.items; counts = s.counts; cache = s.cache; usable = s.usable } in
     let found : position (is_named c.args.name) s.queries.items ≡ Some c.in-Some.place = ap (λ (x : Keeps). position (is_named c.args.name) x.queries) c.self.view_is ∙ sym c.find.ensures ∙ c.in-Some.is in
     let place = found-place c.args.name s.queries.items c.in-Some.place c.remove.result found in
     accepted-by (event.Close c.args.name) told view c.args.self.now _ c.self.view_is

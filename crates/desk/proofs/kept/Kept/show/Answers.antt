@@ -23,32 +23,32 @@ use Rattle.desk.proofs.FormLemmas.{results-form}
 use Rattle.desk.proofs.NamedExits.{all-passed, not-yet, not-yet-shown, show-exit, shown-entries}
 use Rattle.desk.proofs.Naming.{at-place, found-place, is_named, named-here, named-none}
 use Rattle.desk.proofs.OrderLemmas.{shown-true, true-refused}
-use Rattle.desk.proofs.desk.Desk.show.Goals as goal
+use Rattle.desk.proofs.kept.Kept.show.Goals as goal
 
 pub returns-in_default-clause-steps : goal.returns-in_default-clause-steps
-returns-in_default-clause-steps g c = λ told backed.
+returns-in_default-clause-steps c = λ told backed.
     let s = c.self.inside in
     let name = c.args.name in
-    let view : Keeps = record { repository = s.repository; kind = s.rule.kind; queries = s.queries.items; counts = s.counts; cache = s.cache; usable = s.usable } in
+    let view : Keeps = record { repository = s.repository; kind = s.kind; queries = s.queries.items; counts = s.counts; cache = s.cache; usable = s.usable } in
     let none : position (is_named c.args.name) s.queries.items ≡ None = ap (λ (x : Keeps). position (is_named c.args.name) x.queries) c.self.view_is ∙ sym c.find.ensures ∙ c.in_default.is in
     refused-now (event.Show name) told view c.args.self.now (NoSuchName name) c.self.view_is (show-noname (state_of told view) name (named-none told name s.queries.items none)) backed
 
 pub returns-in_default-clause-refuses : goal.returns-in_default-clause-refuses
-returns-in_default-clause-refuses g c = λ told.
+returns-in_default-clause-refuses c = λ told.
     let s = c.self.inside in
     let name = c.args.name in
-    let view : Keeps = record { repository = s.repository; kind = s.rule.kind; queries = s.queries.items; counts = s.counts; cache = s.cache; usable = s.usable } in
+    let view : Keeps = record { repository = s.repository; kind = s.kind; queries = s.queries.items; counts = s.counts; cache = s.cache; usable = s.usable } in
     let none : position (is_named c.args.name) s.queries.items ≡ None = ap (λ (x : Keeps). position (is_named c.args.name) x.queries) c.self.view_is ∙ sym c.find.ensures ∙ c.in_default.is in
     refused-by (event.Show name) told view c.args.self.now (NoSuchName name) c.self.view_is (show-noname (state_of told view) name (named-none told name s.queries.items none))
 
 pub returns-in_default-clause-order : goal.returns-in_default-clause-order
-returns-in_default-clause-order g c = λ told backed. true-refused (state_of told c.args.self.now) (named c.args.name (state_of told c.args.self.now).queries) (NoSuchName c.args.name)
+returns-in_default-clause-order c = λ told backed. true-refused (state_of told c.args.self.now) (named c.args.name (state_of told c.args.self.now).queries) (NoSuchName c.args.name)
 
 pub returns-in-None-clause-steps : goal.returns-in-None-clause-steps
-returns-in-None-clause-steps g c = λ told backed.
+returns-in-None-clause-steps c = λ told backed.
     let s = c.self.inside in
     let name = c.args.name in
-    let view : Keeps = record { repository = s.repository; kind = s.rule.kind; queries = s.queries.items; counts = s.counts; cache = s.cache; usable = s.usable } in
+    let view : Keeps = record { repository = s.repository; kind = s.kind; queries = s.queries.items; counts = s.counts; cache = s.cache; usable = s.usable } in
     let found : position (is_named c.args.name) s.queries.items ≡ Some c.in-Some.place = ap (λ (x : Keeps). position (is_named c.args.name) x.queries) c.self.view_is ∙ sym c.find.ensures ∙ c.in-Some.is in
     let kept = c.self.invariant.1 (ap (λ (x : Keeps). x.usable) c.self.view_is ∙ c.requires.0) (ap (λ (x : Keeps). x.repository.usable) c.self.view_is ∙ c.requires.1) in
     let q = c.index.result.now in
@@ -59,10 +59,10 @@ returns-in-None-clause-steps g c = λ told backed.
     refused-now (event.Show name) told view c.args.self.now (NotYet name) c.self.view_is (not-yet-shown told view name c.in-Some.place q place there less) backed
 
 pub returns-in-None-clause-refuses : goal.returns-in-None-clause-refuses
-returns-in-None-clause-refuses g c = λ told.
+returns-in-None-clause-refuses c = λ told.
     let s = c.self.inside in
     let name = c.args.name in
-    let view : Keeps = record { repository = s.repository; kind = s.rule.kind; queries = s.queries.items; counts = s.counts; cache = s.cache; usable = s.usable } in
+    let view : Keeps = record { repository = s.repository; kind = s.kind; queries = s.queries.items; counts = s.counts; cache = s.cache; usable = s.usable } in
     let found : position (is_named c.args.name) s.queries.items ≡ Some c.in-Some.place = ap (λ (x : Keeps). position (is_named c.args.name) x.queries) c.self.view_is ∙ sym c.find.ensures ∙ c.in-Some.is in
     let kept = c.self.invariant.1 (ap (λ (x : Keeps). x.usable) c.self.view_is ∙ c.requires.0) (ap (λ (x : Keeps). x.repository.usable) c.self.view_is ∙ c.requires.1) in
     let q = c.index.result.now in
@@ -73,13 +73,13 @@ returns-in-None-clause-refuses g c = λ told.
     refused-by (event.Show name) told view c.args.self.now (NotYet name) c.self.view_is (not-yet-shown told view name c.in-Some.place q place there less)
 
 pub returns-in-None-clause-order : goal.returns-in-None-clause-order
-returns-in-None-clause-order g c = λ told backed. true-refused (state_of told c.args.self.now) (named c.args.name (state_of told c.args.self.now).queries) (NotYet c.args.name)
+returns-in-None-clause-order c = λ told backed. true-refused (state_of told c.args.self.now) (named c.args.name (state_of told c.args.self.now).queries) (NotYet c.args.name)
 
 pub returns-in_ok-clone_in-clause-steps : goal.returns-in_ok-clone_in-clause-steps
-returns-in_ok-clone_in-clause-steps g c = λ told backed.
+returns-in_ok-clone_in-clause-steps c = λ told backed.
     let s = c.self.inside in
     let name = c.args.name in
-    let view : Keeps = record { repository = s.repository; kind = s.rule.kind; queries = s.queries.items; counts = s.counts; cache = s.cache; usable = s.usable } in
+    let view : Keeps = record { repository = s.repository; kind = s.kind; queries = s.queries.items; counts = s.counts; cache = s.cache; usable = s.usable } in
     let found : position (is_named c.args.name) s.queries.items ≡ Some c.in-Some.place = ap (λ (x : Keeps). position (is_named c.args.name) x.queries) c.self.view_is ∙ sym c.find.ensures ∙ c.in-Some.is in
     let kept = c.self.invariant.1 (ap (λ (x : Keeps). x.usable) c.self.view_is ∙ c.requires.0) (ap (λ (x : Keeps). x.repository.usable) c.self.view_is ∙ c.requires.1) in
     let q = c.index.result.now in
@@ -92,17 +92,17 @@ returns-in_ok-clone_in-clause-steps g c = λ told backed.
     let scale : c.checked.result.now.scale ≡ (whole_checked q.search.checked).scale = ap (λ (x : Checked). x.scale) c.checked.ensures in
     of-now told view c.args.self.now (λ (x : Keeps). Steps (event.Show name) told told x x (reply.Results name c.checked.result.now.scale hits)) c.self.view_is
     (λ b.
-    let query : IsQueryBacked told s.repository s.rule.kind q = at-place (IsQueryBacked told s.repository s.rule.kind) s.queries.items c.in-Some.place q place.within there b.queries in
+    let query : IsQueryBacked told s.repository s.kind q = at-place (IsQueryBacked told s.repository s.kind) s.queries.items c.in-Some.place q place.within there b.queries in
     let priors = priors_with (priors_in told s.repository.priors) in
-    let answered : IsAnswerOf s.rule.kind priors q.search (searched told q.search) hits = subst (IsAnswerOf s.rule.kind priors q.search (searched told q.search)) (sym same) (c.in-Some-results.ensures.answer s.rule.kind priors told query.taken) in
+    let answered : IsAnswerOf s.kind priors q.search (searched told q.search) hits = subst (IsAnswerOf s.kind priors q.search (searched told q.search)) (sym same) (c.in-Some-results.ensures.answer s.kind priors told query.taken) in
     show-exit told view name c.in-Some.place q place there hits c.checked.result.now.scale scale passed (shown-entries told view name c.in-Some.place q place there hits was.distinct query answered) b)
     backed
 
 pub returns-in_ok-clone_in-clause-order : goal.returns-in_ok-clone_in-clause-order
-returns-in_ok-clone_in-clause-order g c = λ told backed.
+returns-in_ok-clone_in-clause-order c = λ told backed.
     let s = c.self.inside in
     let name = c.args.name in
-    let view : Keeps = record { repository = s.repository; kind = s.rule.kind; queries = s.queries.items; counts = s.counts; cache = s.cache; usable = s.usable } in
+    let view : Keeps = record { repository = s.repository; kind = s.kind; queries = s.queries.items; counts = s.counts; cache = s.cache; usable = s.usable } in
     let found : position (is_named c.args.name) s.queries.items ≡ Some c.in-Some.place = ap (λ (x : Keeps). position (is_named c.args.name) x.queries) c.self.view_is ∙ sym c.find.ensures ∙ c.in-Some.is in
     let kept = c.self.invariant.1 (ap (λ (x : Keeps). x.usable) c.self.view_is ∙ c.requires.0) (ap (λ (x : Keeps). x.repository.usable) c.self.view_is ∙ c.requires.1) in
     let q = c.index.result.now in
@@ -114,9 +114,9 @@ returns-in_ok-clone_in-clause-order g c = λ told backed.
     let scale : c.checked.result.now.scale ≡ q.search.checked.scale = ap (λ (x : Checked). x.scale) c.checked.ensures in
     of-now told view c.args.self.now (λ (x : Keeps). IsTrueReply (state_of told x) (event.Show name) (reply.Results name c.checked.result.now.scale hits)) c.self.view_is
     (λ b.
-    let query : IsQueryBacked told s.repository s.rule.kind q = at-place (IsQueryBacked told s.repository s.rule.kind) s.queries.items c.in-Some.place q place.within there b.queries in
+    let query : IsQueryBacked told s.repository s.kind q = at-place (IsQueryBacked told s.repository s.kind) s.queries.items c.in-Some.place q place.within there b.queries in
     let priors = priors_with (priors_in told s.repository.priors) in
-    let answered : IsAnswerOf s.rule.kind priors q.search (searched told q.search) hits = subst (IsAnswerOf s.rule.kind priors q.search (searched told q.search)) (sym same) (c.in-Some-results.ensures.answer s.rule.kind priors told query.taken) in
+    let answered : IsAnswerOf s.kind priors q.search (searched told q.search) hits = subst (IsAnswerOf s.kind priors q.search (searched told q.search)) (sym same) (c.in-Some-results.ensures.answer s.kind priors told query.taken) in
     shown-true told view name c.in-Some.place q place there c.ranking_is_true.ensures c.checked.result.now.scale hits scale was.distinct query answered)
     backed
 
@@ -135,10 +135,10 @@ returns-in_ok-clone_in-clause-form g c =
     (results-form (length s.repository.priors) c.checked.result.now.scale q (searched None q.search) c.in-Some-results.hits.now was scale (c.in-Some-results.ensures.windows None))
 
 pub returns-in_ok-clone_in-clause-refuses : goal.returns-in_ok-clone_in-clause-refuses
-returns-in_ok-clone_in-clause-refuses g c = λ told.
+returns-in_ok-clone_in-clause-refuses c = λ told.
     let s = c.self.inside in
     let name = c.args.name in
-    let view : Keeps = record { repository = s.repository; kind = s.rule.kind; queries = s.queries.items; counts = s.counts; cache = s.cache; usable = s.usable } in
+    let view : Keeps = record { repository = s.repository; kind = s.kind; queries = s.queries.items; counts = s.counts; cache = s.cache; usable = s.usable } in
     let found : position (is_named c.args.name) s.queries.items ≡ Some c.in-Some.place = ap (λ (x : Keeps). position (is_named c.args.name) x.queries) c.self.view_is ∙ sym c.find.ensures ∙ c.in-Some.is in
     let q = c.index.result.now in
     let place = found-place name s.queries.items c.in-Some.place q found in

@@ -36,14 +36,14 @@ use Rattle.desk.proofs.FormLemmas.{scale-form}
 use Rattle.desk.proofs.NamedExits.{all-passed, not-yet, not-yet-explained, shown-entries}
 use Rattle.desk.proofs.Naming.{at-place, found-place, is_named, named-here, named-none}
 use Rattle.desk.proofs.ReadingExits.{early-passed, early-refused, explain-exit, no-rank, with_cache}
-use Rattle.desk.proofs.desk.Desk.explain.Goals as goal
+use Rattle.desk.proofs.kept.Kept.explain.Goals as goal
 
 pub returns-in_default-clause-steps : goal.returns-in_default-clause-steps
 returns-in_default-clause-steps g c = λ backed.
     let told = g.T.Store.files c.args.store.now in
     let s = c.self.inside in
     let name = c.args.name in
-    let view : Keeps = record { repository = s.repository; kind = s.rule.kind; queries = s.queries.items; counts = s.counts; cache = s.cache; usable = s.usable } in
+    let view : Keeps = record { repository = s.repository; kind = s.kind; queries = s.queries.items; counts = s.counts; cache = s.cache; usable = s.usable } in
     let none : position (is_named name) s.queries.items ≡ None = ap (λ (x : Keeps). position (is_named name) x.queries) c.self.view_is ∙ sym c.find.ensures ∙ c.in_default.is in
     refused-now (event.Explain name c.args.rank) told view c.args.self.now (NoSuchName name) c.self.view_is (explain-noname (state_of told view) name c.args.rank (named-none told name s.queries.items none)) backed
 
@@ -51,7 +51,7 @@ pub returns-in_default-clause-early : goal.returns-in_default-clause-early
 returns-in_default-clause-early g c = λ told.
     let s = c.self.inside in
     let name = c.args.name in
-    let view : Keeps = record { repository = s.repository; kind = s.rule.kind; queries = s.queries.items; counts = s.counts; cache = s.cache; usable = s.usable } in
+    let view : Keeps = record { repository = s.repository; kind = s.kind; queries = s.queries.items; counts = s.counts; cache = s.cache; usable = s.usable } in
     let none : position (is_named name) s.queries.items ≡ None = ap (λ (x : Keeps). position (is_named name) x.queries) c.self.view_is ∙ sym c.find.ensures ∙ c.in_default.is in
     early-refused (event.Explain name c.args.rank) told view c.args.self.now (NoSuchName name) c.self.view_is (explain-noname (state_of told view) name c.args.rank (named-none told name s.queries.items none))
 
@@ -60,7 +60,7 @@ returns-in_default-2-clause-steps g c = λ backed.
     let told = g.T.Store.files c.args.store.now in
     let s = c.self.inside in
     let name = c.args.name in
-    let view : Keeps = record { repository = s.repository; kind = s.rule.kind; queries = s.queries.items; counts = s.counts; cache = s.cache; usable = s.usable } in
+    let view : Keeps = record { repository = s.repository; kind = s.kind; queries = s.queries.items; counts = s.counts; cache = s.cache; usable = s.usable } in
     let found : position (is_named name) s.queries.items ≡ Some c.in-Some.place = ap (λ (x : Keeps). position (is_named name) x.queries) c.self.view_is ∙ sym c.find.ensures ∙ c.in-Some.is in
     let kept = c.self.invariant.1 (ap (λ (x : Keeps). x.usable) c.self.view_is ∙ c.requires.usable.0) (ap (λ (x : Keeps). x.repository.usable) c.self.view_is ∙ c.requires.usable.1) in
     let q = c.index.result.now in
@@ -74,7 +74,7 @@ pub returns-in_default-2-clause-early : goal.returns-in_default-2-clause-early
 returns-in_default-2-clause-early g c = λ told.
     let s = c.self.inside in
     let name = c.args.name in
-    let view : Keeps = record { repository = s.repository; kind = s.rule.kind; queries = s.queries.items; counts = s.counts; cache = s.cache; usable = s.usable } in
+    let view : Keeps = record { repository = s.repository; kind = s.kind; queries = s.queries.items; counts = s.counts; cache = s.cache; usable = s.usable } in
     let found : position (is_named name) s.queries.items ≡ Some c.in-Some.place = ap (λ (x : Keeps). position (is_named name) x.queries) c.self.view_is ∙ sym c.find.ensures ∙ c.in-Some.is in
     let kept = c.self.invariant.1 (ap (λ (x : Keeps). x.usable) c.self.view_is ∙ c.requires.usable.0) (ap (λ (x : Keeps). x.repository.usable) c.self.view_is ∙ c.requires.usable.1) in
     let q = c.index.result.now in
@@ -89,7 +89,7 @@ returns-in_default-3-clause-steps g c = λ backed.
     let told = g.T.Store.files c.args.store.now in
     let s = c.self.inside in
     let name = c.args.name in
-    let view : Keeps = record { repository = s.repository; kind = s.rule.kind; queries = s.queries.items; counts = s.counts; cache = s.cache; usable = s.usable } in
+    let view : Keeps = record { repository = s.repository; kind = s.kind; queries = s.queries.items; counts = s.counts; cache = s.cache; usable = s.usable } in
     let found : position (is_named name) s.queries.items ≡ Some c.in-Some.place = ap (λ (x : Keeps). position (is_named name) x.queries) c.self.view_is ∙ sym c.find.ensures ∙ c.in-Some.is in
     let kept = c.self.invariant.1 (ap (λ (x : Keeps). x.usable) c.self.view_is ∙ c.requires.usable.0) (ap (λ (x : Keeps). x.repository.usable) c.self.view_is ∙ c.requires.usable.1) in
     let q = c.index.result.now in
@@ -100,8 +100,8 @@ returns-in_default-3-clause-steps g c = λ backed.
     let hits : List Hit = c.in-Some-2.hits.now in
     of-now told view c.args.self.now (λ x. Steps (event.Explain name c.args.rank) told told x view (reply.Refused (NoSuchRank name))) c.self.view_is
     (λ b.
-    let query : IsQueryBacked told s.repository s.rule.kind q = at-place (IsQueryBacked told s.repository s.rule.kind) s.queries.items c.in-Some.place q place.within there b.queries in
-    let entries = shown-entries told view name c.in-Some.place q place there hits was.distinct query (c.in-Some-2.ensures.answer s.rule.kind (priors_with (priors_in told s.repository.priors)) told query.taken) in
+    let query : IsQueryBacked told s.repository s.kind q = at-place (IsQueryBacked told s.repository s.kind) s.queries.items c.in-Some.place q place.within there b.queries in
+    let entries = shown-entries told view name c.in-Some.place q place there hits was.distinct query (c.in-Some-2.ensures.answer s.kind (priors_with (priors_in told s.repository.priors)) told query.taken) in
     refused-exit (event.Explain name c.args.rank) told view (NoSuchRank name) (no-rank told view name c.in-Some.place q place there passed hits entries c.args.rank (sym c.in_default-3.is ∙ c.in_ok-hit.ensures)) b)
     backed
 
@@ -109,7 +109,7 @@ pub returns-in_default-3-clause-early : goal.returns-in_default-3-clause-early
 returns-in_default-3-clause-early g c = λ told.
     let s = c.self.inside in
     let name = c.args.name in
-    let view : Keeps = record { repository = s.repository; kind = s.rule.kind; queries = s.queries.items; counts = s.counts; cache = s.cache; usable = s.usable } in
+    let view : Keeps = record { repository = s.repository; kind = s.kind; queries = s.queries.items; counts = s.counts; cache = s.cache; usable = s.usable } in
     let found : position (is_named name) s.queries.items ≡ Some c.in-Some.place = ap (λ (x : Keeps). position (is_named name) x.queries) c.self.view_is ∙ sym c.find.ensures ∙ c.in-Some.is in
     let q = c.index.result.now in
     let there : q ≡ get_or s.queries.items c.in-Some.place q = c.index.ensures in
@@ -146,7 +146,7 @@ returns-clause-steps g c = λ backed.
     let told = g.T.Store.files c.args.store.now in
     let s = c.self.inside in
     let name = c.args.name in
-    let view : Keeps = record { repository = s.repository; kind = s.rule.kind; queries = s.queries.items; counts = s.counts; cache = s.cache; usable = s.usable } in
+    let view : Keeps = record { repository = s.repository; kind = s.kind; queries = s.queries.items; counts = s.counts; cache = s.cache; usable = s.usable } in
     let after = g.T.Store.files c.explain_hit.new.store in
     let found : position (is_named name) s.queries.items ≡ Some c.in-Some.place = ap (λ (x : Keeps). position (is_named name) x.queries) c.self.view_is ∙ sym c.find.ensures ∙ c.in-Some.is in
     let kept = c.self.invariant.1 (ap (λ (x : Keeps). x.usable) c.self.view_is ∙ c.requires.usable.0) (ap (λ (x : Keeps). x.repository.usable) c.self.view_is ∙ c.requires.usable.1) in
@@ -164,8 +164,8 @@ returns-clause-steps g c = λ backed.
     let names : c.deref.result.now ≡ map (λ (x : PriorEntry). x.name) s.repository.priors = c.deref.ensures.value ∙ c.in_ok-names.ensures ∙ ap (map (λ (x : PriorEntry). x.name)) c.priors.ensures.list in
     of-now told view c.args.self.now (λ x. Steps (event.Explain name c.args.rank) told after x (with_cache view cache) (reply.Explained e)) c.self.view_is
     (λ b.
-    let query : IsQueryBacked told s.repository s.rule.kind q = at-place (IsQueryBacked told s.repository s.rule.kind) s.queries.items c.in-Some.place q place.within there b.queries in
-    let entries = shown-entries told view name c.in-Some.place q place there hits was.distinct query (c.in-Some-2.ensures.answer s.rule.kind (priors_with (priors_in told s.repository.priors)) told query.taken) in
+    let query : IsQueryBacked told s.repository s.kind q = at-place (IsQueryBacked told s.repository s.kind) s.queries.items c.in-Some.place q place.within there b.queries in
+    let entries = shown-entries told view name c.in-Some.place q place there hits was.distinct query (c.in-Some-2.ensures.answer s.kind (priors_with (priors_in told s.repository.priors)) told query.taken) in
     let found_in = c.in_ok-explained.ensures.exact (subst (λ (ms : List Marked). AreBacked told ms) (sym parts) query.snapshot) b.cache.backed in
     let document = sym (ap (λ (ms : List Marked). document_with hit.docno (live told ms)) parts) ∙ found_in.1 in
     let is = subst (λ (k : Checked). IsExplanation c.deref.result.now (whole_checked k) c.stats.result.now found_in.0 c.args.rank hit e) c.checked.ensures found_in.2 in
@@ -177,7 +177,7 @@ pub returns-clause-early : goal.returns-clause-early
 returns-clause-early g c = λ told.
     let s = c.self.inside in
     let name = c.args.name in
-    let view : Keeps = record { repository = s.repository; kind = s.rule.kind; queries = s.queries.items; counts = s.counts; cache = s.cache; usable = s.usable } in
+    let view : Keeps = record { repository = s.repository; kind = s.kind; queries = s.queries.items; counts = s.counts; cache = s.cache; usable = s.usable } in
     let found : position (is_named name) s.queries.items ≡ Some c.in-Some.place = ap (λ (x : Keeps). position (is_named name) x.queries) c.self.view_is ∙ sym c.find.ensures ∙ c.in-Some.is in
     let q = c.index.result.now in
     let there : q ≡ get_or s.queries.items c.in-Some.place q = c.index.ensures in
@@ -191,13 +191,13 @@ returns-in_err-explained-clause-honest g c = λ backed.
     let told = g.T.Store.files c.args.store.now in
     let s = c.self.inside in
     let name = c.args.name in
-    let view : Keeps = record { repository = s.repository; kind = s.rule.kind; queries = s.queries.items; counts = s.counts; cache = s.cache; usable = s.usable } in
+    let view : Keeps = record { repository = s.repository; kind = s.kind; queries = s.queries.items; counts = s.counts; cache = s.cache; usable = s.usable } in
     let found : position (is_named name) s.queries.items ≡ Some c.in-Some.place = ap (λ (x : Keeps). position (is_named name) x.queries) c.self.view_is ∙ sym c.find.ensures ∙ c.in-Some.is in
     let q = c.index.result.now in
     let there : q ≡ get_or s.queries.items c.in-Some.place q = c.index.ensures in
     let place = found-place name s.queries.items c.in-Some.place q found in
     let b : IsDeskBacked told view = subst (IsDeskBacked told) (sym c.self.view_is) backed in
-    let query : IsQueryBacked told s.repository s.rule.kind q = at-place (IsQueryBacked told s.repository s.rule.kind) s.queries.items c.in-Some.place q place.within there b.queries in
+    let query : IsQueryBacked told s.repository s.kind q = at-place (IsQueryBacked told s.repository s.kind) s.queries.items c.in-Some.place q place.within there b.queries in
     let parts : c.parts.result.now ≡ q.search.snapshot = c.parts.ensures.parts ∙ c.snapshot.ensures in
     let p = err_from_is_err_and c.from_residual-in_err-explained.result c.from_residual-in_err-explained.ensures.1 in
     rw (p.1, p.2) (c.in_err-explained.ensures.honest (subst (λ (ms : List Marked). AreBacked told ms) (sym parts) query.snapshot) b.cache.backed)

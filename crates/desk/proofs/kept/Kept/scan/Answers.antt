@@ -19,20 +19,20 @@ use Rattle.desk.proofs.Closing.{priors-closed}
 use Rattle.desk.proofs.Exits.{accepted-by, of-now, refused-by, refused-now}
 use Rattle.desk.proofs.KeptLemmas.{kept-repository}
 use Rattle.desk.proofs.ReadingExits.{scan-done}
-use Rattle.desk.proofs.desk.Desk.scan.Goals as goal
+use Rattle.desk.proofs.kept.Kept.scan.Goals as goal
 
 pub returns-in-Err-Refused-clause-steps : goal.returns-in-Err-Refused-clause-steps
 returns-in-Err-Refused-clause-steps g c = λ backed.
     let told = g.T.Store.files c.args.store.now in
     let s = c.self.inside in
-    let view : Keeps = record { repository = s.repository; kind = s.rule.kind; queries = s.queries.items; counts = s.counts; cache = s.cache; usable = s.usable } in
+    let view : Keeps = record { repository = s.repository; kind = s.kind; queries = s.queries.items; counts = s.counts; cache = s.cache; usable = s.usable } in
     let why : scanned c.args.text.now ≡ Err c.in-Err-Refused.refusal = ap scanned (sym c.as_slice.ensures) ∙ c.in-Err-Refused.ensures.refused in
     refused-now (event.Scan c.args.text.now) told view c.args.self.now c.in-Err-Refused.refusal c.self.view_is (scan-fault (state_of told view) c.args.text.now c.in-Err-Refused.refusal why) backed
 
 pub returns-in-Err-Refused-clause-refuses : goal.returns-in-Err-Refused-clause-refuses
 returns-in-Err-Refused-clause-refuses g c = λ told.
     let s = c.self.inside in
-    let view : Keeps = record { repository = s.repository; kind = s.rule.kind; queries = s.queries.items; counts = s.counts; cache = s.cache; usable = s.usable } in
+    let view : Keeps = record { repository = s.repository; kind = s.kind; queries = s.queries.items; counts = s.counts; cache = s.cache; usable = s.usable } in
     let why : scanned c.args.text.now ≡ Err c.in-Err-Refused.refusal = ap scanned (sym c.as_slice.ensures) ∙ c.in-Err-Refused.ensures.refused in
     refused-by (event.Scan c.args.text.now) told view c.args.self.now c.in-Err-Refused.refusal c.self.view_is (scan-fault (state_of told view) c.args.text.now c.in-Err-Refused.refusal why)
 
@@ -49,7 +49,7 @@ returns-clause-steps g c = λ backed.
     let told = g.T.Store.files c.args.store.now in
     let after = g.T.Store.files c.scan.new.store in
     let s = c.self.inside in
-    let view : Keeps = record { repository = s.repository; kind = s.rule.kind; queries = s.queries.items; counts = s.counts; cache = s.cache; usable = s.usable } in
+    let view : Keeps = record { repository = s.repository; kind = s.kind; queries = s.queries.items; counts = s.counts; cache = s.cache; usable = s.usable } in
     let text = c.args.text.now in
     let x = expr_tree c.in-Ok.expr in
     let parts = c.parts.result.now in
@@ -64,7 +64,7 @@ returns-clause-steps g c = λ backed.
 pub returns-clause-refuses : goal.returns-clause-refuses
 returns-clause-refuses g c = λ told.
     let s = c.self.inside in
-    let view : Keeps = record { repository = s.repository; kind = s.rule.kind; queries = s.queries.items; counts = s.counts; cache = s.cache; usable = s.usable } in
+    let view : Keeps = record { repository = s.repository; kind = s.kind; queries = s.queries.items; counts = s.counts; cache = s.cache; usable = s.usable } in
     let is : scanned c.args.text.now ≡ Ok (expr_tree c.in-Ok.expr) = ap scanned (sym c.as_slice.ensures) ∙ c.in-Ok.ensures.read in
     accepted-by (event.Scan c.args.text.now) told view c.args.self.now _ c.self.view_is (scan-found (state_of told view) c.args.text.now (expr_tree c.in-Ok.expr) is) refl
 
@@ -72,7 +72,7 @@ pub returns-in_err-lines-clause-honest : goal.returns-in_err-lines-clause-honest
 returns-in_err-lines-clause-honest g c = λ backed.
     let told = g.T.Store.files c.args.store.now in
     let s = c.self.inside in
-    let view : Keeps = record { repository = s.repository; kind = s.rule.kind; queries = s.queries.items; counts = s.counts; cache = s.cache; usable = s.usable } in
+    let view : Keeps = record { repository = s.repository; kind = s.kind; queries = s.queries.items; counts = s.counts; cache = s.cache; usable = s.usable } in
     let b : IsDeskBacked told view = subst (IsDeskBacked told) (sym c.self.view_is) backed in
     let p = err_from_is_err_and c.from_residual-in_err-lines.result c.from_residual-in_err-lines.ensures.1 in
     rw (p.1, p.2) (c.in_err-lines.ensures.honest (subst (λ (ms : List Marked). AreBacked told ms) (sym c.parts.ensures.parts) (c.in_ok-snapshot.ensures.stored told b.repository)) b.cache.backed)

@@ -7,32 +7,32 @@ use Rattle.desk.specs.Backed.{Keeps, merge_of, state_of}
 use Rattle.desk.proofs.Cases.{step-merging}
 use Rattle.desk.proofs.Exits.{accepted-by, refused-by, refused-now}
 use Rattle.desk.proofs.MergeExits.{merge-done, mergeopen-step, none-of}
-use Rattle.desk.proofs.desk.Desk.merge.Goals as goal
+use Rattle.desk.proofs.kept.Kept.merge.Goals as goal
 
 pub returns-then-merge_open-clause-steps : goal.returns-then-merge_open-clause-steps
-returns-then-merge_open-clause-steps g c = λ told backed.
+returns-then-merge_open-clause-steps c = λ told backed.
     let s = c.self.inside in
-    let view : Keeps = record { repository = s.repository; kind = s.rule.kind; queries = s.queries.items; counts = s.counts; cache = s.cache; usable = s.usable } in
+    let view : Keeps = record { repository = s.repository; kind = s.kind; queries = s.queries.items; counts = s.counts; cache = s.cache; usable = s.usable } in
     let some : is_some s.repository.merge ≡ true = sym c.merge_open.ensures ∙ c.if-merge_open.true in
     refused-now event.Merge told view c.args.self.now MergeOpen c.self.view_is (mergeopen-step told view some) backed
 
 pub returns-then-merge_open-clause-refuses : goal.returns-then-merge_open-clause-refuses
-returns-then-merge_open-clause-refuses g c = λ told.
+returns-then-merge_open-clause-refuses c = λ told.
     let s = c.self.inside in
-    let view : Keeps = record { repository = s.repository; kind = s.rule.kind; queries = s.queries.items; counts = s.counts; cache = s.cache; usable = s.usable } in
+    let view : Keeps = record { repository = s.repository; kind = s.kind; queries = s.queries.items; counts = s.counts; cache = s.cache; usable = s.usable } in
     let some : is_some s.repository.merge ≡ true = sym c.merge_open.ensures ∙ c.if-merge_open.true in
     refused-by event.Merge told view c.args.self.now MergeOpen c.self.view_is (mergeopen-step told view some)
 
 pub returns-clause-steps : goal.returns-clause-steps
-returns-clause-steps g c = λ told backed.
+returns-clause-steps c = λ told backed.
     let s = c.self.inside in
-    let view : Keeps = record { repository = s.repository; kind = s.rule.kind; queries = s.queries.items; counts = s.counts; cache = s.cache; usable = s.usable } in
+    let view : Keeps = record { repository = s.repository; kind = s.kind; queries = s.queries.items; counts = s.counts; cache = s.cache; usable = s.usable } in
     let none : s.repository.merge ≡ None = none-of s.repository.merge (sym c.merge_open.ensures ∙ c.if-merge_open.false) in
     merge-done told view c.args.self.now c.begin_merge.new.self c.in-Ok.size c.self.view_is none c.in-Ok.ensures.begun (c.in-Ok.ensures.live told) (c.begin_merge.ensures.reads told) (c.begin_merge.ensures.backed told) (c.in-Ok.ensures.merging told) backed
 
 pub returns-clause-refuses : goal.returns-clause-refuses
-returns-clause-refuses g c = λ told.
+returns-clause-refuses c = λ told.
     let s = c.self.inside in
-    let view : Keeps = record { repository = s.repository; kind = s.rule.kind; queries = s.queries.items; counts = s.counts; cache = s.cache; usable = s.usable } in
+    let view : Keeps = record { repository = s.repository; kind = s.kind; queries = s.queries.items; counts = s.counts; cache = s.cache; usable = s.usable } in
     let none : s.repository.merge ≡ None = none-of s.repository.merge (sym c.merge_open.ensures ∙ c.if-merge_open.false) in
     accepted-by event.Merge told view c.args.self.now _ c.self.view_is (step-merging (state_of told view) (ap (option_map merge_of) none)) refl

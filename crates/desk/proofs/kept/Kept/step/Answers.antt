@@ -17,14 +17,14 @@ use Rattle.desk.proofs.Exits.{accepted-by, of-now, refused-by, refused-now}
 use Rattle.desk.proofs.KeptLemmas.{asks-nine, kept-set, open-on}
 use Rattle.desk.proofs.NamedExits.{step-exit, with_search}
 use Rattle.desk.proofs.Naming.{at-place, found-place, is_named, named-here, named-none}
-use Rattle.desk.proofs.desk.Desk.step.Goals as goal
+use Rattle.desk.proofs.kept.Kept.step.Goals as goal
 
 pub returns-in_default-clause-steps : goal.returns-in_default-clause-steps
 returns-in_default-clause-steps g c = λ backed are.
     let told = g.T.Store.files c.args.store.now in
     let s = c.self.inside in
     let name = c.args.name in
-    let view : Keeps = record { repository = s.repository; kind = s.rule.kind; queries = s.queries.items; counts = s.counts; cache = s.cache; usable = s.usable } in
+    let view : Keeps = record { repository = s.repository; kind = s.kind; queries = s.queries.items; counts = s.counts; cache = s.cache; usable = s.usable } in
     let none : position (is_named name) s.queries.items ≡ None = ap (λ (x : Keeps). position (is_named name) x.queries) c.self.view_is ∙ sym c.find.ensures ∙ c.in_default.is in
     refused-now (event.Step name c.args.docs) told view c.args.self.now (NoSuchName name) c.self.view_is (step-noname (state_of told view) name c.args.docs (named-none told name s.queries.items none)) backed
 
@@ -32,7 +32,7 @@ pub returns-in_default-clause-refuses : goal.returns-in_default-clause-refuses
 returns-in_default-clause-refuses g c = λ told.
     let s = c.self.inside in
     let name = c.args.name in
-    let view : Keeps = record { repository = s.repository; kind = s.rule.kind; queries = s.queries.items; counts = s.counts; cache = s.cache; usable = s.usable } in
+    let view : Keeps = record { repository = s.repository; kind = s.kind; queries = s.queries.items; counts = s.counts; cache = s.cache; usable = s.usable } in
     let none : position (is_named name) s.queries.items ≡ None = ap (λ (x : Keeps). position (is_named name) x.queries) c.self.view_is ∙ sym c.find.ensures ∙ c.in_default.is in
     refused-by (event.Step name c.args.docs) told view c.args.self.now (NoSuchName name) c.self.view_is (step-noname (state_of told view) name c.args.docs (named-none told name s.queries.items none))
 
@@ -83,7 +83,7 @@ returns-in-Ok-clause-steps g c = λ backed are.
     let after = g.T.Store.files c.advance.new.store in
     let s = c.self.inside in
     let name = c.args.name in
-    let view : Keeps = record { repository = s.repository; kind = s.rule.kind; queries = s.queries.items; counts = s.counts; cache = s.cache; usable = s.usable } in
+    let view : Keeps = record { repository = s.repository; kind = s.kind; queries = s.queries.items; counts = s.counts; cache = s.cache; usable = s.usable } in
     let found : position (is_named name) s.queries.items ≡ Some c.in-Some.place = ap (λ (x : Keeps). position (is_named name) x.queries) c.self.view_is ∙ sym c.find.ensures ∙ c.in-Some.is in
     let kept = c.self.invariant.1 (ap (λ (x : Keeps). x.usable) c.self.view_is ∙ c.requires.usable.0) (ap (λ (x : Keeps). x.repository.usable) c.self.view_is ∙ c.requires.usable.1) in
     let q = c.index_mut.result.now in
@@ -97,7 +97,7 @@ returns-in-Ok-clause-steps g c = λ backed are.
     of-now told view c.args.self.now
     (λ (x : Keeps). Steps (event.Step name c.args.docs) told after x (with_search view (set s.queries.items c.in-Some.place new) cache) (reply.Stepped name c.in-Ok.credit c.in-Ok.live)) c.self.view_is
     (λ b.
-    let query : IsQueryBacked told s.repository s.rule.kind q = at-place (IsQueryBacked told s.repository s.rule.kind) s.queries.items c.in-Some.place q place.within there b.queries in
+    let query : IsQueryBacked told s.repository s.kind q = at-place (IsQueryBacked told s.repository s.kind) s.queries.items c.in-Some.place q place.within there b.queries in
     let now = c.in-Ok.ensures.backed s.repository few was.priors (subst (λ (x : Keeps). ArePlugs (priors_in told x.repository.priors) plugs) (sym c.self.view_is) are) b.cache.backed query in
     let blocks : IsCacheKept after s.repository cache = subst (λ (f : Option Files). IsCacheKept f s.repository cache) (sym same) (cache-read told s.repository q.search.snapshot s.cache cache query.listed c.advance.ensures.cache b.cache) in
     step-exit told view name c.in-Some.place q place there after c.args.docs c.in-Ok.credit c.in-Ok.live new cache same (c.in-Ok.ensures.query told) now blocks (c.in-Ok.ensures.credit told) (c.in-Ok.ensures.live told) b)
@@ -107,7 +107,7 @@ pub returns-in-Ok-clause-refuses : goal.returns-in-Ok-clause-refuses
 returns-in-Ok-clause-refuses g c = λ told.
     let s = c.self.inside in
     let name = c.args.name in
-    let view : Keeps = record { repository = s.repository; kind = s.rule.kind; queries = s.queries.items; counts = s.counts; cache = s.cache; usable = s.usable } in
+    let view : Keeps = record { repository = s.repository; kind = s.kind; queries = s.queries.items; counts = s.counts; cache = s.cache; usable = s.usable } in
     let found : position (is_named name) s.queries.items ≡ Some c.in-Some.place = ap (λ (x : Keeps). position (is_named name) x.queries) c.self.view_is ∙ sym c.find.ensures ∙ c.in-Some.is in
     let q = c.index_mut.result.now in
     let there : q ≡ get_or s.queries.items c.in-Some.place q = c.index_mut.ensures.value in
@@ -119,11 +119,11 @@ returns-in-Err-clause-honest g c = λ backed.
     let told = g.T.Store.files c.args.store.now in
     let s = c.self.inside in
     let name = c.args.name in
-    let view : Keeps = record { repository = s.repository; kind = s.rule.kind; queries = s.queries.items; counts = s.counts; cache = s.cache; usable = s.usable } in
+    let view : Keeps = record { repository = s.repository; kind = s.kind; queries = s.queries.items; counts = s.counts; cache = s.cache; usable = s.usable } in
     let found : position (is_named name) s.queries.items ≡ Some c.in-Some.place = ap (λ (x : Keeps). position (is_named name) x.queries) c.self.view_is ∙ sym c.find.ensures ∙ c.in-Some.is in
     let q = c.index_mut.result.now in
     let there : q ≡ get_or s.queries.items c.in-Some.place q = c.index_mut.ensures.value in
     let place = found-place name s.queries.items c.in-Some.place q found in
     let b : IsDeskBacked told view = subst (IsDeskBacked told) (sym c.self.view_is) backed in
-    let query : IsQueryBacked told s.repository s.rule.kind q = at-place (IsQueryBacked told s.repository s.rule.kind) s.queries.items c.in-Some.place q place.within there b.queries in
+    let query : IsQueryBacked told s.repository s.kind q = at-place (IsQueryBacked told s.repository s.kind) s.queries.items c.in-Some.place q place.within there b.queries in
     c.in-Err.ensures.honest s.repository query b.cache.backed

@@ -25,14 +25,14 @@ use Rattle.desk.proofs.Exits.{of-now}
 use Rattle.desk.proofs.KeptLemmas.{kept-counts, kept-pushed, kept-repository}
 use Rattle.desk.proofs.Naming.{is_named}
 use Rattle.desk.proofs.OpenExits.{IsNewSearch, full-refused, open-accepted-by, open-done, open-new, open-refusal, open-refused-by, taken-refused}
-use Rattle.desk.proofs.desk.Desk.open_checked.Goals as goal
+use Rattle.desk.proofs.kept.Kept.open_checked.Goals as goal
 
 pub returns-then-is_some-clause-steps : goal.returns-then-is_some-clause-steps
 returns-then-is_some-clause-steps g c = λ backed.
     let told = g.T.Store.files c.args.store.now in
     let s = c.self.inside in
     let name = c.args.name in
-    let view : Keeps = record { repository = s.repository; kind = s.rule.kind; queries = s.queries.items; counts = s.counts; cache = s.cache; usable = s.usable } in
+    let view : Keeps = record { repository = s.repository; kind = s.kind; queries = s.queries.items; counts = s.counts; cache = s.cache; usable = s.usable } in
     let taken : is_some (position (is_named name) s.queries.items) ≡ true = ap (λ (x : Keeps). is_some (position (is_named name) x.queries)) c.self.view_is ∙ ap is_some (sym c.find.ensures) ∙ sym c.is_some.ensures ∙ c.if-is_some.true in
     open-refusal told view c.args.self.now name c.args.k (whole_checked c.args.checked) (NameTaken name) c.self.view_is (taken-refused told view name c.args.k (whole_checked c.args.checked) taken) backed
 
@@ -40,7 +40,7 @@ pub returns-then-is_some-clause-refuses : goal.returns-then-is_some-clause-refus
 returns-then-is_some-clause-refuses g c = λ told.
     let s = c.self.inside in
     let name = c.args.name in
-    let view : Keeps = record { repository = s.repository; kind = s.rule.kind; queries = s.queries.items; counts = s.counts; cache = s.cache; usable = s.usable } in
+    let view : Keeps = record { repository = s.repository; kind = s.kind; queries = s.queries.items; counts = s.counts; cache = s.cache; usable = s.usable } in
     let taken : is_some (position (is_named name) s.queries.items) ≡ true = ap (λ (x : Keeps). is_some (position (is_named name) x.queries)) c.self.view_is ∙ ap is_some (sym c.find.ensures) ∙ sym c.is_some.ensures ∙ c.if-is_some.true in
     open-refused-by told view c.args.self.now name c.args.k (whole_checked c.args.checked) (NameTaken name) c.self.view_is (taken-refused told view name c.args.k (whole_checked c.args.checked) taken)
 
@@ -49,7 +49,7 @@ returns-then-len-ge-MAX_QUERIES-clause-steps g c = λ backed.
     let told = g.T.Store.files c.args.store.now in
     let s = c.self.inside in
     let name = c.args.name in
-    let view : Keeps = record { repository = s.repository; kind = s.rule.kind; queries = s.queries.items; counts = s.counts; cache = s.cache; usable = s.usable } in
+    let view : Keeps = record { repository = s.repository; kind = s.kind; queries = s.queries.items; counts = s.counts; cache = s.cache; usable = s.usable } in
     let free : is_some (position (is_named name) s.queries.items) ≡ false = ap (λ (x : Keeps). is_some (position (is_named name) x.queries)) c.self.view_is ∙ ap is_some (sym c.find.ensures) ∙ sym c.is_some.ensures ∙ c.if-is_some.false in
     let full : nat_le MAX_QUERIES (length s.queries.items) ≡ true = le-leb MAX_QUERIES (length s.queries.items) (omega (arith, c.len.ensures, c.if-len-ge-MAX_QUERIES.true)) in
     open-refusal told view c.args.self.now name c.args.k (whole_checked c.args.checked) (DeskFull name) c.self.view_is (full-refused told view name c.args.k (whole_checked c.args.checked) free full) backed
@@ -58,7 +58,7 @@ pub returns-then-len-ge-MAX_QUERIES-clause-refuses : goal.returns-then-len-ge-MA
 returns-then-len-ge-MAX_QUERIES-clause-refuses g c = λ told.
     let s = c.self.inside in
     let name = c.args.name in
-    let view : Keeps = record { repository = s.repository; kind = s.rule.kind; queries = s.queries.items; counts = s.counts; cache = s.cache; usable = s.usable } in
+    let view : Keeps = record { repository = s.repository; kind = s.kind; queries = s.queries.items; counts = s.counts; cache = s.cache; usable = s.usable } in
     let free : is_some (position (is_named name) s.queries.items) ≡ false = ap (λ (x : Keeps). is_some (position (is_named name) x.queries)) c.self.view_is ∙ ap is_some (sym c.find.ensures) ∙ sym c.is_some.ensures ∙ c.if-is_some.false in
     let full : nat_le MAX_QUERIES (length s.queries.items) ≡ true = le-leb MAX_QUERIES (length s.queries.items) (omega (arith, c.len.ensures, c.if-len-ge-MAX_QUERIES.true)) in
     open-refused-by told view c.args.self.now name c.args.k (whole_checked c.args.checked) (DeskFull name) c.self.view_is (full-refused told view name c.args.k (whole_checked c.args.checked) free full)
@@ -93,7 +93,7 @@ returns-clause-steps g c = λ backed.
     let after = g.T.Store.files c.all_stats.new.store in
     let s = c.self.inside in
     let name = c.args.name in
-    let view : Keeps = record { repository = s.repository; kind = s.rule.kind; queries = s.queries.items; counts = s.counts; cache = s.cache; usable = s.usable } in
+    let view : Keeps = record { repository = s.repository; kind = s.kind; queries = s.queries.items; counts = s.counts; cache = s.cache; usable = s.usable } in
     let free : is_some (position (is_named name) s.queries.items) ≡ false = ap (λ (x : Keeps). is_some (position (is_named name) x.queries)) c.self.view_is ∙ ap is_some (sym c.find.ensures) ∙ sym c.is_some.ensures ∙ c.if-is_some.false in
     let room : nat_le MAX_QUERIES (length s.queries.items) ≡ false = lt-leb MAX_QUERIES (length s.queries.items) (omega (arith, c.len.ensures, c.if-len-ge-MAX_QUERIES.false)) in
     let q : OpenQuery = record { name = c.args.name; search = c.in_ok-search.search } in
@@ -120,7 +120,7 @@ pub returns-clause-refuses : goal.returns-clause-refuses
 returns-clause-refuses g c = λ told.
     let s = c.self.inside in
     let name = c.args.name in
-    let view : Keeps = record { repository = s.repository; kind = s.rule.kind; queries = s.queries.items; counts = s.counts; cache = s.cache; usable = s.usable } in
+    let view : Keeps = record { repository = s.repository; kind = s.kind; queries = s.queries.items; counts = s.counts; cache = s.cache; usable = s.usable } in
     let free : is_some (position (is_named name) s.queries.items) ≡ false = ap (λ (x : Keeps). is_some (position (is_named name) x.queries)) c.self.view_is ∙ ap is_some (sym c.find.ensures) ∙ sym c.is_some.ensures ∙ c.if-is_some.false in
     let room : nat_le MAX_QUERIES (length s.queries.items) ≡ false = lt-leb MAX_QUERIES (length s.queries.items) (omega (arith, c.len.ensures, c.if-len-ge-MAX_QUERIES.false)) in
     open-accepted-by told view c.args.self.now name c.args.k (whole_checked c.args.checked) c.self.view_is free room

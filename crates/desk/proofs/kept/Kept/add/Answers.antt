@@ -12,42 +12,39 @@ use Rattle.desk.proofs.Cases.{answers-full, answers-ok, answers-repeated, step-a
 use Rattle.desk.proofs.DocumentExits.{add-done, full-step, live-told, refused-done, repeated-step, with_repository}
 use Rattle.desk.proofs.Exits.{accepted-by, refused-by}
 use Rattle.desk.proofs.KeptLemmas.{kept-repository, priors-call}
-use Rattle.desk.proofs.desk.Desk.add.Goals as goal
+use Rattle.desk.proofs.kept.Kept.add.Goals as goal
 
 pub invariant_of-self : goal.invariant_of-self
-invariant_of-self g c = (
-  c.self.invariant.0,
-  λ usable.
-      let s = c.self.inside in
-      kept-repository s.repository c.add.new.self s.queries.items s.counts
-      (priors-call c.add.result s.repository c.add.new.self (with_held s.repository (added s.repository.held c.args.doc)) c.add.ensures.added c.add.ensures.kept refl) (c.self.invariant.1 usable),
-)
+invariant_of-self c = λ usable working.
+    let s = c.self.inside in
+    kept-repository s.repository c.add.new.self s.queries.items s.counts
+    (priors-call c.add.result s.repository c.add.new.self (with_held s.repository (added s.repository.held c.args.doc)) c.add.ensures.added c.add.ensures.kept refl) (c.self.invariant usable working)
 
 pub returns-in-Ok-clause-steps : goal.returns-in-Ok-clause-steps
-returns-in-Ok-clause-steps g c = λ told backed.
+returns-in-Ok-clause-steps c = λ told backed.
     let s = c.self.inside in
-    let view : Keeps = record { repository = s.repository; kind = s.rule.kind; queries = s.queries.items; counts = s.counts; cache = s.cache; usable = s.usable } in
+    let view : Keeps = record { repository = s.repository; kind = s.kind; queries = s.queries.items; counts = s.counts; cache = s.cache; usable = s.usable } in
     let live = is_live s.repository.held.parts c.args.doc.docno in
     let full = is_full s.repository.held c.args.doc in
-    let kept = c.self.invariant.1 (ap (λ (x : Keeps). x.usable) c.self.view_is ∙ c.requires.0) (ap (λ (x : Keeps). x.repository.usable) c.self.view_is ∙ c.requires.1) in
+    let kept = c.self.invariant (ap (λ (x : Keeps). x.usable) c.self.view_is ∙ c.requires.0) (ap (λ (x : Keeps). x.repository.usable) c.self.view_is ∙ c.requires.1) in
     let not = answers-ok live full c.args.doc.docno (subst (λ r. Answers r (answer s.repository.held c.args.doc)) c.in-Ok.is c.add.ensures.answer) in
     let shown : reply.Added c.in_ok-docno.docno c.len.result ≡ reply.Added c.args.doc.docno (length c.args.doc.tokens) = search rules in
     subst (λ (r : Reply). Steps (event.Document c.args.doc) told told c.args.self.now (with_repository view c.add.new.self) r) (sym shown)
     (add-done told view c.args.self.now c.add.new.self c.args.doc c.self.view_is kept.early c.in-Ok.ensures.added not.0 not.1 (c.in-Ok.ensures.reads told) (c.add.ensures.backed told) (c.add.ensures.merging told) backed)
 
 pub returns-in-Ok-clause-refuses : goal.returns-in-Ok-clause-refuses
-returns-in-Ok-clause-refuses g c = λ told.
+returns-in-Ok-clause-refuses c = λ told.
     let s = c.self.inside in
-    let view : Keeps = record { repository = s.repository; kind = s.rule.kind; queries = s.queries.items; counts = s.counts; cache = s.cache; usable = s.usable } in
+    let view : Keeps = record { repository = s.repository; kind = s.kind; queries = s.queries.items; counts = s.counts; cache = s.cache; usable = s.usable } in
     let live = is_live s.repository.held.parts c.args.doc.docno in
     let full = is_full s.repository.held c.args.doc in
     let not = answers-ok live full c.args.doc.docno (subst (λ r. Answers r (answer s.repository.held c.args.doc)) c.in-Ok.is c.add.ensures.answer) in
     accepted-by (event.Document c.args.doc) told view c.args.self.now _ c.self.view_is (step-added (state_of told view) c.args.doc (live-told told view c.args.doc.docno ∙ not.0) not.1) refl
 
 pub returns-in-Err-Repeated-clause-steps : goal.returns-in-Err-Repeated-clause-steps
-returns-in-Err-Repeated-clause-steps g c = λ told backed.
+returns-in-Err-Repeated-clause-steps c = λ told backed.
     let s = c.self.inside in
-    let view : Keeps = record { repository = s.repository; kind = s.rule.kind; queries = s.queries.items; counts = s.counts; cache = s.cache; usable = s.usable } in
+    let view : Keeps = record { repository = s.repository; kind = s.kind; queries = s.queries.items; counts = s.counts; cache = s.cache; usable = s.usable } in
     let live = is_live s.repository.held.parts c.args.doc.docno in
     let full = is_full s.repository.held c.args.doc in
     let is = answers-repeated live full c.args.doc.docno c.in-Err-Repeated.docno (subst (λ r. Answers r (answer s.repository.held c.args.doc)) c.in-Err-Repeated.is c.add.ensures.answer) in
@@ -55,18 +52,18 @@ returns-in-Err-Repeated-clause-steps g c = λ told backed.
     (refused-done told (event.Document c.args.doc) view c.args.self.now c.add.new.self (Repeated c.args.doc.docno) c.self.view_is c.in-Err-Repeated.ensures.kept (repeated-step told view c.args.doc is.0) backed)
 
 pub returns-in-Err-Repeated-clause-refuses : goal.returns-in-Err-Repeated-clause-refuses
-returns-in-Err-Repeated-clause-refuses g c = λ told.
+returns-in-Err-Repeated-clause-refuses c = λ told.
     let s = c.self.inside in
-    let view : Keeps = record { repository = s.repository; kind = s.rule.kind; queries = s.queries.items; counts = s.counts; cache = s.cache; usable = s.usable } in
+    let view : Keeps = record { repository = s.repository; kind = s.kind; queries = s.queries.items; counts = s.counts; cache = s.cache; usable = s.usable } in
     let live = is_live s.repository.held.parts c.args.doc.docno in
     let full = is_full s.repository.held c.args.doc in
     let is = answers-repeated live full c.args.doc.docno c.in-Err-Repeated.docno (subst (λ r. Answers r (answer s.repository.held c.args.doc)) c.in-Err-Repeated.is c.add.ensures.answer) in
     refused-by (event.Document c.args.doc) told view c.args.self.now (Repeated c.args.doc.docno) c.self.view_is (repeated-step told view c.args.doc is.0) ∙ ap (λ n. refused (Repeated n)) (sym is.1)
 
 pub returns-in-Err-CollectionFull-clause-steps : goal.returns-in-Err-CollectionFull-clause-steps
-returns-in-Err-CollectionFull-clause-steps g c = λ told backed.
+returns-in-Err-CollectionFull-clause-steps c = λ told backed.
     let s = c.self.inside in
-    let view : Keeps = record { repository = s.repository; kind = s.rule.kind; queries = s.queries.items; counts = s.counts; cache = s.cache; usable = s.usable } in
+    let view : Keeps = record { repository = s.repository; kind = s.kind; queries = s.queries.items; counts = s.counts; cache = s.cache; usable = s.usable } in
     let live = is_live s.repository.held.parts c.args.doc.docno in
     let full = is_full s.repository.held c.args.doc in
     let is = answers-full live full c.args.doc.docno c.in-Err-CollectionFull.docno (subst (λ r. Answers r (answer s.repository.held c.args.doc)) c.in-Err-CollectionFull.is c.add.ensures.answer) in
@@ -74,9 +71,9 @@ returns-in-Err-CollectionFull-clause-steps g c = λ told backed.
     (refused-done told (event.Document c.args.doc) view c.args.self.now c.add.new.self (CollectionFull c.args.doc.docno) c.self.view_is c.in-Err-CollectionFull.ensures.kept (full-step told view c.args.doc is.0 is.1.0) backed)
 
 pub returns-in-Err-CollectionFull-clause-refuses : goal.returns-in-Err-CollectionFull-clause-refuses
-returns-in-Err-CollectionFull-clause-refuses g c = λ told.
+returns-in-Err-CollectionFull-clause-refuses c = λ told.
     let s = c.self.inside in
-    let view : Keeps = record { repository = s.repository; kind = s.rule.kind; queries = s.queries.items; counts = s.counts; cache = s.cache; usable = s.usable } in
+    let view : Keeps = record { repository = s.repository; kind = s.kind; queries = s.queries.items; counts = s.counts; cache = s.cache; usable = s.usable } in
     let live = is_live s.repository.held.parts c.args.doc.docno in
     let full = is_full s.repository.held c.args.doc in
     let is = answers-full live full c.args.doc.docno c.in-Err-CollectionFull.docno (subst (λ r. Answers r (answer s.repository.held c.args.doc)) c.in-Err-CollectionFull.is c.add.ensures.answer) in

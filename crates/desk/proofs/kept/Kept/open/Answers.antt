@@ -17,7 +17,7 @@ use Rattle.desk.specs.Step.{open_step, step}
 use Rattle.desk.specs.Told.{RefusesAs}
 use Rattle.desk.proofs.Exits.{of-now, refused-by, refused-now}
 use Rattle.desk.proofs.OpenExits.{open-asked, refuses-asked, steps-asked}
-use Rattle.desk.proofs.desk.Desk.open.Goals as goal
+use Rattle.desk.proofs.kept.Kept.open.Goals as goal
 
 pub ask-requires-clause-few : goal.ask-requires-clause-few
 ask-requires-clause-few g c =
@@ -39,7 +39,7 @@ pub returns-in-Err-Refused-clause-steps : goal.returns-in-Err-Refused-clause-ste
 returns-in-Err-Refused-clause-steps g c = λ backed.
     let told = g.T.Store.files c.args.store.now in
     let s = c.self.inside in
-    let view : Keeps = record { repository = s.repository; kind = s.rule.kind; queries = s.queries.items; counts = s.counts; cache = s.cache; usable = s.usable } in
+    let view : Keeps = record { repository = s.repository; kind = s.kind; queries = s.queries.items; counts = s.counts; cache = s.cache; usable = s.usable } in
     let own : c.deref.result.now ≡ map (λ (e : PriorEntry). e.name) s.repository.priors = c.deref.ensures.value ∙ c.in_ok-names.ensures ∙ ap (map (λ (e : PriorEntry). e.name)) c.priors.ensures.list in
     let why = c.in-Err-Refused.refusal in
     let is : asked c.deref.result.now c.args.text.now ≡ Err why = ap (asked c.deref.result.now) (sym c.as_slice.ensures) ∙ c.in-Err-Refused.ensures.refused in
@@ -48,7 +48,7 @@ returns-in-Err-Refused-clause-steps g c = λ backed.
 pub returns-in-Err-Refused-clause-refuses : goal.returns-in-Err-Refused-clause-refuses
 returns-in-Err-Refused-clause-refuses g c = λ told.
     let s = c.self.inside in
-    let view : Keeps = record { repository = s.repository; kind = s.rule.kind; queries = s.queries.items; counts = s.counts; cache = s.cache; usable = s.usable } in
+    let view : Keeps = record { repository = s.repository; kind = s.kind; queries = s.queries.items; counts = s.counts; cache = s.cache; usable = s.usable } in
     let own : c.deref.result.now ≡ map (λ (e : PriorEntry). e.name) s.repository.priors = c.deref.ensures.value ∙ c.in_ok-names.ensures ∙ ap (map (λ (e : PriorEntry). e.name)) c.priors.ensures.list in
     let why = c.in-Err-Refused.refusal in
     let is : asked c.deref.result.now c.args.text.now ≡ Err why = ap (asked c.deref.result.now) (sym c.as_slice.ensures) ∙ c.in-Err-Refused.ensures.refused in
@@ -59,7 +59,7 @@ returns-in-Ok-clause-steps g c =
     let told = g.T.Store.files c.args.store.now in
     let after = g.T.Store.files c.open_checked.new.store in
     let s = c.self.inside in
-    let view : Keeps = record { repository = s.repository; kind = s.rule.kind; queries = s.queries.items; counts = s.counts; cache = s.cache; usable = s.usable } in
+    let view : Keeps = record { repository = s.repository; kind = s.kind; queries = s.queries.items; counts = s.counts; cache = s.cache; usable = s.usable } in
     let own : c.deref.result.now ≡ map (λ (e : PriorEntry). e.name) s.repository.priors = c.deref.ensures.value ∙ c.in_ok-names.ensures ∙ ap (map (λ (e : PriorEntry). e.name)) c.priors.ensures.list in
     let q = whole_checked c.in-Ok.checked in
     let is : asked c.deref.result.now c.args.text.now ≡ Ok q = ap (asked c.deref.result.now) (sym c.as_slice.ensures) ∙ c.in-Ok.ensures.read in
@@ -71,7 +71,7 @@ returns-in-Ok-clause-steps g c =
 pub returns-in-Ok-clause-refuses : goal.returns-in-Ok-clause-refuses
 returns-in-Ok-clause-refuses g c =
     let s = c.self.inside in
-    let view : Keeps = record { repository = s.repository; kind = s.rule.kind; queries = s.queries.items; counts = s.counts; cache = s.cache; usable = s.usable } in
+    let view : Keeps = record { repository = s.repository; kind = s.kind; queries = s.queries.items; counts = s.counts; cache = s.cache; usable = s.usable } in
     let own : c.deref.result.now ≡ map (λ (e : PriorEntry). e.name) s.repository.priors = c.deref.ensures.value ∙ c.in_ok-names.ensures ∙ ap (map (λ (e : PriorEntry). e.name)) c.priors.ensures.list in
     let q = whole_checked c.in-Ok.checked in
     let is : asked c.deref.result.now c.args.text.now ≡ Ok q = ap (asked c.deref.result.now) (sym c.as_slice.ensures) ∙ c.in-Ok.ensures.read in

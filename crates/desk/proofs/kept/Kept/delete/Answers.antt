@@ -9,42 +9,39 @@ use Rattle.desk.proofs.Cases.{step-deleted}
 use Rattle.desk.proofs.DocumentExits.{absent-step, delete-done, live-gone, live-there, live-told, refused-done}
 use Rattle.desk.proofs.Exits.{accepted-by, refused-by}
 use Rattle.desk.proofs.KeptLemmas.{kept-repository, priors-call}
-use Rattle.desk.proofs.desk.Desk.delete.Goals as goal
+use Rattle.desk.proofs.kept.Kept.delete.Goals as goal
 
 pub invariant_of-self : goal.invariant_of-self
-invariant_of-self g c = (
-  c.self.invariant.0,
-  λ usable.
-      let s = c.self.inside in
-      kept-repository s.repository c.delete.new.self s.queries.items s.counts
-      (priors-call c.delete.result s.repository c.delete.new.self (with_held s.repository (deleted s.repository.held c.args.docno)) c.delete.ensures.deleted c.delete.ensures.kept refl) (c.self.invariant.1 usable),
-)
+invariant_of-self c = λ usable working.
+    let s = c.self.inside in
+    kept-repository s.repository c.delete.new.self s.queries.items s.counts
+    (priors-call c.delete.result s.repository c.delete.new.self (with_held s.repository (deleted s.repository.held c.args.docno)) c.delete.ensures.deleted c.delete.ensures.kept refl) (c.self.invariant usable working)
 
 pub returns-in-Ok-clause-steps : goal.returns-in-Ok-clause-steps
-returns-in-Ok-clause-steps g c = λ told backed.
+returns-in-Ok-clause-steps c = λ told backed.
     let s = c.self.inside in
-    let view : Keeps = record { repository = s.repository; kind = s.rule.kind; queries = s.queries.items; counts = s.counts; cache = s.cache; usable = s.usable } in
-    let kept = c.self.invariant.1 (ap (λ (x : Keeps). x.usable) c.self.view_is ∙ c.requires.0) (ap (λ (x : Keeps). x.repository.usable) c.self.view_is ∙ c.requires.1) in
+    let view : Keeps = record { repository = s.repository; kind = s.kind; queries = s.queries.items; counts = s.counts; cache = s.cache; usable = s.usable } in
+    let kept = c.self.invariant (ap (λ (x : Keeps). x.usable) c.self.view_is ∙ c.requires.0) (ap (λ (x : Keeps). x.repository.usable) c.self.view_is ∙ c.requires.1) in
     delete-done told view c.args.self.now c.delete.new.self c.args.docno c.self.view_is kept.early c.in-Ok.ensures.deleted (live-there c.delete.result (is_live s.repository.held.parts c.args.docno) _ c.delete.ensures.refused c.in-Ok.is)
     (c.in-Ok.ensures.reads told) (c.delete.ensures.backed told) (c.delete.ensures.merging told) backed
 
 pub returns-in-Ok-clause-refuses : goal.returns-in-Ok-clause-refuses
-returns-in-Ok-clause-refuses g c = λ told.
+returns-in-Ok-clause-refuses c = λ told.
     let s = c.self.inside in
-    let view : Keeps = record { repository = s.repository; kind = s.rule.kind; queries = s.queries.items; counts = s.counts; cache = s.cache; usable = s.usable } in
+    let view : Keeps = record { repository = s.repository; kind = s.kind; queries = s.queries.items; counts = s.counts; cache = s.cache; usable = s.usable } in
     accepted-by (event.Delete c.args.docno) told view c.args.self.now _ c.self.view_is
     (step-deleted (state_of told view) c.args.docno (live-told told view c.args.docno ∙ live-there c.delete.result (is_live s.repository.held.parts c.args.docno) _ c.delete.ensures.refused c.in-Ok.is)) refl
 
 pub returns-in-Err-clause-steps : goal.returns-in-Err-clause-steps
-returns-in-Err-clause-steps g c = λ told backed.
+returns-in-Err-clause-steps c = λ told backed.
     let s = c.self.inside in
-    let view : Keeps = record { repository = s.repository; kind = s.rule.kind; queries = s.queries.items; counts = s.counts; cache = s.cache; usable = s.usable } in
+    let view : Keeps = record { repository = s.repository; kind = s.kind; queries = s.queries.items; counts = s.counts; cache = s.cache; usable = s.usable } in
     refused-done told (event.Delete c.args.docno) view c.args.self.now c.delete.new.self (NoSuchDoc c.args.docno) c.self.view_is c.in-Err.ensures.kept
     (absent-step told view c.args.docno (live-gone c.delete.result (is_live s.repository.held.parts c.args.docno) _ c.delete.ensures.refused c.in-Err.is)) backed
 
 pub returns-in-Err-clause-refuses : goal.returns-in-Err-clause-refuses
-returns-in-Err-clause-refuses g c = λ told.
+returns-in-Err-clause-refuses c = λ told.
     let s = c.self.inside in
-    let view : Keeps = record { repository = s.repository; kind = s.rule.kind; queries = s.queries.items; counts = s.counts; cache = s.cache; usable = s.usable } in
+    let view : Keeps = record { repository = s.repository; kind = s.kind; queries = s.queries.items; counts = s.counts; cache = s.cache; usable = s.usable } in
     refused-by (event.Delete c.args.docno) told view c.args.self.now (NoSuchDoc c.args.docno) c.self.view_is
     (absent-step told view c.args.docno (live-gone c.delete.result (is_live s.repository.held.parts c.args.docno) _ c.delete.ensures.refused c.in-Err.is))

@@ -18,7 +18,7 @@ use Rattle.document_scoring.specs.Candidates.{Candidate, beliefs, candidate, can
 use Rattle.ranker.specs.First.{HoldsFirst}
 use Rattle.ranker.specs.Held.{IsHeld}
 use Rattle.ranker.specs.Passed.{passed}
-use Rattle.ranker.specs.Ranking.{IsAnswerBy}
+use Rattle.ranker.specs.Ranking.{IsAnswerBy, candidate_of}
 use Rattle.ranker.specs.Searches.{IsTaken, filters_of}
 use Rattle.ranker.specs.declared.held.Held.{Held}
 use Rattle.ranker.specs.declared.held.Held.TheVariants.{Open, Ended}
@@ -50,7 +50,7 @@ module _ (kind : RuleKind) (a b : List Prior) where
   held-alike : (filters : List FilterTree) (network : NetworkTree) (docs : List Document) (most : ℕ) → All (TellsAlike a b) network.leaves → (h : Held) → IsHeld kind a filters network docs most h → IsHeld kind b filters network docs most h
   held-alike filters network docs most alike (Open few) held = record { rows = held.rows; all = held.all ∙ candidates-alike filters network alike docs; keys = held.keys; room = held.room; first = held.first }
   held-alike filters network docs most alike (Ended hits) held =
-      (held.0, (record { all = subst (λ (cs : List Candidate). IsPermutation cs _) (candidates-alike filters network alike docs) held.1.all; keys = held.1.keys; sorted = held.1.sorted }, held.2))
+      (held.0, record { all = subst (λ (cs : List Candidate). IsPermutation cs (map candidate_of held.0)) (candidates-alike filters network alike docs) held.1.all; keys = held.1.keys; sorted = held.1.sorted }, held.2)
 
   -- What a search has taken by the one is so by the other.
   pub taken-alike : (told : Option Files) (s : Search) → All (TellsAlike a b) (network_tree s.network).leaves → IsTaken kind a told s → IsTaken kind b told s

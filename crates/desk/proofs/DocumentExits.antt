@@ -1,5 +1,5 @@
 -- Where a document is added or deleted.
-use Rattle.std.proofs.Common.{◌≡◌, ◌∙◌, ◌<◌, ◌≤◌, ◌+◌, ◌-◌, ◌^◌, ℕ, Bool, true, false, List, [], ◌∷◌, ◌++◌, cond, length, map, min, refl, sym, ap, subst, arith, Option}
+use Rattle.std.proofs.Common.{◌≡◌, ◌∙◌, ◌<◌, ◌≤◌, ◌+◌, ◌-◌, ◌^◌, ℕ, Bool, true, false, List, [], ◌∷◌, ◌++◌, cond, length, map, min, refl, sym, ap, subst, arith, Option, true≢false}
 use Rattle.std.specs.Prelude.{◌↔◌, Contains, Err, IsErr, Ok, Result}
 use Rattle.std.specs.Set.{is_member}
 use Rattle.std.specs.Str.{bytes_eq}
@@ -158,7 +158,7 @@ refused-done told e d now r why same kept is backed =
 -- a deletion is refused just where no live document has the docno
 pub live-there : {A E : Type 0} (r : Result A E) (b : Bool) (a : A) → (IsErr r ↔ (b ≡ false)) → r ≡ Ok a → b ≡ true
 live-there r true a h is = refl
-live-there r false a h is = absurd (subst IsErr is (h.1 refl))
+live-there r false a h is = absurd (true≢false (sym (subst IsErr is (h.1 refl))))
 
 pub live-gone : {A E : Type 0} (r : Result A E) (b : Bool) (e : E) → (IsErr r ↔ (b ≡ false)) → r ≡ Err e → b ≡ false
-live-gone r b e h is = h.0 (subst IsErr (sym is) tt)
+live-gone r b e h is = h.0 (subst IsErr (sym is) refl)

@@ -38,14 +38,14 @@ refused-so e s why is = ap (λ (x : State × Told). x.1) is
 
 -- or not refused
 pub accepted : (e : Event) (s : State) (to : State × Told) → step s e ≡ to → is_refusal to.1 ≡ false → is_refusal (step s e).1 ≡ false
-accepted e s to is no = ap (λ (x : State × Told). is_refusal x.1) is ∙ no
+accepted e s to is taken = ap (λ (x : State × Told). is_refusal x.1) is ∙ taken
 
 -- the same of a desk that is seen as another
 pub refused-by : (e : Event) (told : Option Files) (d now : Keeps) (why : Refusal) → d ≡ now → step (state_of told d) e ≡ refuse (state_of told d) why → (step (state_of told now) e).1 ≡ refused why
 refused-by e told d now why same is = subst (λ (x : Keeps). (step (state_of told x) e).1 ≡ refused why) same (refused-so e (state_of told d) why is)
 
 pub accepted-by : (e : Event) (told : Option Files) (d now : Keeps) (to : State × Told) → d ≡ now → step (state_of told d) e ≡ to → is_refusal to.1 ≡ false → is_refusal (step (state_of told now) e).1 ≡ false
-accepted-by e told d now to same is no = subst (λ (x : Keeps). is_refusal (step (state_of told x) e).1 ≡ false) same (accepted e (state_of told d) to is no)
+accepted-by e told d now to same is taken = subst (λ (x : Keeps). is_refusal (step (state_of told x) e).1 ≡ false) same (accepted e (state_of told d) to is taken)
 
 -- ---- states by what the repository reads as
 

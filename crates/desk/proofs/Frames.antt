@@ -138,4 +138,4 @@ module _ (told : Option Files) (s : State) (backed : IsBacked told s) where
   -- the file of a number that is listed isn't touched by a commit
   pub listed-stays : (j : ℕ) → is_among j (listed_numbers s) ≡ true → IsBeside (IsUnlisted (listed_numbers s)) (segment_name j)
   listed-stays j h =
-      (segment_name-manifest j, other-segment (IsUnlisted (listed_numbers s)) (listed_numbers s) (λ n o. o) j (listed-small j h) h)
+      ((λ e. segment_name-manifest j (sym e)), other-segment (IsUnlisted (listed_numbers s)) (listed_numbers s) (λ n o. o) j (listed-small j h) h)

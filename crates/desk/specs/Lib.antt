@@ -1,6 +1,7 @@
 pub mod Answers
 pub mod Asked
 pub mod Backed
+pub mod Codes
 pub mod Keeping
 pub mod Orders
 pub mod Plugs

@@ -78,14 +78,13 @@ pub(crate) struct Kept {
 
 impl Model for Kept {
     ghost use Rattle.std.specs.Prelude.{◌≡◌, true};
-    ghost use Rattle.std.specs.Coded.{codes};
-    ghost use Rattle.ri_base.specs.contracts.expression.ExtentExpr as e;
     ghost use Rattle.desk.specs.Backed.{Keeps};
+    ghost use Rattle.desk.specs.Codes.{keeps_code};
     ghost use Rattle.desk.specs.Keeping.{AreKept};
 
     ghost Value = { Keeps };
 
-    ghost coded = { Prim.hlevel (codes, e.the_row.coded) };
+    ghost coded = { keeps_code };
 
     ghost view = { λ d. record { repository = d.repository; kind = d.kind; queries = d.queries.items; counts = d.counts; cache = d.cache; usable = d.usable } };
 

@@ -1,4 +1,4 @@
-use Rattle.std.proofs.Common.{◌≡◌, ◌∙◌, false, length, true, ap, refl, subst, sym}
+use Rattle.std.proofs.Common.{◌≡◌, ◌∙◌, false, length, true, ap, refl, rules, subst, sym}
 use Rattle.holdings.specs.Contents.{Answers, added, answer, is_full}
 use Rattle.holdings.specs.Parts.{is_live}
 use Rattle.repository.specs.Steps.{with_held}

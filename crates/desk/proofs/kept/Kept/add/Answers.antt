@@ -1,6 +1,8 @@
+use Rattle.std.specs.Prelude.{Err}
 use Rattle.std.proofs.Common.{◌≡◌, ◌∙◌, false, length, true, ap, refl, rules, subst, sym}
 use Rattle.holdings.specs.Contents.{Answers, added, answer, is_full}
 use Rattle.holdings.specs.Parts.{is_live}
+use Rattle.holdings.specs.declared.refusals.AddRefusal.{AddRefusal}
 use Rattle.repository.specs.Steps.{with_held}
 use Rattle.session_events.specs.declared.event.Event.TheVariants as event
 use Rattle.session_replies.specs.declared.reply.Reply.{Reply}
@@ -18,7 +20,7 @@ pub invariant_of-self : goal.invariant_of-self
 invariant_of-self c = λ usable working.
     let s = c.self.inside in
     kept-repository s.repository c.add.new.self s.queries.items s.counts
-    (priors-call c.add.result s.repository c.add.new.self (with_held s.repository (added s.repository.held c.args.doc)) c.add.ensures.added c.add.ensures.kept refl) (c.self.invariant usable working)
+    (priors-call c.add.result s.repository c.add.new.self (with_held s.repository (added s.repository.held c.args.doc)) c.add.ensures.added c.add.ensures.kept refl) (c.self.invariant usable (sym c.add.ensures.usable ∙ working))
 
 pub returns-in-Ok-clause-steps : goal.returns-in-Ok-clause-steps
 returns-in-Ok-clause-steps c = λ told backed.
@@ -26,7 +28,7 @@ returns-in-Ok-clause-steps c = λ told backed.
     let view : Keeps = record { repository = s.repository; kind = s.kind; queries = s.queries.items; counts = s.counts; cache = s.cache; usable = s.usable } in
     let live = is_live s.repository.held.parts c.args.doc.docno in
     let full = is_full s.repository.held c.args.doc in
-    let kept = c.self.invariant (ap (λ (x : Keeps). x.usable) c.self.view_is ∙ c.requires.0) (ap (λ (x : Keeps). x.repository.usable) c.self.view_is ∙ c.requires.1) in
+    let kept = c.self.invariant (ap (λ (x : Keeps). x.usable) c.self.view_is ∙ c.requires.usable.0) (ap (λ (x : Keeps). x.repository.usable) c.self.view_is ∙ c.requires.usable.1) in
     let not = answers-ok live full c.args.doc.docno (subst (λ r. Answers r (answer s.repository.held c.args.doc)) c.in-Ok.is c.add.ensures.answer) in
     let shown : reply.Added c.in_ok-docno.docno c.len.result ≡ reply.Added c.args.doc.docno (length c.args.doc.tokens) = search rules in
     subst (λ (r : Reply). Steps (event.Document c.args.doc) told told c.args.self.now (with_repository view c.add.new.self) r) (sym shown)
@@ -47,7 +49,7 @@ returns-in-Err-Repeated-clause-steps c = λ told backed.
     let view : Keeps = record { repository = s.repository; kind = s.kind; queries = s.queries.items; counts = s.counts; cache = s.cache; usable = s.usable } in
     let live = is_live s.repository.held.parts c.args.doc.docno in
     let full = is_full s.repository.held c.args.doc in
-    let is = answers-repeated live full c.args.doc.docno c.in-Err-Repeated.docno (subst (λ r. Answers r (answer s.repository.held c.args.doc)) c.in-Err-Repeated.is c.add.ensures.answer) in
+    let is = answers-repeated live full c.args.doc.docno c.in-Err-Repeated.docno (subst (λ (e : AddRefusal). Answers (Err e) (answer s.repository.held c.args.doc)) c.in-Err-Repeated.field-0-is (subst (λ r. Answers r (answer s.repository.held c.args.doc)) c.in-Err-Repeated.is c.add.ensures.answer)) in
     subst (λ n. Steps (event.Document c.args.doc) told told c.args.self.now (with_repository view c.add.new.self) (reply.Refused (Repeated n))) (sym is.1)
     (refused-done told (event.Document c.args.doc) view c.args.self.now c.add.new.self (Repeated c.args.doc.docno) c.self.view_is c.in-Err-Repeated.ensures.kept (repeated-step told view c.args.doc is.0) backed)
 
@@ -57,7 +59,7 @@ returns-in-Err-Repeated-clause-refuses c = λ told.
     let view : Keeps = record { repository = s.repository; kind = s.kind; queries = s.queries.items; counts = s.counts; cache = s.cache; usable = s.usable } in
     let live = is_live s.repository.held.parts c.args.doc.docno in
     let full = is_full s.repository.held c.args.doc in
-    let is = answers-repeated live full c.args.doc.docno c.in-Err-Repeated.docno (subst (λ r. Answers r (answer s.repository.held c.args.doc)) c.in-Err-Repeated.is c.add.ensures.answer) in
+    let is = answers-repeated live full c.args.doc.docno c.in-Err-Repeated.docno (subst (λ (e : AddRefusal). Answers (Err e) (answer s.repository.held c.args.doc)) c.in-Err-Repeated.field-0-is (subst (λ r. Answers r (answer s.repository.held c.args.doc)) c.in-Err-Repeated.is c.add.ensures.answer)) in
     refused-by (event.Document c.args.doc) told view c.args.self.now (Repeated c.args.doc.docno) c.self.view_is (repeated-step told view c.args.doc is.0) ∙ ap (λ n. refused (Repeated n)) (sym is.1)
 
 pub returns-in-Err-CollectionFull-clause-steps : goal.returns-in-Err-CollectionFull-clause-steps
@@ -66,7 +68,7 @@ returns-in-Err-CollectionFull-clause-steps c = λ told backed.
     let view : Keeps = record { repository = s.repository; kind = s.kind; queries = s.queries.items; counts = s.counts; cache = s.cache; usable = s.usable } in
     let live = is_live s.repository.held.parts c.args.doc.docno in
     let full = is_full s.repository.held c.args.doc in
-    let is = answers-full live full c.args.doc.docno c.in-Err-CollectionFull.docno (subst (λ r. Answers r (answer s.repository.held c.args.doc)) c.in-Err-CollectionFull.is c.add.ensures.answer) in
+    let is = answers-full live full c.args.doc.docno c.in-Err-CollectionFull.docno (subst (λ (e : AddRefusal). Answers (Err e) (answer s.repository.held c.args.doc)) c.in-Err-CollectionFull.field-0-is (subst (λ r. Answers r (answer s.repository.held c.args.doc)) c.in-Err-CollectionFull.is c.add.ensures.answer)) in
     subst (λ n. Steps (event.Document c.args.doc) told told c.args.self.now (with_repository view c.add.new.self) (reply.Refused (CollectionFull n))) (sym is.1.1)
     (refused-done told (event.Document c.args.doc) view c.args.self.now c.add.new.self (CollectionFull c.args.doc.docno) c.self.view_is c.in-Err-CollectionFull.ensures.kept (full-step told view c.args.doc is.0 is.1.0) backed)
 
@@ -76,5 +78,5 @@ returns-in-Err-CollectionFull-clause-refuses c = λ told.
     let view : Keeps = record { repository = s.repository; kind = s.kind; queries = s.queries.items; counts = s.counts; cache = s.cache; usable = s.usable } in
     let live = is_live s.repository.held.parts c.args.doc.docno in
     let full = is_full s.repository.held c.args.doc in
-    let is = answers-full live full c.args.doc.docno c.in-Err-CollectionFull.docno (subst (λ r. Answers r (answer s.repository.held c.args.doc)) c.in-Err-CollectionFull.is c.add.ensures.answer) in
+    let is = answers-full live full c.args.doc.docno c.in-Err-CollectionFull.docno (subst (λ (e : AddRefusal). Answers (Err e) (answer s.repository.held c.args.doc)) c.in-Err-CollectionFull.field-0-is (subst (λ r. Answers r (answer s.repository.held c.args.doc)) c.in-Err-CollectionFull.is c.add.ensures.answer)) in
     refused-by (event.Document c.args.doc) told view c.args.self.now (CollectionFull c.args.doc.docno) c.self.view_is (full-step told view c.args.doc is.0 is.1.0) ∙ ap (λ n. refused (CollectionFull n)) (sym is.1.1)

@@ -15,13 +15,13 @@ pub invariant_of-self : goal.invariant_of-self
 invariant_of-self c = λ usable working.
     let s = c.self.inside in
     kept-repository s.repository c.delete.new.self s.queries.items s.counts
-    (priors-call c.delete.result s.repository c.delete.new.self (with_held s.repository (deleted s.repository.held c.args.docno)) c.delete.ensures.deleted c.delete.ensures.kept refl) (c.self.invariant usable working)
+    (priors-call c.delete.result s.repository c.delete.new.self (with_held s.repository (deleted s.repository.held c.args.docno)) c.delete.ensures.deleted c.delete.ensures.kept refl) (c.self.invariant usable (sym c.delete.ensures.usable ∙ working))
 
 pub returns-in-Ok-clause-steps : goal.returns-in-Ok-clause-steps
 returns-in-Ok-clause-steps c = λ told backed.
     let s = c.self.inside in
     let view : Keeps = record { repository = s.repository; kind = s.kind; queries = s.queries.items; counts = s.counts; cache = s.cache; usable = s.usable } in
-    let kept = c.self.invariant (ap (λ (x : Keeps). x.usable) c.self.view_is ∙ c.requires.0) (ap (λ (x : Keeps). x.repository.usable) c.self.view_is ∙ c.requires.1) in
+    let kept = c.self.invariant (ap (λ (x : Keeps). x.usable) c.self.view_is ∙ c.requires.usable.0) (ap (λ (x : Keeps). x.repository.usable) c.self.view_is ∙ c.requires.usable.1) in
     delete-done told view c.args.self.now c.delete.new.self c.args.docno c.self.view_is kept.early c.in-Ok.ensures.deleted (live-there c.delete.result (is_live s.repository.held.parts c.args.docno) _ c.delete.ensures.refused c.in-Ok.is)
     (c.in-Ok.ensures.reads told) (c.delete.ensures.backed told) (c.delete.ensures.merging told) backed
 

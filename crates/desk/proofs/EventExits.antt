@@ -1,6 +1,7 @@
 -- Events by their kind: what follows where an event may write, and where it writes nothing.
 use Rattle.std.proofs.Common.{◌≡◌, ◌∙◌, ◌≤◌, ℕ, Bool, true, false, List, refl, sym, ap, subst, inr, arith, Option, None, Some, true≢false}
 use Rattle.std.specs.Prelude.{Result, Ok, Err, IfErr, IfOk, OnOk}
+use Rattle.ri_base.specs.Documents.{Document}
 use Rattle.ri_base.specs.Faults.{IsOutside}
 use Rattle.ri_base.specs.declared.seg_fault.SegFault.{SegFault}
 use Rattle.ri_base.specs.declared.seg_fault.SegFault.TheVariants as fault
@@ -62,6 +63,31 @@ write-kinds event.End w flush turn end = end refl
 write-kinds e w flush turn end = true≢false (sym w)
 
 -- ---- an event that writes nothing
+
+-- five never ask the store
+pub inside-kinds : (e : Event) → is_inside e ≡ true → ((d : Document) → e ≡ event.Document d → ⊥) → ((docno : List ℕ) → e ≡ event.Delete docno → ⊥) → (e ≡ event.Merge → ⊥) → ((name : List ℕ) → e ≡ event.Show name → ⊥) → ((name : List ℕ) → e ≡ event.Close name → ⊥) → ⊥
+inside-kinds (event.Document d) i document delete merge show close = document d refl
+inside-kinds (event.Delete docno) i document delete merge show close = delete docno refl
+inside-kinds event.Merge i document delete merge show close = merge refl
+inside-kinds (event.Show name) i document delete merge show close = show name refl
+inside-kinds (event.Close name) i document delete merge show close = close name refl
+inside-kinds e i document delete merge show close = true≢false (sym i)
+
+-- and four read from it
+pub reading-kinds : (e : Event) → may_write e ≡ false → is_inside e ≡ false → ((name : List ℕ) (k : ℕ) (text : List ℕ) → e ≡ event.Open name k text → ⊥) → ((name : List ℕ) (docs : ℕ) → e ≡ event.Step name docs → ⊥)
+    → ((name : List ℕ) (rank : ℕ) → e ≡ event.Explain name rank → ⊥) → ((text : List ℕ) → e ≡ event.Scan text → ⊥) → ⊥
+reading-kinds (event.Document d) w i opens steps explains scans = true≢false i
+reading-kinds (event.Delete docno) w i opens steps explains scans = true≢false i
+reading-kinds event.Flush w i opens steps explains scans = true≢false w
+reading-kinds event.Merge w i opens steps explains scans = true≢false i
+reading-kinds (event.Turn docs) w i opens steps explains scans = true≢false w
+reading-kinds (event.Open name k text) w i opens steps explains scans = opens name k text refl
+reading-kinds (event.Step name docs) w i opens steps explains scans = steps name docs refl
+reading-kinds (event.Show name) w i opens steps explains scans = true≢false i
+reading-kinds (event.Explain name rank) w i opens steps explains scans = explains name rank refl
+reading-kinds (event.Scan text) w i opens steps explains scans = scans text refl
+reading-kinds (event.Close name) w i opens steps explains scans = true≢false i
+reading-kinds event.End w i opens steps explains scans = true≢false w
 
 -- only results that are shown claim an order, and these are kept
 pub true-reading : (s : State) (e : Event) (r : Reply) → is_inside e ≡ false → IsTrueReply s e r

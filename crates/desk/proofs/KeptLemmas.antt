@@ -1,20 +1,27 @@
 -- What a desk keeps of its open queries and sums, call by call.
-use Rattle.std.proofs.Common.{◌≡◌, ◌⊎◌, inl, inr, ◌<◌, ◌≤◌, ◌+◌, ◌-◌, ◌^◌, ℕ, Bool, true, false, List, [], ◌∷◌, ◌++◌, Contains, get_or, length, set, refl, sym, ap, subst, ◌∙◌, arith}
-use Rattle.std.specs.Prelude.{OnErr, OnOk, Result, Ok, Err}
+use Rattle.std.proofs.Common.{◌≡◌, ◌⊎◌, inl, inr, ◌<◌, ◌≤◌, ◌+◌, ◌-◌, ◌^◌, ℕ, Bool, true, false, List, [], ◌∷◌, ◌++◌, Contains, get_or, length, set, refl, sym, ap, subst, ◌∙◌, arith, true≢false}
+use Rattle.std.specs.Prelude.{IfOk, OnErr, OnOk, Result, Ok, Err}
 use Rattle.std.specs.List.{All, IsDistinct, remove}
 use Rattle.std.specs.Str.{bytes_eq}
 use Rattle.std.proofs.lemmas.List.{length-set, length_push}
 use Rattle.std.proofs.lemmas.List.Edits.{length-remove}
 use Rattle.std.proofs.lemmas.List.Elements.{All-nil, All-push, All-set, All-weaker}
+use Rattle.ri_base.specs.declared.seg_fault.SegFault.{SegFault}
 use Rattle.query_check.specs.Leaves as leaves
 use Rattle.query_check.specs.Leaves.{LeafTree}
 use Rattle.belief_nodes.specs.Leaves.{HasPrior}
 use Rattle.belief_nodes.specs.Network.{NetworkTree, network_tree}
 use Rattle.disk_index.specs.Snapshots.{Marked}
+use Rattle.holdings.specs.Contents.{all_closed}
 use Rattle.holdings.specs.MarkedParts.{docnos_of}
 use Rattle.counts.specs.Kept.{Kept}
 use Rattle.ranker.specs.Searches.{IsSameSearch}
+use Rattle.repository.specs.Merges.{IsTurnedTo, merge_begun}
 use Rattle.repository.specs.States.{State}
+use Rattle.repository.specs.Steps.{with_held}
+use Rattle.repository.specs.Writes.{IsSavedAs}
+use Rattle.repository.specs.declared.turned.Turned.{Turned}
+use Rattle.repository.specs.declared.turned.Turned.TheVariants as turn
 use Rattle.session_events.specs.declared.event.TheConstants.{MAX_RESULTS}
 use Rattle.desk.specs.Keeping.{AreEarly, AreKept, AsksFor, IsOpen}
 use Rattle.desk.specs.declared.query.OpenQuery.{OpenQuery}
@@ -49,6 +56,28 @@ kept-removed s qs cs i within kept = record {
 -- none
 pub kept-cleared : (s t : State) (qs : List OpenQuery) (cs : List Kept) → AreKept s qs cs → AreKept t [] cs
 kept-cleared s t qs cs kept = record { few = omega arith; each = All-nil (IsOpen (length t.priors)); early = kept.early }
+
+-- whatever the repository is then
+pub kept-closed : (s t : State) (qs rs : List OpenQuery) (cs : List Kept) → rs ≡ [] → AreKept s qs cs → AreKept t rs cs
+kept-closed s t qs rs cs none kept = subst (λ (x : List OpenQuery). AreKept t x cs) (sym none) (kept-cleared s t qs cs kept)
+
+-- over a call that writes: where the repository may be used on, its priors are those of before
+
+pub priors-saved : {A E : Type 0} (r : Result A E) (s t : State) (left : List ℕ) → OnOk r (IsSavedAs s t left) → OnErr r (t.usable ≡ false) → t.usable ≡ true → t.priors ≡ s.priors
+priors-saved (Ok a) s t left saved broken usable = saved.priors
+priors-saved (Err e) s t left saved broken usable = absurd (true≢false (sym usable ∙ broken))
+
+pub priors-turned : (r : Result Turned SegFault) (docs : ℕ) (s t : State) → IfOk r (λ x. IsTurnedTo x docs s t) → OnErr r (t.usable ≡ false) → t.usable ≡ true → t.priors ≡ s.priors
+priors-turned (Ok (turn.Open credit size)) docs s t to broken usable = ap (λ (x : State). x.priors) to.is
+priors-turned (Ok turn.Done) docs s t to broken usable = to.ended.priors
+priors-turned (Err e) docs s t to broken usable = absurd (true≢false (sym usable ∙ broken))
+
+pub priors-begun : {A E : Type 0} (r : Result A E) (s t : State) → OnOk r (t ≡ merge_begun s) → OnErr r ((t ≡ s) ⊎ (t ≡ with_held s (all_closed s.held))) → t.priors ≡ s.priors
+priors-begun (Ok a) s t begun left = ap (λ (x : State). x.priors) begun
+priors-begun (Err e) s t begun left = elim left [
+  | inl same ↦ ap (λ (x : State). x.priors) same
+  | inr now ↦ ap (λ (x : State). x.priors) now
+]
 
 -- one query got more credit
 pub open-on : (count : ℕ) (q r : OpenQuery) → IsSameSearch q.search r.search → r.search.usable ≡ true → IsOpen count q → IsOpen count r

@@ -7,6 +7,7 @@ use Rattle.desk.specs.Backed.{Keeps, merge_of, state_of}
 use Rattle.desk.proofs.Cases.{step-merging}
 use Rattle.desk.proofs.Exits.{accepted-by, refused-by, refused-now}
 use Rattle.desk.proofs.MergeExits.{merge-done, mergeopen-step, none-of}
+use Rattle.desk.proofs.KeptLemmas.{kept-repository, priors-begun}
 use Rattle.desk.proofs.kept.Kept.merge.Goals as goal
 
 pub returns-then-merge_open-clause-steps : goal.returns-then-merge_open-clause-steps
@@ -36,3 +37,13 @@ returns-clause-refuses c = λ told.
     let view : Keeps = record { repository = s.repository; kind = s.kind; queries = s.queries.items; counts = s.counts; cache = s.cache; usable = s.usable } in
     let none : s.repository.merge ≡ None = none-of s.repository.merge (sym c.merge_open.ensures ∙ c.if-merge_open.false) in
     accepted-by event.Merge told view c.args.self.now _ c.self.view_is (step-merging (state_of told view) (ap (option_map merge_of) none)) refl
+
+pub invariant_of-self : goal.invariant_of-self
+invariant_of-self c = λ usable working.
+    let s = c.self.inside in
+    kept-repository s.repository c.begin_merge.new.self s.queries.items s.counts (priors-begun c.begin_merge.result s.repository c.begin_merge.new.self c.begin_merge.ensures.begun c.begin_merge.ensures.left) (c.self.invariant usable (ap (λ (x : Keeps). x.repository.usable) c.self.view_is ∙ c.requires.usable.1))
+
+pub invariant_of-self-2 : goal.invariant_of-self-2
+invariant_of-self-2 c = λ usable working.
+    let s = c.self.inside in
+    kept-repository s.repository c.begin_merge.new.self s.queries.items s.counts (priors-begun c.begin_merge.result s.repository c.begin_merge.new.self c.begin_merge.ensures.begun c.begin_merge.ensures.left) (c.self.invariant usable (ap (λ (x : Keeps). x.repository.usable) c.self.view_is ∙ c.requires.usable.1))

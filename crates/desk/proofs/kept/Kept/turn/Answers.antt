@@ -16,6 +16,7 @@ use Rattle.desk.proofs.Exits.{refused-by, refused-now}
 use Rattle.desk.proofs.Keeping.{merge-condition}
 use Rattle.desk.proofs.MergeExits.{some-of}
 use Rattle.desk.proofs.TurnExits.{merged-done, merged-kept, nomerge-kept, nomerge-step, none-below, open-done, open-kept, same-below, turn-accepted, turn-honest, turn-now, turn-stops}
+use Rattle.desk.proofs.KeptLemmas.{kept-repository, priors-turned}
 use Rattle.desk.proofs.kept.Kept.turn.Goals as goal
 
 pub returns-then-not-merge_open-clause-steps : goal.returns-then-not-merge_open-clause-steps
@@ -137,3 +138,18 @@ returns-in-Done-clause-done g c = λ kept backed stands.
     let s = c.self.inside in
     let view : Keeps = record { repository = s.repository; kind = s.kind; queries = s.queries.items; counts = s.counts; cache = s.cache; usable = s.usable } in
     merged-kept (g.T.Store.files c.args.store.now) (g.T.Store.files c.merge_turn.new.store) view c.args.self.now c.args.docs c.merge_turn.new.self c.merge_turn.new.cache c.self.view_is (subst (λ (t : Turned). IfSome s.repository.merge (λ (m : Merging). t ≡ turned m c.args.docs)) c.in-Done.is c.in_ok-merge_turn.ensures.turned) (subst (λ (t : Turned). IsTurnedTo t c.args.docs s.repository c.merge_turn.new.self) c.in-Done.is c.in_ok-merge_turn.ensures.state) (λ merging cache. subst (λ (t : Turned). IsTurnedOver t s.repository.merge (g.T.Store.files c.args.store.now) (g.T.Store.files c.merge_turn.new.store) s.repository c.merge_turn.new.self) c.in-Done.is (c.in_ok-merge_turn.ensures.over merging cache)) kept backed
+
+pub invariant_of-self : goal.invariant_of-self
+invariant_of-self g c = λ usable working.
+    let s = c.self.inside in
+    kept-repository s.repository c.merge_turn.new.self s.queries.items s.counts (priors-turned c.merge_turn.result c.args.docs s.repository c.merge_turn.new.self c.merge_turn.ensures.state c.merge_turn.ensures.broken working) (c.self.invariant usable (ap (λ (x : Keeps). x.repository.usable) c.self.view_is ∙ c.requires.usable.1))
+
+pub invariant_of-self-2 : goal.invariant_of-self-2
+invariant_of-self-2 g c = λ usable working.
+    let s = c.self.inside in
+    kept-repository s.repository c.merge_turn.new.self s.queries.items s.counts (priors-turned c.merge_turn.result c.args.docs s.repository c.merge_turn.new.self c.merge_turn.ensures.state c.merge_turn.ensures.broken working) (c.self.invariant usable (ap (λ (x : Keeps). x.repository.usable) c.self.view_is ∙ c.requires.usable.1))
+
+pub invariant_of-self-3 : goal.invariant_of-self-3
+invariant_of-self-3 g c = λ usable working.
+    let s = c.self.inside in
+    kept-repository s.repository c.merge_turn.new.self s.queries.items s.counts (priors-turned c.merge_turn.result c.args.docs s.repository c.merge_turn.new.self c.merge_turn.ensures.state c.merge_turn.ensures.broken working) (c.self.invariant usable (ap (λ (x : Keeps). x.repository.usable) c.self.view_is ∙ c.requires.usable.1))

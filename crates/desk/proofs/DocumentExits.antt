@@ -1,18 +1,22 @@
 -- Where a document is added or deleted.
 use Rattle.std.proofs.Common.{◌≡◌, ◌∙◌, ◌<◌, ◌≤◌, ◌+◌, ◌-◌, ◌^◌, ℕ, Bool, true, false, List, [], ◌∷◌, ◌++◌, cond, length, map, min, refl, sym, ap, subst, arith, Option, true≢false}
-use Rattle.std.specs.Prelude.{◌↔◌, Contains, Err, IsErr, Ok, Result}
+use Rattle.std.specs.Prelude.{◌↔◌, Contains, Err, IfErr, IfOk, IsErr, Ok, OnErr, OnOk, Result, is_err}
 use Rattle.std.specs.Set.{is_member}
 use Rattle.std.specs.Str.{bytes_eq}
 use Rattle.std.proofs.lemmas.List.{append-nil}
 use Rattle.ri_base.specs.Documents.{Document}
+use Rattle.ri_base.specs.declared.seg_fault.SegFault.{SegFault}
+use Rattle.ri_base.specs.declared.seg_fault.SegFault.TheVariants as fault
 use Rattle.store_ends.specs.Files.{Files}
 use Rattle.manifest.specs.Listing.{prior_numbers}
 use Rattle.disk_index.specs.Snapshots.{Marked}
 use Rattle.holdings.specs.Contents as contents
-use Rattle.holdings.specs.Contents.{Contents, added, deleted, next_generation}
+use Rattle.holdings.specs.Contents.{Answers, Contents, added, deleted, next_generation}
 use Rattle.holdings.specs.MarkedParts.{marked_with}
 use Rattle.holdings.specs.Parts as parts
 use Rattle.holdings.specs.Parts.{Parts, all_parts, has_room, live, sealed}
+use Rattle.holdings.specs.declared.refusals.AddRefusal.{AddRefusal}
+use Rattle.holdings.specs.declared.refusals.AddRefusal.TheVariants as add
 use Rattle.holdings.proofs.LiveLemmas.{docnos-live}
 use Rattle.counts.specs.Kept.{AreSums, Kept}
 use Rattle.repository.specs.Merges.{IsOpenMerging}
@@ -25,14 +29,18 @@ use Rattle.repository.proofs.SaveLemmas.{numbers-sealed}
 use Rattle.session_events.specs.declared.event.Event.{Event}
 use Rattle.session_events.specs.declared.event.Event.TheVariants as event
 use Rattle.session_replies.specs.declared.reply.Refusal.{Refusal}
+use Rattle.session_replies.specs.Told.{IsReply}
+use Rattle.session_replies.specs.declared.reply.Reply.{Reply}
 use Rattle.session_replies.specs.declared.reply.Reply.TheVariants as reply
 use Rattle.session_replies.specs.declared.reply.Refusal.TheVariants.{Repeated, CollectionFull, NoSuchDoc}
 use Rattle.desk.specs.Backed.{IsDeskBacked, Keeps, Steps, state_of}
 use Rattle.desk.specs.Keeping.{AreEarly}
+use Rattle.desk.specs.Refusing.{not_added}
 use Rattle.desk.specs.State.{collection_of}
 use Rattle.desk.specs.Step.{is_live, refuse, step}
-use Rattle.desk.proofs.Cases.{step-added, step-deleted, step-full, step-nodoc, step-repeated}
-use Rattle.desk.proofs.Exits.{exit, refused-exit, state-by}
+use Rattle.desk.specs.Told.{RefusesAs, refused}
+use Rattle.desk.proofs.Cases.{answers-full, answers-repeated, step-added, step-deleted, step-full, step-nodoc, step-repeated}
+use Rattle.desk.proofs.Exits.{exit, refused-by, refused-exit, state-by}
 use Rattle.desk.proofs.Keeping.{Cache-on, Queries-on, listed-held, merge-condition, merge-kept}
 use Rattle.desk.proofs.Reading.{reads-state}
 
@@ -155,10 +163,76 @@ refused-done told e d now r why same kept is backed =
     subst (λ (x : Keeps). Steps e told told x (with_repository d r) (reply.Refused why)) same
     (subst (λ (x : repositories.State). Steps e told told d (with_repository d x) (reply.Refused why)) (sym kept) (refused-exit e told d why is inside))
 
--- a deletion is refused just where no live document has the docno
-pub live-there : {A E : Type 0} (r : Result A E) (b : Bool) (a : A) → (IsErr r ↔ (b ≡ false)) → r ≡ Ok a → b ≡ true
-live-there r true a h is = refl
-live-there r false a h is = absurd (true≢false (sym (subst IsErr is (h.1 refl))))
+-- ---- a document that isn't added
 
-pub live-gone : {A E : Type 0} (r : Result A E) (b : Bool) (e : E) → (IsErr r ↔ (b ≡ false)) → r ≡ Err e → b ≡ false
-live-gone r b e h is = h.0 (subst IsErr (sym is) refl)
+-- by the repository's answer
+module _ (d now : Keeps) (r : repositories.State) (doc : Document) (same : d ≡ now) (kept : r ≡ d.repository) where
+  abbrev Refuses : AddRefusal → Type 0
+  Refuses why = Answers (Err why) (contents.answer d.repository.held doc)
+
+  abbrev live_now : Bool
+  live_now = parts.is_live d.repository.held.parts doc.docno
+
+  abbrev full_now : Bool
+  full_now = contents.is_full d.repository.held doc
+
+  repeated-is : (n : List ℕ) → Refuses (add.Repeated n) → (live_now ≡ true) × (n ≡ doc.docno)
+  repeated-is n answer = answers-repeated live_now full_now doc.docno n answer
+
+  full-is : (n : List ℕ) → Refuses (add.CollectionFull n) → (live_now ≡ false) × ((full_now ≡ true) × (n ≡ doc.docno))
+  full-is n answer = answers-full live_now full_now doc.docno n answer
+
+  steps-by : (why : AddRefusal) → Refuses why → IfOk (not_added why) (λ x. (told : Option Files) → IsDeskBacked told now → Steps (event.Document doc) told told now (with_repository d r) x)
+  steps-by (add.Repeated n) answer = λ told backed. (let is = repeated-is n answer in
+      subst (λ k. Steps (event.Document doc) told told now (with_repository d r) (reply.Refused (Repeated k))) (sym is.1)
+      (refused-done told (event.Document doc) d now r (Repeated doc.docno) same kept (repeated-step told d doc is.0) backed))
+  steps-by (add.CollectionFull n) answer = λ told backed. (let is = full-is n answer in
+      subst (λ k. Steps (event.Document doc) told told now (with_repository d r) (reply.Refused (CollectionFull k))) (sym is.1.1)
+      (refused-done told (event.Document doc) d now r (CollectionFull doc.docno) same kept (full-step told d doc is.0 is.1.0) backed))
+  steps-by add.Memory answer = tt
+
+  refuses-by : (why : AddRefusal) → Refuses why → IfOk (not_added why) (λ x. (told : Option Files) → RefusesAs x (step (state_of told now) (event.Document doc)).1)
+  refuses-by (add.Repeated n) answer = λ told. (let is = repeated-is n answer in
+      refused-by (event.Document doc) told d now (Repeated doc.docno) same (repeated-step told d doc is.0) ∙ ap (λ k. refused (Repeated k)) (sym is.1))
+  refuses-by (add.CollectionFull n) answer = λ told. (let is = full-is n answer in
+      refused-by (event.Document doc) told d now (CollectionFull doc.docno) same (full-step told d doc is.0 is.1.0) ∙ ap (λ k. refused (CollectionFull k)) (sym is.1.1))
+  refuses-by add.Memory answer = tt
+
+  pub not-added-steps : (result : Result Reply SegFault) (why : AddRefusal) → result ≡ not_added why → Refuses why → IfOk result (λ x. (told : Option Files) → IsDeskBacked told now → Steps (event.Document doc) told told now (with_repository d r) x)
+  not-added-steps result why is answer =
+      subst (λ (o : Result Reply SegFault). IfOk o (λ x. (told : Option Files) → IsDeskBacked told now → Steps (event.Document doc) told told now (with_repository d r) x)) (sym is) (steps-by why answer)
+
+  pub not-added-refuses : (result : Result Reply SegFault) (why : AddRefusal) → result ≡ not_added why → Refuses why → IfOk result (λ x. (told : Option Files) → RefusesAs x (step (state_of told now) (event.Document doc)).1)
+  not-added-refuses result why is answer =
+      subst (λ (o : Result Reply SegFault). IfOk o (λ x. (told : Option Files) → RefusesAs x (step (state_of told now) (event.Document doc)).1)) (sym is) (refuses-by why answer)
+
+-- whatever was refused
+form-by : (why : AddRefusal) → IfOk (not_added why) IsReply
+form-by (add.Repeated n) = tt
+form-by (add.CollectionFull n) = tt
+form-by add.Memory = tt
+
+pub not-added-form : (result : Result Reply SegFault) (why : AddRefusal) → result ≡ not_added why → IfOk result IsReply
+not-added-form result why is = subst (λ (o : Result Reply SegFault). IfOk o IsReply) (sym is) (form-by why)
+
+memory-by : (why : AddRefusal) → IfErr (not_added why) (λ f. f ≡ fault.Memory)
+memory-by (add.Repeated n) = tt
+memory-by (add.CollectionFull n) = tt
+memory-by add.Memory = refl
+
+pub not-added-memory : (result : Result Reply SegFault) (why : AddRefusal) → result ≡ not_added why → IfErr result (λ f. f ≡ fault.Memory)
+not-added-memory result why is = subst (λ (o : Result Reply SegFault). IfErr o (λ f. f ≡ fault.Memory)) (sym is) (memory-by why)
+
+-- ---- a deletion is refused just where no live document has the docno
+
+pub ok-of : {A E : Type 0} (r : Result A E) (P : Type 0) → is_err r ≡ false → OnOk r P → P
+ok-of (Ok a) P not p = p
+ok-of (Err e) P not p = absurd (true≢false not)
+
+pub err-of : {A E : Type 0} (r : Result A E) (P : Type 0) → is_err r ≡ true → OnErr r P → P
+err-of (Ok a) P yes p = absurd (true≢false (sym yes))
+err-of (Err e) P yes p = p
+
+pub live-there : {A E : Type 0} (r : Result A E) (b : Bool) → (IsErr r ↔ (b ≡ false)) → is_err r ≡ false → b ≡ true
+live-there r true h is = refl
+live-there r false h is = absurd (true≢false (sym (h.1 refl) ∙ is))

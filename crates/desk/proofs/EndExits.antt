@@ -23,15 +23,20 @@ use Rattle.desk.specs.Queries.{IsCacheKept, IsQueryBacked}
 use Rattle.desk.specs.State.{State, collection_of}
 use Rattle.desk.specs.Step.{step}
 use Rattle.desk.specs.Told.{Told}
+use Rattle.desk.specs.declared.query.OpenQuery.{OpenQuery}
 use Rattle.desk.proofs.Cases.{kept-ended, step-ended}
 use Rattle.desk.proofs.Exits.{exit, of-now, state-by}
 use Rattle.desk.proofs.FlushExits.{leaves-either, stands-either}
 use Rattle.desk.proofs.Reading.{reads-state}
 use Rattle.desk.proofs.WritingLemmas.{either-now, one-of, then-same}
 
+-- with another repository, and with these queries and blocks
+abbrev pub ended_with : Keeps → repositories.State → List OpenQuery → List KeptBlock → Keeps
+ended_with d t queries cache = record { repository = t; kind = d.kind; queries = queries; counts = d.counts; cache = cache; usable = d.usable }
+
 -- nothing is open, and no block is kept
 abbrev pub ended : Keeps → repositories.State → Keeps
-ended d t = record { repository = t; kind = d.kind; queries = []; counts = d.counts; cache = []; usable = d.usable }
+ended d t = ended_with d t [] []
 
 pub cache-empty : (told : Option Files) (s : repositories.State) → IsCacheKept told s []
 cache-empty told s = record {
@@ -98,10 +103,16 @@ module _ (before mid after : Option Files) (d now : Keeps) (start r t : reposito
   saved-begun : IsSavedAs begun.repository r begun.repository.stale
   saved-begun = subst (λ (x : repositories.State). IsSavedAs x r x.stale) made saved
 
-  pub end-done : (count : ℕ) → count ≡ length (live after t.held.parts) → IsDeskBacked before now → Steps event.End before after now (ended d t) (reply.Ended count)
-  end-done count is backed = of-now before d now (λ (x : Keeps). Steps event.End before after x (ended d t) (reply.Ended count)) same
+  end-now : (count : ℕ) → count ≡ length (live after t.held.parts) → IsDeskBacked before now → Steps event.End before after now (ended d t) (reply.Ended count)
+  end-now count is backed = of-now before d now (λ (x : Keeps). Steps event.End before after x (ended d t) (reply.Ended count)) same
       (λ inside. subst (λ (x : State × Told). StepsTo x after (ended d t) (reply.Ended count)) (step-begun before d)
       (end-exit before mid after begun r t refl (begun-backed before d inside) flushed-begun saved-begun swept last count is)) backed
+
+  -- with queries and blocks of which there are none
+  pub end-done : (qs : List OpenQuery) (cache : List KeptBlock) (count : ℕ) → qs ≡ [] → cache ≡ [] → count ≡ length (live after t.held.parts) → IsDeskBacked before now → Steps event.End before after now (ended_with d t qs cache) (reply.Ended count)
+  end-done qs cache count closed_all emptied is backed =
+      let same_now : ended d t ≡ ended_with d t qs cache = λ i. ended_with d t (sym closed_all i) (sym emptied i) in
+      subst (λ (x : Keeps). Steps event.End before after now x (reply.Ended count)) same_now (end-now count is backed)
 
   -- the files stand for the live documents
   pub end-kept : (kept : Collection) → IsDeskBacked before now → Stands now.repository.held.limits after (kept_behind kept (step (state_of before now) event.End))

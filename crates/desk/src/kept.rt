@@ -15,6 +15,7 @@ ghost use Rattle.repository.specs.Writes.{AreGone, IsEither};
 ghost use Rattle.desk.specs.Backed.{IsDeskBacked, IsMergeBacked, IsUsable, Steps, StepsTo, state_of, with_usable};
 ghost use Rattle.desk.specs.Points.{is_inside, kept_behind, may_write, needs_hits};
 ghost use Rattle.desk.specs.Queries.{priors_in};
+ghost use Rattle.desk.specs.Refusing.{not_added};
 ghost use Rattle.session_replies.specs.Told.{IsReply};
 ghost use Rattle.desk.specs.Orders.{IsTrueReply};
 ghost use Rattle.desk.specs.Keeping.{AsksFor};
@@ -29,7 +30,7 @@ use belief_nodes::BeliefNode;
 use collection_queries::{all_stats, explain_hit, hit_of_rank, names_of, ranking_is_true};
 use counts::Counts;
 use disk_index::BlockCache;
-use holdings::{AddRefusal, NoSuchDoc};
+use holdings::AddRefusal;
 use query_check::Checked;
 use ranker::Search;
 use repository::{Repository, Turned};
@@ -63,6 +64,17 @@ fn is_inside(event: &Event) -> bool
         event,
         Event::Document(_) | Event::Delete(_) | Event::Merge | Event::Show(_) | Event::Close(_)
     )
+}
+
+/// What is replied where a document isn't added.
+fn not_added(refusal: AddRefusal) -> Result<Reply, SegFault>
+    ensures { result ≡ not_added refusal }
+{
+    match refusal {
+        AddRefusal::Repeated { docno } => Ok(Reply::Refused(Refusal::Repeated(docno))),
+        AddRefusal::CollectionFull { docno } => Ok(Reply::Refused(Refusal::CollectionFull(docno))),
+        AddRefusal::Memory => Err(SegFault::Memory),
+    }
 }
 
 /// A repository with the open queries of a desk, the sums and blocks that are kept, and which rule it has.
@@ -320,11 +332,7 @@ impl Kept {
         let docno = doc.docno().clone_in(alloc)?;
         match self.repository.add(alloc, &doc) {
             Ok(()) => Ok(Reply::Added(docno, doc.len())),
-            Err(AddRefusal::Repeated { docno }) => Ok(Reply::Refused(Refusal::Repeated(docno))),
-            Err(AddRefusal::CollectionFull { docno }) => {
-                Ok(Reply::Refused(Refusal::CollectionFull(docno)))
-            }
-            Err(AddRefusal::Memory) => Err(SegFault::Memory),
+            Err(refusal) => not_added(refusal),
         }
     }
 
@@ -336,10 +344,10 @@ impl Kept {
         ensures kind { self.new.kind ≡ self.old.kind }
         ensures usable { IsUsable self.new }
     {
-        match self.repository.delete(&docno) {
-            Ok(()) => Reply::Deleted(docno),
-            Err(NoSuchDoc) => Reply::Refused(Refusal::NoSuchDoc(docno)),
+        if self.repository.delete(&docno).is_err() {
+            return Reply::Refused(Refusal::NoSuchDoc(docno));
         }
+        Reply::Deleted(docno)
     }
 
     fn flush<T: Store>(&mut self, alloc: Global, store: &mut T) -> Result<Reply, SegFault>

@@ -1,16 +1,16 @@
+use Rattle.std.specs.Prelude.{Err, Result}
 use Rattle.std.proofs.Common.{◌≡◌, ◌∙◌, false, length, true, ap, refl, rules, subst, sym}
 use Rattle.holdings.specs.Contents.{Answers, added, answer, is_full}
 use Rattle.holdings.specs.Parts.{is_live}
+use Rattle.holdings.specs.declared.refusals.AddRefusal.{AddRefusal}
 use Rattle.repository.specs.Steps.{with_held}
 use Rattle.session_events.specs.declared.event.Event.TheVariants as event
 use Rattle.session_replies.specs.declared.reply.Reply.{Reply}
 use Rattle.session_replies.specs.declared.reply.Reply.TheVariants as reply
-use Rattle.session_replies.specs.declared.reply.Refusal.TheVariants.{Repeated, CollectionFull}
 use Rattle.desk.specs.Backed.{Keeps, Steps, state_of}
-use Rattle.desk.specs.Told.{refused}
-use Rattle.desk.proofs.Cases.{answers-full, answers-ok, answers-repeated, step-added}
-use Rattle.desk.proofs.DocumentExits.{add-done, full-step, live-told, refused-done, repeated-step, with_repository}
-use Rattle.desk.proofs.Exits.{accepted-by, refused-by}
+use Rattle.desk.proofs.Cases.{answers-ok, step-added}
+use Rattle.desk.proofs.DocumentExits.{add-done, live-told, not-added-form, not-added-memory, not-added-refuses, not-added-steps, with_repository}
+use Rattle.desk.proofs.Exits.{accepted-by}
 use Rattle.desk.proofs.KeptLemmas.{kept-repository, priors-call}
 use Rattle.desk.proofs.kept.Kept.add.Goals as goal
 
@@ -18,7 +18,7 @@ pub invariant_of-self : goal.invariant_of-self
 invariant_of-self c = λ usable working.
     let s = c.self.inside in
     kept-repository s.repository c.add.new.self s.queries.items s.counts
-    (priors-call c.add.result s.repository c.add.new.self (with_held s.repository (added s.repository.held c.args.doc)) c.add.ensures.added c.add.ensures.kept refl) (c.self.invariant usable working)
+    (priors-call c.add.result s.repository c.add.new.self (with_held s.repository (added s.repository.held c.args.doc)) c.add.ensures.added c.add.ensures.kept refl) (c.self.invariant usable (sym c.add.ensures.usable ∙ working))
 
 pub returns-in-Ok-clause-steps : goal.returns-in-Ok-clause-steps
 returns-in-Ok-clause-steps c = λ told backed.
@@ -26,7 +26,7 @@ returns-in-Ok-clause-steps c = λ told backed.
     let view : Keeps = record { repository = s.repository; kind = s.kind; queries = s.queries.items; counts = s.counts; cache = s.cache; usable = s.usable } in
     let live = is_live s.repository.held.parts c.args.doc.docno in
     let full = is_full s.repository.held c.args.doc in
-    let kept = c.self.invariant (ap (λ (x : Keeps). x.usable) c.self.view_is ∙ c.requires.0) (ap (λ (x : Keeps). x.repository.usable) c.self.view_is ∙ c.requires.1) in
+    let kept = c.self.invariant (ap (λ (x : Keeps). x.usable) c.self.view_is ∙ c.requires.usable.0) (ap (λ (x : Keeps). x.repository.usable) c.self.view_is ∙ c.requires.usable.1) in
     let not = answers-ok live full c.args.doc.docno (subst (λ r. Answers r (answer s.repository.held c.args.doc)) c.in-Ok.is c.add.ensures.answer) in
     let shown : reply.Added c.in_ok-docno.docno c.len.result ≡ reply.Added c.args.doc.docno (length c.args.doc.tokens) = search rules in
     subst (λ (r : Reply). Steps (event.Document c.args.doc) told told c.args.self.now (with_repository view c.add.new.self) r) (sym shown)
@@ -41,40 +41,22 @@ returns-in-Ok-clause-refuses c = λ told.
     let not = answers-ok live full c.args.doc.docno (subst (λ r. Answers r (answer s.repository.held c.args.doc)) c.in-Ok.is c.add.ensures.answer) in
     accepted-by (event.Document c.args.doc) told view c.args.self.now _ c.self.view_is (step-added (state_of told view) c.args.doc (live-told told view c.args.doc.docno ∙ not.0) not.1) refl
 
-pub returns-in-Err-Repeated-clause-steps : goal.returns-in-Err-Repeated-clause-steps
-returns-in-Err-Repeated-clause-steps c = λ told backed.
+pub returns-in-Err-clause-steps : goal.returns-in-Err-clause-steps
+returns-in-Err-clause-steps c = (
     let s = c.self.inside in
     let view : Keeps = record { repository = s.repository; kind = s.kind; queries = s.queries.items; counts = s.counts; cache = s.cache; usable = s.usable } in
-    let live = is_live s.repository.held.parts c.args.doc.docno in
-    let full = is_full s.repository.held c.args.doc in
-    let is = answers-repeated live full c.args.doc.docno c.in-Err-Repeated.docno (subst (λ r. Answers r (answer s.repository.held c.args.doc)) c.in-Err-Repeated.is c.add.ensures.answer) in
-    subst (λ n. Steps (event.Document c.args.doc) told told c.args.self.now (with_repository view c.add.new.self) (reply.Refused (Repeated n))) (sym is.1)
-    (refused-done told (event.Document c.args.doc) view c.args.self.now c.add.new.self (Repeated c.args.doc.docno) c.self.view_is c.in-Err-Repeated.ensures.kept (repeated-step told view c.args.doc is.0) backed)
+    let answers : Answers (Err c.in-Err.refusal) (answer s.repository.held c.args.doc) = subst (λ (r : Result (Unit {0}) AddRefusal). Answers r (answer s.repository.held c.args.doc)) c.in-Err.is c.add.ensures.answer in
+    not-added-steps view c.args.self.now c.add.new.self c.args.doc c.self.view_is c.in-Err.ensures.kept c.not_added.result c.in-Err.refusal c.not_added.ensures answers)
 
-pub returns-in-Err-Repeated-clause-refuses : goal.returns-in-Err-Repeated-clause-refuses
-returns-in-Err-Repeated-clause-refuses c = λ told.
+pub returns-in-Err-clause-refuses : goal.returns-in-Err-clause-refuses
+returns-in-Err-clause-refuses c = (
     let s = c.self.inside in
     let view : Keeps = record { repository = s.repository; kind = s.kind; queries = s.queries.items; counts = s.counts; cache = s.cache; usable = s.usable } in
-    let live = is_live s.repository.held.parts c.args.doc.docno in
-    let full = is_full s.repository.held c.args.doc in
-    let is = answers-repeated live full c.args.doc.docno c.in-Err-Repeated.docno (subst (λ r. Answers r (answer s.repository.held c.args.doc)) c.in-Err-Repeated.is c.add.ensures.answer) in
-    refused-by (event.Document c.args.doc) told view c.args.self.now (Repeated c.args.doc.docno) c.self.view_is (repeated-step told view c.args.doc is.0) ∙ ap (λ n. refused (Repeated n)) (sym is.1)
+    let answers : Answers (Err c.in-Err.refusal) (answer s.repository.held c.args.doc) = subst (λ (r : Result (Unit {0}) AddRefusal). Answers r (answer s.repository.held c.args.doc)) c.in-Err.is c.add.ensures.answer in
+    not-added-refuses view c.args.self.now c.add.new.self c.args.doc c.self.view_is c.in-Err.ensures.kept c.not_added.result c.in-Err.refusal c.not_added.ensures answers)
 
-pub returns-in-Err-CollectionFull-clause-steps : goal.returns-in-Err-CollectionFull-clause-steps
-returns-in-Err-CollectionFull-clause-steps c = λ told backed.
-    let s = c.self.inside in
-    let view : Keeps = record { repository = s.repository; kind = s.kind; queries = s.queries.items; counts = s.counts; cache = s.cache; usable = s.usable } in
-    let live = is_live s.repository.held.parts c.args.doc.docno in
-    let full = is_full s.repository.held c.args.doc in
-    let is = answers-full live full c.args.doc.docno c.in-Err-CollectionFull.docno (subst (λ r. Answers r (answer s.repository.held c.args.doc)) c.in-Err-CollectionFull.is c.add.ensures.answer) in
-    subst (λ n. Steps (event.Document c.args.doc) told told c.args.self.now (with_repository view c.add.new.self) (reply.Refused (CollectionFull n))) (sym is.1.1)
-    (refused-done told (event.Document c.args.doc) view c.args.self.now c.add.new.self (CollectionFull c.args.doc.docno) c.self.view_is c.in-Err-CollectionFull.ensures.kept (full-step told view c.args.doc is.0 is.1.0) backed)
+pub returns-in-Err-clause-form : goal.returns-in-Err-clause-form
+returns-in-Err-clause-form c = not-added-form c.not_added.result c.in-Err.refusal c.not_added.ensures
 
-pub returns-in-Err-CollectionFull-clause-refuses : goal.returns-in-Err-CollectionFull-clause-refuses
-returns-in-Err-CollectionFull-clause-refuses c = λ told.
-    let s = c.self.inside in
-    let view : Keeps = record { repository = s.repository; kind = s.kind; queries = s.queries.items; counts = s.counts; cache = s.cache; usable = s.usable } in
-    let live = is_live s.repository.held.parts c.args.doc.docno in
-    let full = is_full s.repository.held c.args.doc in
-    let is = answers-full live full c.args.doc.docno c.in-Err-CollectionFull.docno (subst (λ r. Answers r (answer s.repository.held c.args.doc)) c.in-Err-CollectionFull.is c.add.ensures.answer) in
-    refused-by (event.Document c.args.doc) told view c.args.self.now (CollectionFull c.args.doc.docno) c.self.view_is (full-step told view c.args.doc is.0 is.1.0) ∙ ap (λ n. refused (CollectionFull n)) (sym is.1.1)
+pub returns-in-Err-clause-memory : goal.returns-in-Err-clause-memory
+returns-in-Err-clause-memory c = not-added-memory c.not_added.result c.in-Err.refusal c.not_added.ensures

@@ -1,4 +1,4 @@
-use Rattle.std.proofs.Common.{◌≡◌, ◌≤◌, ◌∙◌, ◌++◌, Option, ap, subst, sym, arith}
+use Rattle.std.proofs.Common.{◌≡◌, ◌≤◌, ◌∙◌, ◌+◌, ◌++◌, Option, ap, subst, sym, arith}
 use Rattle.std.proofs.lemmas.Result.{err_from_is_err_and}
 use Rattle.ri_base.specs.Expression.{expr_tree}
 use Rattle.store_ends.specs.Files.{Files}
@@ -10,7 +10,7 @@ use Rattle.desk.proofs.ScanLemmas.{before-all, before-none}
 use Rattle.desk.proofs.scanning.put_part.Goals as goal
 
 pub put_document-requires : goal.put_document-requires
-put_document-requires g c = let same = ap size c.part.ensures.part in omega (arith, c.loop-id-test.true, c.docs.ensures.size, same)
+put_document-requires g c = let same = ap size c.part.ensures.part in omega (arith, c.loop-id-test.true, c.docs-id-end.ensures.size, same)
 
 pub loop-id-init : goal.loop-id-init
 loop-id-init g c = record {
@@ -47,5 +47,5 @@ pub returns-clause-exact : goal.returns-clause-exact
 returns-clause-exact g c = λ backed cached docs so_far.
     let m = c.args.marked.now in
     let same = ap size c.part.ensures.part in
-    let past : size m.source ≤ c.loop-id.id = omega (arith, c.loop-id-test.false, c.docs.ensures.size, same) in
+    let past : size m.source ≤ c.loop-id.id = omega (arith, c.loop-id-test.false, c.docs-id-end.ensures.size, same) in
     c.loop-id.invariant.lines backed cached docs so_far ∙ before-all (expr_tree c.args.expr.now) (g.T.Store.files c.args.store.now) m c.loop-id.id docs past

@@ -12,7 +12,7 @@ use Rattle.desk.proofs.scanning.scan.Goals as goal
 
 pub loop-marked-init : goal.loop-marked-init
 loop-marked-init g c = record {
-  lines = λ backed cached. c.new.ensures ∙ parts-none (expr_tree c.args.expr.now) (g.T.Store.files c.args.store.now) c.args.parts.now;
+  lines = λ backed cached. c.new-lines.ensures ∙ parts-none (expr_tree c.args.expr.now) (g.T.Store.files c.args.store.now) c.args.parts.now;
   reads = reads-same _ _ _ _ _ _ _ _ _ _;
 }
 

@@ -24,7 +24,7 @@ use Rattle.desk.proofs.Closing.{priors-closed}
 use Rattle.desk.proofs.Exits.{of-now}
 use Rattle.desk.proofs.KeptLemmas.{kept-counts, kept-pushed, kept-repository}
 use Rattle.desk.proofs.Naming.{is_named}
-use Rattle.desk.proofs.OpenExits.{IsNewSearch, full-refused, open-accepted-by, open-done, open-new, open-refusal, open-refused-by, taken-refused}
+use Rattle.desk.proofs.OpenExits.{IsNewSearch, full-refused, open-accepted, open-done, open-new, open-refusal, taken-refused}
 use Rattle.desk.proofs.kept.Kept.open_checked.Goals as goal
 
 pub returns-then-is_some-clause-steps : goal.returns-then-is_some-clause-steps
@@ -64,28 +64,26 @@ returns-then-len-ge-MAX_QUERIES-clause-refuses g c = λ told.
     open-refused-by told view c.args.self.now name c.args.k (whole_checked c.args.checked) (DeskFull name) c.self.view_is (full-refused told view name c.args.k (whole_checked c.args.checked) free full)
 
 pub invariant_of-self : goal.invariant_of-self
-invariant_of-self g c = (
-  c.self.invariant.0,
+invariant_of-self g c =
   λ usable there.
-      let s = c.self.inside in
-      let name = c.args.name in
-      let few : length s.queries.items < MAX_QUERIES = omega (arith, c.len.ensures, c.if-len-ge-MAX_QUERIES.false) in
-      let q : OpenQuery = record { name = c.args.name; search = c.in_ok-search.search } in
-      let snapshot = c.in_ok-snapshot.snapshot in
-      let stats = c.deref-2.result.now in
-      let new : IsNewSearch snapshot c.args.checked stats c.args.k q.search = record {
-        snapshot_is = c.in_ok-search.ensures.snapshot;
-        checked_is = c.in_ok-search.ensures.checked;
-        network_is = c.in_ok-search.ensures.network;
-        most_is = c.in_ok-search.ensures.most;
-        credit_is = c.in_ok-search.ensures.credit;
-        usable_is = c.in_ok-search.ensures.usable;
-      } in
-      let priors = priors-closed c.snapshot.result s.repository c.snapshot.new.self c.snapshot.ensures.closed c.snapshot.ensures.left in
-      let was = kept-repository s.repository c.snapshot.new.self s.queries.items s.counts priors (c.self.invariant.1 usable (sym c.snapshot.ensures.usable ∙ there)) in
-      let one : IsOpen (length c.snapshot.new.self.priors) q = open-new (length c.snapshot.new.self.priors) name snapshot c.args.checked stats c.args.k q new c.in_ok-snapshot.ensures.distinct c.requires.k.1 (rw priors c.requires.asks) in
-      kept-pushed c.snapshot.new.self s.queries.items c.all_stats.new.counts q few one (kept-counts c.snapshot.new.self s.queries.items s.counts c.all_stats.new.counts c.all_stats.ensures.adds was),
-)
+    let s = c.self.inside in
+    let name = c.args.name in
+    let few : length s.queries.items < MAX_QUERIES = omega (arith, c.len.ensures, c.if-len-ge-MAX_QUERIES.false) in
+    let q : OpenQuery = record { name = c.args.name; search = c.in_ok-search.search } in
+    let snapshot = c.in_ok-snapshot.snapshot in
+    let stats = c.deref-2.result.now in
+    let new : IsNewSearch snapshot c.args.checked stats c.args.k q.search = record {
+      snapshot_is = c.in_ok-search.ensures.snapshot;
+      checked_is = c.in_ok-search.ensures.checked;
+      network_is = c.in_ok-search.ensures.network;
+      most_is = c.in_ok-search.ensures.most;
+      credit_is = c.in_ok-search.ensures.credit;
+      usable_is = c.in_ok-search.ensures.usable;
+    } in
+    let priors = priors-closed c.snapshot.result s.repository c.snapshot.new.self c.snapshot.ensures.closed c.snapshot.ensures.left in
+    let was = kept-repository s.repository c.snapshot.new.self s.queries.items s.counts priors (c.self.invariant usable (sym c.snapshot.ensures.usable ∙ there)) in
+    let one : IsOpen (length c.snapshot.new.self.priors) q = open-new (length c.snapshot.new.self.priors) name snapshot c.args.checked stats c.args.k q new c.in_ok-snapshot.ensures.distinct c.requires.k.1 (rw priors c.requires.asks) in
+    kept-pushed c.snapshot.new.self s.queries.items c.all_stats.new.counts q few one (kept-counts c.snapshot.new.self s.queries.items s.counts c.all_stats.new.counts c.all_stats.ensures.adds was)
 
 pub returns-clause-steps : goal.returns-clause-steps
 returns-clause-steps g c = λ backed.

@@ -37,12 +37,10 @@ returns-in-Err-Refused-clause-refuses g c = λ told.
     refused-by (event.Scan c.args.text.now) told view c.args.self.now c.in-Err-Refused.refusal c.self.view_is (scan-fault (state_of told view) c.args.text.now c.in-Err-Refused.refusal why)
 
 pub invariant_of-self : goal.invariant_of-self
-invariant_of-self g c = (
-  c.self.invariant.0,
+invariant_of-self g c =
   λ usable there.
       let s = c.self.inside in
-      kept-repository s.repository c.snapshot.new.self s.queries.items s.counts (priors-closed c.snapshot.result s.repository c.snapshot.new.self c.snapshot.ensures.closed c.snapshot.ensures.left) (c.self.invariant.1 usable (sym c.snapshot.ensures.usable ∙ there)),
-)
+      kept-repository s.repository c.snapshot.new.self s.queries.items s.counts (priors-closed c.snapshot.result s.repository c.snapshot.new.self c.snapshot.ensures.closed c.snapshot.ensures.left) (c.self.invariant usable (sym c.snapshot.ensures.usable ∙ there))
 
 pub returns-clause-steps : goal.returns-clause-steps
 returns-clause-steps g c = λ backed.
@@ -58,7 +56,7 @@ returns-clause-steps g c = λ backed.
     let numbers : part_numbers parts ≡ part_numbers s.repository.held.parts.closed = ap part_numbers own ∙ c.in_ok-snapshot.ensures.numbers in
     scan-done told after view c.args.self.now c.snapshot.new.self text x c.in_ok-lines.lines c.scan.new.cache c.self.view_is c.in_ok-snapshot.ensures.closed c.in_ok-lines.ensures.reads.quiet.same_files is
     (λ b. c.in_ok-lines.ensures.exact (subst (λ (ms : List Marked). AreBacked told ms) (sym own) (c.in_ok-snapshot.ensures.stored told b.repository)) b.cache.backed
-    ∙ ap (λ (ms : List Marked). extents_in x (snapshots.live told ms)) own ∙ ap (extents_in x) (c.in_ok-snapshot.ensures.documents told))
+        ∙ ap (λ (ms : List Marked). extents_in x (snapshots.live told ms)) own ∙ ap (extents_in x) (c.in_ok-snapshot.ensures.documents told))
     (λ b. cache-read told s.repository parts s.cache c.scan.new.cache (listed-now s.repository parts numbers) c.in_ok-lines.ensures.reads.cache b.cache) backed
 
 pub returns-clause-refuses : goal.returns-clause-refuses

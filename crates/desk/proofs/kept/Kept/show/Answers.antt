@@ -50,7 +50,7 @@ returns-in-None-clause-steps c = λ told backed.
     let name = c.args.name in
     let view : Keeps = record { repository = s.repository; kind = s.kind; queries = s.queries.items; counts = s.counts; cache = s.cache; usable = s.usable } in
     let found : position (is_named c.args.name) s.queries.items ≡ Some c.in-Some.place = ap (λ (x : Keeps). position (is_named c.args.name) x.queries) c.self.view_is ∙ sym c.find.ensures ∙ c.in-Some.is in
-    let kept = c.self.invariant.1 (ap (λ (x : Keeps). x.usable) c.self.view_is ∙ c.requires.0) (ap (λ (x : Keeps). x.repository.usable) c.self.view_is ∙ c.requires.1) in
+    let kept = c.self.invariant (ap (λ (x : Keeps). x.usable) c.self.view_is ∙ c.requires.usable.0) (ap (λ (x : Keeps). x.repository.usable) c.self.view_is ∙ c.requires.usable.1) in
     let q = c.index.result.now in
     let place = found-place name s.queries.items c.in-Some.place q found in
     let there : q ≡ get_or s.queries.items c.in-Some.place q = c.index.ensures in
@@ -64,7 +64,7 @@ returns-in-None-clause-refuses c = λ told.
     let name = c.args.name in
     let view : Keeps = record { repository = s.repository; kind = s.kind; queries = s.queries.items; counts = s.counts; cache = s.cache; usable = s.usable } in
     let found : position (is_named c.args.name) s.queries.items ≡ Some c.in-Some.place = ap (λ (x : Keeps). position (is_named c.args.name) x.queries) c.self.view_is ∙ sym c.find.ensures ∙ c.in-Some.is in
-    let kept = c.self.invariant.1 (ap (λ (x : Keeps). x.usable) c.self.view_is ∙ c.requires.0) (ap (λ (x : Keeps). x.repository.usable) c.self.view_is ∙ c.requires.1) in
+    let kept = c.self.invariant (ap (λ (x : Keeps). x.usable) c.self.view_is ∙ c.requires.usable.0) (ap (λ (x : Keeps). x.repository.usable) c.self.view_is ∙ c.requires.usable.1) in
     let q = c.index.result.now in
     let place = found-place name s.queries.items c.in-Some.place q found in
     let there : q ≡ get_or s.queries.items c.in-Some.place q = c.index.ensures in
@@ -81,7 +81,7 @@ returns-in_ok-clone_in-clause-steps c = λ told backed.
     let name = c.args.name in
     let view : Keeps = record { repository = s.repository; kind = s.kind; queries = s.queries.items; counts = s.counts; cache = s.cache; usable = s.usable } in
     let found : position (is_named c.args.name) s.queries.items ≡ Some c.in-Some.place = ap (λ (x : Keeps). position (is_named c.args.name) x.queries) c.self.view_is ∙ sym c.find.ensures ∙ c.in-Some.is in
-    let kept = c.self.invariant.1 (ap (λ (x : Keeps). x.usable) c.self.view_is ∙ c.requires.0) (ap (λ (x : Keeps). x.repository.usable) c.self.view_is ∙ c.requires.1) in
+    let kept = c.self.invariant (ap (λ (x : Keeps). x.usable) c.self.view_is ∙ c.requires.usable.0) (ap (λ (x : Keeps). x.repository.usable) c.self.view_is ∙ c.requires.usable.1) in
     let q = c.index.result.now in
     let place = found-place name s.queries.items c.in-Some.place q found in
     let there : q ≡ get_or s.queries.items c.in-Some.place q = c.index.ensures in
@@ -104,7 +104,7 @@ returns-in_ok-clone_in-clause-order c = λ told backed.
     let name = c.args.name in
     let view : Keeps = record { repository = s.repository; kind = s.kind; queries = s.queries.items; counts = s.counts; cache = s.cache; usable = s.usable } in
     let found : position (is_named c.args.name) s.queries.items ≡ Some c.in-Some.place = ap (λ (x : Keeps). position (is_named c.args.name) x.queries) c.self.view_is ∙ sym c.find.ensures ∙ c.in-Some.is in
-    let kept = c.self.invariant.1 (ap (λ (x : Keeps). x.usable) c.self.view_is ∙ c.requires.0) (ap (λ (x : Keeps). x.repository.usable) c.self.view_is ∙ c.requires.1) in
+    let kept = c.self.invariant (ap (λ (x : Keeps). x.usable) c.self.view_is ∙ c.requires.usable.0) (ap (λ (x : Keeps). x.repository.usable) c.self.view_is ∙ c.requires.usable.1) in
     let q = c.index.result.now in
     let place = found-place name s.queries.items c.in-Some.place q found in
     let there : q ≡ get_or s.queries.items c.in-Some.place q = c.index.ensures in
@@ -125,7 +125,7 @@ returns-in_ok-clone_in-clause-form g c =
     let s = c.self.inside in
     let name = c.args.name in
     let found : position (is_named c.args.name) s.queries.items ≡ Some c.in-Some.place = ap (λ (x : Keeps). position (is_named c.args.name) x.queries) c.self.view_is ∙ sym c.find.ensures ∙ c.in-Some.is in
-    let kept = c.self.invariant.1 (ap (λ (x : Keeps). x.usable) c.self.view_is ∙ c.requires.0) (ap (λ (x : Keeps). x.repository.usable) c.self.view_is ∙ c.requires.1) in
+    let kept = c.self.invariant (ap (λ (x : Keeps). x.usable) c.self.view_is ∙ c.requires.usable.0) (ap (λ (x : Keeps). x.repository.usable) c.self.view_is ∙ c.requires.usable.1) in
     let q = c.index.result.now in
     let place = found-place name s.queries.items c.in-Some.place q found in
     let there : q ≡ get_or s.queries.items c.in-Some.place q = c.index.ensures in

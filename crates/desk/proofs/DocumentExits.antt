@@ -1,12 +1,11 @@
 -- Where a document is added or deleted.
 use Rattle.std.proofs.Common.{◌≡◌, ◌∙◌, ◌<◌, ◌≤◌, ◌+◌, ◌-◌, ◌^◌, ℕ, Bool, true, false, List, [], ◌∷◌, ◌++◌, cond, length, map, min, refl, sym, ap, subst, arith, Option, true≢false}
-use Rattle.std.specs.Prelude.{◌↔◌, Contains, Err, IfErr, IfOk, IsErr, Ok, OnErr, OnOk, Result, is_err}
+use Rattle.std.specs.Prelude.{◌↔◌, Contains, Err, IfOk, IsErr, Ok, OnErr, OnOk, Result, is_err}
 use Rattle.std.specs.Set.{is_member}
 use Rattle.std.specs.Str.{bytes_eq}
 use Rattle.std.proofs.lemmas.List.{append-nil}
 use Rattle.ri_base.specs.Documents.{Document}
 use Rattle.ri_base.specs.declared.seg_fault.SegFault.{SegFault}
-use Rattle.ri_base.specs.declared.seg_fault.SegFault.TheVariants as fault
 use Rattle.store_ends.specs.Files.{Files}
 use Rattle.manifest.specs.Listing.{prior_numbers}
 use Rattle.disk_index.specs.Snapshots.{Marked}
@@ -29,13 +28,12 @@ use Rattle.repository.proofs.SaveLemmas.{numbers-sealed}
 use Rattle.session_events.specs.declared.event.Event.{Event}
 use Rattle.session_events.specs.declared.event.Event.TheVariants as event
 use Rattle.session_replies.specs.declared.reply.Refusal.{Refusal}
-use Rattle.session_replies.specs.Told.{IsReply}
 use Rattle.session_replies.specs.declared.reply.Reply.{Reply}
 use Rattle.session_replies.specs.declared.reply.Reply.TheVariants as reply
 use Rattle.session_replies.specs.declared.reply.Refusal.TheVariants.{Repeated, CollectionFull, NoSuchDoc}
 use Rattle.desk.specs.Backed.{IsDeskBacked, Keeps, Steps, state_of}
 use Rattle.desk.specs.Keeping.{AreEarly}
-use Rattle.desk.specs.Refusing.{not_added}
+use Rattle.desk.specs.Replying.{not_added}
 use Rattle.desk.specs.State.{collection_of}
 use Rattle.desk.specs.Step.{is_live, refuse, step}
 use Rattle.desk.specs.Told.{RefusesAs, refused}
@@ -206,32 +204,15 @@ module _ (d now : Keeps) (r : repositories.State) (doc : Document) (same : d ≡
   not-added-refuses result why is answer =
       subst (λ (o : Result Reply SegFault). IfOk o (λ x. (told : Option Files) → RefusesAs x (step (state_of told now) (event.Document doc)).1)) (sym is) (refuses-by why answer)
 
--- whatever was refused
-form-by : (why : AddRefusal) → IfOk (not_added why) IsReply
-form-by (add.Repeated n) = tt
-form-by (add.CollectionFull n) = tt
-form-by add.Memory = tt
-
-pub not-added-form : (result : Result Reply SegFault) (why : AddRefusal) → result ≡ not_added why → IfOk result IsReply
-not-added-form result why is = subst (λ (o : Result Reply SegFault). IfOk o IsReply) (sym is) (form-by why)
-
-memory-by : (why : AddRefusal) → IfErr (not_added why) (λ f. f ≡ fault.Memory)
-memory-by (add.Repeated n) = tt
-memory-by (add.CollectionFull n) = tt
-memory-by add.Memory = refl
-
-pub not-added-memory : (result : Result Reply SegFault) (why : AddRefusal) → result ≡ not_added why → IfErr result (λ f. f ≡ fault.Memory)
-not-added-memory result why is = subst (λ (o : Result Reply SegFault). IfErr o (λ f. f ≡ fault.Memory)) (sym is) (memory-by why)
-
 -- ---- a deletion is refused just where no live document has the docno
 
 pub ok-of : {A E : Type 0} (r : Result A E) (P : Type 0) → is_err r ≡ false → OnOk r P → P
-ok-of (Ok a) P not p = p
-ok-of (Err e) P not p = absurd (true≢false not)
+ok-of (Ok a) P is p = p
+ok-of (Err e) P is p = absurd (true≢false is)
 
 pub err-of : {A E : Type 0} (r : Result A E) (P : Type 0) → is_err r ≡ true → OnErr r P → P
-err-of (Ok a) P yes p = absurd (true≢false (sym yes))
-err-of (Err e) P yes p = p
+err-of (Ok a) P is p = absurd (true≢false (sym is))
+err-of (Err e) P is p = p
 
 pub live-there : {A E : Type 0} (r : Result A E) (b : Bool) → (IsErr r ↔ (b ≡ false)) → is_err r ≡ false → b ≡ true
 live-there r true h is = refl

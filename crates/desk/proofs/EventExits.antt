@@ -99,7 +99,7 @@ end-writes event.End w i = true≢false w
 end-writes e w i = true≢false (sym i)
 
 pub no-clash : (b : Bool) → b ≡ true → b ≡ false → ⊥
-no-clash b yes no = true≢false (sym yes ∙ no)
+no-clash b is other = true≢false (sym is ∙ other)
 
 module _ {S : Type 0} (files : S → Option Files) (layers : S → Option (List Files)) (clock : S → ℕ) (since : S → ℕ → Files → Type 0) (longest : S → ℕ) (held : S → List ℕ) (old new : S) (quiet : IsQuiet files layers clock since longest held old new) where
   pub quiet-on : GoesOn layers clock longest held old new

@@ -107,16 +107,16 @@ mergeopen-step told d some = let m = some-of d.repository.merge some in step-mer
 -- ---- a turn
 
 pub if-some : {X : Type 0} (P : X → Type 0) (o : Option X) (x : X) → o ≡ Some x → IfSome o P → P x
-if-some P o x is h = subst (λ (p : Option X). IfSome p P) is h
+if-some {X} P o x is h = subst (λ (p : Option X). IfSome p P) is h
 
 some-if : {X : Type 0} (P : X → Type 0) (o : Option X) (x : X) → o ≡ Some x → P x → IfSome o P
-some-if P o x is h = subst (λ (p : Option X). IfSome p P) (sym is) h
+some-if {X} P o x is h = subst (λ (p : Option X). IfSome p P) (sym is) h
 
 none-if : {X : Type 0} (P : X → Type 0) (o : Option X) → o ≡ None → IfSome o P
-none-if P o is = subst (λ (p : Option X). IfSome p P) (sym is) tt
+none-if {X} P o is = subst (λ (p : Option X). IfSome p P) (sym is) tt
 
 same-some : {X : Type 0} (o : Option X) (x y : X) → o ≡ Some x → o ≡ Some y → x ≡ y
-same-some o x y p q = ap (λ (r : Option X). unwrap_or r x) (sym p ∙ q)
+same-some {X} o x y p q = ap (λ (r : Option X). unwrap_or r x) (sym p ∙ q)
 
 module _ (told after : Option Files) (d : Keeps) (docs : ℕ) (r : repositories.State) (cache : List KeptBlock) (m : Merging) (open_is : d.repository.merge ≡ Some m) (kept : IsCacheKept told d.repository cache) (backed : IsDeskBacked told d) where
   was-listed : AreListed d.repository (part_numbers m.snapshot)

@@ -10,7 +10,7 @@ use Rattle.disk_index.specs.Cache.{CacheKeeps, IsCacheBacked, KeptBlock}
 use Rattle.disk_index.specs.Snapshots.{IsFileAmong}
 use Rattle.holdings.specs.Parts.{live}
 use Rattle.merge_job.specs.Merge.{Merging, size_of}
-use Rattle.repository.specs.Merges.{IsMergedTo, IsOpenMerging, IsTurnedOn, IsTurnedOver, after_turn, turned, without_dead_of}
+use Rattle.repository.specs.Merges.{IsMergedTo, IsOpenMerging, IsTurnedOn, IsTurnedOver, IsTurnedTo, after_turn, turned, without_dead_of}
 use Rattle.repository.specs.Saved.{IsUnlisted}
 use Rattle.repository.specs.Stands.{Collection, Stands}
 use Rattle.repository.specs.States as repositories
@@ -20,13 +20,15 @@ use Rattle.repository.specs.declared.turned.Turned.{Turned}
 use Rattle.repository.specs.declared.turned.Turned.TheVariants as turn
 use Rattle.repository.proofs.TieLemmas.{IfSome-map}
 use Rattle.session_events.specs.declared.event.Event.TheVariants as event
+use Rattle.session_replies.specs.Told.{IsReply}
 use Rattle.session_replies.specs.declared.reply.Reply.TheVariants as reply
 use Rattle.session_replies.specs.declared.reply.Refusal.TheVariants.{NoMerge}
 use Rattle.desk.specs.Backed.{IsDeskBacked, IsMergeBacked, Keeps, Steps, merge_of, state_of}
 use Rattle.desk.specs.Points.{kept_behind}
+use Rattle.desk.specs.Replying.{turned_reply}
 use Rattle.desk.specs.State.{Merge, State, collection_of, merged}
 use Rattle.desk.specs.Step.{refuse, step}
-use Rattle.desk.specs.Told.{Told, is_refusal}
+use Rattle.desk.specs.Told.{RefusesAs, Told, is_refusal}
 use Rattle.desk.proofs.CacheLemmas.{cache-read}
 use Rattle.desk.proofs.Cases.{kept-merged, kept-nomerge, kept-turned, step-merged, step-nomerge, step-turned}
 use Rattle.desk.proofs.Exits.{accepted, of-now}
@@ -218,3 +220,36 @@ module _ (before after : Option Files) (d now : Keeps) (docs : ℕ) (r : reposit
           let turns = over (merge-condition before d.repository d.repository.merge inside.merge) inside.cache.backed in
           let c = collection_of (state_of before d) in
           subst (λ (k : Collection). Stands d.repository.held.limits after k) (sym (behind-merged before d docs to.before to.was kept past-to)) (turns.stands refl c (reads-state before d inside.repository))) backed
+
+-- ---- whatever became of it
+
+module _ (before after : Option Files) (d now : Keeps) (docs : ℕ) (r : repositories.State) (cache : List KeptBlock) (count : ℕ) (same : d ≡ now)
+    (same_if : IfSome d.repository.merge (λ m. length m.copied + docs < size_of m → after ≡ before)) where
+  abbrev Over : Turned → Type 0
+  Over t = IsOpenMerging before d.repository → IsCacheBacked before d.cache → IsTurnedOver t d.repository.merge before after d.repository r
+
+  pub turn-steps : (t : Turned) → IfSome d.repository.merge (λ m. t ≡ turned m docs) → IsTurnedTo t docs d.repository r → Over t → SameWhere (IsBeside (IsUnlisted (listed_numbers d.repository))) before after
+      → IfSome d.repository.merge (λ m. CacheKeeps before (IsFileAmong m.snapshot) d.cache cache) → count ≡ length (live after r.held.parts) → IsDeskBacked before now → Steps (event.Turn docs) before after now (with_merged d r cache) (turned_reply t count)
+  turn-steps (turn.Open credit size) answer to over stay keeps is backed = open-done before after d now docs credit size r cache same answer to same_if over keeps backed
+  turn-steps turn.Done answer to over stay keeps is backed = merged-done before after d now docs r cache same answer to over stay keeps count is backed
+
+  -- the files stand for what they are to stand for
+  pub turn-kept : (t : Turned) → IfSome d.repository.merge (λ m. t ≡ turned m docs) → IsTurnedTo t docs d.repository r → Over t → (kept : Collection) → IsDeskBacked before now → Stands now.repository.held.limits before kept
+      → Stands now.repository.held.limits after (kept_behind kept (step (state_of before now) (event.Turn docs)))
+  turn-kept (turn.Open credit size) answer to over kept backed stands = open-kept before after d now docs credit size r cache same answer to same_if kept stands
+  turn-kept turn.Done answer to over kept backed stands = merged-kept before after d now docs r cache same answer to over kept backed
+
+-- it isn't refused
+pub turn-refuses : (told : Option Files) (d now : Keeps) (docs count : ℕ) (t : Turned) → d ≡ now → is_some d.repository.merge ≡ true → RefusesAs (turned_reply t count) (step (state_of told now) (event.Turn docs)).1
+turn-refuses told d now docs count t same some = by t
+  where
+    accepted-now : is_refusal (step (state_of told now) (event.Turn docs)).1 ≡ false
+    accepted-now = (let m = some-of d.repository.merge some in subst (λ (x : Keeps). is_refusal (step (state_of told x) (event.Turn docs)).1 ≡ false) same (turn-accepted told d docs m.0 m.1))
+
+    by : (t : Turned) → RefusesAs (turned_reply t count) (step (state_of told now) (event.Turn docs)).1
+    by (turn.Open credit size) = accepted-now
+    by turn.Done = accepted-now
+
+pub turn-form : (t : Turned) (count : ℕ) → IsReply (turned_reply t count)
+turn-form (turn.Open credit size) count = tt
+turn-form turn.Done count = tt

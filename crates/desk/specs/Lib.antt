@@ -7,7 +7,7 @@ pub mod Orders
 pub mod Plugs
 pub mod Points
 pub mod Queries
-pub mod Refusing
+pub mod Replying
 pub mod Scanning
 pub mod State
 pub mod Step

@@ -15,7 +15,7 @@ ghost use Rattle.repository.specs.Writes.{AreGone, IsEither};
 ghost use Rattle.desk.specs.Backed.{IsDeskBacked, IsMergeBacked, IsUsable, Steps, StepsTo, state_of, with_usable};
 ghost use Rattle.desk.specs.Points.{is_inside, kept_behind, may_write, needs_hits};
 ghost use Rattle.desk.specs.Queries.{priors_in};
-ghost use Rattle.desk.specs.Refusing.{not_added};
+ghost use Rattle.desk.specs.Replying.{not_added, turned_reply};
 ghost use Rattle.session_replies.specs.Told.{IsReply};
 ghost use Rattle.desk.specs.Orders.{IsTrueReply};
 ghost use Rattle.desk.specs.Keeping.{AsksFor};
@@ -74,6 +74,16 @@ fn not_added(refusal: AddRefusal) -> Result<Reply, SegFault>
         AddRefusal::Repeated { docno } => Ok(Reply::Refused(Refusal::Repeated(docno))),
         AddRefusal::CollectionFull { docno } => Ok(Reply::Refused(Refusal::CollectionFull(docno))),
         AddRefusal::Memory => Err(SegFault::Memory),
+    }
+}
+
+/// What is replied to a turn, where so many documents are live.
+fn turned_reply(turned: Turned, live: u64) -> Reply
+    ensures { result ≡ turned_reply turned live }
+{
+    match turned {
+        Turned::Open { credit, size } => Reply::Turned(credit, size),
+        Turned::Done => Reply::Merged(live),
     }
 }
 
@@ -411,13 +421,10 @@ impl Kept {
         if !self.repository.merge_open() {
             return Ok(Reply::Refused(Refusal::NoMerge));
         }
-        match self
+        let turned = self
             .repository
-            .merge_turn(alloc, docs, store, &mut self.cache)?
-        {
-            Turned::Open { credit, size } => Ok(Reply::Turned(credit, size)),
-            Turned::Done => Ok(Reply::Merged(self.repository.live_count())),
-        }
+            .merge_turn(alloc, docs, store, &mut self.cache)?;
+        Ok(turned_reply(turned, self.repository.live_count()))
     }
 
     fn open<T: Store>(

@@ -9,7 +9,7 @@ use Rattle.session_replies.specs.declared.reply.Reply.{Reply}
 use Rattle.session_replies.specs.declared.reply.Reply.TheVariants as reply
 use Rattle.desk.specs.Backed.{Keeps, Steps, state_of}
 use Rattle.desk.proofs.Cases.{answers-ok, step-added}
-use Rattle.desk.proofs.DocumentExits.{add-done, live-told, not-added-form, not-added-memory, not-added-refuses, not-added-steps, with_repository}
+use Rattle.desk.proofs.DocumentExits.{add-done, live-told, not-added-refuses, not-added-steps, with_repository}
 use Rattle.desk.proofs.Exits.{accepted-by}
 use Rattle.desk.proofs.KeptLemmas.{kept-repository, priors-call}
 use Rattle.desk.proofs.kept.Kept.add.Goals as goal
@@ -41,22 +41,22 @@ returns-in-Ok-clause-refuses c = λ told.
     let not = answers-ok live full c.args.doc.docno (subst (λ r. Answers r (answer s.repository.held c.args.doc)) c.in-Ok.is c.add.ensures.answer) in
     accepted-by (event.Document c.args.doc) told view c.args.self.now _ c.self.view_is (step-added (state_of told view) c.args.doc (live-told told view c.args.doc.docno ∙ not.0) not.1) refl
 
-pub returns-in-Err-clause-steps : goal.returns-in-Err-clause-steps
-returns-in-Err-clause-steps c = (
+pub returns-clause-steps : goal.returns-clause-steps
+returns-clause-steps c = (
     let s = c.self.inside in
     let view : Keeps = record { repository = s.repository; kind = s.kind; queries = s.queries.items; counts = s.counts; cache = s.cache; usable = s.usable } in
     let answers : Answers (Err c.in-Err.refusal) (answer s.repository.held c.args.doc) = subst (λ (r : Result (Unit {0}) AddRefusal). Answers r (answer s.repository.held c.args.doc)) c.in-Err.is c.add.ensures.answer in
     not-added-steps view c.args.self.now c.add.new.self c.args.doc c.self.view_is c.in-Err.ensures.kept c.not_added.result c.in-Err.refusal c.not_added.ensures answers)
 
-pub returns-in-Err-clause-refuses : goal.returns-in-Err-clause-refuses
-returns-in-Err-clause-refuses c = (
+pub returns-clause-refuses : goal.returns-clause-refuses
+returns-clause-refuses c = (
     let s = c.self.inside in
     let view : Keeps = record { repository = s.repository; kind = s.kind; queries = s.queries.items; counts = s.counts; cache = s.cache; usable = s.usable } in
     let answers : Answers (Err c.in-Err.refusal) (answer s.repository.held c.args.doc) = subst (λ (r : Result (Unit {0}) AddRefusal). Answers r (answer s.repository.held c.args.doc)) c.in-Err.is c.add.ensures.answer in
     not-added-refuses view c.args.self.now c.add.new.self c.args.doc c.self.view_is c.in-Err.ensures.kept c.not_added.result c.in-Err.refusal c.not_added.ensures answers)
 
-pub returns-in-Err-clause-form : goal.returns-in-Err-clause-form
-returns-in-Err-clause-form c = not-added-form c.not_added.result c.in-Err.refusal c.not_added.ensures
-
-pub returns-in-Err-clause-memory : goal.returns-in-Err-clause-memory
-returns-in-Err-clause-memory c = not-added-memory c.not_added.result c.in-Err.refusal c.not_added.ensures
+pub invariant_of-self-2 : goal.invariant_of-self-2
+invariant_of-self-2 c = λ usable working.
+    let s = c.self.inside in
+    kept-repository s.repository c.add.new.self s.queries.items s.counts
+    (priors-call c.add.result s.repository c.add.new.self (with_held s.repository (added s.repository.held c.args.doc)) c.add.ensures.added c.add.ensures.kept refl) (c.self.invariant usable (sym c.add.ensures.usable ∙ working))

@@ -54,3 +54,9 @@ returns-clause-refuses c = λ told.
     let was : is_err c.delete.result ≡ false = sym c.is_err.ensures.value ∙ c.if-is_err.false in
     let live : is_live s.repository.held.parts c.args.docno ≡ true = live-there c.delete.result (is_live s.repository.held.parts c.args.docno) c.delete.ensures.refused was in
     accepted-by (event.Delete c.args.docno) told view c.args.self.now _ c.self.view_is (step-deleted (state_of told view) c.args.docno (live-told told view c.args.docno ∙ live)) refl
+
+pub invariant_of-self-2 : goal.invariant_of-self-2
+invariant_of-self-2 c = λ usable working.
+    let s = c.self.inside in
+    kept-repository s.repository c.delete.new.self s.queries.items s.counts
+    (priors-call c.delete.result s.repository c.delete.new.self (with_held s.repository (deleted s.repository.held c.args.docno)) c.delete.ensures.deleted c.delete.ensures.kept refl) (c.self.invariant usable (sym c.delete.ensures.usable ∙ working))

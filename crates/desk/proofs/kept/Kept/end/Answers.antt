@@ -1,17 +1,11 @@
-use Rattle.std.proofs.Common.{◌≡◌, inl, refl, subst, sym}
-use Rattle.store_ends.proofs.Files.{Leaves-same}
+use Rattle.std.proofs.Common.{◌≡◌, ◌∙◌, ap, refl, subst, sym}
 use Rattle.session_events.specs.declared.event.Event.TheVariants as event
 use Rattle.desk.specs.Backed.{Keeps, state_of}
 use Rattle.desk.proofs.Cases.{step-ended}
 use Rattle.desk.proofs.EndExits.{broken-now, broken-stops, end-done, end-gone, end-kept, swept-now, swept-stops}
 use Rattle.desk.proofs.Exits.{accepted-by}
+use Rattle.desk.proofs.KeptLemmas.{kept-closed}
 use Rattle.desk.proofs.kept.Kept.end.Goals as goal
-
-pub returns-in_err-new-2-clause-now : goal.returns-in_err-new-2-clause-now
-returns-in_err-new-2-clause-now g c = λ kept backed stands. inl stands
-
-pub returns-in_err-new-2-clause-stops : goal.returns-in_err-new-2-clause-stops
-returns-in_err-new-2-clause-stops g c = λ kept backed stands. Leaves-same (g.T.Store.since c.args.store.now) _
 
 pub returns-in_err-flush-clause-now : goal.returns-in_err-flush-clause-now
 returns-in_err-flush-clause-now g c = λ kept backed stands.
@@ -53,7 +47,7 @@ pub returns-clause-steps : goal.returns-clause-steps
 returns-clause-steps g c = λ backed.
     let s = c.self.inside in
     let view : Keeps = record { repository = s.repository; kind = s.kind; queries = s.queries.items; counts = s.counts; cache = s.cache; usable = s.usable } in
-    end-done (g.T.Store.files c.args.store.now) (g.T.Store.files c.flush.new.store) (g.T.Store.files c.sweep.new.store) view c.args.self.now c.drop_merge.new.self c.flush.new.self c.sweep.new.self c.self.view_is c.drop_merge.ensures c.in_ok-flush.ensures.wrote c.in_ok-flush.ensures.saved c.in_ok-sweep.ensures.wrote c.in_ok-sweep.ensures.saved _ _ c.live_count.result c.clear.ensures c.in_ok-new-2.ensures (c.live_count.ensures (g.T.Store.files c.sweep.new.store)) backed
+    end-done (g.T.Store.files c.args.store.now) (g.T.Store.files c.flush.new.store) (g.T.Store.files c.sweep.new.store) view c.args.self.now c.drop_merge.new.self c.flush.new.self c.sweep.new.self c.self.view_is c.drop_merge.ensures c.in_ok-flush.ensures.wrote c.in_ok-flush.ensures.saved c.in_ok-sweep.ensures.wrote c.in_ok-sweep.ensures.saved c.clear.new.self.items c.in_ok-self-inside.field-0 c.live_count.result c.clear.ensures.items c.in_ok-self-inside.ensures (c.live_count.ensures (g.T.Store.files c.sweep.new.store)) backed
 
 pub returns-clause-refuses : goal.returns-clause-refuses
 returns-clause-refuses g c = λ told.
@@ -72,3 +66,13 @@ returns-clause-swept g c = (
     let s = c.self.inside in
     let view : Keeps = record { repository = s.repository; kind = s.kind; queries = s.queries.items; counts = s.counts; cache = s.cache; usable = s.usable } in
     end-gone (g.T.Store.files c.args.store.now) (g.T.Store.files c.flush.new.store) (g.T.Store.files c.sweep.new.store) view c.args.self.now c.drop_merge.new.self c.flush.new.self c.sweep.new.self c.self.view_is c.drop_merge.ensures c.in_ok-flush.ensures.wrote c.in_ok-flush.ensures.saved c.in_ok-sweep.ensures.wrote c.in_ok-sweep.ensures.saved c.in_ok-sweep.ensures.gone)
+
+pub invariant_of-self : goal.invariant_of-self
+invariant_of-self g c = λ usable working.
+    let s = c.self.inside in
+    kept-closed s.repository c.drop_merge.new.self s.queries.items c.clear.new.self.items s.counts c.clear.ensures.items (c.self.invariant usable (ap (λ (x : Keeps). x.repository.usable) c.self.view_is ∙ c.requires.usable.1))
+
+pub invariant_of-self-2 : goal.invariant_of-self-2
+invariant_of-self-2 g c = λ usable working.
+    let s = c.self.inside in
+    kept-closed s.repository c.sweep.new.self s.queries.items c.clear.new.self.items s.counts c.clear.ensures.items (c.self.invariant usable (ap (λ (x : Keeps). x.repository.usable) c.self.view_is ∙ c.requires.usable.1))

@@ -65,11 +65,6 @@ returns-clause-stops g c = λ kept backed stands.
     of-now (g.T.Store.files c.args.store.now) view c.args.self.now (λ (x : Keeps). Stands x.repository.held.limits (g.T.Store.files c.args.store.now) kept → Leaves (g.T.Store.since c.args.store.now) (g.T.Store.since c.flush.new.store) (IsEither x.repository.held.limits kept (kept_behind kept (step (state_of (g.T.Store.files c.args.store.now) x) event.Flush)))) c.self.view_is
     (λ b standing. flush-stops g.T.Store.files g.T.Store.clock g.T.Store.since c.args.store.now c.flush.new.store view kept b c.flush.ensures.writes standing) backed stands
 
-pub invariant_of-self : goal.invariant_of-self
-invariant_of-self g c = λ usable working.
-    let s = c.self.inside in
-    kept-repository s.repository c.flush.new.self s.queries.items s.counts (priors-saved c.flush.result s.repository c.flush.new.self s.repository.stale c.flush.ensures.saved c.flush.ensures.broken working) (c.self.invariant usable (ap (λ (x : Keeps). x.repository.usable) c.self.view_is ∙ c.requires.usable.1))
-
 pub invariant_of-self-2 : goal.invariant_of-self-2
 invariant_of-self-2 g c = λ usable working.
     let s = c.self.inside in

@@ -2,10 +2,11 @@ use Rattle.std.proofs.Common.{◌≡◌, ◌∙◌, true, false, ap, refl, sym, 
 use Rattle.std.specs.Prelude.{is_some}
 use Rattle.std.specs.Option.{option_map}
 use Rattle.session_events.specs.declared.event.Event.TheVariants as event
+use Rattle.session_replies.specs.declared.reply.Reply.TheVariants as reply
 use Rattle.session_replies.specs.declared.reply.Refusal.TheVariants.{MergeOpen}
-use Rattle.desk.specs.Backed.{Keeps, merge_of, state_of}
+use Rattle.desk.specs.Backed.{Keeps, Steps, merge_of, state_of}
 use Rattle.desk.proofs.Cases.{step-merging}
-use Rattle.desk.proofs.Exits.{accepted-by, refused-by, refused-now}
+use Rattle.desk.proofs.Exits.{accepted-by, of-now, refused-by, refused-exit}
 use Rattle.desk.proofs.MergeExits.{merge-done, mergeopen-step, none-of}
 use Rattle.desk.proofs.KeptLemmas.{kept-repository, priors-begun}
 use Rattle.desk.proofs.kept.Kept.merge.Goals as goal
@@ -15,7 +16,7 @@ returns-then-merge_open-clause-steps c = λ told backed.
     let s = c.self.inside in
     let view : Keeps = record { repository = s.repository; kind = s.kind; queries = s.queries.items; counts = s.counts; cache = s.cache; usable = s.usable } in
     let some : is_some s.repository.merge ≡ true = sym c.merge_open.ensures ∙ c.if-merge_open.true in
-    refused-now event.Merge told view c.args.self.now MergeOpen c.self.view_is (mergeopen-step told view some) backed
+    of-now told view c.args.self.now (λ (x : Keeps). Steps event.Merge told told x x (reply.Refused MergeOpen)) c.self.view_is (λ inside. refused-exit event.Merge told view MergeOpen (mergeopen-step told view some) inside) backed
 
 pub returns-then-merge_open-clause-refuses : goal.returns-then-merge_open-clause-refuses
 returns-then-merge_open-clause-refuses c = λ told.

@@ -1,22 +1,18 @@
-use Rattle.std.proofs.Common.{◌≡◌, ◌∙◌, true, false, ap, inl, refl, subst, sym, None, IfSome}
+use Rattle.std.proofs.Common.{◌≡◌, ◌∙◌, false, true, ap, inl, refl, subst, sym, IfSome}
 use Rattle.std.specs.Prelude.{is_some}
-use Rattle.store_ends.proofs.Files.{Leaves-same}
 use Rattle.std.proofs.lemmas.Result.{err_from_is_err_and}
-use Rattle.merge_job.specs.Merge.{Merging}
-use Rattle.repository.specs.Merges.{IsTurnedOver, IsTurnedTo, turned}
-use Rattle.repository.specs.Stands.{Collection, Stands}
-use Rattle.repository.specs.Writes.{IsEither}
-use Rattle.repository.specs.declared.turned.Turned.{Turned}
+use Rattle.store_ends.proofs.Files.{Leaves-same}
 use Rattle.session_events.specs.declared.event.Event.TheVariants as event
+use Rattle.session_replies.specs.Told.{IsReply}
+use Rattle.session_replies.specs.declared.reply.Reply.{Reply}
+use Rattle.session_replies.specs.declared.reply.Reply.TheVariants as reply
 use Rattle.session_replies.specs.declared.reply.Refusal.TheVariants.{NoMerge}
-use Rattle.desk.specs.Backed.{Keeps, state_of}
+use Rattle.desk.specs.Backed.{Keeps, Steps, state_of}
 use Rattle.desk.specs.Step.{step}
-use Rattle.desk.specs.Told.{is_refusal}
-use Rattle.desk.proofs.Exits.{refused-by, refused-now}
-use Rattle.desk.proofs.Keeping.{merge-condition}
-use Rattle.desk.proofs.MergeExits.{some-of}
-use Rattle.desk.proofs.TurnExits.{merged-done, merged-kept, nomerge-kept, nomerge-step, none-below, open-done, open-kept, same-below, turn-accepted, turn-honest, turn-now, turn-stops}
+use Rattle.desk.specs.Told.{RefusesAs}
+use Rattle.desk.proofs.Exits.{of-now, refused-by, refused-exit}
 use Rattle.desk.proofs.KeptLemmas.{kept-repository, priors-turned}
+use Rattle.desk.proofs.TurnExits.{nomerge-kept, nomerge-step, none-below, same-below, turn-form, turn-honest, turn-kept, turn-now, turn-refuses, turn-steps, turn-stops}
 use Rattle.desk.proofs.kept.Kept.turn.Goals as goal
 
 pub returns-then-not-merge_open-clause-steps : goal.returns-then-not-merge_open-clause-steps
@@ -24,7 +20,7 @@ returns-then-not-merge_open-clause-steps g c = λ backed.
     let s = c.self.inside in
     let view : Keeps = record { repository = s.repository; kind = s.kind; queries = s.queries.items; counts = s.counts; cache = s.cache; usable = s.usable } in
     let none : is_some s.repository.merge ≡ false = sym c.merge_open.ensures ∙ c.if-not-merge_open.true in
-    refused-now (event.Turn c.args.docs) (g.T.Store.files c.args.store.now) view c.args.self.now NoMerge c.self.view_is (nomerge-step (g.T.Store.files c.args.store.now) view c.args.docs none) backed
+    of-now (g.T.Store.files c.args.store.now) view c.args.self.now (λ (x : Keeps). Steps (event.Turn c.args.docs) (g.T.Store.files c.args.store.now) (g.T.Store.files c.args.store.now) x x (reply.Refused NoMerge)) c.self.view_is (λ inside. refused-exit (event.Turn c.args.docs) (g.T.Store.files c.args.store.now) view NoMerge (nomerge-step (g.T.Store.files c.args.store.now) view c.args.docs none) inside) backed
 
 pub returns-then-not-merge_open-clause-refuses : goal.returns-then-not-merge_open-clause-refuses
 returns-then-not-merge_open-clause-refuses g c = λ told.
@@ -41,115 +37,85 @@ returns-then-not-merge_open-clause-done g c = λ kept backed stands.
     nomerge-kept (g.T.Store.files c.args.store.now) view c.args.self.now c.args.docs kept c.self.view_is none stands
 
 pub returns-then-not-merge_open-clause-now : goal.returns-then-not-merge_open-clause-now
-returns-then-not-merge_open-clause-now g c = λ kept backed stands.
-    let s = c.self.inside in
-    let view : Keeps = record { repository = s.repository; kind = s.kind; queries = s.queries.items; counts = s.counts; cache = s.cache; usable = s.usable } in
-    let none : is_some s.repository.merge ≡ false = sym c.merge_open.ensures ∙ c.if-not-merge_open.true in
-    inl stands
+returns-then-not-merge_open-clause-now g c = λ kept backed stands. inl stands
 
 pub returns-then-not-merge_open-clause-stops : goal.returns-then-not-merge_open-clause-stops
 returns-then-not-merge_open-clause-stops g c = λ kept backed stands. Leaves-same (g.T.Store.since c.args.store.now) _
 
-pub returns-in_err-merge_turn-clause-now : goal.returns-in_err-merge_turn-clause-now
-returns-in_err-merge_turn-clause-now g c = λ kept backed stands.
+pub returns-in_err-turned-clause-now : goal.returns-in_err-turned-clause-now
+returns-in_err-turned-clause-now g c = λ kept backed stands.
     let s = c.self.inside in
     let view : Keeps = record { repository = s.repository; kind = s.kind; queries = s.queries.items; counts = s.counts; cache = s.cache; usable = s.usable } in
     let some : is_some s.repository.merge ≡ true = sym c.merge_open.ensures ∙ c.if-not-merge_open.false in
-    turn-now g.T.Store.files g.T.Store.clock g.T.Store.since c.args.store.now c.merge_turn.new.store view c.args.self.now c.args.docs kept c.self.view_is some (same-below g.T.Store.files g.T.Store.layers g.T.Store.clock g.T.Store.since g.T.Store.longest g.T.Store.held c.args.store.now c.merge_turn.new.store s.repository.merge c.args.docs c.merge_turn.ensures.quiet) (none-below g.T.Store.files g.T.Store.layers g.T.Store.clock g.T.Store.since g.T.Store.longest g.T.Store.held c.args.store.now c.merge_turn.new.store s.repository.merge c.args.docs c.merge_turn.ensures.quiet) c.merge_turn.ensures.stay c.merge_turn.ensures.stops backed stands (g.met.T.Store.honest c.merge_turn.new.store) (g.met.T.Store.still c.args.store.now) c.merge_turn.ensures.goes_on.later
+    turn-now g.T.Store.files g.T.Store.clock g.T.Store.since c.args.store.now c.merge_turn-turned.new.store view c.args.self.now c.args.docs kept c.self.view_is some
+    (same-below g.T.Store.files g.T.Store.layers g.T.Store.clock g.T.Store.since g.T.Store.longest g.T.Store.held c.args.store.now c.merge_turn-turned.new.store s.repository.merge c.args.docs c.merge_turn-turned.ensures.quiet)
+    (none-below g.T.Store.files g.T.Store.layers g.T.Store.clock g.T.Store.since g.T.Store.longest g.T.Store.held c.args.store.now c.merge_turn-turned.new.store s.repository.merge c.args.docs c.merge_turn-turned.ensures.quiet) c.merge_turn-turned.ensures.stay c.merge_turn-turned.ensures.stops backed stands (g.met.T.Store.honest c.merge_turn-turned.new.store) (g.met.T.Store.still c.args.store.now) c.merge_turn-turned.ensures.goes_on.later
 
-pub returns-in_err-merge_turn-clause-stops : goal.returns-in_err-merge_turn-clause-stops
-returns-in_err-merge_turn-clause-stops g c = λ kept backed stands.
+pub returns-in_err-turned-clause-stops : goal.returns-in_err-turned-clause-stops
+returns-in_err-turned-clause-stops g c = λ kept backed stands.
     let s = c.self.inside in
     let view : Keeps = record { repository = s.repository; kind = s.kind; queries = s.queries.items; counts = s.counts; cache = s.cache; usable = s.usable } in
     let some : is_some s.repository.merge ≡ true = sym c.merge_open.ensures ∙ c.if-not-merge_open.false in
-    turn-stops g.T.Store.files g.T.Store.clock g.T.Store.since c.args.store.now c.merge_turn.new.store view c.args.self.now c.args.docs kept c.self.view_is some (same-below g.T.Store.files g.T.Store.layers g.T.Store.clock g.T.Store.since g.T.Store.longest g.T.Store.held c.args.store.now c.merge_turn.new.store s.repository.merge c.args.docs c.merge_turn.ensures.quiet) (none-below g.T.Store.files g.T.Store.layers g.T.Store.clock g.T.Store.since g.T.Store.longest g.T.Store.held c.args.store.now c.merge_turn.new.store s.repository.merge c.args.docs c.merge_turn.ensures.quiet) c.merge_turn.ensures.stay c.merge_turn.ensures.stops backed stands
+    turn-stops g.T.Store.files g.T.Store.clock g.T.Store.since c.args.store.now c.merge_turn-turned.new.store view c.args.self.now c.args.docs kept c.self.view_is some
+    (same-below g.T.Store.files g.T.Store.layers g.T.Store.clock g.T.Store.since g.T.Store.longest g.T.Store.held c.args.store.now c.merge_turn-turned.new.store s.repository.merge c.args.docs c.merge_turn-turned.ensures.quiet)
+    (none-below g.T.Store.files g.T.Store.layers g.T.Store.clock g.T.Store.since g.T.Store.longest g.T.Store.held c.args.store.now c.merge_turn-turned.new.store s.repository.merge c.args.docs c.merge_turn-turned.ensures.quiet) c.merge_turn-turned.ensures.stay c.merge_turn-turned.ensures.stops backed stands
 
-pub returns-in-Open-clause-now : goal.returns-in-Open-clause-now
-returns-in-Open-clause-now g c = λ kept backed stands.
+pub returns-clause-now : goal.returns-clause-now
+returns-clause-now g c = λ kept backed stands.
     let s = c.self.inside in
     let view : Keeps = record { repository = s.repository; kind = s.kind; queries = s.queries.items; counts = s.counts; cache = s.cache; usable = s.usable } in
     let some : is_some s.repository.merge ≡ true = sym c.merge_open.ensures ∙ c.if-not-merge_open.false in
-    turn-now g.T.Store.files g.T.Store.clock g.T.Store.since c.args.store.now c.merge_turn.new.store view c.args.self.now c.args.docs kept c.self.view_is some (same-below g.T.Store.files g.T.Store.layers g.T.Store.clock g.T.Store.since g.T.Store.longest g.T.Store.held c.args.store.now c.merge_turn.new.store s.repository.merge c.args.docs c.merge_turn.ensures.quiet) (none-below g.T.Store.files g.T.Store.layers g.T.Store.clock g.T.Store.since g.T.Store.longest g.T.Store.held c.args.store.now c.merge_turn.new.store s.repository.merge c.args.docs c.merge_turn.ensures.quiet) c.merge_turn.ensures.stay c.merge_turn.ensures.stops backed stands (g.met.T.Store.honest c.merge_turn.new.store) (g.met.T.Store.still c.args.store.now) c.merge_turn.ensures.goes_on.later
+    turn-now g.T.Store.files g.T.Store.clock g.T.Store.since c.args.store.now c.merge_turn-turned.new.store view c.args.self.now c.args.docs kept c.self.view_is some
+    (same-below g.T.Store.files g.T.Store.layers g.T.Store.clock g.T.Store.since g.T.Store.longest g.T.Store.held c.args.store.now c.merge_turn-turned.new.store s.repository.merge c.args.docs c.merge_turn-turned.ensures.quiet)
+    (none-below g.T.Store.files g.T.Store.layers g.T.Store.clock g.T.Store.since g.T.Store.longest g.T.Store.held c.args.store.now c.merge_turn-turned.new.store s.repository.merge c.args.docs c.merge_turn-turned.ensures.quiet) c.merge_turn-turned.ensures.stay c.merge_turn-turned.ensures.stops backed stands (g.met.T.Store.honest c.merge_turn-turned.new.store) (g.met.T.Store.still c.args.store.now) c.merge_turn-turned.ensures.goes_on.later
 
-pub returns-in-Open-clause-stops : goal.returns-in-Open-clause-stops
-returns-in-Open-clause-stops g c = λ kept backed stands.
+pub returns-clause-stops : goal.returns-clause-stops
+returns-clause-stops g c = λ kept backed stands.
     let s = c.self.inside in
     let view : Keeps = record { repository = s.repository; kind = s.kind; queries = s.queries.items; counts = s.counts; cache = s.cache; usable = s.usable } in
     let some : is_some s.repository.merge ≡ true = sym c.merge_open.ensures ∙ c.if-not-merge_open.false in
-    turn-stops g.T.Store.files g.T.Store.clock g.T.Store.since c.args.store.now c.merge_turn.new.store view c.args.self.now c.args.docs kept c.self.view_is some (same-below g.T.Store.files g.T.Store.layers g.T.Store.clock g.T.Store.since g.T.Store.longest g.T.Store.held c.args.store.now c.merge_turn.new.store s.repository.merge c.args.docs c.merge_turn.ensures.quiet) (none-below g.T.Store.files g.T.Store.layers g.T.Store.clock g.T.Store.since g.T.Store.longest g.T.Store.held c.args.store.now c.merge_turn.new.store s.repository.merge c.args.docs c.merge_turn.ensures.quiet) c.merge_turn.ensures.stay c.merge_turn.ensures.stops backed stands
+    turn-stops g.T.Store.files g.T.Store.clock g.T.Store.since c.args.store.now c.merge_turn-turned.new.store view c.args.self.now c.args.docs kept c.self.view_is some
+    (same-below g.T.Store.files g.T.Store.layers g.T.Store.clock g.T.Store.since g.T.Store.longest g.T.Store.held c.args.store.now c.merge_turn-turned.new.store s.repository.merge c.args.docs c.merge_turn-turned.ensures.quiet)
+    (none-below g.T.Store.files g.T.Store.layers g.T.Store.clock g.T.Store.since g.T.Store.longest g.T.Store.held c.args.store.now c.merge_turn-turned.new.store s.repository.merge c.args.docs c.merge_turn-turned.ensures.quiet) c.merge_turn-turned.ensures.stay c.merge_turn-turned.ensures.stops backed stands
 
-pub returns-in-Done-clause-now : goal.returns-in-Done-clause-now
-returns-in-Done-clause-now g c = λ kept backed stands.
-    let s = c.self.inside in
-    let view : Keeps = record { repository = s.repository; kind = s.kind; queries = s.queries.items; counts = s.counts; cache = s.cache; usable = s.usable } in
-    let some : is_some s.repository.merge ≡ true = sym c.merge_open.ensures ∙ c.if-not-merge_open.false in
-    turn-now g.T.Store.files g.T.Store.clock g.T.Store.since c.args.store.now c.merge_turn.new.store view c.args.self.now c.args.docs kept c.self.view_is some (same-below g.T.Store.files g.T.Store.layers g.T.Store.clock g.T.Store.since g.T.Store.longest g.T.Store.held c.args.store.now c.merge_turn.new.store s.repository.merge c.args.docs c.merge_turn.ensures.quiet) (none-below g.T.Store.files g.T.Store.layers g.T.Store.clock g.T.Store.since g.T.Store.longest g.T.Store.held c.args.store.now c.merge_turn.new.store s.repository.merge c.args.docs c.merge_turn.ensures.quiet) c.merge_turn.ensures.stay c.merge_turn.ensures.stops backed stands (g.met.T.Store.honest c.merge_turn.new.store) (g.met.T.Store.still c.args.store.now) c.merge_turn.ensures.goes_on.later
-
-pub returns-in-Done-clause-stops : goal.returns-in-Done-clause-stops
-returns-in-Done-clause-stops g c = λ kept backed stands.
-    let s = c.self.inside in
-    let view : Keeps = record { repository = s.repository; kind = s.kind; queries = s.queries.items; counts = s.counts; cache = s.cache; usable = s.usable } in
-    let some : is_some s.repository.merge ≡ true = sym c.merge_open.ensures ∙ c.if-not-merge_open.false in
-    turn-stops g.T.Store.files g.T.Store.clock g.T.Store.since c.args.store.now c.merge_turn.new.store view c.args.self.now c.args.docs kept c.self.view_is some (same-below g.T.Store.files g.T.Store.layers g.T.Store.clock g.T.Store.since g.T.Store.longest g.T.Store.held c.args.store.now c.merge_turn.new.store s.repository.merge c.args.docs c.merge_turn.ensures.quiet) (none-below g.T.Store.files g.T.Store.layers g.T.Store.clock g.T.Store.since g.T.Store.longest g.T.Store.held c.args.store.now c.merge_turn.new.store s.repository.merge c.args.docs c.merge_turn.ensures.quiet) c.merge_turn.ensures.stay c.merge_turn.ensures.stops backed stands
-
-pub returns-in_err-merge_turn-clause-honest : goal.returns-in_err-merge_turn-clause-honest
-returns-in_err-merge_turn-clause-honest g c = λ backed.
+pub returns-in_err-turned-clause-honest : goal.returns-in_err-turned-clause-honest
+returns-in_err-turned-clause-honest g c = λ backed.
     let s = c.self.inside in
     let view : Keeps = record { repository = s.repository; kind = s.kind; queries = s.queries.items; counts = s.counts; cache = s.cache; usable = s.usable } in
     let p = err_from_is_err_and c.from_residual.result c.from_residual.ensures.1 in
-    rw (p.1, p.2) (turn-honest (g.T.Store.files c.args.store.now) view c.args.self.now c.in_err-merge_turn.field-0.0 c.self.view_is c.in_err-merge_turn.ensures.honest backed)
+    rw (p.1, p.2) (turn-honest (g.T.Store.files c.args.store.now) view c.args.self.now c.in_err-turned.field-0.0 c.self.view_is c.in_err-turned.ensures.honest backed)
 
-pub returns-in-Open-clause-refuses : goal.returns-in-Open-clause-refuses
-returns-in-Open-clause-refuses g c = λ told.
+pub returns-clause-steps : goal.returns-clause-steps
+returns-clause-steps g c = λ backed.
+    let s = c.self.inside in
+    let view : Keeps = record { repository = s.repository; kind = s.kind; queries = s.queries.items; counts = s.counts; cache = s.cache; usable = s.usable } in
+    subst (λ (x : Reply). Steps (event.Turn c.args.docs) (g.T.Store.files c.args.store.now) (g.T.Store.files c.merge_turn-turned.new.store) c.args.self.now _ x) (sym c.turned_reply.ensures)
+    (turn-steps (g.T.Store.files c.args.store.now) (g.T.Store.files c.merge_turn-turned.new.store) view c.args.self.now c.args.docs c.merge_turn-turned.new.self c.merge_turn-turned.new.cache c.live_count.result c.self.view_is
+    (same-below g.T.Store.files g.T.Store.layers g.T.Store.clock g.T.Store.since g.T.Store.longest g.T.Store.held c.args.store.now c.merge_turn-turned.new.store s.repository.merge c.args.docs c.merge_turn-turned.ensures.quiet) c.in_ok-turned.turned c.in_ok-turned.ensures.turned c.in_ok-turned.ensures.state c.in_ok-turned.ensures.over c.merge_turn-turned.ensures.stay c.merge_turn-turned.ensures.cache (c.live_count.ensures (g.T.Store.files c.merge_turn-turned.new.store)) backed)
+
+pub returns-clause-done : goal.returns-clause-done
+returns-clause-done g c = λ kept backed stands.
+    let s = c.self.inside in
+    let view : Keeps = record { repository = s.repository; kind = s.kind; queries = s.queries.items; counts = s.counts; cache = s.cache; usable = s.usable } in
+    turn-kept (g.T.Store.files c.args.store.now) (g.T.Store.files c.merge_turn-turned.new.store) view c.args.self.now c.args.docs c.merge_turn-turned.new.self c.merge_turn-turned.new.cache c.live_count.result c.self.view_is
+    (same-below g.T.Store.files g.T.Store.layers g.T.Store.clock g.T.Store.since g.T.Store.longest g.T.Store.held c.args.store.now c.merge_turn-turned.new.store s.repository.merge c.args.docs c.merge_turn-turned.ensures.quiet) c.in_ok-turned.turned c.in_ok-turned.ensures.turned c.in_ok-turned.ensures.state c.in_ok-turned.ensures.over kept backed stands
+
+pub returns-clause-refuses : goal.returns-clause-refuses
+returns-clause-refuses g c = λ told.
     let s = c.self.inside in
     let view : Keeps = record { repository = s.repository; kind = s.kind; queries = s.queries.items; counts = s.counts; cache = s.cache; usable = s.usable } in
     let some : is_some s.repository.merge ≡ true = sym c.merge_open.ensures ∙ c.if-not-merge_open.false in
-    let m = some-of s.repository.merge some in
-    subst (λ (x : Keeps). is_refusal (step (state_of told x) (event.Turn c.args.docs)).1 ≡ false) c.self.view_is (turn-accepted told view c.args.docs m.0 m.1)
+    subst (λ (x : Reply). RefusesAs x (step (state_of told c.args.self.now) (event.Turn c.args.docs)).1) (sym c.turned_reply.ensures) (turn-refuses told view c.args.self.now c.args.docs c.live_count.result c.in_ok-turned.turned c.self.view_is some)
 
-pub returns-in-Done-clause-refuses : goal.returns-in-Done-clause-refuses
-returns-in-Done-clause-refuses g c = λ told.
-    let s = c.self.inside in
-    let view : Keeps = record { repository = s.repository; kind = s.kind; queries = s.queries.items; counts = s.counts; cache = s.cache; usable = s.usable } in
-    let some : is_some s.repository.merge ≡ true = sym c.merge_open.ensures ∙ c.if-not-merge_open.false in
-    let m = some-of s.repository.merge some in
-    subst (λ (x : Keeps). is_refusal (step (state_of told x) (event.Turn c.args.docs)).1 ≡ false) c.self.view_is (turn-accepted told view c.args.docs m.0 m.1)
-
-pub returns-in-Open-clause-steps : goal.returns-in-Open-clause-steps
-returns-in-Open-clause-steps g c = λ backed.
-    let s = c.self.inside in
-    let view : Keeps = record { repository = s.repository; kind = s.kind; queries = s.queries.items; counts = s.counts; cache = s.cache; usable = s.usable } in
-    open-done (g.T.Store.files c.args.store.now) (g.T.Store.files c.merge_turn.new.store) view c.args.self.now c.args.docs c.in-Open.credit c.in-Open.size c.merge_turn.new.self c.merge_turn.new.cache c.self.view_is (subst (λ (t : Turned). IfSome s.repository.merge (λ (m : Merging). t ≡ turned m c.args.docs)) c.in-Open.is c.in_ok-merge_turn.ensures.turned) (subst (λ (t : Turned). IsTurnedTo t c.args.docs s.repository c.merge_turn.new.self) c.in-Open.is c.in_ok-merge_turn.ensures.state) (same-below g.T.Store.files g.T.Store.layers g.T.Store.clock g.T.Store.since g.T.Store.longest g.T.Store.held c.args.store.now c.merge_turn.new.store s.repository.merge c.args.docs c.merge_turn.ensures.quiet) (λ merging cache. subst (λ (t : Turned). IsTurnedOver t s.repository.merge (g.T.Store.files c.args.store.now) (g.T.Store.files c.merge_turn.new.store) s.repository c.merge_turn.new.self) c.in-Open.is (c.in_ok-merge_turn.ensures.over merging cache)) c.merge_turn.ensures.cache backed
-
-pub returns-in-Open-clause-done : goal.returns-in-Open-clause-done
-returns-in-Open-clause-done g c = λ kept backed stands.
-    let s = c.self.inside in
-    let view : Keeps = record { repository = s.repository; kind = s.kind; queries = s.queries.items; counts = s.counts; cache = s.cache; usable = s.usable } in
-    open-kept (g.T.Store.files c.args.store.now) (g.T.Store.files c.merge_turn.new.store) view c.args.self.now c.args.docs c.in-Open.credit c.in-Open.size c.merge_turn.new.self c.merge_turn.new.cache c.self.view_is (subst (λ (t : Turned). IfSome s.repository.merge (λ (m : Merging). t ≡ turned m c.args.docs)) c.in-Open.is c.in_ok-merge_turn.ensures.turned) (subst (λ (t : Turned). IsTurnedTo t c.args.docs s.repository c.merge_turn.new.self) c.in-Open.is c.in_ok-merge_turn.ensures.state) (same-below g.T.Store.files g.T.Store.layers g.T.Store.clock g.T.Store.since g.T.Store.longest g.T.Store.held c.args.store.now c.merge_turn.new.store s.repository.merge c.args.docs c.merge_turn.ensures.quiet) kept stands
-
-pub returns-in-Done-clause-steps : goal.returns-in-Done-clause-steps
-returns-in-Done-clause-steps g c = λ backed.
-    let s = c.self.inside in
-    let view : Keeps = record { repository = s.repository; kind = s.kind; queries = s.queries.items; counts = s.counts; cache = s.cache; usable = s.usable } in
-    merged-done (g.T.Store.files c.args.store.now) (g.T.Store.files c.merge_turn.new.store) view c.args.self.now c.args.docs c.merge_turn.new.self c.merge_turn.new.cache c.self.view_is (subst (λ (t : Turned). IfSome s.repository.merge (λ (m : Merging). t ≡ turned m c.args.docs)) c.in-Done.is c.in_ok-merge_turn.ensures.turned) (subst (λ (t : Turned). IsTurnedTo t c.args.docs s.repository c.merge_turn.new.self) c.in-Done.is c.in_ok-merge_turn.ensures.state) (λ merging cache. subst (λ (t : Turned). IsTurnedOver t s.repository.merge (g.T.Store.files c.args.store.now) (g.T.Store.files c.merge_turn.new.store) s.repository c.merge_turn.new.self) c.in-Done.is (c.in_ok-merge_turn.ensures.over merging cache)) c.merge_turn.ensures.stay c.merge_turn.ensures.cache c.live_count.result (c.live_count.ensures (g.T.Store.files c.merge_turn.new.store)) backed
-
-pub returns-in-Done-clause-done : goal.returns-in-Done-clause-done
-returns-in-Done-clause-done g c = λ kept backed stands.
-    let s = c.self.inside in
-    let view : Keeps = record { repository = s.repository; kind = s.kind; queries = s.queries.items; counts = s.counts; cache = s.cache; usable = s.usable } in
-    merged-kept (g.T.Store.files c.args.store.now) (g.T.Store.files c.merge_turn.new.store) view c.args.self.now c.args.docs c.merge_turn.new.self c.merge_turn.new.cache c.self.view_is (subst (λ (t : Turned). IfSome s.repository.merge (λ (m : Merging). t ≡ turned m c.args.docs)) c.in-Done.is c.in_ok-merge_turn.ensures.turned) (subst (λ (t : Turned). IsTurnedTo t c.args.docs s.repository c.merge_turn.new.self) c.in-Done.is c.in_ok-merge_turn.ensures.state) (λ merging cache. subst (λ (t : Turned). IsTurnedOver t s.repository.merge (g.T.Store.files c.args.store.now) (g.T.Store.files c.merge_turn.new.store) s.repository c.merge_turn.new.self) c.in-Done.is (c.in_ok-merge_turn.ensures.over merging cache)) kept backed
+pub returns-clause-form : goal.returns-clause-form
+returns-clause-form g c = subst IsReply (sym c.turned_reply.ensures) (turn-form c.in_ok-turned.turned c.live_count.result)
 
 pub invariant_of-self : goal.invariant_of-self
 invariant_of-self g c = λ usable working.
     let s = c.self.inside in
-    kept-repository s.repository c.merge_turn.new.self s.queries.items s.counts (priors-turned c.merge_turn.result c.args.docs s.repository c.merge_turn.new.self c.merge_turn.ensures.state c.merge_turn.ensures.broken working) (c.self.invariant usable (ap (λ (x : Keeps). x.repository.usable) c.self.view_is ∙ c.requires.usable.1))
+    kept-repository s.repository c.merge_turn-turned.new.self s.queries.items s.counts (priors-turned c.merge_turn-turned.result c.args.docs s.repository c.merge_turn-turned.new.self c.merge_turn-turned.ensures.state c.merge_turn-turned.ensures.broken working) (c.self.invariant usable (ap (λ (x : Keeps). x.repository.usable) c.self.view_is ∙ c.requires.usable.1))
 
 pub invariant_of-self-2 : goal.invariant_of-self-2
 invariant_of-self-2 g c = λ usable working.
     let s = c.self.inside in
-    kept-repository s.repository c.merge_turn.new.self s.queries.items s.counts (priors-turned c.merge_turn.result c.args.docs s.repository c.merge_turn.new.self c.merge_turn.ensures.state c.merge_turn.ensures.broken working) (c.self.invariant usable (ap (λ (x : Keeps). x.repository.usable) c.self.view_is ∙ c.requires.usable.1))
-
-pub invariant_of-self-3 : goal.invariant_of-self-3
-invariant_of-self-3 g c = λ usable working.
-    let s = c.self.inside in
-    kept-repository s.repository c.merge_turn.new.self s.queries.items s.counts (priors-turned c.merge_turn.result c.args.docs s.repository c.merge_turn.new.self c.merge_turn.ensures.state c.merge_turn.ensures.broken working) (c.self.invariant usable (ap (λ (x : Keeps). x.repository.usable) c.self.view_is ∙ c.requires.usable.1))
+    kept-repository s.repository c.merge_turn-turned.new.self s.queries.items s.counts (priors-turned c.merge_turn-turned.result c.args.docs s.repository c.merge_turn-turned.new.self c.merge_turn-turned.ensures.state c.merge_turn-turned.ensures.broken working) (c.self.invariant usable (ap (λ (x : Keeps). x.repository.usable) c.self.view_is ∙ c.requires.usable.1))

@@ -12,6 +12,7 @@ use Rattle.desk.specs.Step.{step}
 use Rattle.desk.specs.Told.{RefusesAs}
 use Rattle.desk.proofs.Exits.{of-now, refused-by, refused-exit}
 use Rattle.desk.proofs.KeptLemmas.{kept-repository, priors-turned}
+use Rattle.desk.proofs.MergeExits.{with_merged}
 use Rattle.desk.proofs.TurnExits.{nomerge-kept, nomerge-step, none-below, same-below, turn-form, turn-honest, turn-kept, turn-now, turn-refuses, turn-steps, turn-stops}
 use Rattle.desk.proofs.kept.Kept.turn.Goals as goal
 
@@ -89,7 +90,7 @@ pub returns-clause-steps : goal.returns-clause-steps
 returns-clause-steps g c = λ backed.
     let s = c.self.inside in
     let view : Keeps = record { repository = s.repository; kind = s.kind; queries = s.queries.items; counts = s.counts; cache = s.cache; usable = s.usable } in
-    subst (λ (x : Reply). Steps (event.Turn c.args.docs) (g.T.Store.files c.args.store.now) (g.T.Store.files c.merge_turn-turned.new.store) c.args.self.now _ x) (sym c.turned_reply.ensures)
+    subst (λ (x : Reply). Steps (event.Turn c.args.docs) (g.T.Store.files c.args.store.now) (g.T.Store.files c.merge_turn-turned.new.store) c.args.self.now (with_merged view c.merge_turn-turned.new.self c.merge_turn-turned.new.cache) x) (sym c.turned_reply.ensures)
     (turn-steps (g.T.Store.files c.args.store.now) (g.T.Store.files c.merge_turn-turned.new.store) view c.args.self.now c.args.docs c.merge_turn-turned.new.self c.merge_turn-turned.new.cache c.live_count.result c.self.view_is
     (same-below g.T.Store.files g.T.Store.layers g.T.Store.clock g.T.Store.since g.T.Store.longest g.T.Store.held c.args.store.now c.merge_turn-turned.new.store s.repository.merge c.args.docs c.merge_turn-turned.ensures.quiet) c.in_ok-turned.turned c.in_ok-turned.ensures.turned c.in_ok-turned.ensures.state c.in_ok-turned.ensures.over c.merge_turn-turned.ensures.stay c.merge_turn-turned.ensures.cache (c.live_count.ensures (g.T.Store.files c.merge_turn-turned.new.store)) backed)
 

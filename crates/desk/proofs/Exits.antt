@@ -65,3 +65,7 @@ of-now told d now P same into backed = subst P same (into (subst (IsDeskBacked t
 -- a refusal leaves the desk that is seen as another
 pub refused-now : (e : Event) (told : Option Files) (d now : Keeps) (why : Refusal) → d ≡ now → step (state_of told d) e ≡ refuse (state_of told d) why → IsDeskBacked told now → Steps e told told now d (reply.Refused why)
 refused-now e told d now why same is backed = of-now told d now (λ (x : Keeps). Steps e told told x d (reply.Refused why)) same (λ b. refused-exit e told d why is b) backed
+
+-- and it is the same desk
+pub refused-here : (e : Event) (told : Option Files) (d now : Keeps) (why : Refusal) → d ≡ now → step (state_of told d) e ≡ refuse (state_of told d) why → IsDeskBacked told now → Steps e told told now now (reply.Refused why)
+refused-here e told d now why same is backed = of-now told d now (λ (x : Keeps). Steps e told told x x (reply.Refused why)) same (λ b. refused-exit e told d why is b) backed

@@ -87,8 +87,8 @@ module _ (told : Option Files) (d : Keeps) (name : List ℕ) (i : ℕ) (q : Open
 
   -- none is
   pub all-passed : (b : Bool) → b ≡ (q.search.at.credit == length (searched told q.search)) → b ≡ true → nat_lt q.search.at.credit (length (searched told q.search)) ≡ false
-  all-passed b is yes =
-      let same = eqb-true q.search.at.credit (length (searched told q.search)) (sym is ∙ yes) in
+  all-passed b is whole =
+      let same = eqb-true q.search.at.credit (length (searched told q.search)) (sym is ∙ whole) in
       le-ltb q.search.at.credit (length (searched told q.search)) (omega (arith, same))
 
   pub not-yet-shown : nat_lt q.search.at.credit (length (searched told q.search)) ≡ true → step (state_of told d) (event.Show name) ≡ refuse (state_of told d) (NotYet name)

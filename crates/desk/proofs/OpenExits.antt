@@ -81,9 +81,9 @@ refuses-asked told d name k text names r y own is done = subst (λ (x : State ×
 
 -- where the query is refused
 pub open-refusal : (told : Option Files) (d now : Keeps) (name : List ℕ) (k : ℕ) (tree : CheckedTree) (why : Refusal) → d ≡ now → open_step (state_of told d) name k (Ok tree) ≡ refuse (state_of told d) why → IsDeskBacked told now
-    → StepsTo (open_step (state_of told now) name k (Ok tree)) told d (reply.Refused why)
+    → StepsTo (open_step (state_of told now) name k (Ok tree)) told now (reply.Refused why)
 open-refusal told d now name k tree why same is backed =
-    of-now told d now (λ (x : Keeps). StepsTo (open_step (state_of told x) name k (Ok tree)) told d (reply.Refused why)) same
+    of-now told d now (λ (x : Keeps). StepsTo (open_step (state_of told x) name k (Ok tree)) told x (reply.Refused why)) same
     (λ b. steps-to (refuse (state_of told d) why) (open_step (state_of told d) name k (Ok tree)) told d (reply.Refused why) is refl refl b) backed
 
 module _ (told : Option Files) (d : Keeps) (name : List ℕ) (k : ℕ) (tree : CheckedTree) where

@@ -145,6 +145,7 @@ apart d (x ∷ ds) zero b all h is e = true≢false (sym ((bytes_eq-Decides d.do
 apart d (x ∷ ds) (suc j) b all h is e = apart d ds j b all.1 (omega (arith, h)) is e
 
 own-at : (docs : List Document) → IsDistinct bytes_eq (map (λ (x : Document). x.docno) docs) → (i j : ℕ) (a b : Document) → i < length docs → get_or docs i a ≡ a → j < length docs → get_or docs j b ≡ b → a.docno ≡ b.docno → a ≡ b
+unfolding IsDistinct
 own-at [] distinct i j a b hi ei hj ej e = absurd (omega (arith, hi))
 own-at (d ∷ ds) distinct zero zero a b hi ei hj ej e = sym ei ∙ ej
 own-at (d ∷ ds) distinct zero (suc j) a b hi ei hj ej e = absurd (apart d ds j b distinct.0 (omega (arith, hj)) ej (ap (λ (y : Document). y.docno) ei ∙ e))

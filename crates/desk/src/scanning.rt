@@ -75,10 +75,10 @@ fn put_document<T: Store>(
     ensures reads { OnlyReads T.files T.layers T.clock T.since T.longest T.held T.faults (IsFileOf marked.now.source) store.old store.new cache.old cache.new }
     ensures store { result ≡ Err SegFault.Store → Rose (T.faults store.old) (T.faults store.new) }
 {
+    let part = marked.part();
     if marked.is_marked(id) {
         return Ok(());
     }
-    let part = marked.part();
     let found = extents_of(alloc, expr, part, store, cache, id)?;
     put_lines(alloc, lines, part.docno(id), &found)?;
     Ok(())

@@ -16,7 +16,7 @@ extents_of-requires g c = subst (λ (p : Source). c.args.id < size p) (sym c.par
 
 pub returns-then-is_marked-clause-exact : goal.returns-then-is_marked-clause-exact
 returns-then-is_marked-clause-exact g c = λ backed cached docs so_far.
-    dead-next (expr_tree c.args.expr.now) (g.T.Store.files c.args.store.now) c.args.marked.now c.args.id docs c.args.lines.now (search rules) c.requires (sym c.is_marked.ensures ∙ c.if-is_marked.true) so_far
+    dead-next (expr_tree c.args.expr.now) (g.T.Store.files c.args.store.now) c.args.marked.now c.args.id docs c.args.lines.now c.part-part.ensures.whole c.requires (sym c.is_marked.ensures ∙ c.if-is_marked.true) so_far
 
 pub returns-then-is_marked-clause-reads : goal.returns-then-is_marked-clause-reads
 returns-then-is_marked-clause-reads g c = reads-same _ _ _ _ _ _ _ _ _ _

@@ -9,7 +9,7 @@ use Rattle.desk.specs.Keeping.{AreKept}
 use Rattle.desk.specs.declared.query.OpenQuery.{OpenQuery}
 use Rattle.desk.specs.Queries.{query_of}
 use Rattle.desk.proofs.Cases.{close-closed, close-noname}
-use Rattle.desk.proofs.Exits.{accepted-by, of-now, refused-by, refused-now}
+use Rattle.desk.proofs.Exits.{accepted-by, of-now, refused-by, refused-here}
 use Rattle.desk.proofs.KeptLemmas.{kept-removed}
 use Rattle.desk.proofs.NamedExits.{close-exit, with_queries}
 use Rattle.desk.proofs.Naming.{found-place, is_named, named-here, named-none}
@@ -28,7 +28,7 @@ returns-in-None-clause-steps c = λ told backed.
     let s = c.self.inside in
     let view : Keeps = record { repository = s.repository; kind = s.kind; queries = s.queries.items; counts = s.counts; cache = s.cache; usable = s.usable } in
     let none : position (is_named c.args.name) s.queries.items ≡ None = ap (λ (x : Keeps). position (is_named c.args.name) x.queries) c.self.view_is ∙ sym c.find.ensures ∙ c.in-None.is in
-    refused-now (event.Close c.args.name) told view c.args.self.now (NoSuchName c.args.name) c.self.view_is (close-noname (state_of told view) c.args.name (named-none told c.args.name s.queries.items none)) backed
+    refused-here (event.Close c.args.name) told view c.args.self.now (NoSuchName c.args.name) c.self.view_is (close-noname (state_of told view) c.args.name (named-none told c.args.name s.queries.items none)) backed
 
 pub returns-in-None-clause-refuses : goal.returns-in-None-clause-refuses
 returns-in-None-clause-refuses c = λ told.
@@ -37,8 +37,8 @@ returns-in-None-clause-refuses c = λ told.
     let none : position (is_named c.args.name) s.queries.items ≡ None = ap (λ (x : Keeps). position (is_named c.args.name) x.queries) c.self.view_is ∙ sym c.find.ensures ∙ c.in-None.is in
     refused-by (event.Close c.args.name) told view c.args.self.now (NoSuchName c.args.name) c.self.view_is (close-noname (state_of told view) c.args.name (named-none told c.args.name s.queries.items none))
 
-pub returns-clause-steps : goal.returns-clause-steps
-returns-clause-steps c = λ told backed.
+pub returns-in-Some-clause-steps : goal.returns-in-Some-clause-steps
+returns-in-Some-clause-steps c = λ told backed.
     let s = c.self.inside in
     let view : Keeps = record { repository = s.repository; kind = s.kind; queries = s.queries.items; counts = s.counts; cache = s.cache; usable = s.usable } in
     let found : position (is_named c.args.name) s.queries.items ≡ Some c.in-Some.place = ap (λ (x : Keeps). position (is_named c.args.name) x.queries) c.self.view_is ∙ sym c.find.ensures ∙ c.in-Some.is in
@@ -46,8 +46,8 @@ returns-clause-steps c = λ told backed.
     of-now told view c.args.self.now (λ (x : Keeps). Steps (event.Close c.args.name) told told x (with_queries view c.remove.new.self.items) (reply.Closed c.args.name)) c.self.view_is
     (λ b. subst (λ (qs : List OpenQuery). Steps (event.Close c.args.name) told told view (with_queries view qs) (reply.Closed c.args.name)) (sym c.remove.ensures.items) (close-exit told view c.args.name c.in-Some.place c.remove.result place c.remove.ensures.value b)) backed
 
-pub returns-clause-refuses : goal.returns-clause-refuses
-returns-clause-refuses c = λ told.
+pub returns-in-Some-clause-refuses : goal.returns-in-Some-clause-refuses
+returns-in-Some-clause-refuses c = λ told.
     let s = c.self.inside in
     let view : Keeps = record { repository = s.repository; kind = s.kind; queries = s.queries.items; counts = s.counts; cache = s.cache; usable = s.usable } in
     let found : position (is_named c.args.name) s.queries.items ≡ Some c.in-Some.place = ap (λ (x : Keeps). position (is_named c.args.name) x.queries) c.self.view_is ∙ sym c.find.ensures ∙ c.in-Some.is in

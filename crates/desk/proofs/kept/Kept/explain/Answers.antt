@@ -31,7 +31,7 @@ use Rattle.desk.specs.Step.{step}
 use Rattle.desk.specs.Told.{told_early}
 use Rattle.desk.proofs.CacheLemmas.{cache-read}
 use Rattle.desk.proofs.Cases.{explain-noname}
-use Rattle.desk.proofs.Exits.{of-now, refused-exit, refused-now}
+use Rattle.desk.proofs.Exits.{of-now, refused-exit, refused-here}
 use Rattle.desk.proofs.FormLemmas.{scale-form}
 use Rattle.desk.proofs.NamedExits.{all-passed, not-yet, not-yet-explained, shown-entries}
 use Rattle.desk.proofs.Naming.{at-place, found-place, is_named, named-here, named-none}
@@ -45,7 +45,7 @@ returns-in_default-clause-steps g c = λ backed.
     let name = c.args.name in
     let view : Keeps = record { repository = s.repository; kind = s.kind; queries = s.queries.items; counts = s.counts; cache = s.cache; usable = s.usable } in
     let none : position (is_named name) s.queries.items ≡ None = ap (λ (x : Keeps). position (is_named name) x.queries) c.self.view_is ∙ sym c.find.ensures ∙ c.in_default.is in
-    refused-now (event.Explain name c.args.rank) told view c.args.self.now (NoSuchName name) c.self.view_is (explain-noname (state_of told view) name c.args.rank (named-none told name s.queries.items none)) backed
+    refused-here (event.Explain name c.args.rank) told view c.args.self.now (NoSuchName name) c.self.view_is (explain-noname (state_of told view) name c.args.rank (named-none told name s.queries.items none)) backed
 
 pub returns-in_default-clause-early : goal.returns-in_default-clause-early
 returns-in_default-clause-early g c = λ told.
@@ -54,6 +54,35 @@ returns-in_default-clause-early g c = λ told.
     let view : Keeps = record { repository = s.repository; kind = s.kind; queries = s.queries.items; counts = s.counts; cache = s.cache; usable = s.usable } in
     let none : position (is_named name) s.queries.items ≡ None = ap (λ (x : Keeps). position (is_named name) x.queries) c.self.view_is ∙ sym c.find.ensures ∙ c.in_default.is in
     early-refused (event.Explain name c.args.rank) told view c.args.self.now (NoSuchName name) c.self.view_is (explain-noname (state_of told view) name c.args.rank (named-none told name s.queries.items none))
+
+pub returns-in_default-results-clause-steps : goal.returns-in_default-results-clause-steps
+returns-in_default-results-clause-steps g c = λ backed.
+    let told = g.T.Store.files c.args.store.now in
+    let s = c.self.inside in
+    let name = c.args.name in
+    let view : Keeps = record { repository = s.repository; kind = s.kind; queries = s.queries.items; counts = s.counts; cache = s.cache; usable = s.usable } in
+    let found : position (is_named name) s.queries.items ≡ Some c.in-Some.place = ap (λ (x : Keeps). position (is_named name) x.queries) c.self.view_is ∙ sym c.find.ensures ∙ c.in-Some.is in
+    let kept = c.self.invariant (ap (λ (x : Keeps). x.usable) c.self.view_is ∙ c.requires.usable.0) (ap (λ (x : Keeps). x.repository.usable) c.self.view_is ∙ c.requires.usable.1) in
+    let q = c.index.result.now in
+    let there : q ≡ get_or s.queries.items c.in-Some.place q = c.index.ensures in
+    let place = found-place name s.queries.items c.in-Some.place q found in
+    let was : IsOpen (length s.repository.priors) q = at-place (IsOpen (length s.repository.priors)) s.queries.items c.in-Some.place q place.within there kept.each in
+    let less = not-yet told view name c.in-Some.place q place there was.usable (is_some c.results.result) (c.results.ensures.some told) (ap is_some c.in_default-results.is) in
+    refused-here (event.Explain name c.args.rank) told view c.args.self.now (NotYet name) c.self.view_is (not-yet-explained told view name c.in-Some.place q place there c.args.rank less) backed
+
+pub returns-in_default-results-clause-early : goal.returns-in_default-results-clause-early
+returns-in_default-results-clause-early g c = λ told.
+    let s = c.self.inside in
+    let name = c.args.name in
+    let view : Keeps = record { repository = s.repository; kind = s.kind; queries = s.queries.items; counts = s.counts; cache = s.cache; usable = s.usable } in
+    let found : position (is_named name) s.queries.items ≡ Some c.in-Some.place = ap (λ (x : Keeps). position (is_named name) x.queries) c.self.view_is ∙ sym c.find.ensures ∙ c.in-Some.is in
+    let kept = c.self.invariant (ap (λ (x : Keeps). x.usable) c.self.view_is ∙ c.requires.usable.0) (ap (λ (x : Keeps). x.repository.usable) c.self.view_is ∙ c.requires.usable.1) in
+    let q = c.index.result.now in
+    let there : q ≡ get_or s.queries.items c.in-Some.place q = c.index.ensures in
+    let place = found-place name s.queries.items c.in-Some.place q found in
+    let was : IsOpen (length s.repository.priors) q = at-place (IsOpen (length s.repository.priors)) s.queries.items c.in-Some.place q place.within there kept.each in
+    let less = not-yet told view name c.in-Some.place q place there was.usable (is_some c.results.result) (c.results.ensures.some told) (ap is_some c.in_default-results.is) in
+    early-refused (event.Explain name c.args.rank) told view c.args.self.now (NotYet name) c.self.view_is (not-yet-explained told view name c.in-Some.place q place there c.args.rank less)
 
 pub returns-in_default-2-clause-steps : goal.returns-in_default-2-clause-steps
 returns-in_default-2-clause-steps g c = λ backed.
@@ -67,8 +96,14 @@ returns-in_default-2-clause-steps g c = λ backed.
     let there : q ≡ get_or s.queries.items c.in-Some.place q = c.index.ensures in
     let place = found-place name s.queries.items c.in-Some.place q found in
     let was : IsOpen (length s.repository.priors) q = at-place (IsOpen (length s.repository.priors)) s.queries.items c.in-Some.place q place.within there kept.each in
-    let less = not-yet told view name c.in-Some.place q place there was.usable (is_some c.results.result) (c.results.ensures.some told) (ap is_some c.in_default-2.is) in
-    refused-now (event.Explain name c.args.rank) told view c.args.self.now (NotYet name) c.self.view_is (not-yet-explained told view name c.in-Some.place q place there c.args.rank less) backed
+    let passed = all-passed told view name c.in-Some.place q place there (is_some c.results.result) (c.results.ensures.some told) (ap is_some c.in-Some-results.is) in
+    let hits : List Hit = c.in-Some-results.hits.now in
+    of-now told view c.args.self.now (λ x. Steps (event.Explain name c.args.rank) told told x x (reply.Refused (NoSuchRank name))) c.self.view_is
+    (λ b.
+        let query : IsQueryBacked told s.repository s.kind q = at-place (IsQueryBacked told s.repository s.kind) s.queries.items c.in-Some.place q place.within there b.queries in
+        let entries = shown-entries told view name c.in-Some.place q place there hits was.distinct query (c.in-Some-results.ensures.answer s.kind (priors_with (priors_in told s.repository.priors)) told query.taken) in
+        refused-exit (event.Explain name c.args.rank) told view (NoSuchRank name) (no-rank told view name c.in-Some.place q place there passed hits entries c.args.rank (sym c.in_default-2.is ∙ c.in_ok-hit.ensures)) b)
+    backed
 
 pub returns-in_default-2-clause-early : goal.returns-in_default-2-clause-early
 returns-in_default-2-clause-early g c = λ told.
@@ -76,45 +111,10 @@ returns-in_default-2-clause-early g c = λ told.
     let name = c.args.name in
     let view : Keeps = record { repository = s.repository; kind = s.kind; queries = s.queries.items; counts = s.counts; cache = s.cache; usable = s.usable } in
     let found : position (is_named name) s.queries.items ≡ Some c.in-Some.place = ap (λ (x : Keeps). position (is_named name) x.queries) c.self.view_is ∙ sym c.find.ensures ∙ c.in-Some.is in
-    let kept = c.self.invariant (ap (λ (x : Keeps). x.usable) c.self.view_is ∙ c.requires.usable.0) (ap (λ (x : Keeps). x.repository.usable) c.self.view_is ∙ c.requires.usable.1) in
     let q = c.index.result.now in
     let there : q ≡ get_or s.queries.items c.in-Some.place q = c.index.ensures in
     let place = found-place name s.queries.items c.in-Some.place q found in
-    let was : IsOpen (length s.repository.priors) q = at-place (IsOpen (length s.repository.priors)) s.queries.items c.in-Some.place q place.within there kept.each in
-    let less = not-yet told view name c.in-Some.place q place there was.usable (is_some c.results.result) (c.results.ensures.some told) (ap is_some c.in_default-2.is) in
-    early-refused (event.Explain name c.args.rank) told view c.args.self.now (NotYet name) c.self.view_is (not-yet-explained told view name c.in-Some.place q place there c.args.rank less)
-
-pub returns-in_default-3-clause-steps : goal.returns-in_default-3-clause-steps
-returns-in_default-3-clause-steps g c = λ backed.
-    let told = g.T.Store.files c.args.store.now in
-    let s = c.self.inside in
-    let name = c.args.name in
-    let view : Keeps = record { repository = s.repository; kind = s.kind; queries = s.queries.items; counts = s.counts; cache = s.cache; usable = s.usable } in
-    let found : position (is_named name) s.queries.items ≡ Some c.in-Some.place = ap (λ (x : Keeps). position (is_named name) x.queries) c.self.view_is ∙ sym c.find.ensures ∙ c.in-Some.is in
-    let kept = c.self.invariant (ap (λ (x : Keeps). x.usable) c.self.view_is ∙ c.requires.usable.0) (ap (λ (x : Keeps). x.repository.usable) c.self.view_is ∙ c.requires.usable.1) in
-    let q = c.index.result.now in
-    let there : q ≡ get_or s.queries.items c.in-Some.place q = c.index.ensures in
-    let place = found-place name s.queries.items c.in-Some.place q found in
-    let was : IsOpen (length s.repository.priors) q = at-place (IsOpen (length s.repository.priors)) s.queries.items c.in-Some.place q place.within there kept.each in
-    let passed = all-passed told view name c.in-Some.place q place there (is_some c.results.result) (c.results.ensures.some told) (ap is_some c.in-Some-2.is) in
-    let hits : List Hit = c.in-Some-2.hits.now in
-    of-now told view c.args.self.now (λ x. Steps (event.Explain name c.args.rank) told told x view (reply.Refused (NoSuchRank name))) c.self.view_is
-    (λ b.
-        let query : IsQueryBacked told s.repository s.kind q = at-place (IsQueryBacked told s.repository s.kind) s.queries.items c.in-Some.place q place.within there b.queries in
-        let entries = shown-entries told view name c.in-Some.place q place there hits was.distinct query (c.in-Some-2.ensures.answer s.kind (priors_with (priors_in told s.repository.priors)) told query.taken) in
-        refused-exit (event.Explain name c.args.rank) told view (NoSuchRank name) (no-rank told view name c.in-Some.place q place there passed hits entries c.args.rank (sym c.in_default-3.is ∙ c.in_ok-hit.ensures)) b)
-    backed
-
-pub returns-in_default-3-clause-early : goal.returns-in_default-3-clause-early
-returns-in_default-3-clause-early g c = λ told.
-    let s = c.self.inside in
-    let name = c.args.name in
-    let view : Keeps = record { repository = s.repository; kind = s.kind; queries = s.queries.items; counts = s.counts; cache = s.cache; usable = s.usable } in
-    let found : position (is_named name) s.queries.items ≡ Some c.in-Some.place = ap (λ (x : Keeps). position (is_named name) x.queries) c.self.view_is ∙ sym c.find.ensures ∙ c.in-Some.is in
-    let q = c.index.result.now in
-    let there : q ≡ get_or s.queries.items c.in-Some.place q = c.index.ensures in
-    let place = found-place name s.queries.items c.in-Some.place q found in
-    let passed = all-passed told view name c.in-Some.place q place there (is_some c.results.result) (c.results.ensures.some told) (ap is_some c.in-Some-2.is) in
+    let passed = all-passed told view name c.in-Some.place q place there (is_some c.results.result) (c.results.ensures.some told) (ap is_some c.in-Some-results.is) in
     subst (λ (x : Keeps). None ≡ told_early (step (state_of told x) (event.Explain name c.args.rank)).1) c.self.view_is
     (sym (early-passed (state_of told view) name c.args.rank (query_of told q) (named-here told name s.queries.items c.in-Some.place q place there) passed))
 
@@ -130,11 +130,11 @@ explain_hit-requires-clause-hit g c =
     let place = found-place name s.queries.items c.in-Some.place q found in
     let was : IsOpen (length s.repository.priors) q = at-place (IsOpen (length s.repository.priors)) s.queries.items c.in-Some.place q place.within there kept.each in
     let n = length (network_tree q.search.network).leaves in
-    let hit = c.in-Some-3.hit in
+    let hit = c.in-Some-2.hit in
     let parts : c.parts.result.now ≡ q.search.snapshot = c.parts.ensures.parts ∙ c.snapshot.ensures in
-    ∥∥₁_map (c.in-Some-2.ensures.windows told) (λ w.
+    ∥∥₁_map (c.in-Some-results.ensures.windows told) (λ w.
     let here : IsWindowIn (searched told q.search) n (candidate_of hit) =
-    of_each (λ (h : Hit). IsWindowIn (searched told q.search) n (candidate_of h)) c.in-Some-2.hits.now (c.args.rank - 1) hit w.each (sym c.in_ok-hit.ensures ∙ c.in-Some-3.is) in
+    of_each (λ (h : Hit). IsWindowIn (searched told q.search) n (candidate_of h)) c.in-Some-results.hits.now (c.args.rank - 1) hit w.each (sym c.in_ok-hit.ensures ∙ c.in-Some-2.is) in
     subst (λ leaves. IsWindowIn (live told c.parts.result.now) leaves (candidate_of hit)) (as-many-leaves q.search c.checked.result.now was.network c.checked.ensures)
     (subst (λ (ms : List Marked). IsWindowIn (live told ms) n (candidate_of hit)) (sym parts) here))
 
@@ -154,9 +154,9 @@ returns-clause-steps g c = λ backed.
     let there : q ≡ get_or s.queries.items c.in-Some.place q = c.index.ensures in
     let place = found-place name s.queries.items c.in-Some.place q found in
     let was : IsOpen (length s.repository.priors) q = at-place (IsOpen (length s.repository.priors)) s.queries.items c.in-Some.place q place.within there kept.each in
-    let passed = all-passed told view name c.in-Some.place q place there (is_some c.results.result) (c.results.ensures.some told) (ap is_some c.in-Some-2.is) in
-    let hits : List Hit = c.in-Some-2.hits.now in
-    let hit = c.in-Some-3.hit in
+    let passed = all-passed told view name c.in-Some.place q place there (is_some c.results.result) (c.results.ensures.some told) (ap is_some c.in-Some-results.is) in
+    let hits : List Hit = c.in-Some-results.hits.now in
+    let hit = c.in-Some-2.hit in
     let e = c.in_ok-explained.explained in
     let cache = c.explain_hit.new.cache in
     let same : after ≡ told = c.in_ok-explained.ensures.reads.quiet.same_files in
@@ -165,12 +165,12 @@ returns-clause-steps g c = λ backed.
     of-now told view c.args.self.now (λ x. Steps (event.Explain name c.args.rank) told after x (with_cache view cache) (reply.Explained e)) c.self.view_is
     (λ b.
         let query : IsQueryBacked told s.repository s.kind q = at-place (IsQueryBacked told s.repository s.kind) s.queries.items c.in-Some.place q place.within there b.queries in
-        let entries = shown-entries told view name c.in-Some.place q place there hits was.distinct query (c.in-Some-2.ensures.answer s.kind (priors_with (priors_in told s.repository.priors)) told query.taken) in
+        let entries = shown-entries told view name c.in-Some.place q place there hits was.distinct query (c.in-Some-results.ensures.answer s.kind (priors_with (priors_in told s.repository.priors)) told query.taken) in
         let found_in = c.in_ok-explained.ensures.exact (subst (λ (ms : List Marked). AreBacked told ms) (sym parts) query.snapshot) b.cache.backed in
         let document = sym (ap (λ (ms : List Marked). document_with hit.docno (live told ms)) parts) ∙ found_in.1 in
         let is = subst (λ (k : Checked). IsExplanation c.deref.result.now (whole_checked k) c.stats.result.now found_in.0 c.args.rank hit e) c.checked.ensures found_in.2 in
         let kept_blocks : IsCacheKept told s.repository cache = cache-read told s.repository c.parts.result.now s.cache cache (subst (λ (ms : List Marked). AreListed s.repository (part_numbers ms)) (sym parts) query.listed) c.in_ok-explained.ensures.reads.cache b.cache in
-        explain-exit told view name c.in-Some.place q place there passed hits entries c.args.rank after cache hit found_in.0 c.deref.result.now c.stats.result.now e same (sym c.in-Some-3.is ∙ c.in_ok-hit.ensures) document names c.stats.ensures is query kept_blocks b)
+        explain-exit told view name c.in-Some.place q place there passed hits entries c.args.rank after cache hit found_in.0 c.deref.result.now c.stats.result.now e same (sym c.in-Some-2.is ∙ c.in_ok-hit.ensures) document names c.stats.ensures is query kept_blocks b)
     backed
 
 pub returns-clause-early : goal.returns-clause-early
@@ -182,7 +182,7 @@ returns-clause-early g c = λ told.
     let q = c.index.result.now in
     let there : q ≡ get_or s.queries.items c.in-Some.place q = c.index.ensures in
     let place = found-place name s.queries.items c.in-Some.place q found in
-    let passed = all-passed told view name c.in-Some.place q place there (is_some c.results.result) (c.results.ensures.some told) (ap is_some c.in-Some-2.is) in
+    let passed = all-passed told view name c.in-Some.place q place there (is_some c.results.result) (c.results.ensures.some told) (ap is_some c.in-Some-results.is) in
     subst (λ (x : Keeps). None ≡ told_early (step (state_of told x) (event.Explain name c.args.rank)).1) c.self.view_is
     (sym (early-passed (state_of told view) name c.args.rank (query_of told q) (named-here told name s.queries.items c.in-Some.place q place there) passed))
 

@@ -15,7 +15,7 @@ use Rattle.desk.specs.Backed.{IsDeskBacked, Keeps, Steps, StepsTo, state_of}
 use Rattle.desk.specs.Keeping.{AsksFor}
 use Rattle.desk.specs.Step.{open_step, step}
 use Rattle.desk.specs.Told.{RefusesAs}
-use Rattle.desk.proofs.Exits.{of-now, refused-by, refused-now}
+use Rattle.desk.proofs.Exits.{of-now, refused-by, refused-here}
 use Rattle.desk.proofs.OpenExits.{open-asked, refuses-asked, steps-asked}
 use Rattle.desk.proofs.kept.Kept.open.Goals as goal
 
@@ -43,7 +43,7 @@ returns-in-Err-Refused-clause-steps g c = λ backed.
     let own : c.deref.result.now ≡ map (λ (e : PriorEntry). e.name) s.repository.priors = c.deref.ensures.value ∙ c.in_ok-names.ensures ∙ ap (map (λ (e : PriorEntry). e.name)) c.priors.ensures.list in
     let why = c.in-Err-Refused.refusal in
     let is : asked c.deref.result.now c.args.text.now ≡ Err why = ap (asked c.deref.result.now) (sym c.as_slice.ensures) ∙ c.in-Err-Refused.ensures.refused in
-    refused-now (event.Open c.args.name c.args.k c.args.text.now) told view c.args.self.now why c.self.view_is (open-asked told view c.args.name c.args.k c.args.text.now c.deref.result.now (Err why) own is) backed
+    refused-here (event.Open c.args.name c.args.k c.args.text.now) told view c.args.self.now why c.self.view_is (open-asked told view c.args.name c.args.k c.args.text.now c.deref.result.now (Err why) own is) backed
 
 pub returns-in-Err-Refused-clause-refuses : goal.returns-in-Err-Refused-clause-refuses
 returns-in-Err-Refused-clause-refuses g c = λ told.

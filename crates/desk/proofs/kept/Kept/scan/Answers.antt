@@ -16,7 +16,7 @@ use Rattle.desk.specs.Scanning.{extents_in}
 use Rattle.desk.proofs.CacheLemmas.{cache-read, listed-now}
 use Rattle.desk.proofs.Cases.{scan-fault, scan-found}
 use Rattle.desk.proofs.Closing.{priors-closed}
-use Rattle.desk.proofs.Exits.{accepted-by, of-now, refused-by, refused-now}
+use Rattle.desk.proofs.Exits.{accepted-by, refused-exit, refused-so}
 use Rattle.desk.proofs.KeptLemmas.{kept-repository}
 use Rattle.desk.proofs.ReadingExits.{scan-done}
 use Rattle.desk.proofs.kept.Kept.scan.Goals as goal
@@ -24,20 +24,30 @@ use Rattle.desk.proofs.kept.Kept.scan.Goals as goal
 pub returns-in-Err-Refused-clause-steps : goal.returns-in-Err-Refused-clause-steps
 returns-in-Err-Refused-clause-steps g c = λ backed.
     let told = g.T.Store.files c.args.store.now in
-    let s = c.self.inside in
-    let view : Keeps = record { repository = s.repository; kind = s.kind; queries = s.queries.items; counts = s.counts; cache = s.cache; usable = s.usable } in
+    let now : Keeps = c.args.self.now in
     let why : scanned c.args.text.now ≡ Err c.in-Err-Refused.refusal = ap scanned (sym c.as_slice.ensures) ∙ c.in-Err-Refused.ensures.refused in
-    refused-now (event.Scan c.args.text.now) told view c.args.self.now c.in-Err-Refused.refusal c.self.view_is (scan-fault (state_of told view) c.args.text.now c.in-Err-Refused.refusal why) backed
+    refused-exit (event.Scan c.args.text.now) told now c.in-Err-Refused.refusal (scan-fault (state_of told now) c.args.text.now c.in-Err-Refused.refusal why) backed
 
 pub returns-in-Err-Refused-clause-refuses : goal.returns-in-Err-Refused-clause-refuses
 returns-in-Err-Refused-clause-refuses g c = λ told.
-    let s = c.self.inside in
-    let view : Keeps = record { repository = s.repository; kind = s.kind; queries = s.queries.items; counts = s.counts; cache = s.cache; usable = s.usable } in
+    let now : Keeps = c.args.self.now in
     let why : scanned c.args.text.now ≡ Err c.in-Err-Refused.refusal = ap scanned (sym c.as_slice.ensures) ∙ c.in-Err-Refused.ensures.refused in
-    refused-by (event.Scan c.args.text.now) told view c.args.self.now c.in-Err-Refused.refusal c.self.view_is (scan-fault (state_of told view) c.args.text.now c.in-Err-Refused.refusal why)
+    refused-so (event.Scan c.args.text.now) (state_of told now) c.in-Err-Refused.refusal (scan-fault (state_of told now) c.args.text.now c.in-Err-Refused.refusal why)
 
 pub invariant_of-self : goal.invariant_of-self
 invariant_of-self g c =
+  λ usable there.
+      let s = c.self.inside in
+      kept-repository s.repository c.snapshot.new.self s.queries.items s.counts (priors-closed c.snapshot.result s.repository c.snapshot.new.self c.snapshot.ensures.closed c.snapshot.ensures.left) (c.self.invariant usable (sym c.snapshot.ensures.usable ∙ there))
+
+pub invariant_of-self-2 : goal.invariant_of-self-2
+invariant_of-self-2 g c =
+  λ usable there.
+      let s = c.self.inside in
+      kept-repository s.repository c.snapshot.new.self s.queries.items s.counts (priors-closed c.snapshot.result s.repository c.snapshot.new.self c.snapshot.ensures.closed c.snapshot.ensures.left) (c.self.invariant usable (sym c.snapshot.ensures.usable ∙ there))
+
+pub invariant_of-self-in_err-lines : goal.invariant_of-self-in_err-lines
+invariant_of-self-in_err-lines g c =
   λ usable there.
       let s = c.self.inside in
       kept-repository s.repository c.snapshot.new.self s.queries.items s.counts (priors-closed c.snapshot.result s.repository c.snapshot.new.self c.snapshot.ensures.closed c.snapshot.ensures.left) (c.self.invariant usable (sym c.snapshot.ensures.usable ∙ there))

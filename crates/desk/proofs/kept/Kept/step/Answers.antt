@@ -14,7 +14,7 @@ use Rattle.desk.specs.Queries.{IsCacheKept, IsQueryBacked, priors_in, query_of}
 use Rattle.desk.specs.declared.query.OpenQuery.{OpenQuery}
 use Rattle.desk.proofs.CacheLemmas.{cache-read}
 use Rattle.desk.proofs.Cases.{step-noname, step-stepped}
-use Rattle.desk.proofs.Exits.{accepted-by, of-now, refused-by, refused-now}
+use Rattle.desk.proofs.Exits.{accepted-by, of-now, refused-by, refused-here}
 use Rattle.desk.proofs.KeptLemmas.{asks-nine, kept-set, open-on}
 use Rattle.desk.proofs.NamedExits.{step-exit, with_search}
 use Rattle.desk.proofs.Naming.{at-place, found-place, is_named, named-here, named-none}
@@ -27,7 +27,7 @@ returns-in_default-clause-steps g c = λ backed are.
     let name = c.args.name in
     let view : Keeps = record { repository = s.repository; kind = s.kind; queries = s.queries.items; counts = s.counts; cache = s.cache; usable = s.usable } in
     let none : position (is_named name) s.queries.items ≡ None = ap (λ (x : Keeps). position (is_named name) x.queries) c.self.view_is ∙ sym c.find.ensures ∙ c.in_default.is in
-    refused-now (event.Step name c.args.docs) told view c.args.self.now (NoSuchName name) c.self.view_is (step-noname (state_of told view) name c.args.docs (named-none told name s.queries.items none)) backed
+    refused-here (event.Step name c.args.docs) told view c.args.self.now (NoSuchName name) c.self.view_is (step-noname (state_of told view) name c.args.docs (named-none told name s.queries.items none)) backed
 
 pub returns-in_default-clause-refuses : goal.returns-in_default-clause-refuses
 returns-in_default-clause-refuses g c = λ told.

@@ -1,9 +1,12 @@
-use Rattle.std.proofs.Common.{◌≡◌, ◌∙◌, map, refl}
+use Rattle.std.proofs.Common.{◌≡◌, ◌∙◌, List, ap, length, map, refl, rules}
+use Rattle.disk_index.specs.Snapshots.{Marked, live}
 use Rattle.desk.proofs.QueryLemmas.{live-advanced, query-advanced, steps-backed}
 use Rattle.desk.proofs.query.OpenQuery.advance.Goals as goal
 
 pub returns-clause-live : goal.returns-clause-live
-returns-clause-live g c = λ told. live-advanced told c.args.self.now.search c.step.new.self _ c.step.ensures.same (c.live_count.ensures told)
+returns-clause-live g c = λ told.
+    let wide : c.from.result ≡ c.live_count.result = search rules in
+    live-advanced told c.args.self.now.search c.step.new.self _ c.step.ensures.same (wide ∙ c.live_count.ensures told ∙ ap (λ (ms : List Marked). length (live told ms)) c.snapshot.ensures)
 
 pub returns-clause-query : goal.returns-clause-query
 returns-clause-query g c = λ told. query-advanced told c.args.docs c.args.self.now _ refl c.step.ensures.same (c.in_ok-step.ensures.credit told)

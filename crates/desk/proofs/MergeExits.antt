@@ -85,10 +85,10 @@ pub merge-done : (told : Option Files) (d now : Keeps) (r : repositories.State) 
 merge-done told d now r count same none made is reads stored merging backed =
     of-now told d now (λ (x : Keeps). Steps event.Merge told told x (with_repository d r) (reply.Merging count)) same
     (λ inside.
-        let c = collection_of (state_of told d) in
-        let read : ReadsAs told (merge_begun d.repository) c = subst (λ (x : repositories.State). ReadsAs told x c) made (reads c (reads-state told d inside.repository)) in
-        subst (λ (x : repositories.State). Steps event.Merge told told d (with_repository d x) (reply.Merging count)) (sym made)
-        (merge-exit told d count none is read (subst (IsBacked told) made (stored inside.repository)) (subst (IsOpenMerging told) made (merging inside.repository)) inside)) backed
+    let c = collection_of (state_of told d) in
+    let read : ReadsAs told (merge_begun d.repository) c = subst (λ (x : repositories.State). ReadsAs told x c) made (reads c (reads-state told d inside.repository)) in
+    subst (λ (x : repositories.State). Steps event.Merge told told d (with_repository d x) (reply.Merging count)) (sym made)
+    (merge-exit told d count none is read (subst (IsBacked told) made (stored inside.repository)) (subst (IsOpenMerging told) made (merging inside.repository)) inside)) backed
 
 -- ---- which merge is open
 

@@ -104,7 +104,7 @@ module _ (told : Option Files) (d : Keeps) (docs : ℕ) (m : Merging) (is : d.re
 module _ {S : Type 0} (files : S → Option Files) (clock : S → ℕ) (since : S → ℕ → Files → Type 0) (old new : S) (d now : Keeps) (docs : ℕ) (kept : Collection) (same : d ≡ now) (some : is_some d.repository.merge ≡ true) (same_if : IfSome d.repository.merge (λ m. length m.copied + docs < size_of m → files new ≡ files old))
     (no_more : IfSome d.repository.merge (λ m. length m.copied + docs < size_of m → (t : ℕ) (f : Files) → since new t f → since old t f)) (stay : SameWhere (IsBeside (IsUnlisted (listed_numbers d.repository))) (files old) (files new))
     (stops : (c k : Collection) → IsOpenMerging (files old) d.repository → IsCacheBacked (files old) d.cache → Stands d.repository.held.limits (files old) c → ReadsAs (files old) d.repository k
-        → Leaves (since old) (since new) (IsEither d.repository.held.limits c (without_dead_of d.repository.merge k)))
+    → Leaves (since old) (since new) (IsEither d.repository.held.limits c (without_dead_of d.repository.merge k)))
     (backed : IsDeskBacked (files old) now) (stands : Stands now.repository.held.limits (files old) kept) where
   abbrev m : Merging
   m = (some-of d.repository.merge some).0
@@ -175,16 +175,16 @@ module _ (before after : Option Files) (d now : Keeps) (docs credit size : ℕ) 
   open-done over keeps backed =
       of-now before d now (λ (x : Keeps). Steps (event.Turn docs) before after x (with_merged d r cache) (reply.Turned credit size)) same
       (λ inside.
-          let s = d.repository in
-          let m = on.before in
-          let merging : IsMergeBacked before s m = if-some (IsMergeBacked before s) s.merge m on.was inside.merge in
-          let turns = over (merge-condition before s s.merge inside.merge) inside.cache.backed in
-          let kept = cache-read before s m.snapshot d.cache cache merging.listed (if-some (λ (k : Merging). CacheKeeps before (IsFileAmong k.snapshot) d.cache cache) s.merge m on.was keeps) inside.cache in
-          let c = collection_of (state_of before d) in
-          let shown : reply.Turned credit size ≡ reply.Turned (length m.copied + docs) (size_of m) = λ i. reply.Turned (shown-on.0 i) (shown-on.1 i) in
-          subst (λ x. Steps (event.Turn docs) before after d (with_merged d r cache) x) (sym shown)
-          (turned-exit before after d docs r cache m on.was kept inside below-on same-on on (subst (λ (f : Option Files). ReadsAs f r c) same-on (turns.reads c (reads-state before d inside.repository)))
-          (subst (λ (f : Option Files). IsBacked f r) same-on turns.backed) (subst (λ (f : Option Files). IsOpenMerging f r) same-on turns.merging))) backed
+      let s = d.repository in
+      let m = on.before in
+      let merging : IsMergeBacked before s m = if-some (IsMergeBacked before s) s.merge m on.was inside.merge in
+      let turns = over (merge-condition before s s.merge inside.merge) inside.cache.backed in
+      let kept = cache-read before s m.snapshot d.cache cache merging.listed (if-some (λ (k : Merging). CacheKeeps before (IsFileAmong k.snapshot) d.cache cache) s.merge m on.was keeps) inside.cache in
+      let c = collection_of (state_of before d) in
+      let shown : reply.Turned credit size ≡ reply.Turned (length m.copied + docs) (size_of m) = λ i. reply.Turned (shown-on.0 i) (shown-on.1 i) in
+      subst (λ x. Steps (event.Turn docs) before after d (with_merged d r cache) x) (sym shown)
+      (turned-exit before after d docs r cache m on.was kept inside below-on same-on on (subst (λ (f : Option Files). ReadsAs f r c) same-on (turns.reads c (reads-state before d inside.repository)))
+      (subst (λ (f : Option Files). IsBacked f r) same-on turns.backed) (subst (λ (f : Option Files). IsOpenMerging f r) same-on turns.merging))) backed
 
   pub open-kept : (kept : Collection) → Stands now.repository.held.limits before kept → Stands now.repository.held.limits after (kept_behind kept (step (state_of before now) (event.Turn docs)))
   open-kept kept stands =
@@ -204,22 +204,22 @@ module _ (before after : Option Files) (d now : Keeps) (docs : ℕ) (r : reposit
   merged-done stay keeps count is backed =
       of-now before d now (λ (x : Keeps). Steps (event.Turn docs) before after x (with_merged d r cache) (reply.Merged count)) same
       (λ inside.
-          let s = d.repository in
-          let m = to.before in
-          let merging : IsMergeBacked before s m = if-some (IsMergeBacked before s) s.merge m to.was inside.merge in
-          let turns = over (merge-condition before s s.merge inside.merge) inside.cache.backed in
-          let kept = cache-read before s m.snapshot d.cache cache merging.listed (if-some (λ (k : Merging). CacheKeeps before (IsFileAmong k.snapshot) d.cache cache) s.merge m to.was keeps) inside.cache in
-          let c = collection_of (state_of before d) in
-          let read : ReadsAs after r (without_dead_of (Some m) c) = subst (λ (o : Option Merging). ReadsAs after r (without_dead_of o c)) to.was (turns.reads c (reads-state before d inside.repository)) in
-          merged-exit before after d docs r cache m to.was kept inside past-to stay to read turns.backed count is) backed
+      let s = d.repository in
+      let m = to.before in
+      let merging : IsMergeBacked before s m = if-some (IsMergeBacked before s) s.merge m to.was inside.merge in
+      let turns = over (merge-condition before s s.merge inside.merge) inside.cache.backed in
+      let kept = cache-read before s m.snapshot d.cache cache merging.listed (if-some (λ (k : Merging). CacheKeeps before (IsFileAmong k.snapshot) d.cache cache) s.merge m to.was keeps) inside.cache in
+      let c = collection_of (state_of before d) in
+      let read : ReadsAs after r (without_dead_of (Some m) c) = subst (λ (o : Option Merging). ReadsAs after r (without_dead_of o c)) to.was (turns.reads c (reads-state before d inside.repository)) in
+      merged-exit before after d docs r cache m to.was kept inside past-to stay to read turns.backed count is) backed
 
   pub merged-kept : (kept : Collection) → IsDeskBacked before now → Stands now.repository.held.limits after (kept_behind kept (step (state_of before now) (event.Turn docs)))
   merged-kept kept backed =
       of-now before d now (λ (x : Keeps). Stands x.repository.held.limits after (kept_behind kept (step (state_of before x) (event.Turn docs)))) same
       (λ inside.
-          let turns = over (merge-condition before d.repository d.repository.merge inside.merge) inside.cache.backed in
-          let c = collection_of (state_of before d) in
-          subst (λ (k : Collection). Stands d.repository.held.limits after k) (sym (behind-merged before d docs to.before to.was kept past-to)) (turns.stands refl c (reads-state before d inside.repository))) backed
+      let turns = over (merge-condition before d.repository d.repository.merge inside.merge) inside.cache.backed in
+      let c = collection_of (state_of before d) in
+      subst (λ (k : Collection). Stands d.repository.held.limits after k) (sym (behind-merged before d docs to.before to.was kept past-to)) (turns.stands refl c (reads-state before d inside.repository))) backed
 
 -- ---- whatever became of it
 

@@ -115,7 +115,11 @@ impl Model for Kept {
 
 impl Kept {
     /// A repository, with nothing open.
-    pub(crate) fn new(alloc: Global, repository: Repository, kind: RuleKind) -> Result<Kept, NoMemory>
+    pub(crate) fn new(
+        alloc: Global,
+        repository: Repository,
+        kind: RuleKind,
+    ) -> Result<Kept, NoMemory>
         requires usable { repository.usable ≡ true }
         ensures usable { IfOk result IsUsable }
         ensures repository { IfOk result (λ d. d.repository ≡ repository) }

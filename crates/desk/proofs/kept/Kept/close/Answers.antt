@@ -17,11 +17,11 @@ use Rattle.desk.proofs.kept.Kept.close.Goals as goal
 
 pub invariant_of-self : goal.invariant_of-self
 invariant_of-self c =
-  λ usable there.
-      let s = c.self.inside in
-      let found : position (is_named c.args.name) s.queries.items ≡ Some c.in-Some.place = ap (λ (x : Keeps). position (is_named c.args.name) x.queries) c.self.view_is ∙ sym c.find.ensures ∙ c.in-Some.is in
-      let place = found-place c.args.name s.queries.items c.in-Some.place c.remove.result found in
-      subst (λ (qs : List OpenQuery). AreKept s.repository qs s.counts) (sym c.remove.ensures.items) (kept-removed s.repository s.queries.items s.counts c.in-Some.place place.within (c.self.invariant usable there))
+    λ usable there.
+    let s = c.self.inside in
+    let found : position (is_named c.args.name) s.queries.items ≡ Some c.in-Some.place = ap (λ (x : Keeps). position (is_named c.args.name) x.queries) c.self.view_is ∙ sym c.find.ensures ∙ c.in-Some.is in
+    let place = found-place c.args.name s.queries.items c.in-Some.place c.remove.result found in
+    subst (λ (qs : List OpenQuery). AreKept s.repository qs s.counts) (sym c.remove.ensures.items) (kept-removed s.repository s.queries.items s.counts c.in-Some.place place.within (c.self.invariant usable there))
 
 pub returns-in-None-clause-steps : goal.returns-in-None-clause-steps
 returns-in-None-clause-steps c = λ told backed.

@@ -100,9 +100,9 @@ returns-in_default-2-clause-steps g c = λ backed.
     let hits : List Hit = c.in-Some-results.hits.now in
     of-now told view c.args.self.now (λ x. Steps (event.Explain name c.args.rank) told told x x (reply.Refused (NoSuchRank name))) c.self.view_is
     (λ b.
-        let query : IsQueryBacked told s.repository s.kind q = at-place (IsQueryBacked told s.repository s.kind) s.queries.items c.in-Some.place q place.within there b.queries in
-        let entries = shown-entries told view name c.in-Some.place q place there hits was.distinct query (c.in-Some-results.ensures.answer s.kind (priors_with (priors_in told s.repository.priors)) told query.taken) in
-        refused-exit (event.Explain name c.args.rank) told view (NoSuchRank name) (no-rank told view name c.in-Some.place q place there passed hits entries c.args.rank (sym c.in_default-2.is ∙ c.in_ok-hit.ensures)) b)
+    let query : IsQueryBacked told s.repository s.kind q = at-place (IsQueryBacked told s.repository s.kind) s.queries.items c.in-Some.place q place.within there b.queries in
+    let entries = shown-entries told view name c.in-Some.place q place there hits was.distinct query (c.in-Some-results.ensures.answer s.kind (priors_with (priors_in told s.repository.priors)) told query.taken) in
+    refused-exit (event.Explain name c.args.rank) told view (NoSuchRank name) (no-rank told view name c.in-Some.place q place there passed hits entries c.args.rank (sym c.in_default-2.is ∙ c.in_ok-hit.ensures)) b)
     backed
 
 pub returns-in_default-2-clause-early : goal.returns-in_default-2-clause-early
@@ -164,13 +164,13 @@ returns-clause-steps g c = λ backed.
     let names : c.deref.result.now ≡ map (λ (x : PriorEntry). x.name) s.repository.priors = c.deref.ensures.value ∙ c.in_ok-names.ensures ∙ ap (map (λ (x : PriorEntry). x.name)) c.priors.ensures.list in
     of-now told view c.args.self.now (λ x. Steps (event.Explain name c.args.rank) told after x (with_cache view cache) (reply.Explained e)) c.self.view_is
     (λ b.
-        let query : IsQueryBacked told s.repository s.kind q = at-place (IsQueryBacked told s.repository s.kind) s.queries.items c.in-Some.place q place.within there b.queries in
-        let entries = shown-entries told view name c.in-Some.place q place there hits was.distinct query (c.in-Some-results.ensures.answer s.kind (priors_with (priors_in told s.repository.priors)) told query.taken) in
-        let found_in = c.in_ok-explained.ensures.exact (subst (λ (ms : List Marked). AreBacked told ms) (sym parts) query.snapshot) b.cache.backed in
-        let document = sym (ap (λ (ms : List Marked). document_with hit.docno (live told ms)) parts) ∙ found_in.1 in
-        let is = subst (λ (k : Checked). IsExplanation c.deref.result.now (whole_checked k) c.stats.result.now found_in.0 c.args.rank hit e) c.checked.ensures found_in.2 in
-        let kept_blocks : IsCacheKept told s.repository cache = cache-read told s.repository c.parts.result.now s.cache cache (subst (λ (ms : List Marked). AreListed s.repository (part_numbers ms)) (sym parts) query.listed) c.in_ok-explained.ensures.reads.cache b.cache in
-        explain-exit told view name c.in-Some.place q place there passed hits entries c.args.rank after cache hit found_in.0 c.deref.result.now c.stats.result.now e same (sym c.in-Some-2.is ∙ c.in_ok-hit.ensures) document names c.stats.ensures is query kept_blocks b)
+    let query : IsQueryBacked told s.repository s.kind q = at-place (IsQueryBacked told s.repository s.kind) s.queries.items c.in-Some.place q place.within there b.queries in
+    let entries = shown-entries told view name c.in-Some.place q place there hits was.distinct query (c.in-Some-results.ensures.answer s.kind (priors_with (priors_in told s.repository.priors)) told query.taken) in
+    let found_in = c.in_ok-explained.ensures.exact (subst (λ (ms : List Marked). AreBacked told ms) (sym parts) query.snapshot) b.cache.backed in
+    let document = sym (ap (λ (ms : List Marked). document_with hit.docno (live told ms)) parts) ∙ found_in.1 in
+    let is = subst (λ (k : Checked). IsExplanation c.deref.result.now (whole_checked k) c.stats.result.now found_in.0 c.args.rank hit e) c.checked.ensures found_in.2 in
+    let kept_blocks : IsCacheKept told s.repository cache = cache-read told s.repository c.parts.result.now s.cache cache (subst (λ (ms : List Marked). AreListed s.repository (part_numbers ms)) (sym parts) query.listed) c.in_ok-explained.ensures.reads.cache b.cache in
+    explain-exit told view name c.in-Some.place q place there passed hits entries c.args.rank after cache hit found_in.0 c.deref.result.now c.stats.result.now e same (sym c.in-Some-2.is ∙ c.in_ok-hit.ensures) document names c.stats.ensures is query kept_blocks b)
     backed
 
 pub returns-clause-early : goal.returns-clause-early

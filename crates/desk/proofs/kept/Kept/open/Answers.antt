@@ -10,7 +10,9 @@ use Rattle.store_ends.specs.Files.{Files}
 use Rattle.session_events.specs.declared.event.Event.TheVariants as event
 use Rattle.session_replies.specs.declared.reply.Reply.{Reply}
 use Rattle.session_replies.specs.declared.reply.Reply.TheVariants as reply
-use Rattle.desk.specs.Asked.{asked}
+use Rattle.desk.specs.Asked.{IsNotTaken, asked}
+use Rattle.desk.specs.declared.asking.NotTaken.{NotTaken}
+use Rattle.desk.specs.declared.asking.NotTaken.TheVariants as not_taken
 use Rattle.desk.specs.Backed.{IsDeskBacked, Keeps, Steps, StepsTo, state_of}
 use Rattle.desk.specs.Keeping.{AsksFor}
 use Rattle.desk.specs.Step.{open_step, step}
@@ -33,7 +35,7 @@ open_checked-requires-clause-asks g c =
     let s = c.self.inside in
     let own : c.deref.result.now ≡ map (λ (e : PriorEntry). e.name) s.repository.priors = c.deref.ensures.value ∙ c.in_ok-names.ensures ∙ ap (map (λ (e : PriorEntry). e.name)) c.priors.ensures.list in
     let count : length c.deref.result.now ≡ length s.repository.priors = ap length own ∙ length-map s.repository.priors (λ (e : PriorEntry). e.name) in
-    subst (λ n. All (AsksFor n) (whole_checked c.in-Ok.checked).leaves) count c.in-Ok.ensures.asks
+    subst (λ (x : Keeps). All (AsksFor (length x.repository.priors)) (whole_checked c.in-Ok.checked).leaves) c.self.view_is (subst (λ n. All (AsksFor n) (whole_checked c.in-Ok.checked).leaves) count c.in-Ok.ensures.asks)
 
 pub returns-in-Err-Refused-clause-steps : goal.returns-in-Err-Refused-clause-steps
 returns-in-Err-Refused-clause-steps g c = λ backed.
@@ -42,7 +44,8 @@ returns-in-Err-Refused-clause-steps g c = λ backed.
     let view : Keeps = record { repository = s.repository; kind = s.kind; queries = s.queries.items; counts = s.counts; cache = s.cache; usable = s.usable } in
     let own : c.deref.result.now ≡ map (λ (e : PriorEntry). e.name) s.repository.priors = c.deref.ensures.value ∙ c.in_ok-names.ensures ∙ ap (map (λ (e : PriorEntry). e.name)) c.priors.ensures.list in
     let why = c.in-Err-Refused.refusal in
-    let is : asked c.deref.result.now c.args.text.now ≡ Err why = ap (asked c.deref.result.now) (sym c.as_slice.ensures) ∙ c.in-Err-Refused.ensures.refused in
+    let taken : IsNotTaken (asked c.deref.result.now c.as_slice.result.now) (not_taken.Refused why) = subst (λ (n : NotTaken). IsNotTaken (asked c.deref.result.now c.as_slice.result.now) n) c.in-Err-Refused.field-0-is c.in-Err-Refused.ensures.refused in
+    let is : asked c.deref.result.now c.args.text.now ≡ Err why = ap (asked c.deref.result.now) (sym c.as_slice.ensures) ∙ taken in
     refused-here (event.Open c.args.name c.args.k c.args.text.now) told view c.args.self.now why c.self.view_is (open-asked told view c.args.name c.args.k c.args.text.now c.deref.result.now (Err why) own is) backed
 
 pub returns-in-Err-Refused-clause-refuses : goal.returns-in-Err-Refused-clause-refuses
@@ -51,7 +54,8 @@ returns-in-Err-Refused-clause-refuses g c = λ told.
     let view : Keeps = record { repository = s.repository; kind = s.kind; queries = s.queries.items; counts = s.counts; cache = s.cache; usable = s.usable } in
     let own : c.deref.result.now ≡ map (λ (e : PriorEntry). e.name) s.repository.priors = c.deref.ensures.value ∙ c.in_ok-names.ensures ∙ ap (map (λ (e : PriorEntry). e.name)) c.priors.ensures.list in
     let why = c.in-Err-Refused.refusal in
-    let is : asked c.deref.result.now c.args.text.now ≡ Err why = ap (asked c.deref.result.now) (sym c.as_slice.ensures) ∙ c.in-Err-Refused.ensures.refused in
+    let taken : IsNotTaken (asked c.deref.result.now c.as_slice.result.now) (not_taken.Refused why) = subst (λ (n : NotTaken). IsNotTaken (asked c.deref.result.now c.as_slice.result.now) n) c.in-Err-Refused.field-0-is c.in-Err-Refused.ensures.refused in
+    let is : asked c.deref.result.now c.args.text.now ≡ Err why = ap (asked c.deref.result.now) (sym c.as_slice.ensures) ∙ taken in
     refused-by (event.Open c.args.name c.args.k c.args.text.now) told view c.args.self.now why c.self.view_is (open-asked told view c.args.name c.args.k c.args.text.now c.deref.result.now (Err why) own is)
 
 pub returns-in-Ok-clause-steps : goal.returns-in-Ok-clause-steps

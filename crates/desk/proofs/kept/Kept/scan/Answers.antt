@@ -10,9 +10,11 @@ use Rattle.holdings.specs.Parts.{live}
 use Rattle.repository.specs.States.{part_numbers}
 use Rattle.session_events.specs.declared.event.Event.TheVariants as event
 use Rattle.session_replies.specs.declared.reply.Reply.TheVariants as reply
-use Rattle.desk.specs.Asked.{scanned}
+use Rattle.desk.specs.Asked.{IsNotTaken, scanned}
 use Rattle.desk.specs.Backed.{IsDeskBacked, Keeps, Steps, state_of}
 use Rattle.desk.specs.Scanning.{extents_in}
+use Rattle.desk.specs.declared.asking.NotTaken.{NotTaken}
+use Rattle.desk.specs.declared.asking.NotTaken.TheVariants as not_taken
 use Rattle.desk.proofs.CacheLemmas.{cache-read, listed-now}
 use Rattle.desk.proofs.Cases.{scan-fault, scan-found}
 use Rattle.desk.proofs.Closing.{priors-closed}
@@ -25,32 +27,34 @@ pub returns-in-Err-Refused-clause-steps : goal.returns-in-Err-Refused-clause-ste
 returns-in-Err-Refused-clause-steps g c = λ backed.
     let told = g.T.Store.files c.args.store.now in
     let now : Keeps = c.args.self.now in
-    let why : scanned c.args.text.now ≡ Err c.in-Err-Refused.refusal = ap scanned (sym c.as_slice.ensures) ∙ c.in-Err-Refused.ensures.refused in
+    let taken : IsNotTaken (scanned c.as_slice.result.now) (not_taken.Refused c.in-Err-Refused.refusal) = subst (λ (n : NotTaken). IsNotTaken (scanned c.as_slice.result.now) n) c.in-Err-Refused.field-0-is c.in-Err-Refused.ensures.refused in
+    let why : scanned c.args.text.now ≡ Err c.in-Err-Refused.refusal = ap scanned (sym c.as_slice.ensures) ∙ taken in
     refused-exit (event.Scan c.args.text.now) told now c.in-Err-Refused.refusal (scan-fault (state_of told now) c.args.text.now c.in-Err-Refused.refusal why) backed
 
 pub returns-in-Err-Refused-clause-refuses : goal.returns-in-Err-Refused-clause-refuses
 returns-in-Err-Refused-clause-refuses g c = λ told.
     let now : Keeps = c.args.self.now in
-    let why : scanned c.args.text.now ≡ Err c.in-Err-Refused.refusal = ap scanned (sym c.as_slice.ensures) ∙ c.in-Err-Refused.ensures.refused in
+    let taken : IsNotTaken (scanned c.as_slice.result.now) (not_taken.Refused c.in-Err-Refused.refusal) = subst (λ (n : NotTaken). IsNotTaken (scanned c.as_slice.result.now) n) c.in-Err-Refused.field-0-is c.in-Err-Refused.ensures.refused in
+    let why : scanned c.args.text.now ≡ Err c.in-Err-Refused.refusal = ap scanned (sym c.as_slice.ensures) ∙ taken in
     refused-so (event.Scan c.args.text.now) (state_of told now) c.in-Err-Refused.refusal (scan-fault (state_of told now) c.args.text.now c.in-Err-Refused.refusal why)
 
 pub invariant_of-self : goal.invariant_of-self
 invariant_of-self g c =
-  λ usable there.
-      let s = c.self.inside in
-      kept-repository s.repository c.snapshot.new.self s.queries.items s.counts (priors-closed c.snapshot.result s.repository c.snapshot.new.self c.snapshot.ensures.closed c.snapshot.ensures.left) (c.self.invariant usable (sym c.snapshot.ensures.usable ∙ there))
+    λ usable there.
+    let s = c.self.inside in
+    kept-repository s.repository c.snapshot.new.self s.queries.items s.counts (priors-closed c.snapshot.result s.repository c.snapshot.new.self c.snapshot.ensures.closed c.snapshot.ensures.left) (c.self.invariant usable (sym c.snapshot.ensures.usable ∙ there))
 
 pub invariant_of-self-2 : goal.invariant_of-self-2
 invariant_of-self-2 g c =
-  λ usable there.
-      let s = c.self.inside in
-      kept-repository s.repository c.snapshot.new.self s.queries.items s.counts (priors-closed c.snapshot.result s.repository c.snapshot.new.self c.snapshot.ensures.closed c.snapshot.ensures.left) (c.self.invariant usable (sym c.snapshot.ensures.usable ∙ there))
+    λ usable there.
+    let s = c.self.inside in
+    kept-repository s.repository c.snapshot.new.self s.queries.items s.counts (priors-closed c.snapshot.result s.repository c.snapshot.new.self c.snapshot.ensures.closed c.snapshot.ensures.left) (c.self.invariant usable (sym c.snapshot.ensures.usable ∙ there))
 
 pub invariant_of-self-in_err-lines : goal.invariant_of-self-in_err-lines
 invariant_of-self-in_err-lines g c =
-  λ usable there.
-      let s = c.self.inside in
-      kept-repository s.repository c.snapshot.new.self s.queries.items s.counts (priors-closed c.snapshot.result s.repository c.snapshot.new.self c.snapshot.ensures.closed c.snapshot.ensures.left) (c.self.invariant usable (sym c.snapshot.ensures.usable ∙ there))
+    λ usable there.
+    let s = c.self.inside in
+    kept-repository s.repository c.snapshot.new.self s.queries.items s.counts (priors-closed c.snapshot.result s.repository c.snapshot.new.self c.snapshot.ensures.closed c.snapshot.ensures.left) (c.self.invariant usable (sym c.snapshot.ensures.usable ∙ there))
 
 pub returns-clause-steps : goal.returns-clause-steps
 returns-clause-steps g c = λ backed.
@@ -66,7 +70,7 @@ returns-clause-steps g c = λ backed.
     let numbers : part_numbers parts ≡ part_numbers s.repository.held.parts.closed = ap part_numbers own ∙ c.in_ok-snapshot.ensures.numbers in
     scan-done told after view c.args.self.now c.snapshot.new.self text x c.in_ok-lines.lines c.scan.new.cache c.self.view_is c.in_ok-snapshot.ensures.closed c.in_ok-lines.ensures.reads.quiet.same_files is
     (λ b. c.in_ok-lines.ensures.exact (subst (λ (ms : List Marked). AreBacked told ms) (sym own) (c.in_ok-snapshot.ensures.stored told b.repository)) b.cache.backed
-        ∙ ap (λ (ms : List Marked). extents_in x (snapshots.live told ms)) own ∙ ap (extents_in x) (c.in_ok-snapshot.ensures.documents told))
+    ∙ ap (λ (ms : List Marked). extents_in x (snapshots.live told ms)) own ∙ ap (extents_in x) (c.in_ok-snapshot.ensures.documents told))
     (λ b. cache-read told s.repository parts s.cache c.scan.new.cache (listed-now s.repository parts numbers) c.in_ok-lines.ensures.reads.cache b.cache) backed
 
 pub returns-clause-refuses : goal.returns-clause-refuses

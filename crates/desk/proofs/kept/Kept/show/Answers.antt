@@ -117,7 +117,7 @@ returns-in_ok-clone_in-in-Some-results-clause-order c = λ told backed.
     backed
 
 pub returns-in_ok-clone_in-in-Some-results-clause-form : goal.returns-in_ok-clone_in-in-Some-results-clause-form
-returns-in_ok-clone_in-in-Some-results-clause-form g c =
+returns-in_ok-clone_in-in-Some-results-clause-form c =
     let s = c.self.inside in
     let name = c.args.name in
     let found : position (is_named c.args.name) s.queries.items ≡ Some c.in-Some.place = ap (λ (x : Keeps). position (is_named c.args.name) x.queries) c.self.view_is ∙ sym c.find.ensures ∙ c.in-Some.is in

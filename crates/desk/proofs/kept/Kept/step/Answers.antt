@@ -60,11 +60,11 @@ advance-requires-clause-plugs g c =
     let place = found-place name s.queries.items c.in-Some.place q found in
     let was : IsOpen (length s.repository.priors) q = at-place (IsOpen (length s.repository.priors)) s.queries.items c.in-Some.place q place.within there kept.each in
     asks-nine (length s.repository.priors) (length c.args.plugs.now) (network_tree q.search.network).leaves
-    (c.priors-_few.ensures.few (ap (λ (x : Keeps). x.repository.usable) c.self.view_is ∙ c.requires.usable.1)) c.requires.nine was.priors
+    (c.priors-few.ensures.few (ap (λ (x : Keeps). x.repository.usable) c.self.view_is ∙ c.requires.usable.1)) c.requires.nine was.priors
 
 pub invariant_of-self : goal.invariant_of-self
 invariant_of-self g c =
-  λ usable_now there_now.
+    λ usable_now there_now.
     let s = c.self.inside in
     let name = c.args.name in
     let found : position (is_named name) s.queries.items ≡ Some c.in-Some.place = ap (λ (x : Keeps). position (is_named name) x.queries) c.self.view_is ∙ sym c.find.ensures ∙ c.in-Some.is in
@@ -89,7 +89,7 @@ returns-in-Ok-clause-steps g c = λ backed are.
     let there : q ≡ get_or s.queries.items c.in-Some.place q = c.index_mut.ensures.value in
     let place = found-place name s.queries.items c.in-Some.place q found in
     let was : IsOpen (length s.repository.priors) q = at-place (IsOpen (length s.repository.priors)) s.queries.items c.in-Some.place q place.within there kept.each in
-    let few : length s.repository.priors ≤ 8 = c.priors-_few.ensures.few (ap (λ (x : Keeps). x.repository.usable) c.self.view_is ∙ c.requires.usable.1) in
+    let few : length s.repository.priors ≤ 8 = c.priors-few.ensures.few (ap (λ (x : Keeps). x.repository.usable) c.self.view_is ∙ c.requires.usable.1) in
     let new = c.advance.new.self in
     let cache = c.advance.new.cache in
     let same : after ≡ told = c.advance.ensures.quiet.same_files in
@@ -97,13 +97,13 @@ returns-in-Ok-clause-steps g c = λ backed are.
     of-now told view c.args.self.now
     (λ (x : Keeps). Steps (event.Step name c.args.docs) told after x (with_search view (set s.queries.items c.in-Some.place new) cache) (reply.Stepped name c.in-Ok.credit c.in-Ok.live)) c.self.view_is
     (λ b.
-        let query : IsQueryBacked told s.repository s.kind q = at-place (IsQueryBacked told s.repository s.kind) s.queries.items c.in-Some.place q place.within there b.queries in
-        let own : IsQueryBacked told s.repository c.args.rule.now.kind q = subst (λ k. IsQueryBacked told s.repository k q) (sym kind) query in
-        let now : IsQueryBacked after s.repository s.kind new =
-            subst (λ k. IsQueryBacked after s.repository k new) kind
-            (c.in-Ok.ensures.backed s.repository few was.priors (subst (λ (x : Keeps). ArePlugs (priors_in told x.repository.priors) _) (sym c.self.view_is) are) b.cache.backed own) in
-        let blocks : IsCacheKept after s.repository cache = subst (λ (f : Option Files). IsCacheKept f s.repository cache) (sym same) (cache-read told s.repository q.search.snapshot s.cache cache query.listed c.advance.ensures.cache b.cache) in
-        step-exit told view name c.in-Some.place q place there after c.args.docs c.in-Ok.credit c.in-Ok.live new cache same (c.in-Ok.ensures.query told) now blocks (c.in-Ok.ensures.credit told) (c.in-Ok.ensures.live told) b)
+    let query : IsQueryBacked told s.repository s.kind q = at-place (IsQueryBacked told s.repository s.kind) s.queries.items c.in-Some.place q place.within there b.queries in
+    let own : IsQueryBacked told s.repository c.args.rule.now.kind q = subst (λ k. IsQueryBacked told s.repository k q) (sym kind) query in
+    let now : IsQueryBacked after s.repository s.kind new =
+    subst (λ k. IsQueryBacked after s.repository k new) kind
+    (c.in-Ok.ensures.backed s.repository few was.priors (subst (λ (x : Keeps). ArePlugs (priors_in told x.repository.priors) _) (sym c.self.view_is) are) b.cache.backed own) in
+    let blocks : IsCacheKept after s.repository cache = subst (λ (f : Option Files). IsCacheKept f s.repository cache) (sym same) (cache-read told s.repository q.search.snapshot s.cache cache query.listed c.advance.ensures.cache b.cache) in
+    step-exit told view name c.in-Some.place q place there after c.args.docs c.in-Ok.credit c.in-Ok.live new cache same (c.in-Ok.ensures.query told) now blocks (c.in-Ok.ensures.credit told) (c.in-Ok.ensures.live told) b)
     backed
 
 pub returns-in-Ok-clause-refuses : goal.returns-in-Ok-clause-refuses

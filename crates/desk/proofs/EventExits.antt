@@ -43,6 +43,13 @@ pub early-by : (r : Reply) (t : Told) → RefusesAs r t → reply_early r ≡ to
 early-by (reply.Refused why) t h = ap told_early (sym h)
 early-by r t h = sym (none-early t h)
 
+-- so it is where all refusals are known
+pub early-for : (r : Result Reply SegFault) (now : Keeps) (e other : Event) → e ≡ other → IfOk r (λ x. (told : Option Files) → RefusesAs x (step (state_of told now) other).1)
+    → IfOk r (λ x. (told : Option Files) → reply_early x ≡ told_early (step (state_of told now) e).1)
+early-for r now e other is refused =
+    if-ok-map r (λ (x : Reply). (told : Option Files) → RefusesAs x (step (state_of told now) other).1) (λ (x : Reply). (told : Option Files) → reply_early x ≡ told_early (step (state_of told now) e).1)
+    (λ x was told. subst (λ (y : Event). reply_early x ≡ told_early (step (state_of told now) y).1) (sym is) (early-by x (step (state_of told now) other).1 (was told))) refused
+
 -- ---- an event that may write
 
 pub true-writing : (s : State) (e : Event) (r : Reply) → may_write e ≡ true → IsTrueReply s e r

@@ -12,6 +12,7 @@ use Rattle.desk.specs.Step.{step}
 use Rattle.desk.specs.Told.{RefusesAs}
 use Rattle.desk.proofs.Exits.{of-now, refused-by, refused-exit}
 use Rattle.desk.proofs.KeptLemmas.{kept-repository, priors-turned}
+use Rattle.desk.proofs.MergeExits.{with_merged}
 use Rattle.desk.proofs.TurnExits.{nomerge-kept, nomerge-step, none-below, same-below, turn-form, turn-honest, turn-kept, turn-now, turn-refuses, turn-steps, turn-stops}
 use Rattle.desk.proofs.kept.Kept.turn.Goals as goal
 
@@ -47,36 +48,36 @@ returns-in_err-turned-clause-now g c = λ kept backed stands.
     let s = c.self.inside in
     let view : Keeps = record { repository = s.repository; kind = s.kind; queries = s.queries.items; counts = s.counts; cache = s.cache; usable = s.usable } in
     let some : is_some s.repository.merge ≡ true = sym c.merge_open.ensures ∙ c.if-not-merge_open.false in
-    turn-now g.T.Store.files g.T.Store.clock g.T.Store.since c.args.store.now c.merge_turn-turned.new.store view c.args.self.now c.args.docs kept c.self.view_is some
-    (same-below g.T.Store.files g.T.Store.layers g.T.Store.clock g.T.Store.since g.T.Store.longest g.T.Store.held c.args.store.now c.merge_turn-turned.new.store s.repository.merge c.args.docs c.merge_turn-turned.ensures.quiet)
-    (none-below g.T.Store.files g.T.Store.layers g.T.Store.clock g.T.Store.since g.T.Store.longest g.T.Store.held c.args.store.now c.merge_turn-turned.new.store s.repository.merge c.args.docs c.merge_turn-turned.ensures.quiet) c.merge_turn-turned.ensures.stay c.merge_turn-turned.ensures.stops backed stands (g.met.T.Store.honest c.merge_turn-turned.new.store) (g.met.T.Store.still c.args.store.now) c.merge_turn-turned.ensures.goes_on.later
+    turn-now g.T.Store.files g.T.Store.clock g.T.Store.since c.args.store.now c.merge_turn.new.store view c.args.self.now c.args.docs kept c.self.view_is some
+    (same-below g.T.Store.files g.T.Store.layers g.T.Store.clock g.T.Store.since g.T.Store.longest g.T.Store.held c.args.store.now c.merge_turn.new.store s.repository.merge c.args.docs c.merge_turn.ensures.quiet)
+    (none-below g.T.Store.files g.T.Store.layers g.T.Store.clock g.T.Store.since g.T.Store.longest g.T.Store.held c.args.store.now c.merge_turn.new.store s.repository.merge c.args.docs c.merge_turn.ensures.quiet) c.merge_turn.ensures.stay c.merge_turn.ensures.stops backed stands (g.met.T.Store.honest c.merge_turn.new.store) (g.met.T.Store.still c.args.store.now) c.merge_turn.ensures.goes_on.later
 
 pub returns-in_err-turned-clause-stops : goal.returns-in_err-turned-clause-stops
 returns-in_err-turned-clause-stops g c = λ kept backed stands.
     let s = c.self.inside in
     let view : Keeps = record { repository = s.repository; kind = s.kind; queries = s.queries.items; counts = s.counts; cache = s.cache; usable = s.usable } in
     let some : is_some s.repository.merge ≡ true = sym c.merge_open.ensures ∙ c.if-not-merge_open.false in
-    turn-stops g.T.Store.files g.T.Store.clock g.T.Store.since c.args.store.now c.merge_turn-turned.new.store view c.args.self.now c.args.docs kept c.self.view_is some
-    (same-below g.T.Store.files g.T.Store.layers g.T.Store.clock g.T.Store.since g.T.Store.longest g.T.Store.held c.args.store.now c.merge_turn-turned.new.store s.repository.merge c.args.docs c.merge_turn-turned.ensures.quiet)
-    (none-below g.T.Store.files g.T.Store.layers g.T.Store.clock g.T.Store.since g.T.Store.longest g.T.Store.held c.args.store.now c.merge_turn-turned.new.store s.repository.merge c.args.docs c.merge_turn-turned.ensures.quiet) c.merge_turn-turned.ensures.stay c.merge_turn-turned.ensures.stops backed stands
+    turn-stops g.T.Store.files g.T.Store.clock g.T.Store.since c.args.store.now c.merge_turn.new.store view c.args.self.now c.args.docs kept c.self.view_is some
+    (same-below g.T.Store.files g.T.Store.layers g.T.Store.clock g.T.Store.since g.T.Store.longest g.T.Store.held c.args.store.now c.merge_turn.new.store s.repository.merge c.args.docs c.merge_turn.ensures.quiet)
+    (none-below g.T.Store.files g.T.Store.layers g.T.Store.clock g.T.Store.since g.T.Store.longest g.T.Store.held c.args.store.now c.merge_turn.new.store s.repository.merge c.args.docs c.merge_turn.ensures.quiet) c.merge_turn.ensures.stay c.merge_turn.ensures.stops backed stands
 
 pub returns-clause-now : goal.returns-clause-now
 returns-clause-now g c = λ kept backed stands.
     let s = c.self.inside in
     let view : Keeps = record { repository = s.repository; kind = s.kind; queries = s.queries.items; counts = s.counts; cache = s.cache; usable = s.usable } in
     let some : is_some s.repository.merge ≡ true = sym c.merge_open.ensures ∙ c.if-not-merge_open.false in
-    turn-now g.T.Store.files g.T.Store.clock g.T.Store.since c.args.store.now c.merge_turn-turned.new.store view c.args.self.now c.args.docs kept c.self.view_is some
-    (same-below g.T.Store.files g.T.Store.layers g.T.Store.clock g.T.Store.since g.T.Store.longest g.T.Store.held c.args.store.now c.merge_turn-turned.new.store s.repository.merge c.args.docs c.merge_turn-turned.ensures.quiet)
-    (none-below g.T.Store.files g.T.Store.layers g.T.Store.clock g.T.Store.since g.T.Store.longest g.T.Store.held c.args.store.now c.merge_turn-turned.new.store s.repository.merge c.args.docs c.merge_turn-turned.ensures.quiet) c.merge_turn-turned.ensures.stay c.merge_turn-turned.ensures.stops backed stands (g.met.T.Store.honest c.merge_turn-turned.new.store) (g.met.T.Store.still c.args.store.now) c.merge_turn-turned.ensures.goes_on.later
+    turn-now g.T.Store.files g.T.Store.clock g.T.Store.since c.args.store.now c.merge_turn.new.store view c.args.self.now c.args.docs kept c.self.view_is some
+    (same-below g.T.Store.files g.T.Store.layers g.T.Store.clock g.T.Store.since g.T.Store.longest g.T.Store.held c.args.store.now c.merge_turn.new.store s.repository.merge c.args.docs c.merge_turn.ensures.quiet)
+    (none-below g.T.Store.files g.T.Store.layers g.T.Store.clock g.T.Store.since g.T.Store.longest g.T.Store.held c.args.store.now c.merge_turn.new.store s.repository.merge c.args.docs c.merge_turn.ensures.quiet) c.merge_turn.ensures.stay c.merge_turn.ensures.stops backed stands (g.met.T.Store.honest c.merge_turn.new.store) (g.met.T.Store.still c.args.store.now) c.merge_turn.ensures.goes_on.later
 
 pub returns-clause-stops : goal.returns-clause-stops
 returns-clause-stops g c = λ kept backed stands.
     let s = c.self.inside in
     let view : Keeps = record { repository = s.repository; kind = s.kind; queries = s.queries.items; counts = s.counts; cache = s.cache; usable = s.usable } in
     let some : is_some s.repository.merge ≡ true = sym c.merge_open.ensures ∙ c.if-not-merge_open.false in
-    turn-stops g.T.Store.files g.T.Store.clock g.T.Store.since c.args.store.now c.merge_turn-turned.new.store view c.args.self.now c.args.docs kept c.self.view_is some
-    (same-below g.T.Store.files g.T.Store.layers g.T.Store.clock g.T.Store.since g.T.Store.longest g.T.Store.held c.args.store.now c.merge_turn-turned.new.store s.repository.merge c.args.docs c.merge_turn-turned.ensures.quiet)
-    (none-below g.T.Store.files g.T.Store.layers g.T.Store.clock g.T.Store.since g.T.Store.longest g.T.Store.held c.args.store.now c.merge_turn-turned.new.store s.repository.merge c.args.docs c.merge_turn-turned.ensures.quiet) c.merge_turn-turned.ensures.stay c.merge_turn-turned.ensures.stops backed stands
+    turn-stops g.T.Store.files g.T.Store.clock g.T.Store.since c.args.store.now c.merge_turn.new.store view c.args.self.now c.args.docs kept c.self.view_is some
+    (same-below g.T.Store.files g.T.Store.layers g.T.Store.clock g.T.Store.since g.T.Store.longest g.T.Store.held c.args.store.now c.merge_turn.new.store s.repository.merge c.args.docs c.merge_turn.ensures.quiet)
+    (none-below g.T.Store.files g.T.Store.layers g.T.Store.clock g.T.Store.since g.T.Store.longest g.T.Store.held c.args.store.now c.merge_turn.new.store s.repository.merge c.args.docs c.merge_turn.ensures.quiet) c.merge_turn.ensures.stay c.merge_turn.ensures.stops backed stands
 
 pub returns-in_err-turned-clause-honest : goal.returns-in_err-turned-clause-honest
 returns-in_err-turned-clause-honest g c = λ backed.
@@ -89,16 +90,16 @@ pub returns-clause-steps : goal.returns-clause-steps
 returns-clause-steps g c = λ backed.
     let s = c.self.inside in
     let view : Keeps = record { repository = s.repository; kind = s.kind; queries = s.queries.items; counts = s.counts; cache = s.cache; usable = s.usable } in
-    subst (λ (x : Reply). Steps (event.Turn c.args.docs) (g.T.Store.files c.args.store.now) (g.T.Store.files c.merge_turn-turned.new.store) c.args.self.now _ x) (sym c.turned_reply.ensures)
-    (turn-steps (g.T.Store.files c.args.store.now) (g.T.Store.files c.merge_turn-turned.new.store) view c.args.self.now c.args.docs c.merge_turn-turned.new.self c.merge_turn-turned.new.cache c.live_count.result c.self.view_is
-    (same-below g.T.Store.files g.T.Store.layers g.T.Store.clock g.T.Store.since g.T.Store.longest g.T.Store.held c.args.store.now c.merge_turn-turned.new.store s.repository.merge c.args.docs c.merge_turn-turned.ensures.quiet) c.in_ok-turned.turned c.in_ok-turned.ensures.turned c.in_ok-turned.ensures.state c.in_ok-turned.ensures.over c.merge_turn-turned.ensures.stay c.merge_turn-turned.ensures.cache (c.live_count.ensures (g.T.Store.files c.merge_turn-turned.new.store)) backed)
+    subst (λ (x : Reply). Steps (event.Turn c.args.docs) (g.T.Store.files c.args.store.now) (g.T.Store.files c.merge_turn.new.store) c.args.self.now (with_merged view c.merge_turn.new.self c.merge_turn.new.cache) x) (sym c.turned_reply.ensures)
+    (turn-steps (g.T.Store.files c.args.store.now) (g.T.Store.files c.merge_turn.new.store) view c.args.self.now c.args.docs c.merge_turn.new.self c.merge_turn.new.cache c.live_count.result c.self.view_is
+    (same-below g.T.Store.files g.T.Store.layers g.T.Store.clock g.T.Store.since g.T.Store.longest g.T.Store.held c.args.store.now c.merge_turn.new.store s.repository.merge c.args.docs c.merge_turn.ensures.quiet) c.in_ok-turned.turned c.in_ok-turned.ensures.turned c.in_ok-turned.ensures.state c.in_ok-turned.ensures.over c.merge_turn.ensures.stay c.merge_turn.ensures.cache (c.live_count.ensures (g.T.Store.files c.merge_turn.new.store)) backed)
 
 pub returns-clause-done : goal.returns-clause-done
 returns-clause-done g c = λ kept backed stands.
     let s = c.self.inside in
     let view : Keeps = record { repository = s.repository; kind = s.kind; queries = s.queries.items; counts = s.counts; cache = s.cache; usable = s.usable } in
-    turn-kept (g.T.Store.files c.args.store.now) (g.T.Store.files c.merge_turn-turned.new.store) view c.args.self.now c.args.docs c.merge_turn-turned.new.self c.merge_turn-turned.new.cache c.live_count.result c.self.view_is
-    (same-below g.T.Store.files g.T.Store.layers g.T.Store.clock g.T.Store.since g.T.Store.longest g.T.Store.held c.args.store.now c.merge_turn-turned.new.store s.repository.merge c.args.docs c.merge_turn-turned.ensures.quiet) c.in_ok-turned.turned c.in_ok-turned.ensures.turned c.in_ok-turned.ensures.state c.in_ok-turned.ensures.over kept backed stands
+    turn-kept (g.T.Store.files c.args.store.now) (g.T.Store.files c.merge_turn.new.store) view c.args.self.now c.args.docs c.merge_turn.new.self c.merge_turn.new.cache c.live_count.result c.self.view_is
+    (same-below g.T.Store.files g.T.Store.layers g.T.Store.clock g.T.Store.since g.T.Store.longest g.T.Store.held c.args.store.now c.merge_turn.new.store s.repository.merge c.args.docs c.merge_turn.ensures.quiet) c.in_ok-turned.turned c.in_ok-turned.ensures.turned c.in_ok-turned.ensures.state c.in_ok-turned.ensures.over kept backed stands
 
 pub returns-clause-refuses : goal.returns-clause-refuses
 returns-clause-refuses g c = λ told.
@@ -113,9 +114,9 @@ returns-clause-form g c = subst IsReply (sym c.turned_reply.ensures) (turn-form 
 pub invariant_of-self : goal.invariant_of-self
 invariant_of-self g c = λ usable working.
     let s = c.self.inside in
-    kept-repository s.repository c.merge_turn-turned.new.self s.queries.items s.counts (priors-turned c.merge_turn-turned.result c.args.docs s.repository c.merge_turn-turned.new.self c.merge_turn-turned.ensures.state c.merge_turn-turned.ensures.broken working) (c.self.invariant usable (ap (λ (x : Keeps). x.repository.usable) c.self.view_is ∙ c.requires.usable.1))
+    kept-repository s.repository c.merge_turn.new.self s.queries.items s.counts (priors-turned c.merge_turn.result c.args.docs s.repository c.merge_turn.new.self c.merge_turn.ensures.state c.merge_turn.ensures.broken working) (c.self.invariant usable (ap (λ (x : Keeps). x.repository.usable) c.self.view_is ∙ c.requires.usable.1))
 
 pub invariant_of-self-2 : goal.invariant_of-self-2
 invariant_of-self-2 g c = λ usable working.
     let s = c.self.inside in
-    kept-repository s.repository c.merge_turn-turned.new.self s.queries.items s.counts (priors-turned c.merge_turn-turned.result c.args.docs s.repository c.merge_turn-turned.new.self c.merge_turn-turned.ensures.state c.merge_turn-turned.ensures.broken working) (c.self.invariant usable (ap (λ (x : Keeps). x.repository.usable) c.self.view_is ∙ c.requires.usable.1))
+    kept-repository s.repository c.merge_turn.new.self s.queries.items s.counts (priors-turned c.merge_turn.result c.args.docs s.repository c.merge_turn.new.self c.merge_turn.ensures.state c.merge_turn.ensures.broken working) (c.self.invariant usable (ap (λ (x : Keeps). x.repository.usable) c.self.view_is ∙ c.requires.usable.1))

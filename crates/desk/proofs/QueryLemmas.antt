@@ -17,6 +17,7 @@ use Rattle.ranker.specs.declared.search.Search.{Search}
 use Rattle.repository.specs.Stands.{Prior}
 use Rattle.repository.specs.States.{State, part_numbers}
 use Rattle.collection_queries.specs.Priors.{priors_with}
+use Rattle.desk.specs.Backed.{Keeps}
 use Rattle.desk.specs.Keeping.{AsksFor}
 use Rattle.desk.specs.Plugs.{ArePlugs}
 use Rattle.desk.specs.Queries.{AreListed, IsQueryBacked, priors_in, query_of, table_in}
@@ -53,6 +54,10 @@ turned a b (leaves.prior n) alike = λ docno tokens. sym (alike docno tokens)
 -- what is told alike one way round is so the other way round
 alike-back : (a b : List nodes.Prior) (ls : List LeafTree) → All (TellsAlike a b) ls → All (TellsAlike b a) ls
 alike-back a b ls all = All-weaker (TellsAlike a b) (TellsAlike b a) (turned a b) ls all
+
+-- the plugs of a desk that is seen as another
+pub plugs-moved : (told : Option Files) (d now : Keeps) (plugs : List nodes.Prior) → d ≡ now → ArePlugs (priors_in told now.repository.priors) plugs → ArePlugs (priors_in told d.repository.priors) plugs
+plugs-moved told d now plugs same are = subst (λ (x : Keeps). ArePlugs (priors_in told x.repository.priors) plugs) (sym same) are
 
 -- ---- it stays backed
 

@@ -46,7 +46,7 @@ returns-in-Err-Refused-clause-steps g c = λ backed.
     let why = c.in-Err-Refused.refusal in
     let taken : IsNotTaken (asked c.deref.result.now c.as_slice.result.now) (not_taken.Refused why) = subst (λ (n : NotTaken). IsNotTaken (asked c.deref.result.now c.as_slice.result.now) n) c.in-Err-Refused.field-0-is c.in-Err-Refused.ensures.refused in
     let is : asked c.deref.result.now c.args.text.now ≡ Err why = ap (asked c.deref.result.now) (sym c.as_slice.ensures) ∙ taken in
-    refused-here (event.Open c.args.name c.args.k c.args.text.now) told view c.args.self.now why c.self.view_is (open-asked told view c.args.name c.args.k c.args.text.now c.deref.result.now (Err why) own is) backed
+    rw c.in-Err-Refused.field-0-is (refused-here (event.Open c.args.name c.args.k c.args.text.now) told view c.args.self.now why c.self.view_is (open-asked told view c.args.name c.args.k c.args.text.now c.deref.result.now (Err why) own is) backed)
 
 pub returns-in-Err-Refused-clause-refuses : goal.returns-in-Err-Refused-clause-refuses
 returns-in-Err-Refused-clause-refuses g c = λ told.
@@ -56,7 +56,7 @@ returns-in-Err-Refused-clause-refuses g c = λ told.
     let why = c.in-Err-Refused.refusal in
     let taken : IsNotTaken (asked c.deref.result.now c.as_slice.result.now) (not_taken.Refused why) = subst (λ (n : NotTaken). IsNotTaken (asked c.deref.result.now c.as_slice.result.now) n) c.in-Err-Refused.field-0-is c.in-Err-Refused.ensures.refused in
     let is : asked c.deref.result.now c.args.text.now ≡ Err why = ap (asked c.deref.result.now) (sym c.as_slice.ensures) ∙ taken in
-    refused-by (event.Open c.args.name c.args.k c.args.text.now) told view c.args.self.now why c.self.view_is (open-asked told view c.args.name c.args.k c.args.text.now c.deref.result.now (Err why) own is)
+    rw c.in-Err-Refused.field-0-is (refused-by (event.Open c.args.name c.args.k c.args.text.now) told view c.args.self.now why c.self.view_is (open-asked told view c.args.name c.args.k c.args.text.now c.deref.result.now (Err why) own is))
 
 pub returns-in-Ok-clause-steps : goal.returns-in-Ok-clause-steps
 returns-in-Ok-clause-steps g c =

@@ -96,6 +96,15 @@ invariant_of-self-in_err-told g c =
     let was = kept-repository s.repository c.snapshot.new.self s.queries.items s.counts priors (c.self.invariant usable (sym c.snapshot.ensures.usable ∙ there)) in
     kept-counts c.snapshot.new.self s.queries.items s.counts c.all_stats.new.counts c.all_stats.ensures.adds was
 
+pub invariant_of-self-in_err-map_err : goal.invariant_of-self-in_err-map_err
+invariant_of-self-in_err-map_err g c =
+    λ usable there.
+    let s = c.self.inside in
+    let priors = priors-closed c.snapshot.result s.repository c.snapshot.new.self c.snapshot.ensures.closed c.snapshot.ensures.left in
+    let was = kept-repository s.repository c.snapshot.new.self s.queries.items s.counts priors (c.self.invariant usable (sym c.snapshot.ensures.usable ∙ there)) in
+    let same : c.push.new.self.items ≡ s.queries.items = search rules in
+    subst (λ (qs : List OpenQuery). AreKept c.snapshot.new.self qs c.all_stats.new.counts) (sym same) (kept-counts c.snapshot.new.self s.queries.items s.counts c.all_stats.new.counts c.all_stats.ensures.adds was)
+
 pub invariant_of-self-2 : goal.invariant_of-self-2
 invariant_of-self-2 g c =
     λ usable there.
@@ -118,7 +127,8 @@ invariant_of-self-2 g c =
     let asks = subst (λ (x : Keeps). All (AsksFor (length x.repository.priors)) (whole_checked c.args.checked).leaves) (sym c.self.view_is) c.requires.asks in
     let one : IsOpen (length c.snapshot.new.self.priors) q = open-new (length c.snapshot.new.self.priors) name snapshot c.args.checked stats c.args.k q new c.in_ok-snapshot.ensures.distinct c.requires.k.1
     (subst (λ n. All (AsksFor n) (whole_checked c.args.checked).leaves) (sym (ap length priors)) asks) in
-    subst (λ (qs : List OpenQuery). AreKept c.snapshot.new.self qs c.all_stats.new.counts) (sym c.in_ok-push.ensures.items)
+    let pushed : c.push.new.self.items ≡ s.queries.items ++ q ∷ [] = search rules in
+    subst (λ (qs : List OpenQuery). AreKept c.snapshot.new.self qs c.all_stats.new.counts) (sym pushed)
     (kept-pushed c.snapshot.new.self s.queries.items c.all_stats.new.counts q few one (kept-counts c.snapshot.new.self s.queries.items s.counts c.all_stats.new.counts c.all_stats.ensures.adds was))
 
 pub returns-in_err-stats-clause-honest : goal.returns-in_err-stats-clause-honest
@@ -151,11 +161,13 @@ returns-clause-steps g c = λ backed.
       usable_is = c.in_ok-search.ensures.usable;
     } in
     let documents = c.in_ok-snapshot.ensures.documents told in
-    let generation : c.generation.result ≡ s.repository.held.generation = c.generation.ensures ∙ ap (λ (x : repositories.State). x.held.generation) c.in_ok-snapshot.ensures.closed in
-    let sums : IsDeskBacked told view → AreSums (snapshots.live told snapshot) c.generation.result s.counts = λ b.
+    let wide : c.from-live.result ≡ c.live_count.result = search rules in
+    let pushed : c.push.new.self.items ≡ s.queries.items ++ q ∷ [] = search rules in
+    let generation : c.generation-generation.result ≡ s.repository.held.generation = c.generation-generation.ensures ∙ ap (λ (x : repositories.State). x.held.generation) c.in_ok-snapshot.ensures.closed in
+    let sums : IsDeskBacked told view → AreSums (snapshots.live told snapshot) c.generation-generation.result s.counts = λ b.
     subst (λ n. AreSums (snapshots.live told snapshot) n s.counts) (sym generation) (subst (λ (docs : List Document). AreSums docs s.repository.held.generation s.counts) (sym documents) b.counts) in
-    open-done told view name c.args.k c.args.checked snapshot stats q new refl documents after c.args.self.now c.snapshot.new.self c.push.new.self.items c.all_stats.new.counts c.all_stats.new.cache c.live.result c.in_ok-told.told
-    c.self.view_is c.in_ok-snapshot.ensures.closed c.in_ok-push.ensures.items c.in_ok-told.ensures c.in_ok-stats.ensures.reads.quiet.same_files free room (c.live_count.ensures told) c.in_ok-snapshot.ensures.numbers
+    open-done told view name c.args.k c.args.checked snapshot stats q new refl documents after c.args.self.now c.snapshot.new.self c.push.new.self.items c.all_stats.new.counts c.all_stats.new.cache c.from-live.result c.in_ok-told.told
+    c.self.view_is c.in_ok-snapshot.ensures.closed pushed c.in_ok-told.ensures c.in_ok-stats.ensures.reads.quiet.same_files free room (wide ∙ c.live_count.ensures told) c.in_ok-snapshot.ensures.numbers
     (λ b. c.in_ok-snapshot.ensures.stored told b.repository) c.in_ok-search.ensures.taken
     (λ b. c.deref-2.ensures.value ∙ c.in_ok-stats.ensures.exact (c.in_ok-snapshot.ensures.stored told b.repository) b.cache.backed (sums b) ∙ ap (λ (ls : List LeafKind). map (stats_of (snapshots.live told snapshot)) (map leaf_tree ls)) c.deref.ensures.value)
     (λ b. subst (λ n. AreSums (snapshots.live told snapshot) n c.all_stats.new.counts) generation (c.in_ok-stats.ensures.kept (c.in_ok-snapshot.ensures.stored told b.repository) b.cache.backed (sums b)))

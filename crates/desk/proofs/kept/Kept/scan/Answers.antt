@@ -29,14 +29,14 @@ returns-in-Err-Refused-clause-steps g c = λ backed.
     let now : Keeps = c.args.self.now in
     let taken : IsNotTaken (scanned c.as_slice.result.now) (not_taken.Refused c.in-Err-Refused.refusal) = subst (λ (n : NotTaken). IsNotTaken (scanned c.as_slice.result.now) n) c.in-Err-Refused.field-0-is c.in-Err-Refused.ensures.refused in
     let why : scanned c.args.text.now ≡ Err c.in-Err-Refused.refusal = ap scanned (sym c.as_slice.ensures) ∙ taken in
-    refused-exit (event.Scan c.args.text.now) told now c.in-Err-Refused.refusal (scan-fault (state_of told now) c.args.text.now c.in-Err-Refused.refusal why) backed
+    rw c.in-Err-Refused.field-0-is (refused-exit (event.Scan c.args.text.now) told now c.in-Err-Refused.refusal (scan-fault (state_of told now) c.args.text.now c.in-Err-Refused.refusal why) backed)
 
 pub returns-in-Err-Refused-clause-refuses : goal.returns-in-Err-Refused-clause-refuses
 returns-in-Err-Refused-clause-refuses g c = λ told.
     let now : Keeps = c.args.self.now in
     let taken : IsNotTaken (scanned c.as_slice.result.now) (not_taken.Refused c.in-Err-Refused.refusal) = subst (λ (n : NotTaken). IsNotTaken (scanned c.as_slice.result.now) n) c.in-Err-Refused.field-0-is c.in-Err-Refused.ensures.refused in
     let why : scanned c.args.text.now ≡ Err c.in-Err-Refused.refusal = ap scanned (sym c.as_slice.ensures) ∙ taken in
-    refused-so (event.Scan c.args.text.now) (state_of told now) c.in-Err-Refused.refusal (scan-fault (state_of told now) c.args.text.now c.in-Err-Refused.refusal why)
+    rw c.in-Err-Refused.field-0-is (refused-so (event.Scan c.args.text.now) (state_of told now) c.in-Err-Refused.refusal (scan-fault (state_of told now) c.args.text.now c.in-Err-Refused.refusal why))
 
 pub invariant_of-self : goal.invariant_of-self
 invariant_of-self g c =

@@ -9,8 +9,7 @@ use Rattle.session_replies.specs.declared.reply.Reply.TheVariants as reply
 use Rattle.session_replies.specs.declared.reply.Refusal.TheVariants.{NoSuchName}
 use Rattle.desk.specs.Backed.{IsDeskBacked, Keeps, Steps, state_of}
 use Rattle.desk.specs.Keeping.{AreKept, IsOpen}
-use Rattle.desk.specs.Plugs.{ArePlugs}
-use Rattle.desk.specs.Queries.{IsCacheKept, IsQueryBacked, priors_in, query_of}
+use Rattle.desk.specs.Queries.{IsCacheKept, IsQueryBacked, query_of}
 use Rattle.desk.specs.declared.query.OpenQuery.{OpenQuery}
 use Rattle.desk.proofs.CacheLemmas.{cache-read}
 use Rattle.desk.proofs.Cases.{step-noname, step-stepped}
@@ -18,6 +17,7 @@ use Rattle.desk.proofs.Exits.{accepted-by, of-now, refused-by, refused-here}
 use Rattle.desk.proofs.KeptLemmas.{asks-nine, kept-set, open-on}
 use Rattle.desk.proofs.NamedExits.{step-exit, with_search}
 use Rattle.desk.proofs.Naming.{at-place, found-place, is_named, named-here, named-none}
+use Rattle.desk.proofs.QueryLemmas.{plugs-moved}
 use Rattle.desk.proofs.kept.Kept.step.Goals as goal
 
 pub returns-in_default-clause-steps : goal.returns-in_default-clause-steps
@@ -101,7 +101,7 @@ returns-in-Ok-clause-steps g c = λ backed are.
     let own : IsQueryBacked told s.repository c.args.rule.now.kind q = subst (λ k. IsQueryBacked told s.repository k q) (sym kind) query in
     let now : IsQueryBacked after s.repository s.kind new =
     subst (λ k. IsQueryBacked after s.repository k new) kind
-    (c.in-Ok.ensures.backed s.repository few was.priors (subst (λ (x : Keeps). ArePlugs (priors_in told x.repository.priors) _) (sym c.self.view_is) are) b.cache.backed own) in
+    (c.in-Ok.ensures.backed s.repository few was.priors (plugs-moved told view c.args.self.now _ c.self.view_is are) b.cache.backed own) in
     let blocks : IsCacheKept after s.repository cache = subst (λ (f : Option Files). IsCacheKept f s.repository cache) (sym same) (cache-read told s.repository q.search.snapshot s.cache cache query.listed c.advance.ensures.cache b.cache) in
     step-exit told view name c.in-Some.place q place there after c.args.docs c.in-Ok.credit c.in-Ok.live new cache same (c.in-Ok.ensures.query told) now blocks (c.in-Ok.ensures.credit told) (c.in-Ok.ensures.live told) b)
     backed

@@ -1,0 +1,57 @@
+-- A search asks the plugs for no more than the priors tell.
+use Rattle.std.proofs.Common.{◌≡◌, ◌<◌, ◌≤◌, ◌+◌, ◌-◌, ℕ, zero, suc, List, [], ◌∷◌, ◌++◌, length, map, get_or, refl, sym, ap, subst, ◌∙◌, ◌⊎◌, inl, inr, arith, Option}
+use Rattle.std.specs.Prelude.{⊤, drop, flat_map, slice_index_or, zip}
+use Rattle.std.specs.List.{All, filter, list_all}
+use Rattle.std.specs.List.Sorted.{IsPermutation}
+use Rattle.std.proofs.lemmas.List.Elements.{All-head, All-tail}
+use Rattle.ri_base.specs.Documents.{Document}
+use Rattle.ri_base.specs.Pair.{Pair}
+use Rattle.ri_base.specs.Query.{FilterTree}
+use Rattle.ri_base.specs.declared.hit.Hit.{Hit}
+use Rattle.ri_base.specs.declared.hit.LeafStats.{LeafStats}
+use Rattle.store_ends.specs.Files.{Files}
+use Rattle.smoothing.specs.declared.rule.RuleKind.{RuleKind}
+use Rattle.query_check.specs.Leaves.{LeafTree, extents, prior}
+use Rattle.belief_nodes.specs.Network.{NetworkTree, network_tree}
+use Rattle.belief_nodes.specs.Priors.{Prior, prior_at, prior_fraction}
+use Rattle.document_scoring.specs.Candidates.{Candidate, beliefs, candidate, candidates, document_candidates, found_windows, leaf_belief, passes}
+use Rattle.ranker.specs.First.{HoldsFirst}
+use Rattle.ranker.specs.Held.{IsHeld}
+use Rattle.ranker.specs.Passed.{passed}
+use Rattle.ranker.specs.Ranking.{IsAnswerBy, candidate_of}
+use Rattle.ranker.specs.Searches.{IsTaken, filters_of}
+use Rattle.ranker.specs.declared.held.Held.{Held}
+use Rattle.ranker.specs.declared.held.Held.TheVariants.{Open, Ended}
+use Rattle.ranker.specs.declared.search.Search.{Search}
+
+-- of a leaf the two tell the same
+abbrev pub TellsAlike : List Prior → List Prior → LeafTree → Type 0
+TellsAlike a b (extents x context) = ⊤
+TellsAlike a b (prior n) = (docno : List ℕ) (tokens : ℕ) → prior_fraction (prior_at a n) docno tokens ≡ prior_fraction (prior_at b n) docno tokens
+
+module _ (kind : RuleKind) (a b : List Prior) where
+  belief-alike : (d : Document) (w : Pair) (leaf : LeafTree) (stats : LeafStats) → TellsAlike a b leaf → leaf_belief kind a d w leaf stats ≡ leaf_belief kind b d w leaf stats
+  belief-alike d w (extents x context) stats alike = refl
+  belief-alike d w (prior n) stats alike = alike d.docno (length d.tokens)
+
+  beliefs-alike : (d : Document) (w : Pair) (leaves : List LeafTree) (stats : List LeafStats) → All (TellsAlike a b) leaves → beliefs kind a leaves stats d w ≡ beliefs kind b leaves stats d w
+  beliefs-alike d w [] stats alike = refl
+  beliefs-alike d w (l ∷ ls) [] alike = refl
+  beliefs-alike d w (l ∷ ls) (s ∷ ss) alike = λ i.
+      belief-alike d w l s (All-head (TellsAlike a b) l ls alike) i ∷ beliefs-alike d w ls ss (All-tail (TellsAlike a b) l ls alike) i
+
+  candidate-alike : (network : NetworkTree) → All (TellsAlike a b) network.leaves → (d : Document) (w : Pair) → candidate kind a network d w ≡ candidate kind b network d w
+  candidate-alike network alike d w = λ i. record { docno = d.docno; begin = w.begin; end = w.end; beliefs = beliefs-alike d w network.leaves network.stats alike i }
+
+  pub candidates-alike : (filters : List FilterTree) (network : NetworkTree) → All (TellsAlike a b) network.leaves → (docs : List Document) → candidates kind a filters network docs ≡ candidates kind b filters network docs
+  candidates-alike filters network alike docs = λ i.
+      flat_map (λ d. map (λ w. candidate-alike network alike d w i) (found_windows network.leaves network.range d)) (filter (λ d. list_all (passes d) filters) docs)
+
+  held-alike : (filters : List FilterTree) (network : NetworkTree) (docs : List Document) (most : ℕ) → All (TellsAlike a b) network.leaves → (h : Held) → IsHeld kind a filters network docs most h → IsHeld kind b filters network docs most h
+  held-alike filters network docs most alike (Open few) held = record { rows = held.rows; all = held.all ∙ candidates-alike filters network alike docs; keys = held.keys; room = held.room; first = held.first }
+  held-alike filters network docs most alike (Ended hits) held =
+      (held.0, record { all = subst (λ (cs : List Candidate). IsPermutation cs (map candidate_of held.0)) (candidates-alike filters network alike docs) held.1.all; keys = held.1.keys; sorted = held.1.sorted }, held.2)
+
+  -- What a search has taken by the one is so by the other.
+  pub taken-alike : (told : Option Files) (s : Search) → All (TellsAlike a b) (network_tree s.network).leaves → IsTaken kind a told s → IsTaken kind b told s
+  taken-alike told s alike taken = record { held = held-alike (filters_of s) (network_tree s.network) (passed told s.snapshot s.at) s.most alike s.held taken.held; ahead = taken.ahead }

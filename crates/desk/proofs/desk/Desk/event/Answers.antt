@@ -1,0 +1,19 @@
+use Rattle.std.proofs.Common.{◌≡◌, [], subst, sym}
+use Rattle.repository.specs.Writes.{AreGone}
+use Rattle.desk.specs.Backed.{Keeps, Steps}
+use Rattle.desk.proofs.EventExits.{usable-set}
+use Rattle.desk.proofs.desk.Desk.event.Goals as goal
+
+pub answer-requires-clause-kind : goal.answer-requires-clause-kind
+answer-requires-clause-kind g c = sym c.args.self.now.same_kind
+
+pub set_usable-requires : goal.set_usable-requires
+set_usable-requires g c = λ on. c.in-Ok.ensures.usable.0
+
+pub returns-in-Ok-clause-steps : goal.returns-in-Ok-clause-steps
+returns-in-Ok-clause-steps g c = λ backed plugs.
+    subst (λ (x : Keeps). Steps c.args.event (g.T.Store.files c.args.store.now) (g.T.Store.files c.answer.new.store) c.args.self.now.kept x c.in-Ok.reply) (sym c.set_usable.ensures) (usable-set c.args.event (g.T.Store.files c.args.store.now) (g.T.Store.files c.answer.new.store) c.args.self.now.kept c.answer.new.self _ c.in-Ok.reply (c.in-Ok.ensures.steps backed plugs))
+
+pub returns-in-Ok-clause-swept : goal.returns-in-Ok-clause-swept
+returns-in-Ok-clause-swept g c = λ last.
+    subst (λ (x : Keeps). (x.repository.stale ≡ []) × AreGone c.args.self.now.kept.repository.stale (g.T.Store.files c.answer.new.store)) (sym c.set_usable.ensures) (c.in-Ok.ensures.swept last)

@@ -1,0 +1,203 @@
+use Rattle.std.proofs.Common.{◌≡◌, ◌∙◌, ◌≤◌, ◌-◌, ap, false, get_or, length, map, refl, subst, sym, true, List, None, Some, Option}
+use Rattle.std.specs.Prelude.{is_some, nat_lt, slice_get}
+use Rattle.std.specs.List.{position}
+use Rattle.std.proofs.Math.Logic.{∥∥₁_map}
+use Rattle.std.proofs.lemmas.Result.{err_from_is_err_and}
+use Rattle.ri_base.specs.declared.hit.Hit.{Hit}
+use Rattle.ri_base.specs.declared.hit.LeafStats.{LeafStats}
+use Rattle.store_ends.specs.Files.{Files}
+use Rattle.manifest.specs.declared.manifest.PriorEntry.{PriorEntry}
+use Rattle.query_check.specs.Answers.{whole_checked}
+use Rattle.query_check.specs.declared.checked.Checked.{Checked}
+use Rattle.belief_nodes.specs.Network.{network_tree}
+use Rattle.disk_index.specs.Cache.{KeptBlock}
+use Rattle.disk_index.specs.Snapshots.{AreBacked, Marked, live}
+use Rattle.ranker.specs.Ranking.{candidate_of}
+use Rattle.ranker.specs.Searches.{IsAnswerOf, searched}
+use Rattle.ranker.specs.Windows.{IsWindowIn}
+use Rattle.result_explanation.specs.Explanation.{IsExplanation}
+use Rattle.repository.specs.States.{part_numbers}
+use Rattle.collection_queries.specs.Answer.{document_with}
+use Rattle.collection_queries.specs.Priors.{priors_with}
+use Rattle.collection_queries.proofs.ExplainedLemmas.{of_each}
+use Rattle.collection_queries.proofs.SearchLemmas.{as-many-leaves}
+use Rattle.session_events.specs.declared.event.Event.TheVariants as event
+use Rattle.session_replies.specs.declared.reply.Reply.TheVariants as reply
+use Rattle.session_replies.specs.declared.reply.Refusal.TheVariants.{NoSuchName, NoSuchRank, NotYet}
+use Rattle.desk.specs.Backed.{IsDeskBacked, Keeps, Steps, state_of}
+use Rattle.desk.specs.Keeping.{IsOpen}
+use Rattle.desk.specs.Queries.{AreListed, IsCacheKept, IsQueryBacked, priors_in, query_of}
+use Rattle.desk.specs.Step.{step}
+use Rattle.desk.specs.Told.{told_early}
+use Rattle.desk.proofs.CacheLemmas.{cache-read}
+use Rattle.desk.proofs.Cases.{explain-noname}
+use Rattle.desk.proofs.Exits.{of-now, refused-exit, refused-here}
+use Rattle.desk.proofs.FormLemmas.{scale-form}
+use Rattle.desk.proofs.NamedExits.{all-passed, not-yet, not-yet-explained, shown-entries}
+use Rattle.desk.proofs.Naming.{at-place, found-place, is_named, named-here, named-none}
+use Rattle.desk.proofs.ReadingExits.{early-passed, early-refused, explain-exit, no-rank, with_cache}
+use Rattle.desk.proofs.kept.Kept.explain.Goals as goal
+
+pub returns-in_default-clause-steps : goal.returns-in_default-clause-steps
+returns-in_default-clause-steps g c = λ backed.
+    let told = g.T.Store.files c.args.store.now in
+    let s = c.self.inside in
+    let name = c.args.name in
+    let view : Keeps = record { repository = s.repository; kind = s.kind; queries = s.queries.items; counts = s.counts; cache = s.cache; usable = s.usable } in
+    let none : position (is_named name) s.queries.items ≡ None = ap (λ (x : Keeps). position (is_named name) x.queries) c.self.view_is ∙ sym c.find.ensures ∙ c.in_default.is in
+    refused-here (event.Explain name c.args.rank) told view c.args.self.now (NoSuchName name) c.self.view_is (explain-noname (state_of told view) name c.args.rank (named-none told name s.queries.items none)) backed
+
+pub returns-in_default-clause-early : goal.returns-in_default-clause-early
+returns-in_default-clause-early g c = λ told.
+    let s = c.self.inside in
+    let name = c.args.name in
+    let view : Keeps = record { repository = s.repository; kind = s.kind; queries = s.queries.items; counts = s.counts; cache = s.cache; usable = s.usable } in
+    let none : position (is_named name) s.queries.items ≡ None = ap (λ (x : Keeps). position (is_named name) x.queries) c.self.view_is ∙ sym c.find.ensures ∙ c.in_default.is in
+    early-refused (event.Explain name c.args.rank) told view c.args.self.now (NoSuchName name) c.self.view_is (explain-noname (state_of told view) name c.args.rank (named-none told name s.queries.items none))
+
+pub returns-in_default-results-clause-steps : goal.returns-in_default-results-clause-steps
+returns-in_default-results-clause-steps g c = λ backed.
+    let told = g.T.Store.files c.args.store.now in
+    let s = c.self.inside in
+    let name = c.args.name in
+    let view : Keeps = record { repository = s.repository; kind = s.kind; queries = s.queries.items; counts = s.counts; cache = s.cache; usable = s.usable } in
+    let found : position (is_named name) s.queries.items ≡ Some c.in-Some.place = ap (λ (x : Keeps). position (is_named name) x.queries) c.self.view_is ∙ sym c.find.ensures ∙ c.in-Some.is in
+    let kept = c.self.invariant (ap (λ (x : Keeps). x.usable) c.self.view_is ∙ c.requires.usable.0) (ap (λ (x : Keeps). x.repository.usable) c.self.view_is ∙ c.requires.usable.1) in
+    let q = c.index.result.now in
+    let there : q ≡ get_or s.queries.items c.in-Some.place q = c.index.ensures in
+    let place = found-place name s.queries.items c.in-Some.place q found in
+    let was : IsOpen (length s.repository.priors) q = at-place (IsOpen (length s.repository.priors)) s.queries.items c.in-Some.place q place.within there kept.each in
+    let less = not-yet told view name c.in-Some.place q place there was.usable (is_some c.results.result) (c.results.ensures.some told) (ap is_some c.in_default-results.is) in
+    refused-here (event.Explain name c.args.rank) told view c.args.self.now (NotYet name) c.self.view_is (not-yet-explained told view name c.in-Some.place q place there c.args.rank less) backed
+
+pub returns-in_default-results-clause-early : goal.returns-in_default-results-clause-early
+returns-in_default-results-clause-early g c = λ told.
+    let s = c.self.inside in
+    let name = c.args.name in
+    let view : Keeps = record { repository = s.repository; kind = s.kind; queries = s.queries.items; counts = s.counts; cache = s.cache; usable = s.usable } in
+    let found : position (is_named name) s.queries.items ≡ Some c.in-Some.place = ap (λ (x : Keeps). position (is_named name) x.queries) c.self.view_is ∙ sym c.find.ensures ∙ c.in-Some.is in
+    let kept = c.self.invariant (ap (λ (x : Keeps). x.usable) c.self.view_is ∙ c.requires.usable.0) (ap (λ (x : Keeps). x.repository.usable) c.self.view_is ∙ c.requires.usable.1) in
+    let q = c.index.result.now in
+    let there : q ≡ get_or s.queries.items c.in-Some.place q = c.index.ensures in
+    let place = found-place name s.queries.items c.in-Some.place q found in
+    let was : IsOpen (length s.repository.priors) q = at-place (IsOpen (length s.repository.priors)) s.queries.items c.in-Some.place q place.within there kept.each in
+    let less = not-yet told view name c.in-Some.place q place there was.usable (is_some c.results.result) (c.results.ensures.some told) (ap is_some c.in_default-results.is) in
+    early-refused (event.Explain name c.args.rank) told view c.args.self.now (NotYet name) c.self.view_is (not-yet-explained told view name c.in-Some.place q place there c.args.rank less)
+
+pub returns-in_default-2-clause-steps : goal.returns-in_default-2-clause-steps
+returns-in_default-2-clause-steps g c = λ backed.
+    let told = g.T.Store.files c.args.store.now in
+    let s = c.self.inside in
+    let name = c.args.name in
+    let view : Keeps = record { repository = s.repository; kind = s.kind; queries = s.queries.items; counts = s.counts; cache = s.cache; usable = s.usable } in
+    let found : position (is_named name) s.queries.items ≡ Some c.in-Some.place = ap (λ (x : Keeps). position (is_named name) x.queries) c.self.view_is ∙ sym c.find.ensures ∙ c.in-Some.is in
+    let kept = c.self.invariant (ap (λ (x : Keeps). x.usable) c.self.view_is ∙ c.requires.usable.0) (ap (λ (x : Keeps). x.repository.usable) c.self.view_is ∙ c.requires.usable.1) in
+    let q = c.index.result.now in
+    let there : q ≡ get_or s.queries.items c.in-Some.place q = c.index.ensures in
+    let place = found-place name s.queries.items c.in-Some.place q found in
+    let was : IsOpen (length s.repository.priors) q = at-place (IsOpen (length s.repository.priors)) s.queries.items c.in-Some.place q place.within there kept.each in
+    let passed = all-passed told view name c.in-Some.place q place there (is_some c.results.result) (c.results.ensures.some told) (ap is_some c.in-Some-results.is) in
+    let hits : List Hit = c.in-Some-results.hits.now in
+    of-now told view c.args.self.now (λ x. Steps (event.Explain name c.args.rank) told told x x (reply.Refused (NoSuchRank name))) c.self.view_is
+    (λ b.
+    let query : IsQueryBacked told s.repository s.kind q = at-place (IsQueryBacked told s.repository s.kind) s.queries.items c.in-Some.place q place.within there b.queries in
+    let entries = shown-entries told view name c.in-Some.place q place there hits was.distinct query (c.in-Some-results.ensures.answer s.kind (priors_with (priors_in told s.repository.priors)) told query.taken) in
+    refused-exit (event.Explain name c.args.rank) told view (NoSuchRank name) (no-rank told view name c.in-Some.place q place there passed hits entries c.args.rank (sym c.in_default-2.is ∙ c.in_ok-hit.ensures)) b)
+    backed
+
+pub returns-in_default-2-clause-early : goal.returns-in_default-2-clause-early
+returns-in_default-2-clause-early g c = λ told.
+    let s = c.self.inside in
+    let name = c.args.name in
+    let view : Keeps = record { repository = s.repository; kind = s.kind; queries = s.queries.items; counts = s.counts; cache = s.cache; usable = s.usable } in
+    let found : position (is_named name) s.queries.items ≡ Some c.in-Some.place = ap (λ (x : Keeps). position (is_named name) x.queries) c.self.view_is ∙ sym c.find.ensures ∙ c.in-Some.is in
+    let q = c.index.result.now in
+    let there : q ≡ get_or s.queries.items c.in-Some.place q = c.index.ensures in
+    let place = found-place name s.queries.items c.in-Some.place q found in
+    let passed = all-passed told view name c.in-Some.place q place there (is_some c.results.result) (c.results.ensures.some told) (ap is_some c.in-Some-results.is) in
+    subst (λ (x : Keeps). None ≡ told_early (step (state_of told x) (event.Explain name c.args.rank)).1) c.self.view_is
+    (sym (early-passed (state_of told view) name c.args.rank (query_of told q) (named-here told name s.queries.items c.in-Some.place q place there) passed))
+
+pub explain_hit-requires-clause-hit : goal.explain_hit-requires-clause-hit
+explain_hit-requires-clause-hit g c =
+    let told = g.T.Store.files c.args.store.now in
+    let s = c.self.inside in
+    let name = c.args.name in
+    let found : position (is_named name) s.queries.items ≡ Some c.in-Some.place = ap (λ (x : Keeps). position (is_named name) x.queries) c.self.view_is ∙ sym c.find.ensures ∙ c.in-Some.is in
+    let kept = c.self.invariant (ap (λ (x : Keeps). x.usable) c.self.view_is ∙ c.requires.usable.0) (ap (λ (x : Keeps). x.repository.usable) c.self.view_is ∙ c.requires.usable.1) in
+    let q = c.index.result.now in
+    let there : q ≡ get_or s.queries.items c.in-Some.place q = c.index.ensures in
+    let place = found-place name s.queries.items c.in-Some.place q found in
+    let was : IsOpen (length s.repository.priors) q = at-place (IsOpen (length s.repository.priors)) s.queries.items c.in-Some.place q place.within there kept.each in
+    let n = length (network_tree q.search.network).leaves in
+    let hit = c.in-Some-2.hit in
+    let parts : c.parts.result.now ≡ q.search.snapshot = c.parts.ensures.parts ∙ c.snapshot.ensures in
+    ∥∥₁_map (c.in-Some-results.ensures.windows told) (λ w.
+    let here : IsWindowIn (searched told q.search) n (candidate_of hit) =
+    of_each (λ (h : Hit). IsWindowIn (searched told q.search) n (candidate_of h)) c.in-Some-results.hits.now (c.args.rank - 1) hit w.each (sym c.in_ok-hit.ensures ∙ c.in-Some-2.is) in
+    subst (λ leaves. IsWindowIn (live told c.parts.result.now) leaves (candidate_of hit)) (as-many-leaves q.search c.checked.result.now was.network c.checked.ensures)
+    (subst (λ (ms : List Marked). IsWindowIn (live told ms) n (candidate_of hit)) (sym parts) here))
+
+pub returns-clause-form : goal.returns-clause-form
+returns-clause-form g c = scale-form c.checked.result.now c.in_ok-explained.explained.scale c.in_ok-explained.ensures.scale
+
+pub returns-clause-steps : goal.returns-clause-steps
+returns-clause-steps g c = λ backed.
+    let told = g.T.Store.files c.args.store.now in
+    let s = c.self.inside in
+    let name = c.args.name in
+    let view : Keeps = record { repository = s.repository; kind = s.kind; queries = s.queries.items; counts = s.counts; cache = s.cache; usable = s.usable } in
+    let after = g.T.Store.files c.explain_hit.new.store in
+    let found : position (is_named name) s.queries.items ≡ Some c.in-Some.place = ap (λ (x : Keeps). position (is_named name) x.queries) c.self.view_is ∙ sym c.find.ensures ∙ c.in-Some.is in
+    let kept = c.self.invariant (ap (λ (x : Keeps). x.usable) c.self.view_is ∙ c.requires.usable.0) (ap (λ (x : Keeps). x.repository.usable) c.self.view_is ∙ c.requires.usable.1) in
+    let q = c.index.result.now in
+    let there : q ≡ get_or s.queries.items c.in-Some.place q = c.index.ensures in
+    let place = found-place name s.queries.items c.in-Some.place q found in
+    let was : IsOpen (length s.repository.priors) q = at-place (IsOpen (length s.repository.priors)) s.queries.items c.in-Some.place q place.within there kept.each in
+    let passed = all-passed told view name c.in-Some.place q place there (is_some c.results.result) (c.results.ensures.some told) (ap is_some c.in-Some-results.is) in
+    let hits : List Hit = c.in-Some-results.hits.now in
+    let hit = c.in-Some-2.hit in
+    let e = c.in_ok-explained.explained in
+    let cache = c.explain_hit.new.cache in
+    let same : after ≡ told = c.in_ok-explained.ensures.reads.quiet.same_files in
+    let parts : c.parts.result.now ≡ q.search.snapshot = c.parts.ensures.parts ∙ c.snapshot.ensures in
+    let names : c.deref.result.now ≡ map (λ (x : PriorEntry). x.name) s.repository.priors = c.deref.ensures.value ∙ c.in_ok-names.ensures ∙ ap (map (λ (x : PriorEntry). x.name)) c.priors.ensures.list in
+    of-now told view c.args.self.now (λ x. Steps (event.Explain name c.args.rank) told after x (with_cache view cache) (reply.Explained e)) c.self.view_is
+    (λ b.
+    let query : IsQueryBacked told s.repository s.kind q = at-place (IsQueryBacked told s.repository s.kind) s.queries.items c.in-Some.place q place.within there b.queries in
+    let entries = shown-entries told view name c.in-Some.place q place there hits was.distinct query (c.in-Some-results.ensures.answer s.kind (priors_with (priors_in told s.repository.priors)) told query.taken) in
+    let found_in = c.in_ok-explained.ensures.exact (subst (λ (ms : List Marked). AreBacked told ms) (sym parts) query.snapshot) b.cache.backed in
+    let document = sym (ap (λ (ms : List Marked). document_with hit.docno (live told ms)) parts) ∙ found_in.1 in
+    let is = subst (λ (k : Checked). IsExplanation c.deref.result.now (whole_checked k) c.stats.result.now found_in.0 c.args.rank hit e) c.checked.ensures found_in.2 in
+    let kept_blocks : IsCacheKept told s.repository cache = cache-read told s.repository c.parts.result.now s.cache cache (subst (λ (ms : List Marked). AreListed s.repository (part_numbers ms)) (sym parts) query.listed) c.in_ok-explained.ensures.reads.cache b.cache in
+    explain-exit told view name c.in-Some.place q place there passed hits entries c.args.rank after cache hit found_in.0 c.deref.result.now c.stats.result.now e same (sym c.in-Some-2.is ∙ c.in_ok-hit.ensures) document names c.stats.ensures is query kept_blocks b)
+    backed
+
+pub returns-clause-early : goal.returns-clause-early
+returns-clause-early g c = λ told.
+    let s = c.self.inside in
+    let name = c.args.name in
+    let view : Keeps = record { repository = s.repository; kind = s.kind; queries = s.queries.items; counts = s.counts; cache = s.cache; usable = s.usable } in
+    let found : position (is_named name) s.queries.items ≡ Some c.in-Some.place = ap (λ (x : Keeps). position (is_named name) x.queries) c.self.view_is ∙ sym c.find.ensures ∙ c.in-Some.is in
+    let q = c.index.result.now in
+    let there : q ≡ get_or s.queries.items c.in-Some.place q = c.index.ensures in
+    let place = found-place name s.queries.items c.in-Some.place q found in
+    let passed = all-passed told view name c.in-Some.place q place there (is_some c.results.result) (c.results.ensures.some told) (ap is_some c.in-Some-results.is) in
+    subst (λ (x : Keeps). None ≡ told_early (step (state_of told x) (event.Explain name c.args.rank)).1) c.self.view_is
+    (sym (early-passed (state_of told view) name c.args.rank (query_of told q) (named-here told name s.queries.items c.in-Some.place q place there) passed))
+
+pub returns-in_err-explained-clause-honest : goal.returns-in_err-explained-clause-honest
+returns-in_err-explained-clause-honest g c = λ backed.
+    let told = g.T.Store.files c.args.store.now in
+    let s = c.self.inside in
+    let name = c.args.name in
+    let view : Keeps = record { repository = s.repository; kind = s.kind; queries = s.queries.items; counts = s.counts; cache = s.cache; usable = s.usable } in
+    let found : position (is_named name) s.queries.items ≡ Some c.in-Some.place = ap (λ (x : Keeps). position (is_named name) x.queries) c.self.view_is ∙ sym c.find.ensures ∙ c.in-Some.is in
+    let q = c.index.result.now in
+    let there : q ≡ get_or s.queries.items c.in-Some.place q = c.index.ensures in
+    let place = found-place name s.queries.items c.in-Some.place q found in
+    let b : IsDeskBacked told view = subst (IsDeskBacked told) (sym c.self.view_is) backed in
+    let query : IsQueryBacked told s.repository s.kind q = at-place (IsQueryBacked told s.repository s.kind) s.queries.items c.in-Some.place q place.within there b.queries in
+    let parts : c.parts.result.now ≡ q.search.snapshot = c.parts.ensures.parts ∙ c.snapshot.ensures in
+    let p = err_from_is_err_and c.from_residual-in_err-explained.result c.from_residual-in_err-explained.ensures.1 in
+    rw (p.1, p.2) (c.in_err-explained.ensures.honest (subst (λ (ms : List Marked). AreBacked told ms) (sym parts) query.snapshot) b.cache.backed)

@@ -1,0 +1,183 @@
+use Rattle.std.proofs.Common.{◌≡◌, ◌∙◌, ◌≤◌, ◌<◌, ◌++◌, ◌∷◌, [], ap, arith, false, true, length, map, refl, rules, subst, sym, List, None, Some, Option}
+use Rattle.std.specs.Prelude.{Err, Ok, is_some, nat_le}
+use Rattle.std.specs.List.{All, position}
+use Rattle.std.proofs.lemmas.Bool.{le-leb, lt-leb}
+use Rattle.std.proofs.lemmas.Result.{err_from_is_err_and}
+use Rattle.ri_base.specs.Documents.{Document}
+use Rattle.store_ends.specs.Files.{Files}
+use Rattle.query_check.specs.Answers.{whole_checked}
+use Rattle.query_check.specs.Leaves.{leaf_tree}
+use Rattle.query_check.specs.declared.leaf_kind.LeafKind.{LeafKind}
+use Rattle.disk_index.specs.Snapshots as snapshots
+use Rattle.disk_index.specs.Snapshots.{Marked}
+use Rattle.document_scoring.specs.Counts.{stats_of}
+use Rattle.holdings.specs.Parts.{live}
+use Rattle.counts.specs.Kept.{AreSums, Kept}
+use Rattle.repository.specs.States as repositories
+use Rattle.session_replies.specs.declared.reply.Refusal.TheVariants.{DeskFull, NameTaken}
+use Rattle.session_replies.specs.declared.reply.Reply.TheVariants as reply
+use Rattle.desk.specs.Backed.{IsDeskBacked, Keeps, StepsTo, state_of}
+use Rattle.desk.specs.Keeping.{AreKept, AsksFor, IsOpen}
+use Rattle.desk.specs.declared.query.OpenQuery.{OpenQuery}
+use Rattle.desk.specs.declared.query.TheConstants.{MAX_QUERIES}
+use Rattle.desk.proofs.CacheLemmas.{cache-read, listed-now}
+use Rattle.desk.proofs.Closing.{priors-closed}
+use Rattle.desk.proofs.Exits.{of-now}
+use Rattle.desk.proofs.KeptLemmas.{kept-counts, kept-pushed, kept-repository}
+use Rattle.desk.proofs.Naming.{is_named}
+use Rattle.desk.proofs.OpenExits.{IsNewSearch, full-refused, open-accepted-by, open-done, open-new, open-refusal, open-refused-by, taken-refused}
+use Rattle.desk.proofs.kept.Kept.open_checked.Goals as goal
+
+pub returns-then-is_some-clause-steps : goal.returns-then-is_some-clause-steps
+returns-then-is_some-clause-steps g c = λ backed.
+    let told = g.T.Store.files c.args.store.now in
+    let s = c.self.inside in
+    let name = c.args.name in
+    let view : Keeps = record { repository = s.repository; kind = s.kind; queries = s.queries.items; counts = s.counts; cache = s.cache; usable = s.usable } in
+    let taken : is_some (position (is_named name) s.queries.items) ≡ true = ap (λ (x : Keeps). is_some (position (is_named name) x.queries)) c.self.view_is ∙ ap is_some (sym c.find.ensures) ∙ sym c.is_some.ensures ∙ c.if-is_some.true in
+    open-refusal told view c.args.self.now name c.args.k (whole_checked c.args.checked) (NameTaken name) c.self.view_is (taken-refused told view name c.args.k (whole_checked c.args.checked) taken) backed
+
+pub returns-then-is_some-clause-refuses : goal.returns-then-is_some-clause-refuses
+returns-then-is_some-clause-refuses g c = λ told.
+    let s = c.self.inside in
+    let name = c.args.name in
+    let view : Keeps = record { repository = s.repository; kind = s.kind; queries = s.queries.items; counts = s.counts; cache = s.cache; usable = s.usable } in
+    let taken : is_some (position (is_named name) s.queries.items) ≡ true = ap (λ (x : Keeps). is_some (position (is_named name) x.queries)) c.self.view_is ∙ ap is_some (sym c.find.ensures) ∙ sym c.is_some.ensures ∙ c.if-is_some.true in
+    open-refused-by told view c.args.self.now name c.args.k (whole_checked c.args.checked) (NameTaken name) c.self.view_is (taken-refused told view name c.args.k (whole_checked c.args.checked) taken)
+
+pub returns-then-len-ge-MAX_QUERIES-clause-steps : goal.returns-then-len-ge-MAX_QUERIES-clause-steps
+returns-then-len-ge-MAX_QUERIES-clause-steps g c = λ backed.
+    let told = g.T.Store.files c.args.store.now in
+    let s = c.self.inside in
+    let name = c.args.name in
+    let view : Keeps = record { repository = s.repository; kind = s.kind; queries = s.queries.items; counts = s.counts; cache = s.cache; usable = s.usable } in
+    let free : is_some (position (is_named name) s.queries.items) ≡ false = ap (λ (x : Keeps). is_some (position (is_named name) x.queries)) c.self.view_is ∙ ap is_some (sym c.find.ensures) ∙ sym c.is_some.ensures ∙ c.if-is_some.false in
+    let full : nat_le MAX_QUERIES (length s.queries.items) ≡ true = le-leb MAX_QUERIES (length s.queries.items) (omega (arith, c.len.ensures, c.if-len-ge-MAX_QUERIES.true)) in
+    open-refusal told view c.args.self.now name c.args.k (whole_checked c.args.checked) (DeskFull name) c.self.view_is (full-refused told view name c.args.k (whole_checked c.args.checked) free full) backed
+
+pub returns-then-len-ge-MAX_QUERIES-clause-refuses : goal.returns-then-len-ge-MAX_QUERIES-clause-refuses
+returns-then-len-ge-MAX_QUERIES-clause-refuses g c = λ told.
+    let s = c.self.inside in
+    let name = c.args.name in
+    let view : Keeps = record { repository = s.repository; kind = s.kind; queries = s.queries.items; counts = s.counts; cache = s.cache; usable = s.usable } in
+    let free : is_some (position (is_named name) s.queries.items) ≡ false = ap (λ (x : Keeps). is_some (position (is_named name) x.queries)) c.self.view_is ∙ ap is_some (sym c.find.ensures) ∙ sym c.is_some.ensures ∙ c.if-is_some.false in
+    let full : nat_le MAX_QUERIES (length s.queries.items) ≡ true = le-leb MAX_QUERIES (length s.queries.items) (omega (arith, c.len.ensures, c.if-len-ge-MAX_QUERIES.true)) in
+    open-refused-by told view c.args.self.now name c.args.k (whole_checked c.args.checked) (DeskFull name) c.self.view_is (full-refused told view name c.args.k (whole_checked c.args.checked) free full)
+
+pub invariant_of-self : goal.invariant_of-self
+invariant_of-self g c =
+    λ usable there.
+    let s = c.self.inside in
+    let priors = priors-closed c.snapshot.result s.repository c.snapshot.new.self c.snapshot.ensures.closed c.snapshot.ensures.left in
+    let was = kept-repository s.repository c.snapshot.new.self s.queries.items s.counts priors (c.self.invariant usable (sym c.snapshot.ensures.usable ∙ there)) in
+    was
+
+pub invariant_of-self-in_err-stats : goal.invariant_of-self-in_err-stats
+invariant_of-self-in_err-stats g c =
+    λ usable there.
+    let s = c.self.inside in
+    let priors = priors-closed c.snapshot.result s.repository c.snapshot.new.self c.snapshot.ensures.closed c.snapshot.ensures.left in
+    let was = kept-repository s.repository c.snapshot.new.self s.queries.items s.counts priors (c.self.invariant usable (sym c.snapshot.ensures.usable ∙ there)) in
+    kept-counts c.snapshot.new.self s.queries.items s.counts c.all_stats.new.counts c.all_stats.ensures.adds was
+
+pub invariant_of-self-in_err-search : goal.invariant_of-self-in_err-search
+invariant_of-self-in_err-search g c =
+    λ usable there.
+    let s = c.self.inside in
+    let priors = priors-closed c.snapshot.result s.repository c.snapshot.new.self c.snapshot.ensures.closed c.snapshot.ensures.left in
+    let was = kept-repository s.repository c.snapshot.new.self s.queries.items s.counts priors (c.self.invariant usable (sym c.snapshot.ensures.usable ∙ there)) in
+    kept-counts c.snapshot.new.self s.queries.items s.counts c.all_stats.new.counts c.all_stats.ensures.adds was
+
+pub invariant_of-self-in_err-told : goal.invariant_of-self-in_err-told
+invariant_of-self-in_err-told g c =
+    λ usable there.
+    let s = c.self.inside in
+    let priors = priors-closed c.snapshot.result s.repository c.snapshot.new.self c.snapshot.ensures.closed c.snapshot.ensures.left in
+    let was = kept-repository s.repository c.snapshot.new.self s.queries.items s.counts priors (c.self.invariant usable (sym c.snapshot.ensures.usable ∙ there)) in
+    kept-counts c.snapshot.new.self s.queries.items s.counts c.all_stats.new.counts c.all_stats.ensures.adds was
+
+pub invariant_of-self-in_err-map_err : goal.invariant_of-self-in_err-map_err
+invariant_of-self-in_err-map_err g c =
+    λ usable there.
+    let s = c.self.inside in
+    let priors = priors-closed c.snapshot.result s.repository c.snapshot.new.self c.snapshot.ensures.closed c.snapshot.ensures.left in
+    let was = kept-repository s.repository c.snapshot.new.self s.queries.items s.counts priors (c.self.invariant usable (sym c.snapshot.ensures.usable ∙ there)) in
+    let same : c.push.new.self.items ≡ s.queries.items = search rules in
+    subst (λ (qs : List OpenQuery). AreKept c.snapshot.new.self qs c.all_stats.new.counts) (sym same) (kept-counts c.snapshot.new.self s.queries.items s.counts c.all_stats.new.counts c.all_stats.ensures.adds was)
+
+pub invariant_of-self-2 : goal.invariant_of-self-2
+invariant_of-self-2 g c =
+    λ usable there.
+    let s = c.self.inside in
+    let priors = priors-closed c.snapshot.result s.repository c.snapshot.new.self c.snapshot.ensures.closed c.snapshot.ensures.left in
+    let was = kept-repository s.repository c.snapshot.new.self s.queries.items s.counts priors (c.self.invariant usable (sym c.snapshot.ensures.usable ∙ there)) in
+    let name = c.args.name in
+    let few : length s.queries.items < MAX_QUERIES = omega (arith, c.len.ensures, c.if-len-ge-MAX_QUERIES.false) in
+    let q : OpenQuery = record { name = c.args.name; search = c.in_ok-search.search } in
+    let snapshot = c.in_ok-snapshot.snapshot in
+    let stats = c.deref-2.result.now in
+    let new : IsNewSearch snapshot c.args.checked stats c.args.k q.search = record {
+      snapshot_is = c.in_ok-search.ensures.snapshot;
+      checked_is = c.in_ok-search.ensures.checked;
+      network_is = c.in_ok-search.ensures.network;
+      most_is = c.in_ok-search.ensures.most;
+      credit_is = c.in_ok-search.ensures.credit;
+      usable_is = c.in_ok-search.ensures.usable;
+    } in
+    let asks = subst (λ (x : Keeps). All (AsksFor (length x.repository.priors)) (whole_checked c.args.checked).leaves) (sym c.self.view_is) c.requires.asks in
+    let one : IsOpen (length c.snapshot.new.self.priors) q = open-new (length c.snapshot.new.self.priors) name snapshot c.args.checked stats c.args.k q new c.in_ok-snapshot.ensures.distinct c.requires.k.1
+    (subst (λ n. All (AsksFor n) (whole_checked c.args.checked).leaves) (sym (ap length priors)) asks) in
+    let pushed : c.push.new.self.items ≡ s.queries.items ++ q ∷ [] = search rules in
+    subst (λ (qs : List OpenQuery). AreKept c.snapshot.new.self qs c.all_stats.new.counts) (sym pushed)
+    (kept-pushed c.snapshot.new.self s.queries.items c.all_stats.new.counts q few one (kept-counts c.snapshot.new.self s.queries.items s.counts c.all_stats.new.counts c.all_stats.ensures.adds was))
+
+pub returns-in_err-stats-clause-honest : goal.returns-in_err-stats-clause-honest
+returns-in_err-stats-clause-honest g c = λ backed.
+    let told = g.T.Store.files c.args.store.now in
+    let s = c.self.inside in
+    let view : Keeps = record { repository = s.repository; kind = s.kind; queries = s.queries.items; counts = s.counts; cache = s.cache; usable = s.usable } in
+    let b : IsDeskBacked told view = subst (IsDeskBacked told) (sym c.self.view_is) backed in
+    let p = err_from_is_err_and c.from_residual-in_err-stats.result c.from_residual-in_err-stats.ensures.1 in
+    rw (p.1, p.2) (c.in_err-stats.ensures.honest (c.in_ok-snapshot.ensures.stored told b.repository) b.cache.backed)
+
+pub returns-clause-steps : goal.returns-clause-steps
+returns-clause-steps g c = λ backed.
+    let told = g.T.Store.files c.args.store.now in
+    let after = g.T.Store.files c.all_stats.new.store in
+    let s = c.self.inside in
+    let name = c.args.name in
+    let view : Keeps = record { repository = s.repository; kind = s.kind; queries = s.queries.items; counts = s.counts; cache = s.cache; usable = s.usable } in
+    let free : is_some (position (is_named name) s.queries.items) ≡ false = ap (λ (x : Keeps). is_some (position (is_named name) x.queries)) c.self.view_is ∙ ap is_some (sym c.find.ensures) ∙ sym c.is_some.ensures ∙ c.if-is_some.false in
+    let room : nat_le MAX_QUERIES (length s.queries.items) ≡ false = lt-leb MAX_QUERIES (length s.queries.items) (omega (arith, c.len.ensures, c.if-len-ge-MAX_QUERIES.false)) in
+    let q : OpenQuery = record { name = c.args.name; search = c.in_ok-search.search } in
+    let snapshot = c.in_ok-snapshot.snapshot in
+    let stats = c.deref-2.result.now in
+    let new : IsNewSearch snapshot c.args.checked stats c.args.k q.search = record {
+      snapshot_is = c.in_ok-search.ensures.snapshot;
+      checked_is = c.in_ok-search.ensures.checked;
+      network_is = c.in_ok-search.ensures.network;
+      most_is = c.in_ok-search.ensures.most;
+      credit_is = c.in_ok-search.ensures.credit;
+      usable_is = c.in_ok-search.ensures.usable;
+    } in
+    let documents = c.in_ok-snapshot.ensures.documents told in
+    let wide : c.from-live.result ≡ c.live_count.result = search rules in
+    let pushed : c.push.new.self.items ≡ s.queries.items ++ q ∷ [] = search rules in
+    let generation : c.generation-generation.result ≡ s.repository.held.generation = c.generation-generation.ensures ∙ ap (λ (x : repositories.State). x.held.generation) c.in_ok-snapshot.ensures.closed in
+    let sums : IsDeskBacked told view → AreSums (snapshots.live told snapshot) c.generation-generation.result s.counts = λ b.
+    subst (λ n. AreSums (snapshots.live told snapshot) n s.counts) (sym generation) (subst (λ (docs : List Document). AreSums docs s.repository.held.generation s.counts) (sym documents) b.counts) in
+    open-done told view name c.args.k c.args.checked snapshot stats q new refl documents after c.args.self.now c.snapshot.new.self c.push.new.self.items c.all_stats.new.counts c.all_stats.new.cache c.from-live.result c.in_ok-told.told
+    c.self.view_is c.in_ok-snapshot.ensures.closed pushed c.in_ok-told.ensures c.in_ok-stats.ensures.reads.quiet.same_files free room (wide ∙ c.live_count.ensures told) c.in_ok-snapshot.ensures.numbers
+    (λ b. c.in_ok-snapshot.ensures.stored told b.repository) c.in_ok-search.ensures.taken
+    (λ b. c.deref-2.ensures.value ∙ c.in_ok-stats.ensures.exact (c.in_ok-snapshot.ensures.stored told b.repository) b.cache.backed (sums b) ∙ ap (λ (ls : List LeafKind). map (stats_of (snapshots.live told snapshot)) (map leaf_tree ls)) c.deref.ensures.value)
+    (λ b. subst (λ n. AreSums (snapshots.live told snapshot) n c.all_stats.new.counts) generation (c.in_ok-stats.ensures.kept (c.in_ok-snapshot.ensures.stored told b.repository) b.cache.backed (sums b)))
+    (λ b. cache-read told s.repository snapshot s.cache c.all_stats.new.cache (listed-now s.repository snapshot c.in_ok-snapshot.ensures.numbers) c.in_ok-stats.ensures.reads.cache b.cache) backed
+
+pub returns-clause-refuses : goal.returns-clause-refuses
+returns-clause-refuses g c = λ told.
+    let s = c.self.inside in
+    let name = c.args.name in
+    let view : Keeps = record { repository = s.repository; kind = s.kind; queries = s.queries.items; counts = s.counts; cache = s.cache; usable = s.usable } in
+    let free : is_some (position (is_named name) s.queries.items) ≡ false = ap (λ (x : Keeps). is_some (position (is_named name) x.queries)) c.self.view_is ∙ ap is_some (sym c.find.ensures) ∙ sym c.is_some.ensures ∙ c.if-is_some.false in
+    let room : nat_le MAX_QUERIES (length s.queries.items) ≡ false = lt-leb MAX_QUERIES (length s.queries.items) (omega (arith, c.len.ensures, c.if-len-ge-MAX_QUERIES.false)) in
+    open-accepted-by told view c.args.self.now name c.args.k (whole_checked c.args.checked) c.self.view_is free room

@@ -1,0 +1,14 @@
+pub mod Answers
+pub mod Asked
+pub mod Backed
+pub mod Codes
+pub mod Keeping
+pub mod Orders
+pub mod Plugs
+pub mod Points
+pub mod Queries
+pub mod Replying
+pub mod Scanning
+pub mod State
+pub mod Step
+pub mod Told

@@ -1,14 +1,13 @@
 -- Texts that are read, and why others aren't.
-use Rattle.std.proofs.Common.{◌≡◌, ◌∙◌, ℕ, true, List, length, refl, ap, subst, Option, None, Some}
+use Rattle.std.proofs.Common.{◌≡◌, ◌∙◌, ℕ, true, List, length, ap, subst, Option, None, Some}
 use Rattle.std.specs.Prelude.{Result, Ok, Err}
 use Rattle.std.specs.List.{All}
 use Rattle.std.specs.Str.{IsUtf8, is_utf8}
 use Rattle.std.proofs.lemmas.Str.{IsUtf8-from_is_utf8}
 use Rattle.ri_base.specs.Expression.{ExprTree}
 use Rattle.ri_base.specs.Query.{QueryTree}
-use Rattle.query_check.specs.Answers.{Answers, whole_checked}
+use Rattle.query_check.specs.Answers.{Answers}
 use Rattle.query_check.specs.Check.{CheckedTree, checked_or, checked_tree, checks, first_fault, pruned, whole}
-use Rattle.query_check.specs.declared.checked.Checked.{Checked}
 use Rattle.query_check.specs.declared.fault.CheckFault.{CheckFault}
 use Rattle.query_check.specs.declared.fault.CheckFault.TheVariants.{NoWeight, NoLeaf, ScaleTooLarge, UnknownPrior, Memory}
 use Rattle.query_reader.specs.Answers as reader

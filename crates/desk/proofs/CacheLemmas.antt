@@ -1,5 +1,5 @@
 -- Blocks that a reading call keeps are those of files that are listed.
-use Rattle.std.proofs.Common.{◌≡◌, ◌∙◌, ◌<◌, inl, inr, ℕ, zero, suc, true, List, [], ◌∷◌, ◌++◌, Contains, get_or, length, refl, sym, ap, subst, arith, Option}
+use Rattle.std.proofs.Common.{◌≡◌, ◌<◌, inl, inr, ℕ, zero, suc, true, List, [], ◌∷◌, ◌++◌, get_or, length, sym, subst, arith, Option}
 use Rattle.store_ends.specs.Files.{Files}
 use Rattle.manifest.specs.Listing.{prior_numbers}
 use Rattle.disk_index.specs.Cache.{CacheKeeps, KeptBlock}
@@ -7,7 +7,7 @@ use Rattle.disk_index.specs.Parts.{InMemory, IsFileOf, OnDisk, Source}
 use Rattle.disk_index.specs.QuietLaws.{IsCacheBacked-kept}
 use Rattle.disk_index.specs.Snapshots.{IsFileAmong, Marked}
 use Rattle.repository.specs.Numbers.{is_among}
-use Rattle.repository.specs.States.{State, listed_numbers, numbers_in, part_numbers}
+use Rattle.repository.specs.States.{State, numbers_in, part_numbers}
 use Rattle.repository.proofs.NumberLemmas.{among-behind, among-left, among-own}
 use Rattle.desk.specs.Queries.{AreListed, IsCacheKept}
 

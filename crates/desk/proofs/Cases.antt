@@ -1,5 +1,5 @@
 -- The cases of a step.
-use Rattle.std.proofs.Common.{◌≡◌, ◌⊎◌, ℕ, ◌+◌, inl, inr, Bool, true, false, List, [], ◌∷◌, ◌++◌, length, min, refl, sym, ap, ◌∙◌, Some, None, Option}
+use Rattle.std.proofs.Common.{◌≡◌, ℕ, ◌+◌, inl, inr, Bool, true, false, List, [], ◌∷◌, ◌++◌, length, min, refl, ap, ◌∙◌, Some, None}
 use Rattle.std.specs.Prelude.{Result, Ok, Err, nat_le, nat_lt, is_some, slice_get, ◌-◌, if◌then◌else◌}
 use Rattle.ri_base.specs.Documents.{Document}
 use Rattle.ri_base.specs.Expression.{ExprTree}
@@ -7,7 +7,6 @@ use Rattle.query_check.specs.Check.{CheckedTree}
 use Rattle.collection_queries.specs.Priors.{names_with}
 use Rattle.holdings.specs.Contents.{Answers}
 use Rattle.holdings.specs.Parts.{without}
-use Rattle.holdings.specs.declared.refusals.AddRefusal.{AddRefusal}
 use Rattle.holdings.specs.declared.refusals.AddRefusal.TheVariants as add
 use Rattle.repository.specs.Stands.{Collection}
 use Rattle.session_events.specs.declared.event.Event.TheVariants as event

@@ -10,7 +10,6 @@ use Rattle.seg_codec.specs.Segment.{entry_of}
 use Rattle.seg_codec.specs.declared.documents.Entry.{Entry}
 use Rattle.disk_index.specs.Blocks.{told_file}
 use Rattle.disk_index.specs.Parts.{InMemory, OnDisk, Source, outlines_of, reads, size}
-use Rattle.disk_index.specs.Reads.{rebuilt}
 use Rattle.disk_index.specs.Snapshots as snapshots
 use Rattle.disk_index.specs.Snapshots.{Marked, documents_held, live_in, unmarked}
 use Rattle.disk_index.proofs.AlikeLemmas.{map-unmarked, tokens-outlines}

@@ -1,13 +1,11 @@
 -- Where a document is added or deleted.
-use Rattle.std.proofs.Common.{◌≡◌, ◌∙◌, ◌<◌, ◌≤◌, ◌+◌, ◌-◌, ◌^◌, ℕ, Bool, true, false, List, [], ◌∷◌, ◌++◌, cond, length, map, min, refl, sym, ap, subst, arith, Option, true≢false}
-use Rattle.std.specs.Prelude.{◌↔◌, Contains, Err, IfOk, IsErr, Ok, OnErr, OnOk, Result, is_err}
+use Rattle.std.proofs.Common.{◌≡◌, ◌∙◌, ℕ, Bool, true, false, List, [], ◌∷◌, ◌++◌, cond, length, map, refl, sym, ap, subst, arith, Option, true≢false}
+use Rattle.std.specs.Prelude.{◌↔◌, Err, IfOk, IsErr, Ok, OnErr, OnOk, Result, is_err}
 use Rattle.std.specs.Set.{is_member}
 use Rattle.std.specs.Str.{bytes_eq}
-use Rattle.std.proofs.lemmas.List.{append-nil}
 use Rattle.ri_base.specs.Documents.{Document}
 use Rattle.ri_base.specs.declared.seg_fault.SegFault.{SegFault}
 use Rattle.store_ends.specs.Files.{Files}
-use Rattle.manifest.specs.Listing.{prior_numbers}
 use Rattle.disk_index.specs.Snapshots.{Marked}
 use Rattle.holdings.specs.Contents as contents
 use Rattle.holdings.specs.Contents.{Answers, Contents, added, deleted, next_generation}
@@ -19,7 +17,6 @@ use Rattle.holdings.specs.declared.refusals.AddRefusal.TheVariants as add
 use Rattle.holdings.proofs.LiveLemmas.{docnos-live}
 use Rattle.counts.specs.Kept.{AreSums, Kept}
 use Rattle.repository.specs.Merges.{IsOpenMerging}
-use Rattle.repository.specs.Numbers.{is_among}
 use Rattle.repository.specs.Stands.{Collection}
 use Rattle.repository.specs.States as repositories
 use Rattle.repository.specs.States.{IsBacked, ReadsAs, numbers_in, part_numbers}

@@ -1,5 +1,5 @@
 -- The end: nothing is open any more, what is in memory is written, and no file is stale.
-use Rattle.std.proofs.Common.{◌≡◌, ◌∙◌, ◌≤◌, ℕ, List, [], length, map, refl, sym, ap, subst, arith, inr, Option, Some, None}
+use Rattle.std.proofs.Common.{◌≡◌, ◌∙◌, ◌≤◌, ℕ, List, [], length, refl, sym, ap, subst, arith, inr, Option, Some, None}
 use Rattle.std.specs.Option.{IfSome, option_map}
 use Rattle.std.proofs.lemmas.List.Elements.{All-nil}
 use Rattle.ri_base.specs.Documents.{Document}

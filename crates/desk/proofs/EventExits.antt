@@ -1,6 +1,6 @@
 -- Events by their kind: what follows where an event may write, and where it writes nothing.
-use Rattle.std.proofs.Common.{◌≡◌, ◌∙◌, ◌≤◌, ℕ, Bool, true, false, List, refl, sym, ap, subst, inr, arith, Option, None, Some, true≢false}
-use Rattle.std.specs.Prelude.{Result, Ok, Err, IfErr, IfOk, OnOk}
+use Rattle.std.proofs.Common.{◌≡◌, ◌∙◌, ℕ, Bool, true, false, List, refl, sym, ap, subst, inr, arith, Option, None, true≢false}
+use Rattle.std.specs.Prelude.{Result, Ok, Err, IfErr, IfOk}
 use Rattle.ri_base.specs.Documents.{Document}
 use Rattle.ri_base.specs.Faults.{IsOutside}
 use Rattle.ri_base.specs.declared.seg_fault.SegFault.{SegFault}
@@ -13,7 +13,7 @@ use Rattle.session_events.specs.declared.event.Event.{Event}
 use Rattle.session_events.specs.declared.event.Event.TheVariants as event
 use Rattle.session_replies.specs.declared.reply.Reply.{Reply}
 use Rattle.session_replies.specs.declared.reply.Reply.TheVariants as reply
-use Rattle.desk.specs.Backed.{IsDeskBacked, Keeps, Steps, state_of, with_usable}
+use Rattle.desk.specs.Backed.{Keeps, Steps, state_of, with_usable}
 use Rattle.desk.specs.Orders.{IsTrueReply}
 use Rattle.desk.specs.Points.{is_inside, kept_behind, may_write}
 use Rattle.desk.specs.State.{State}

@@ -1,5 +1,5 @@
 -- How the calls of a desk end: in a step that is done, or in a refusal.
-use Rattle.std.proofs.Common.{◌≡◌, ◌∙◌, ℕ, Bool, true, false, List, [], map, refl, sym, ap, subst, Option, None, Some}
+use Rattle.std.proofs.Common.{◌≡◌, ◌∙◌, false, List, map, refl, sym, ap, subst, Option}
 use Rattle.std.specs.Option.{option_map}
 use Rattle.store_ends.specs.Files.{Files}
 use Rattle.smoothing.specs.declared.rule.RuleKind.{RuleKind}

@@ -1,5 +1,5 @@
 -- Where what is in memory is written.
-use Rattle.std.proofs.Common.{◌≡◌, ◌∙◌, ◌≤◌, ℕ, true, List, ◌++◌, length, map, refl, sym, ap, subst, inl, inr, Option, Some}
+use Rattle.std.proofs.Common.{◌≡◌, ◌∙◌, ◌≤◌, ℕ, true, List, ◌++◌, length, refl, sym, ap, subst, inl, inr, Option, Some}
 use Rattle.std.specs.Option.{option_map}
 use Rattle.ri_base.specs.Documents.{Document}
 use Rattle.store_ends.specs.Files.{Files, Leaves, SameWhere}

@@ -1,7 +1,6 @@
 -- A commit leaves the files that are listed, so what is read of them stays.
 use Rattle.std.proofs.Common.{◌≡◌, ◌<◌, ◌^◌, inl, inr, ℕ, zero, suc, true, false, List, [], ◌∷◌, ◌++◌, refl, sym, ap, subst, ◌∙◌, arith, Option, Some, None}
 use Rattle.std.specs.Prelude.{Contains, drop, take, unwrap_or}
-use Rattle.std.specs.List.{All, flat_map}
 use Rattle.std.proofs.lemmas.List.Elements.{All-cons, All-head, All-nil, All-tail}
 use Rattle.ri_base.specs.Documents.{Document}
 use Rattle.store_ends.specs.Files.{Files, SameWhere}
@@ -9,14 +8,13 @@ use Rattle.store_ends.proofs.Files.{SameWhere-at, SameWhere-told}
 use Rattle.seg_codec.specs.declared.blocks.BlockEntry.{BlockEntry}
 use Rattle.manifest.specs.Files.{numbers_of}
 use Rattle.manifest.specs.Listing.{all_numbers, prior_numbers}
-use Rattle.manifest.specs.declared.manifest.PriorEntry.{PriorEntry}
 use Rattle.manifest.proofs.ListingLaws.{listing-of}
 use Rattle.disk_index.specs.Blocks.{IsBlockIn, told_file}
 use Rattle.disk_index.specs.Cache.{IsCacheBacked, KeptBlock}
 use Rattle.disk_index.specs.Names.{segment_name}
 use Rattle.disk_index.specs.Parts.{InMemory, IsPartBacked, OnDisk, Source, reads}
 use Rattle.disk_index.specs.Reads.{HasSegment, rebuilt}
-use Rattle.disk_index.specs.Snapshots.{AreBacked, Marked, live, live_in, unmarked}
+use Rattle.disk_index.specs.Snapshots.{AreBacked, Marked, live, unmarked}
 use Rattle.disk_index.specs.declared.cache.BlockKey.{BlockKey}
 use Rattle.smoothing.specs.declared.rule.RuleKind.{RuleKind}
 use Rattle.belief_nodes.specs.Network.{network_tree}

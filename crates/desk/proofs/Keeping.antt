@@ -1,19 +1,17 @@
 -- How a desk stays backed, part by part.
-use Rattle.std.proofs.Common.{◌≡◌, ℕ, ◌+◌, ◌^◌, ◌<◌, ◌≤◌, Bool, true, List, [], ◌∷◌, ◌++◌, length, map, min, refl, sym, ap, subst, ◌∙◌, arith, Some, None, Option}
+use Rattle.std.proofs.Common.{◌≡◌, ℕ, true, List, [], ◌∷◌, ◌++◌, map, refl, sym, ap, subst, ◌∙◌, arith, Some, None, Option}
 use Rattle.std.specs.Prelude.{Contains}
-use Rattle.std.specs.List.{All, AllZip}
-use Rattle.std.specs.Option.{IfSome, option_map}
+use Rattle.std.specs.List.{All}
+use Rattle.std.specs.Option.{IfSome}
 use Rattle.std.proofs.lemmas.List.Elements.{All-head, All-nil, All-tail, All-weaker}
 use Rattle.ri_base.specs.Documents.{Document}
 use Rattle.store_ends.specs.Files.{Files, SameWhere}
 use Rattle.smoothing.specs.declared.rule.RuleKind.{RuleKind}
 use Rattle.manifest.specs.Listing.{prior_numbers}
-use Rattle.manifest.specs.declared.manifest.PriorEntry.{PriorEntry}
-use Rattle.disk_index.specs.Cache.{IsCacheBacked, KeptBlock}
+use Rattle.disk_index.specs.Cache.{KeptBlock}
 use Rattle.holdings.specs.Contents.{Contents}
 use Rattle.holdings.specs.Parts.{live}
 use Rattle.holdings.specs.declared.limits.Limits.{Limits}
-use Rattle.counts.specs.Kept.{AreSums, Kept}
 use Rattle.merge_job.specs.Merge.{Merging}
 use Rattle.repository.specs.Merges.{IsMerging, IsOpenMerging}
 use Rattle.repository.specs.Numbers.{is_among}

@@ -1,5 +1,5 @@
 -- What a desk keeps of its open queries and sums, call by call.
-use Rattle.std.proofs.Common.{◌≡◌, ◌⊎◌, inl, inr, ◌<◌, ◌≤◌, ◌+◌, ◌-◌, ◌^◌, ℕ, Bool, true, false, List, [], ◌∷◌, ◌++◌, Contains, get_or, length, set, refl, sym, ap, subst, ◌∙◌, arith, true≢false}
+use Rattle.std.proofs.Common.{◌≡◌, ◌⊎◌, inl, inr, ◌<◌, ◌≤◌, ◌-◌, ◌^◌, ℕ, true, false, List, [], ◌∷◌, ◌++◌, Contains, length, set, sym, ap, subst, ◌∙◌, arith, true≢false}
 use Rattle.std.specs.Prelude.{IfOk, OnErr, OnOk, Result, Ok, Err}
 use Rattle.std.specs.List.{All, IsDistinct, remove}
 use Rattle.std.specs.Str.{bytes_eq}
@@ -10,7 +10,7 @@ use Rattle.ri_base.specs.declared.seg_fault.SegFault.{SegFault}
 use Rattle.query_check.specs.Leaves as leaves
 use Rattle.query_check.specs.Leaves.{LeafTree}
 use Rattle.belief_nodes.specs.Leaves.{HasPrior}
-use Rattle.belief_nodes.specs.Network.{NetworkTree, network_tree}
+use Rattle.belief_nodes.specs.Network.{NetworkTree}
 use Rattle.disk_index.specs.Snapshots.{Marked}
 use Rattle.holdings.specs.Contents.{all_closed}
 use Rattle.holdings.specs.MarkedParts.{docnos_of}
@@ -23,7 +23,7 @@ use Rattle.repository.specs.Writes.{IsSavedAs}
 use Rattle.repository.specs.declared.turned.Turned.{Turned}
 use Rattle.repository.specs.declared.turned.Turned.TheVariants as turn
 use Rattle.session_events.specs.declared.event.TheConstants.{MAX_RESULTS}
-use Rattle.desk.specs.Keeping.{AreEarly, AreKept, AsksFor, IsOpen}
+use Rattle.desk.specs.Keeping.{AreKept, AsksFor, IsOpen}
 use Rattle.desk.specs.declared.query.OpenQuery.{OpenQuery}
 use Rattle.desk.specs.declared.query.TheConstants.{MAX_QUERIES}
 use Rattle.desk.proofs.Naming.{All-remove}

@@ -1,5 +1,5 @@
 -- Where a merge is opened, goes on or is done.
-use Rattle.std.proofs.Common.{◌≡◌, ◌∙◌, ◌+◌, ◌-◌, ◌<◌, ℕ, Bool, false, true, List, [], length, map, refl, sym, ap, subst, arith, Option, None, Some, true≢false}
+use Rattle.std.proofs.Common.{◌≡◌, ◌∙◌, ◌+◌, ◌-◌, ℕ, false, true, List, length, refl, sym, ap, subst, Option, None, Some, true≢false}
 use Rattle.std.specs.Prelude.{IfSome, is_some, nat_lt, unwrap_or}
 use Rattle.std.specs.Option.{option_map}
 use Rattle.ri_base.specs.Collection.{token_count}
@@ -9,10 +9,8 @@ use Rattle.disk_index.specs.Cache.{KeptBlock}
 use Rattle.disk_index.specs.Snapshots as snapshots
 use Rattle.disk_index.specs.Snapshots.{Marked, documents_held}
 use Rattle.holdings.specs.Contents.{all_closed}
-use Rattle.holdings.specs.MarkedParts.{tokens_held}
 use Rattle.holdings.specs.Parts.{live, sealed}
 use Rattle.holdings.proofs.RoomLemmas.{live-closed}
-use Rattle.holdings.proofs.SumLemmas.{documents-sealed, tokens-sealed}
 use Rattle.counts.specs.Kept.{AreSums}
 use Rattle.merge_job.specs.Merge.{Merging, size_of}
 use Rattle.repository.specs.Merges as merges
@@ -23,8 +21,6 @@ use Rattle.repository.specs.Stands.{Collection}
 use Rattle.repository.specs.States as repositories
 use Rattle.repository.specs.States.{IsBacked, ReadsAs, listed_numbers, part_numbers}
 use Rattle.repository.specs.Writes.{IsBeside}
-use Rattle.repository.specs.declared.turned.Turned.{Turned}
-use Rattle.repository.specs.declared.turned.Turned.TheVariants as turn
 use Rattle.repository.proofs.SaveLemmas.{numbers-sealed}
 use Rattle.session_events.specs.declared.event.Event.TheVariants as event
 use Rattle.session_replies.specs.declared.reply.Reply.TheVariants as reply

@@ -1,7 +1,7 @@
 -- Where an open query is asked by its name.
-use Rattle.std.proofs.Common.{◌≡◌, ◌∙◌, ◌<◌, ◌≤◌, ℕ, Bool, true, false, List, length, get_or, map, min, set, refl, sym, ap, subst, arith, Option, None, Some}
+use Rattle.std.proofs.Common.{◌≡◌, ◌∙◌, ℕ, Bool, true, false, List, length, get_or, map, min, set, refl, sym, ap, subst, arith, Option}
 use Rattle.std.specs.Prelude.{◌==◌, ◌+◌, nat_lt}
-use Rattle.std.specs.List.{All, IsDistinct, remove}
+use Rattle.std.specs.List.{IsDistinct, remove}
 use Rattle.std.specs.Str.{bytes_eq}
 use Rattle.std.proofs.Math.Arith.{lt_of_le-ne}
 use Rattle.std.proofs.lemmas.Bool.{eqb-false, eqb-true, le-ltb, lt-ltb}
@@ -9,7 +9,7 @@ use Rattle.std.proofs.lemmas.List.Elements.{All-set}
 use Rattle.ri_base.specs.declared.hit.Hit.{Hit}
 use Rattle.store_ends.specs.Files.{Files}
 use Rattle.query_check.specs.Answers.{whole_checked}
-use Rattle.belief_nodes.specs.Network.{NetworkTree, network_tree}
+use Rattle.belief_nodes.specs.Network.{NetworkTree}
 use Rattle.disk_index.specs.Cache.{KeptBlock}
 use Rattle.holdings.specs.MarkedParts.{docnos_of}
 use Rattle.holdings.proofs.LiveLemmas.{docnos-live}
@@ -19,14 +19,14 @@ use Rattle.ranker.proofs.PlaceLemmas.{credit-le}
 use Rattle.collection_queries.specs.Priors.{priors_with}
 use Rattle.session_events.specs.declared.event.Event.TheVariants as event
 use Rattle.session_replies.specs.declared.reply.Reply.TheVariants as reply
-use Rattle.session_replies.specs.declared.reply.Refusal.TheVariants.{NoSuchName, NotYet}
+use Rattle.session_replies.specs.declared.reply.Refusal.TheVariants.{NotYet}
 use Rattle.desk.specs.Answers.{answer, entry_of}
 use Rattle.desk.specs.Backed.{IsDeskBacked, Keeps, Steps, state_of}
 use Rattle.desk.specs.Queries.{IsCacheKept, IsQueryBacked, priors_in, query_of}
 use Rattle.desk.specs.State.{advanced}
 use Rattle.desk.specs.Step.{refuse, step}
 use Rattle.desk.specs.declared.query.OpenQuery.{OpenQuery}
-use Rattle.desk.proofs.Cases.{close-closed, close-noname, explain-noname, explain-notyet, show-noname, show-notyet, show-results, step-noname, step-stepped}
+use Rattle.desk.proofs.Cases.{close-closed, explain-notyet, show-notyet, show-results, step-stepped}
 use Rattle.desk.proofs.Exits.{exit}
 use Rattle.desk.proofs.Keeping.{state-eq}
 use Rattle.desk.proofs.Naming.{All-remove, IsPlace, closed-at, named-here, stepped-at}

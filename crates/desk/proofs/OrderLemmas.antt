@@ -1,5 +1,5 @@
 -- The order of results is true of the beliefs behind them.
-use Rattle.std.proofs.Common.{◌≡◌, ◌∙◌, ◌<◌, ◌≤◌, ℕ, List, Option, None, Some, drop, get_or, length, map, take, sym, ap, subst, arith}
+use Rattle.std.proofs.Common.{◌≡◌, ◌∙◌, ◌<◌, ℕ, List, Option, None, Some, drop, get_or, map, take, sym, ap, subst, arith}
 use Rattle.std.specs.List.{IsDistinct, drop-map}
 use Rattle.std.specs.Str.{bytes_eq}
 use Rattle.std.specs.List.Sorted.{IsPermutation}

@@ -1,24 +1,22 @@
 -- A search asks the plugs for no more than the priors tell.
-use Rattle.std.proofs.Common.{◌≡◌, ◌<◌, ◌≤◌, ◌+◌, ◌-◌, ℕ, zero, suc, List, [], ◌∷◌, ◌++◌, length, map, get_or, refl, sym, ap, subst, ◌∙◌, ◌⊎◌, inl, inr, arith, Option}
-use Rattle.std.specs.Prelude.{⊤, drop, flat_map, slice_index_or, zip}
+use Rattle.std.proofs.Common.{◌≡◌, ℕ, List, [], ◌∷◌, length, map, refl, subst, ◌∙◌, Option}
+use Rattle.std.specs.Prelude.{⊤, flat_map}
 use Rattle.std.specs.List.{All, filter, list_all}
 use Rattle.std.specs.List.Sorted.{IsPermutation}
 use Rattle.std.proofs.lemmas.List.Elements.{All-head, All-tail}
 use Rattle.ri_base.specs.Documents.{Document}
 use Rattle.ri_base.specs.Pair.{Pair}
 use Rattle.ri_base.specs.Query.{FilterTree}
-use Rattle.ri_base.specs.declared.hit.Hit.{Hit}
 use Rattle.ri_base.specs.declared.hit.LeafStats.{LeafStats}
 use Rattle.store_ends.specs.Files.{Files}
 use Rattle.smoothing.specs.declared.rule.RuleKind.{RuleKind}
 use Rattle.query_check.specs.Leaves.{LeafTree, extents, prior}
 use Rattle.belief_nodes.specs.Network.{NetworkTree, network_tree}
 use Rattle.belief_nodes.specs.Priors.{Prior, prior_at, prior_fraction}
-use Rattle.document_scoring.specs.Candidates.{Candidate, beliefs, candidate, candidates, document_candidates, found_windows, leaf_belief, passes}
-use Rattle.ranker.specs.First.{HoldsFirst}
+use Rattle.document_scoring.specs.Candidates.{Candidate, beliefs, candidate, candidates, found_windows, leaf_belief, passes}
 use Rattle.ranker.specs.Held.{IsHeld}
 use Rattle.ranker.specs.Passed.{passed}
-use Rattle.ranker.specs.Ranking.{IsAnswerBy, candidate_of}
+use Rattle.ranker.specs.Ranking.{candidate_of}
 use Rattle.ranker.specs.Searches.{IsTaken, filters_of}
 use Rattle.ranker.specs.declared.held.Held.{Held}
 use Rattle.ranker.specs.declared.held.Held.TheVariants.{Open, Ended}

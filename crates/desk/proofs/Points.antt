@@ -1,5 +1,5 @@
 -- Events that are no flush points.
-use Rattle.std.proofs.Common.{◌≡◌, refl, sym, ap, subst, ℕ, ◌+◌, Bool, true, false, List, Option, Some, None, length}
+use Rattle.std.proofs.Common.{◌≡◌, refl, sym, ap, subst, ℕ, Bool, true, false, List, Option, Some, None, length}
 use Rattle.std.specs.Prelude.{OnOk, Result, Ok, Err, if◌then◌else◌, is_some, nat_le, nat_lt, slice_get, ◌-◌}
 use Rattle.ri_base.specs.Expression.{ExprTree}
 use Rattle.ri_base.specs.declared.seg_fault.SegFault.{SegFault}

@@ -1,5 +1,5 @@
 -- An open query that gets more credit.
-use Rattle.std.proofs.Common.{◌≡◌, ◌≤◌, ◌+◌, ℕ, List, Option, length, map, min, refl, sym, ap, subst, ◌∙◌, arith}
+use Rattle.std.proofs.Common.{◌≡◌, ◌≤◌, ◌+◌, ℕ, List, Option, length, min, sym, ap, subst, ◌∙◌, arith}
 use Rattle.std.specs.List.{All}
 use Rattle.std.proofs.lemmas.List.{length-map}
 use Rattle.std.proofs.lemmas.List.Elements.{All-weaker}
@@ -14,7 +14,6 @@ use Rattle.disk_index.specs.Snapshots.{AreBacked, Marked, live}
 use Rattle.ranker.specs.Ranking.{query_network}
 use Rattle.ranker.specs.Searches.{IsSameSearch, IsTaken, searched}
 use Rattle.ranker.specs.declared.search.Search.{Search}
-use Rattle.repository.specs.Stands.{Prior}
 use Rattle.repository.specs.States.{State, part_numbers}
 use Rattle.collection_queries.specs.Priors.{priors_with}
 use Rattle.desk.specs.Backed.{Keeps}

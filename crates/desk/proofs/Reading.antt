@@ -1,12 +1,9 @@
 -- What a desk reads as is what its repository reads as.
-use Rattle.std.proofs.Common.{◌≡◌, ℕ, List, [], ◌∷◌, map, refl, sym, ap, subst, ◌∙◌, Option, Some, None}
+use Rattle.std.proofs.Common.{◌≡◌, List, [], ◌∷◌, refl, sym, ap, subst, ◌∙◌, Option}
 use Rattle.std.specs.List.{AllZip}
-use Rattle.std.specs.Option.{option_map}
 use Rattle.store_ends.specs.Files.{Files}
-use Rattle.manifest.specs.Priors.{PriorTable, prior_file, prior_text}
 use Rattle.manifest.specs.declared.manifest.PriorEntry.{PriorEntry}
 use Rattle.manifest.proofs.PriorLaws.{prior_again}
-use Rattle.repository.specs.Names.{prior_name}
 use Rattle.repository.specs.Stands.{Collection, IsPriorListed, Prior}
 use Rattle.repository.specs.States.{IsBacked, ReadsAs}
 use Rattle.desk.specs.Backed.{Keeps, state_of}

@@ -1,6 +1,5 @@
 -- The lines of a scan, one document and one part more.
 use Rattle.std.proofs.Common.{◌≡◌, ◌<◌, ◌≤◌, ◌+◌, ℕ, zero, suc, Bool, true, false, List, [], ◌∷◌, ◌++◌, append_assoc, cond, get_or, length, map, take, refl, sym, ap, ◌∙◌, arith, Option}
-use Rattle.std.specs.Prelude.{flat_map}
 use Rattle.std.proofs.lemmas.Grind.{flat_map-append}
 use Rattle.std.proofs.lemmas.List.{append-nil, take_all, take_more}
 use Rattle.ri_base.specs.Collection.{document_at}

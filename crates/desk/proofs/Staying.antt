@@ -10,7 +10,7 @@ use Rattle.session_replies.specs.declared.reply.Refusal.{Refusal}
 use Rattle.desk.specs.Answers.{Entry}
 use Rattle.desk.specs.Asked.{asked, scanned}
 use Rattle.desk.specs.State.{Merge, Query, State, named}
-use Rattle.desk.specs.Step.{add_step, answer_of, close_step, delete_step, explain_step, is_full, is_live, merge_step, open_step, query_step, ranked, scan_step, show_step, step, turn_step}
+use Rattle.desk.specs.Step.{answer_of, close_step, explain_step, is_full, is_live, merge_step, open_step, query_step, ranked, scan_step, show_step, step, turn_step}
 use Rattle.desk.specs.Told.{Told}
 use Rattle.desk.specs.declared.query.TheConstants.{MAX_QUERIES}
 

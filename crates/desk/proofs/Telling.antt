@@ -1,5 +1,5 @@
 -- The results of a search are the answer, as a function of the documents.
-use Rattle.std.proofs.Common.{◌≡◌, ◌<◌, ◌≤◌, ℕ, ◌+◌, List, [], ◌∷◌, ◌++◌, length, take, drop, map, get_or, refl, sym, ap, subst, ◌∙◌, arith, zero, suc, true≢false, ⊎_elim}
+use Rattle.std.proofs.Common.{◌≡◌, ◌<◌, ℕ, ◌+◌, List, [], ◌∷◌, length, map, get_or, refl, sym, ap, subst, ◌∙◌, arith, zero, suc, true≢false}
 use Rattle.std.specs.Prelude.{bytes_eq, false, flat_map}
 use Rattle.std.specs.List.{take-map}
 use Rattle.std.specs.Cmp.{IsTotalOrder}
@@ -10,8 +10,7 @@ use Rattle.std.specs.Ordering.{is_lt, is_gt, nat_cmp, ordering_then}
 use Rattle.std.specs.declared.cmp.Ordering.{Ordering}
 use Rattle.std.specs.declared.cmp.Ordering.TheVariants.{Less, Equal, Greater}
 use Rattle.std.proofs.lemmas.Cmp.{on_total, then_total, nat_cmp_total, nat_list_cmp_total}
-use Rattle.std.proofs.lemmas.Bool.{cases_lt}
-use Rattle.std.proofs.lemmas.List.{get_or-map, get_or_default, length-map}
+use Rattle.std.proofs.lemmas.List.{get_or-map, length-map}
 use Rattle.std.proofs.lemmas.Map.Lookups.{exact_bytes, exact_unsigned}
 use Rattle.std.proofs.lemmas.Slice.Eq.{bytes_eq-Decides}
 use Rattle.std.proofs.lemmas.List.Elements.{All-append, All-contains, All-contains_itself, All-filter, All-head, All-map, All-nil, All-tail}
@@ -19,9 +18,7 @@ use Rattle.std.proofs.lemmas.List.Sorted.{IsPermutation-map}
 use Rattle.ri_base.specs.Documents.{Document}
 use Rattle.ri_base.specs.Pair.{Pair}
 use Rattle.ri_base.specs.Query.{FilterTree}
-use Rattle.ri_base.specs.Ratio.{ratio_of}
 use Rattle.ri_base.specs.declared.hit.Hit.{Hit}
-use Rattle.first_few.specs.First.{IsFront}
 use Rattle.log_chain.specs.declared.chain.TheConstants.{LAST}
 use Rattle.smoothing.specs.declared.rule.RuleKind.{RuleKind}
 use Rattle.query_check.specs.Check.{CheckedTree}
@@ -29,10 +26,10 @@ use Rattle.query_check.specs.Trees.{ScaledTree}
 use Rattle.belief_nodes.specs.Keys.{key_at}
 use Rattle.belief_nodes.specs.Network.{NetworkTree}
 use Rattle.belief_nodes.specs.Priors.{Prior}
-use Rattle.document_scoring.specs.Candidates.{Candidate, candidate, candidates, document_candidates, found_windows, passes}
+use Rattle.document_scoring.specs.Candidates.{candidate, candidates, document_candidates, found_windows, passes}
 use Rattle.true_order.specs.Ranked.{hit_beliefs}
 use Rattle.ranker.specs.Ranking.{IsAnswerBy, candidate_of, hit_order, query_network}
-use Rattle.sorted_front.specs.Front.{TellsApart, front, in_order}
+use Rattle.sorted_front.specs.Front.{TellsApart}
 use Rattle.sorted_front.proofs.FrontLemmas.{front_only}
 use Rattle.desk.specs.Answers.{Entry, answer, entry, entry_of, entry_order}
 

@@ -1,5 +1,5 @@
 -- A turn of a merge, over the call of the repository: what it does, and what the files stand for.
-use Rattle.std.proofs.Common.{◌≡◌, ◌∙◌, ◌+◌, ◌<◌, ◌≤◌, ℕ, Bool, false, true, List, length, refl, sym, ap, subst, inl, Option, None, Some}
+use Rattle.std.proofs.Common.{◌≡◌, ◌∙◌, ◌+◌, ◌<◌, ◌≤◌, ℕ, Bool, false, true, List, length, refl, sym, ap, subst, inl, Option, Some}
 use Rattle.std.specs.Prelude.{IfSome, if◌then◌else◌, is_some, nat_lt}
 use Rattle.std.specs.Option.{option_map}
 use Rattle.std.proofs.lemmas.Bool.{ltb-true}
@@ -10,7 +10,7 @@ use Rattle.disk_index.specs.Cache.{CacheKeeps, IsCacheBacked, KeptBlock}
 use Rattle.disk_index.specs.Snapshots.{IsFileAmong}
 use Rattle.holdings.specs.Parts.{live}
 use Rattle.merge_job.specs.Merge.{Merging, size_of}
-use Rattle.repository.specs.Merges.{IsMergedTo, IsOpenMerging, IsTurnedOn, IsTurnedOver, IsTurnedTo, after_turn, turned, without_dead_of}
+use Rattle.repository.specs.Merges.{IsMergedTo, IsOpenMerging, IsTurnedOn, IsTurnedOver, IsTurnedTo, turned, without_dead_of}
 use Rattle.repository.specs.Saved.{IsUnlisted}
 use Rattle.repository.specs.Stands.{Collection, Stands}
 use Rattle.repository.specs.States as repositories
@@ -26,9 +26,9 @@ use Rattle.session_replies.specs.declared.reply.Refusal.TheVariants.{NoMerge}
 use Rattle.desk.specs.Backed.{IsDeskBacked, IsMergeBacked, Keeps, Steps, merge_of, state_of}
 use Rattle.desk.specs.Points.{kept_behind}
 use Rattle.desk.specs.Replying.{turned_reply}
-use Rattle.desk.specs.State.{Merge, State, collection_of, merged}
+use Rattle.desk.specs.State.{collection_of}
 use Rattle.desk.specs.Step.{refuse, step}
-use Rattle.desk.specs.Told.{RefusesAs, Told, is_refusal}
+use Rattle.desk.specs.Told.{RefusesAs, is_refusal}
 use Rattle.desk.proofs.CacheLemmas.{cache-read}
 use Rattle.desk.proofs.Cases.{kept-merged, kept-nomerge, kept-turned, step-merged, step-nomerge, step-turned}
 use Rattle.desk.proofs.Exits.{accepted, of-now}

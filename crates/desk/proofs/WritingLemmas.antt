@@ -1,7 +1,7 @@
 -- What the files stand for once a call that writes has answered, and at each moment.
-use Rattle.std.proofs.Common.{◌≡◌, ◌≤◌, ◌⊎◌, inl, inr, ℕ, List, Option, Some, sym, subst}
+use Rattle.std.proofs.Common.{◌≡◌, ◌≤◌, inl, inr, ℕ, List, Option, Some, sym, subst}
 use Rattle.store_ends.specs.Files.{Files, Leaves, SameWhere}
-use Rattle.store_ends.proofs.Files.{Leaves-now, Leaves-same, Leaves-then, SameWhere-told}
+use Rattle.store_ends.proofs.Files.{Leaves-now, Leaves-then, SameWhere-told}
 use Rattle.holdings.specs.declared.limits.Limits.{Limits}
 use Rattle.repository.specs.Stands.{Collection, Stands}
 use Rattle.repository.specs.Writes.{IsEither}

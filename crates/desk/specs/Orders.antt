@@ -1,5 +1,5 @@
 -- What the order of the results that are shown claims: nothing of keys, but of the beliefs behind them.
-use Rattle.std.specs.Prelude.{List, Option, None, Some}
+use Rattle.std.specs.Prelude.{Option, Some}
 use Rattle.ranked_output.specs.Texts.{lines_of}
 use Rattle.true_order.specs.TrueOrder.{IsTrueOrder}
 use Rattle.collection_queries.specs.Priors.{priors_with}

@@ -1,12 +1,9 @@
-use Rattle.std.proofs.Common.{◌≡◌, ◌<◌, ◌∙◌, false, get_or, IfErr, IfOk, ap, subst, sym, rules}
-use Rattle.std.proofs.lemmas.Result.{err_from_is_err_and}
+use Rattle.std.proofs.Common.{◌≡◌, ◌<◌, ◌∙◌, ap, subst, sym, rules}
 use Rattle.ri_base.specs.Collection.{document_at}
 use Rattle.ri_base.specs.Expression.{expr_tree}
-use Rattle.ri_base.specs.Faults.{IsOutside}
 use Rattle.extent_evaluation.specs.Listed.{extent_list}
 use Rattle.disk_index.specs.Cache.{IsCacheBacked}
-use Rattle.disk_index.specs.Parts.{IsFileOf, IsPartBacked, Source, reads, size, source_of}
-use Rattle.counts.specs.Reading.{OnlyReads}
+use Rattle.disk_index.specs.Parts.{IsPartBacked, Source, reads, size, source_of}
 use Rattle.counts.proofs.ReadingLemmas.{reads-same}
 use Rattle.desk.proofs.ScanLemmas.{dead-next, live-next}
 use Rattle.desk.proofs.scanning.put_document.Goals as goal

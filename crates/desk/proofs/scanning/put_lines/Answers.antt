@@ -1,6 +1,6 @@
-use Rattle.std.proofs.Common.{◌≡◌, ◌∙◌, ◌++◌, ◌<◌, ◌≤◌, List, ap, get_or, length, subst, sym, rules}
+use Rattle.std.proofs.Common.{◌≡◌, ◌∙◌, ◌++◌, ◌<◌, ◌≤◌, List, ap, get_or, length, subst, rules}
 use Rattle.ri_base.specs.Pair.{Pair}
-use Rattle.std.proofs.lemmas.List.{append-nil, take_all}
+use Rattle.std.proofs.lemmas.List.{take_all}
 use Rattle.desk.specs.Scanning.{lines_of}
 use Rattle.desk.proofs.ScanLemmas.{lines-next}
 use Rattle.desk.proofs.scanning.put_lines.Goals as goal

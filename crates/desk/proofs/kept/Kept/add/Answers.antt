@@ -1,5 +1,5 @@
 use Rattle.std.specs.Prelude.{Err, Result}
-use Rattle.std.proofs.Common.{◌≡◌, ◌∙◌, false, length, true, ap, refl, rules, subst, sym}
+use Rattle.std.proofs.Common.{◌≡◌, ◌∙◌, length, ap, refl, rules, subst, sym}
 use Rattle.holdings.specs.Contents.{Answers, added, answer, is_full}
 use Rattle.holdings.specs.Parts.{is_live}
 use Rattle.holdings.specs.declared.refusals.AddRefusal.{AddRefusal}

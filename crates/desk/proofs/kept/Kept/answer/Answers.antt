@@ -1,4 +1,4 @@
-use Rattle.std.proofs.Common.{◌≡◌, ◌∙◌, Option, false, map, sym, true}
+use Rattle.std.proofs.Common.{◌≡◌, ◌∙◌, Option, sym}
 use Rattle.store_ends.specs.Files.{Files}
 use Rattle.repository.specs.Stands.{Collection, Stands}
 use Rattle.session_replies.specs.declared.reply.Reply.{Reply}

@@ -1,4 +1,4 @@
-use Rattle.std.proofs.Common.{◌≡◌, ◌∙◌, ap, refl, subst, sym}
+use Rattle.std.proofs.Common.{◌∙◌, ap, refl}
 use Rattle.session_events.specs.declared.event.Event.TheVariants as event
 use Rattle.desk.specs.Backed.{Keeps, state_of}
 use Rattle.desk.proofs.Cases.{step-ended}

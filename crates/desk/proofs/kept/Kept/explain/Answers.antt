@@ -1,19 +1,16 @@
-use Rattle.std.proofs.Common.{◌≡◌, ◌∙◌, ◌≤◌, ◌-◌, ap, false, get_or, length, map, refl, subst, sym, true, List, None, Some, Option}
-use Rattle.std.specs.Prelude.{is_some, nat_lt, slice_get}
+use Rattle.std.proofs.Common.{◌≡◌, ◌∙◌, ◌-◌, ap, get_or, length, map, subst, sym, List, None, Some}
+use Rattle.std.specs.Prelude.{is_some}
 use Rattle.std.specs.List.{position}
 use Rattle.std.proofs.Math.Logic.{∥∥₁_map}
 use Rattle.std.proofs.lemmas.Result.{err_from_is_err_and}
 use Rattle.ri_base.specs.declared.hit.Hit.{Hit}
-use Rattle.ri_base.specs.declared.hit.LeafStats.{LeafStats}
-use Rattle.store_ends.specs.Files.{Files}
 use Rattle.manifest.specs.declared.manifest.PriorEntry.{PriorEntry}
 use Rattle.query_check.specs.Answers.{whole_checked}
 use Rattle.query_check.specs.declared.checked.Checked.{Checked}
 use Rattle.belief_nodes.specs.Network.{network_tree}
-use Rattle.disk_index.specs.Cache.{KeptBlock}
 use Rattle.disk_index.specs.Snapshots.{AreBacked, Marked, live}
 use Rattle.ranker.specs.Ranking.{candidate_of}
-use Rattle.ranker.specs.Searches.{IsAnswerOf, searched}
+use Rattle.ranker.specs.Searches.{searched}
 use Rattle.ranker.specs.Windows.{IsWindowIn}
 use Rattle.result_explanation.specs.Explanation.{IsExplanation}
 use Rattle.repository.specs.States.{part_numbers}

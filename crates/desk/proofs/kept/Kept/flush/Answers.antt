@@ -1,4 +1,4 @@
-use Rattle.std.proofs.Common.{◌≡◌, ◌∙◌, ap, refl, subst, sym}
+use Rattle.std.proofs.Common.{◌∙◌, ap, refl, subst, sym}
 use Rattle.store_ends.specs.Files.{Leaves}
 use Rattle.repository.specs.Stands.{Collection, Stands}
 use Rattle.repository.specs.Writes.{IsEither}

@@ -1,4 +1,4 @@
-use Rattle.std.proofs.Common.{◌≡◌, ◌∙◌, true, false, ap, refl, sym, None}
+use Rattle.std.proofs.Common.{◌≡◌, ◌∙◌, true, ap, refl, sym, None}
 use Rattle.std.specs.Prelude.{is_some}
 use Rattle.std.specs.Option.{option_map}
 use Rattle.session_events.specs.declared.event.Event.TheVariants as event

@@ -1,15 +1,12 @@
-use Rattle.std.proofs.Common.{◌≡◌, ◌∙◌, ◌≤◌, ap, length, map, refl, subst, sym, arith, List, Option}
+use Rattle.std.proofs.Common.{◌≡◌, ◌∙◌, ◌≤◌, ap, length, map, subst, sym, arith, Option}
 use Rattle.std.specs.Prelude.{Err, Ok}
 use Rattle.std.proofs.lemmas.List.{length-map}
 use Rattle.std.proofs.lemmas.Result.{IfOk-weaker}
 use Rattle.manifest.specs.declared.manifest.PriorEntry.{PriorEntry}
 use Rattle.query_check.specs.Answers.{whole_checked}
-use Rattle.query_check.specs.Leaves.{LeafTree}
 use Rattle.std.specs.List.{All}
 use Rattle.store_ends.specs.Files.{Files}
 use Rattle.session_events.specs.declared.event.Event.TheVariants as event
-use Rattle.session_replies.specs.declared.reply.Reply.{Reply}
-use Rattle.session_replies.specs.declared.reply.Reply.TheVariants as reply
 use Rattle.desk.specs.Asked.{IsNotTaken, asked}
 use Rattle.desk.specs.declared.asking.NotTaken.{NotTaken}
 use Rattle.desk.specs.declared.asking.NotTaken.TheVariants as not_taken
@@ -17,7 +14,7 @@ use Rattle.desk.specs.Backed.{IsDeskBacked, Keeps, Steps, StepsTo, state_of}
 use Rattle.desk.specs.Keeping.{AsksFor}
 use Rattle.desk.specs.Step.{open_step, step}
 use Rattle.desk.specs.Told.{RefusesAs}
-use Rattle.desk.proofs.Exits.{of-now, refused-by, refused-here}
+use Rattle.desk.proofs.Exits.{refused-by, refused-here}
 use Rattle.desk.proofs.OpenExits.{open-asked, refuses-asked, steps-asked}
 use Rattle.desk.proofs.kept.Kept.open.Goals as goal
 

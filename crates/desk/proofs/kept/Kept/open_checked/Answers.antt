@@ -1,28 +1,24 @@
-use Rattle.std.proofs.Common.{◌≡◌, ◌∙◌, ◌≤◌, ◌<◌, ◌++◌, ◌∷◌, [], ap, arith, false, true, length, map, refl, rules, subst, sym, List, None, Some, Option}
-use Rattle.std.specs.Prelude.{Err, Ok, is_some, nat_le}
+use Rattle.std.proofs.Common.{◌≡◌, ◌∙◌, ◌<◌, ◌++◌, ◌∷◌, [], ap, arith, false, true, length, map, refl, rules, subst, sym, List}
+use Rattle.std.specs.Prelude.{is_some, nat_le}
 use Rattle.std.specs.List.{All, position}
 use Rattle.std.proofs.lemmas.Bool.{le-leb, lt-leb}
 use Rattle.std.proofs.lemmas.Result.{err_from_is_err_and}
 use Rattle.ri_base.specs.Documents.{Document}
-use Rattle.store_ends.specs.Files.{Files}
 use Rattle.query_check.specs.Answers.{whole_checked}
 use Rattle.query_check.specs.Leaves.{leaf_tree}
 use Rattle.query_check.specs.declared.leaf_kind.LeafKind.{LeafKind}
 use Rattle.disk_index.specs.Snapshots as snapshots
 use Rattle.disk_index.specs.Snapshots.{Marked}
 use Rattle.document_scoring.specs.Counts.{stats_of}
-use Rattle.holdings.specs.Parts.{live}
-use Rattle.counts.specs.Kept.{AreSums, Kept}
+use Rattle.counts.specs.Kept.{AreSums}
 use Rattle.repository.specs.States as repositories
 use Rattle.session_replies.specs.declared.reply.Refusal.TheVariants.{DeskFull, NameTaken}
-use Rattle.session_replies.specs.declared.reply.Reply.TheVariants as reply
-use Rattle.desk.specs.Backed.{IsDeskBacked, Keeps, StepsTo, state_of}
+use Rattle.desk.specs.Backed.{IsDeskBacked, Keeps}
 use Rattle.desk.specs.Keeping.{AreKept, AsksFor, IsOpen}
 use Rattle.desk.specs.declared.query.OpenQuery.{OpenQuery}
 use Rattle.desk.specs.declared.query.TheConstants.{MAX_QUERIES}
 use Rattle.desk.proofs.CacheLemmas.{cache-read, listed-now}
 use Rattle.desk.proofs.Closing.{priors-closed}
-use Rattle.desk.proofs.Exits.{of-now}
 use Rattle.desk.proofs.KeptLemmas.{kept-counts, kept-pushed, kept-repository}
 use Rattle.desk.proofs.Naming.{is_named}
 use Rattle.desk.proofs.OpenExits.{IsNewSearch, full-refused, open-accepted-by, open-done, open-new, open-refusal, open-refused-by, taken-refused}

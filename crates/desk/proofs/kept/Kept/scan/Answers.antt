@@ -1,17 +1,13 @@
-use Rattle.std.proofs.Common.{◌≡◌, ◌∙◌, ap, map, refl, subst, sym, List, Option}
+use Rattle.std.proofs.Common.{◌≡◌, ◌∙◌, ap, refl, subst, sym, List}
 use Rattle.std.specs.Prelude.{Err, Ok}
 use Rattle.std.proofs.lemmas.Result.{err_from_is_err_and}
-use Rattle.ri_base.specs.Documents.{Document}
 use Rattle.ri_base.specs.Expression.{expr_tree}
-use Rattle.store_ends.specs.Files.{Files}
 use Rattle.disk_index.specs.Snapshots as snapshots
 use Rattle.disk_index.specs.Snapshots.{AreBacked, Marked}
-use Rattle.holdings.specs.Parts.{live}
 use Rattle.repository.specs.States.{part_numbers}
 use Rattle.session_events.specs.declared.event.Event.TheVariants as event
-use Rattle.session_replies.specs.declared.reply.Reply.TheVariants as reply
 use Rattle.desk.specs.Asked.{IsNotTaken, scanned}
-use Rattle.desk.specs.Backed.{IsDeskBacked, Keeps, Steps, state_of}
+use Rattle.desk.specs.Backed.{IsDeskBacked, Keeps, state_of}
 use Rattle.desk.specs.Scanning.{extents_in}
 use Rattle.desk.specs.declared.asking.NotTaken.{NotTaken}
 use Rattle.desk.specs.declared.asking.NotTaken.TheVariants as not_taken

@@ -1,7 +1,6 @@
-use Rattle.std.proofs.Common.{◌≡◌, ◌∙◌, ap, false, get_or, length, map, refl, subst, sym, true, List, None, Some, Option}
-use Rattle.std.specs.Prelude.{is_some, nat_lt}
+use Rattle.std.proofs.Common.{◌≡◌, ◌∙◌, ap, get_or, length, refl, subst, sym, List, None, Some}
+use Rattle.std.specs.Prelude.{is_some}
 use Rattle.std.specs.List.{position}
-use Rattle.std.specs.Str.{bytes_eq}
 use Rattle.ri_base.specs.declared.hit.Hit.{Hit}
 use Rattle.query_check.specs.Answers.{whole_checked}
 use Rattle.query_check.specs.declared.checked.Checked.{Checked}
@@ -16,7 +15,6 @@ use Rattle.desk.specs.Keeping.{IsOpen}
 use Rattle.desk.specs.Orders.{IsTrueReply}
 use Rattle.desk.specs.Queries.{IsQueryBacked, priors_in, query_of}
 use Rattle.desk.specs.State.{named}
-use Rattle.desk.specs.declared.query.OpenQuery.{OpenQuery}
 use Rattle.desk.proofs.Cases.{show-noname, show-results}
 use Rattle.desk.proofs.Exits.{accepted-by, of-now, refused-by, refused-exit, refused-here, refused-so}
 use Rattle.desk.proofs.FormLemmas.{results-form}

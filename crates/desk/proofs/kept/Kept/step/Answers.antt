@@ -1,16 +1,14 @@
-use Rattle.std.proofs.Common.{◌≡◌, ◌∙◌, ◌≤◌, ap, get_or, length, map, refl, subst, sym, List, None, Some, Option, set}
+use Rattle.std.proofs.Common.{◌≡◌, ◌∙◌, ◌≤◌, ap, get_or, length, refl, subst, sym, None, Some, Option, set}
 use Rattle.std.specs.Prelude.{is_ok}
 use Rattle.std.specs.List.{position}
 use Rattle.store_ends.specs.Files.{Files}
 use Rattle.belief_nodes.specs.Network.{network_tree}
-use Rattle.disk_index.specs.Cache.{KeptBlock}
 use Rattle.session_events.specs.declared.event.Event.TheVariants as event
 use Rattle.session_replies.specs.declared.reply.Reply.TheVariants as reply
 use Rattle.session_replies.specs.declared.reply.Refusal.TheVariants.{NoSuchName}
 use Rattle.desk.specs.Backed.{IsDeskBacked, Keeps, Steps, state_of}
-use Rattle.desk.specs.Keeping.{AreKept, IsOpen}
+use Rattle.desk.specs.Keeping.{IsOpen}
 use Rattle.desk.specs.Queries.{IsCacheKept, IsQueryBacked, query_of}
-use Rattle.desk.specs.declared.query.OpenQuery.{OpenQuery}
 use Rattle.desk.proofs.CacheLemmas.{cache-read}
 use Rattle.desk.proofs.Cases.{step-noname, step-stepped}
 use Rattle.desk.proofs.Exits.{accepted-by, of-now, refused-by, refused-here}

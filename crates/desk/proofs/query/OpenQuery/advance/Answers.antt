@@ -1,4 +1,4 @@
-use Rattle.std.proofs.Common.{◌≡◌, ◌∙◌, List, ap, length, map, refl, rules}
+use Rattle.std.proofs.Common.{◌≡◌, ◌∙◌, List, ap, length, refl, rules}
 use Rattle.disk_index.specs.Snapshots.{Marked, live}
 use Rattle.desk.proofs.QueryLemmas.{live-advanced, query-advanced, steps-backed}
 use Rattle.desk.proofs.query.OpenQuery.advance.Goals as goal

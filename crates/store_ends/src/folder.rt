@@ -15,13 +15,36 @@ use std::{fs, io};
 // The file that is written before it takes another's place. No call can name it.
 const BESIDE: &str = ".new";
 
-/// A folder by its path, with the room for the paths of its files.
+/// A file that is open for reading, by its name, with the length that it had when it was opened.
+#[derive(Drop)]
+struct Opened<R: Files> {
+    name: String,
+    file: R::File,
+    length: u64,
+}
+
+impl<R: Files> Opened<R> {
+    // The file's bytes from a place on, as many as there are and as have room.
+    fn read_at(&mut self, at: u64, buf: &mut [u8]) -> io::Result<usize>
+        ensures bound { ReadsAtMost result buf.new }
+    {
+        if at >= self.length {
+            return Ok(0);
+        }
+        self.file.seek(SeekFrom::Start(at))?;
+        fill(&mut self.file, buf)
+    }
+}
+
+/// A folder by its path, with the room for the paths of its files. The file that was read last stays open until one is changed or
+/// another one is read: whoever reads a file block by block opens it once.
 #[derive(Drop)]
 pub(crate) struct Folder<'a, R: Files + AllocGlobal> {
     rt: &'a R,
     folder: &'a str,
     path: String,
     beside: String,
+    opened: Option<Opened<R>>,
 }
 
 impl<'a, R: Files + AllocGlobal> Folder<'a, R> {
@@ -37,6 +60,7 @@ impl<'a, R: Files + AllocGlobal> Folder<'a, R> {
             folder,
             path,
             beside,
+            opened: None,
         })
     }
 
@@ -68,18 +92,43 @@ impl<'a, R: Files + AllocGlobal> Folder<'a, R> {
         }
     }
 
+    // Opens the file of `path`, which has this name, where there is one.
+    fn open(&mut self, name: &str) -> io::Result<()> {
+        self.opened = None;
+        let Some(length) = self.length_of(name)? else {
+            return Ok(());
+        };
+        let file = File::open(self.rt, self.path.as_str())?;
+        let mut kept = String::with_capacity(self.rt.alloc(), name.len())?;
+        kept.push_str(name)?;
+        self.opened = Some(Opened {
+            name: kept,
+            file,
+            length,
+        });
+        Ok(())
+    }
+
+    // Whether the file of this name is open.
+    fn is_open(&self, name: &str) -> bool {
+        match &self.opened {
+            Some(opened) => opened.name.as_str() == name,
+            None => false,
+        }
+    }
+
     // The file's bytes from a place on, as many as there are and as have room.
     pub fn read_at(&mut self, name: &str, at: u64, buf: &mut [u8]) -> io::Result<usize>
         ensures bound { ReadsAtMost result buf.new }
         ensures inside { OnOk result (IsFileName name.now) }
     {
-        match self.length_of(name)? {
-            Some(length) if at < length => {
-                let mut file = File::open(self.rt, self.path.as_str())?;
-                file.seek(SeekFrom::Start(at))?;
-                fill(&mut file, buf)
-            }
-            _ => Ok(0),
+        self.set_path(name)?;
+        if !self.is_open(name) {
+            self.open(name)?;
+        }
+        match &mut self.opened {
+            Some(opened) => opened.read_at(at, buf),
+            None => Ok(0),
         }
     }
 
@@ -87,6 +136,7 @@ impl<'a, R: Files + AllocGlobal> Folder<'a, R> {
     pub fn write(&mut self, name: &str, bytes: &[u8]) -> io::Result<()>
         ensures inside { OnOk result (IsFileName name.now) }
     {
+        self.opened = None;
         self.set_path(name)?;
         write_file(self.rt, self.path.as_str(), bytes)?;
         self.keep_entries()
@@ -96,6 +146,7 @@ impl<'a, R: Files + AllocGlobal> Folder<'a, R> {
     pub fn exchange(&mut self, name: &str, bytes: &[u8]) -> io::Result<()>
         ensures inside { OnOk result (IsFileName name.now) }
     {
+        self.opened = None;
         self.set_path(name)?;
         write_file(self.rt, self.beside.as_str(), bytes)?;
         fs::rename(self.rt, self.beside.as_str(), self.path.as_str())?;
@@ -106,6 +157,7 @@ impl<'a, R: Files + AllocGlobal> Folder<'a, R> {
     pub fn delete(&mut self, name: &str) -> io::Result<()>
         ensures inside { OnOk result (IsFileName name.now) }
     {
+        self.opened = None;
         self.set_path(name)?;
         match fs::remove_file(self.rt, self.path.as_str()) {
             Ok(()) => self.keep_entries(),

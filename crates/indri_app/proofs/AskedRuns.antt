@@ -17,10 +17,10 @@ use Rattle.repository.specs.Stands.{Collection}
 use Rattle.collection_queries.specs.Priors.{names_with}
 use Rattle.collection_queries.specs.Shown.{Shown, explanation, shown_for}
 use Rattle.indri_app.specs.Asked.{IsAsked, IsBrokenOver, IsIntact, IsIntactWithPriors}
-use Rattle.indri_app.specs.Command.{AreAnswer, ArePieces, IsAskedBy, NeedsRepository, query_refusal, text_refusal}
+use Rattle.indri_app.specs.Command.{AreAnswer, ArePieces, IsAskedBy, NeedsRepository, ShowsInOrder, query_refusal, text_refusal}
 use Rattle.indri_app.specs.LastLines.{IsClosed}
 use Rattle.indri_app.specs.Opened.{IsAbsentFault, IsWant}
-use Rattle.indri_app.specs.Runs.{RunsTo, Tells, WritesBy}
+use Rattle.indri_app.specs.Runs.{RunsTo, Tells, TellsDamage, TellsDamageOf, WritesBy}
 use Rattle.indri_app.specs.declared.status.Status.{Status}
 use Rattle.indri_app.specs.declared.status.Status.TheVariants as status
 use Rattle.indri_app.proofs.Closing.{closed, want-begun}
@@ -45,6 +45,30 @@ asked-needs (session m) text mu shown by' = absurd by'
 asked-needs (gen count) text mu shown by' = absurd by'
 asked-needs (query question) text mu shown by' = tt
 asked-needs (explain rank question) text mu shown by' = tt
+
+pub asked-in_order : (asks : Asks) (c : Collection) (left : Option (List ℕ)) (text : List ℕ) (mu : ℕ) (shown : Shown) → IsAskedBy asks text mu shown → ShowsInOrder asks c left
+asked-in_order (scan t) c left text mu shown by' = absurd by'
+asked-in_order create c left text mu shown by' = absurd by'
+asked-in_order add c left text mu shown by' = absurd by'
+asked-in_order delete c left text mu shown by' = absurd by'
+asked-in_order merge c left text mu shown by' = absurd by'
+asked-in_order (prior name) c left text mu shown by' = absurd by'
+asked-in_order (session m) c left text mu shown by' = absurd by'
+asked-in_order (gen count) c left text mu shown by' = absurd by'
+asked-in_order (query question) c left text mu shown by' = tt
+asked-in_order (explain rank question) c left text mu shown by' = tt
+
+pub asked-tells : (asks : Asks) (before now : Option (List ℕ)) (a z : ℕ) (text : List ℕ) (mu : ℕ) (shown : Shown) → IsAskedBy asks text mu shown → TellsDamage before now a z → TellsDamageOf asks before now a z
+asked-tells (scan t) before now a z text mu shown by' tells = absurd by'
+asked-tells create before now a z text mu shown by' tells = absurd by'
+asked-tells add before now a z text mu shown by' tells = absurd by'
+asked-tells delete before now a z text mu shown by' tells = absurd by'
+asked-tells merge before now a z text mu shown by' tells = absurd by'
+asked-tells (prior name) before now a z text mu shown by' tells = absurd by'
+asked-tells (session m) before now a z text mu shown by' tells = absurd by'
+asked-tells (gen count) before now a z text mu shown by' tells = absurd by'
+asked-tells (query question) before now a z text mu shown by' tells = tells
+asked-tells (explain rank question) before now a z text mu shown by' tells = tells
 
 -- ---- the answer
 

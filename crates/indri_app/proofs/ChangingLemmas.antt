@@ -11,7 +11,8 @@ use Rattle.repository.specs.Stands.{Collection}
 use Rattle.collection_commands.specs.Merging.{IsMergeFault}
 use Rattle.command_words.specs.Table.{create, scan}
 use Rattle.indri_app.specs.Changes.{IsFoundFirst, IsOverFault, IsWorkFault, told_change}
-use Rattle.indri_app.specs.Command.{NeedsRepository, ReadsPriors}
+use Rattle.indri_app.specs.Command.{NeedsRepository, ReadsPriors, ShowsInOrder}
+use Rattle.indri_app.specs.Runs.{TellsDamage, TellsDamageOf}
 use Rattle.indri_app.specs.declared.changing.Change.{Change}
 use Rattle.indri_app.specs.declared.changing.Change.TheVariants.{Add, Delete, Merge, Prior}
 use Rattle.indri_app.specs.Opened.{IsOpenFault, IsWant}
@@ -172,6 +173,18 @@ change-needs Add = tt
 change-needs Delete = tt
 change-needs Merge = tt
 change-needs (Prior name) = tt
+
+pub change-in_order : (what : Change) (c : Collection) (left : Option (List ℕ)) → ShowsInOrder (told_change what) c left
+change-in_order Add c left = tt
+change-in_order Delete c left = tt
+change-in_order Merge c left = tt
+change-in_order (Prior name) c left = tt
+
+pub change-tells : (what : Change) (start now : Option (List ℕ)) (a z : ℕ) → TellsDamage start now a z → TellsDamageOf (told_change what) start now a z
+change-tells Add start now a z tells = tells
+change-tells Delete start now a z tells = tells
+change-tells Merge start now a z tells = tells
+change-tells (Prior name) start now a z tells = tells
 
 pub change-reads : (what : Change) → ReadsPriors (told_change what) → ⊥
 change-reads Add reads = reads

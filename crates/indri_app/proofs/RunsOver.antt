@@ -30,6 +30,7 @@ pub memory-has_run : (asks : Asks) (left : Option (List ℕ)) (told : Option Fil
 memory-has_run asks left told past before a z = record {
   runs = λ c stands. memory-runs told asks c left before a z stands;
   stops = λ c stands. stops-none told asks c left past past (λ t f h. h);
+  order = λ c stands all. absurd (elim all [ inl e ↦ cc | inr e ↦ cc ]);
   made = λ is f same none. StoppedBetween-none (IsMade (Some f)) None create_pieces before before told refl same;
   made_stops = λ is f same none. Leaves-same past _;
   scans = λ text is. scans-memory text left before a z;
@@ -58,6 +59,7 @@ pub scan-has_run : (text : List ℕ) (s : Status) (left : Option (List ℕ)) (to
 scan-has_run text s left told past before now a z plain scans' = record {
   runs = λ c stands. scan-runs told text c left before now a z s stands scans';
   stops = λ c stands. stops-none told (scan text) c left past past (λ t f h. h);
+  order = λ c stands all. tt;
   made = λ is f same none. absurd cc;
   made_stops = λ is f same none. absurd cc;
   scans = λ other is. let one : text ≡ other = cc in subst (λ t. IfSome left (λ bytes. ScansTo s t bytes before now a z)) one scans';

@@ -1,5 +1,5 @@
 -- What the words of the command line ask for, and the pieces of that command on a collection.
-use Rattle.std.specs.Prelude.{◌≡◌, ◌⊎◌, ℕ, List, [], ◌∷◌, codes, Option, None, Some, Result, Ok, Err, option_and_then}
+use Rattle.std.specs.Prelude.{◌≡◌, ◌⊎◌, ℕ, List, [], ◌∷◌, codes, Option, None, Some, Result, Ok, Err, IfSome, option_and_then}
 use Rattle.command_words.specs.Table.{Asks, Question, add, asks_of, create, delete, explain, gen, merge, prior, query, scan, session}
 use Rattle.ri_base.specs.Expression.{ExprTree}
 use Rattle.ri_base.specs.Query.{QueryTree}
@@ -24,15 +24,17 @@ use Rattle.repository.specs.Stands.{Collection}
 use Rattle.collection_commands.specs.Flushing.{delete_pieces, then_flushed}
 use Rattle.collection_commands.specs.Merging.{merge_pieces}
 use Rattle.collection_commands.specs.PriorSetting.{ArePriorPieces, name_refusal}
+use Rattle.script_reader.specs.Items.{items}
+use Rattle.sessions.specs.Orders.{AreTrue}
+use Rattle.sessions.specs.Sessions.{begun, session_pieces}
 use Rattle.collection_queries.specs.Answer.{IsAnswerText}
 use Rattle.collection_queries.specs.Priors.{names_with, priors_with}
 use Rattle.collection_queries.specs.Shown.{Shown, explanation, shown_for}
 
 -- ---- words
 
--- `session` and `gen` are no commands yet
+-- `gen` is no command yet
 abbrev pub built : Asks → Option Asks
-built (session mu) = None
 built (gen count) = None
 built asks = Some asks
 
@@ -105,10 +107,23 @@ ArePieces told add c bytes pieces = (limits : Limits) × AreReal limits × (piec
 ArePieces told delete c bytes pieces = pieces ≡ delete_pieces c bytes
 ArePieces told merge c bytes pieces = pieces ≡ merge_pieces c
 ArePieces told (prior name) c bytes pieces = ArePriorPieces (name_refusal c name) c name bytes pieces
-ArePieces told (session mu) c bytes pieces = ⊥
+ArePieces told (session mu) c bytes pieces = (limits : Limits) × AreReal limits × (pieces ≡ session_pieces limits (Dirichlet mu) c bytes)
 ArePieces told (gen count) c bytes pieces = ⊥
 ArePieces told (query question) c bytes pieces = AreAnswer c question (shown_for question) pieces
 ArePieces told (explain rank question) c bytes pieces = AreAnswer c question (explanation rank) pieces
+
+-- What a session shows of its input stands in an order that is true of the beliefs behind it.
+abbrev pub ShowsInOrder : Asks → Collection → Option (List ℕ) → Type 0
+ShowsInOrder (scan text) c left = Unit {0}
+ShowsInOrder create c left = Unit {0}
+ShowsInOrder add c left = Unit {0}
+ShowsInOrder delete c left = Unit {0}
+ShowsInOrder merge c left = Unit {0}
+ShowsInOrder (prior name) c left = Unit {0}
+ShowsInOrder (session mu) c left = IfSome left (λ bytes. (limits : Limits) × AreReal limits × AreTrue (begun limits (Dirichlet mu) c) (items bytes))
+ShowsInOrder (gen count) c left = Unit {0}
+ShowsInOrder (query question) c left = Unit {0}
+ShowsInOrder (explain rank question) c left = Unit {0}
 
 -- These are they, or none where they can't be told yet.
 abbrev pub AreBegun : Option Files → Asks → Collection → List ℕ → List (Piece Collection) → Type 0
@@ -129,7 +144,7 @@ NeedsRepository add = Unit {0}
 NeedsRepository delete = Unit {0}
 NeedsRepository merge = Unit {0}
 NeedsRepository (prior name) = Unit {0}
-NeedsRepository (session mu) = ⊥
+NeedsRepository (session mu) = Unit {0}
 NeedsRepository (gen count) = ⊥
 NeedsRepository (query question) = Unit {0}
 NeedsRepository (explain rank question) = Unit {0}
@@ -142,7 +157,7 @@ ReadsPriors add = ⊥
 ReadsPriors delete = ⊥
 ReadsPriors merge = ⊥
 ReadsPriors (prior name) = ⊥
-ReadsPriors (session mu) = ⊥
+ReadsPriors (session mu) = Unit {0}
 ReadsPriors (gen count) = ⊥
 ReadsPriors (query question) = Unit {0}
 ReadsPriors (explain rank question) = Unit {0}

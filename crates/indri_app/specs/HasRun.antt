@@ -9,9 +9,9 @@ use Rattle.repository.specs.RealLimits.{StandsFor}
 use Rattle.repository.specs.Stands.{Collection}
 use Rattle.collection_commands.specs.Creation.{IsMade, create_pieces}
 use Rattle.indri_app.specs.Asked.{IsIntact, IsIntactWithPriors}
-use Rattle.indri_app.specs.Command.{NeedsRepository, ReadsPriors}
+use Rattle.indri_app.specs.Command.{NeedsRepository, ReadsPriors, ShowsInOrder}
 use Rattle.indri_app.specs.LastLines.{absent_line, exists_line}
-use Rattle.indri_app.specs.Runs.{HasDone, IsAbsentStatus, IsExistsStatus, MakesTo, RunsTo, ScansTo, StopsAlong, TellsDamage}
+use Rattle.indri_app.specs.Runs.{HasDone, IsAbsentStatus, IsAllDone, IsExistsStatus, MakesTo, RunsTo, ScansTo, StopsAlong, TellsDamageOf}
 use Rattle.indri_app.specs.declared.status.Status.{Status}
 use Rattle.indri_app.specs.declared.status.Status.TheVariants.{Exists, Malformed, NoRepository, Usage}
 
@@ -21,6 +21,8 @@ pub record HasRun (asks : Asks) (status : Status) (left : Option (List ℕ)) (to
   -- over files that stand for a collection, and what a stop may leave of them
   pub runs : (c : Collection) → StandsFor c told → IfSome left (λ bytes. RunsTo status told asks c bytes before now files count_before count_now)
   pub stops : (c : Collection) → StandsFor c told → IfSome left (λ bytes. StopsAlong told asks c bytes past since)
+  -- what a session shows stands in a true order
+  pub order : (c : Collection) → StandsFor c told → IsAllDone status → ShowsInOrder asks c left
   -- `create` where there is no manifest
   pub made : asks ≡ create → (f : Files) → told ≡ Some f → f manifest_name ≡ None → MakesTo status (Some f) before now files count_before count_now
   pub made_stops : asks ≡ create → (f : Files) → told ≡ Some f → f manifest_name ≡ None → Leaves past since (StandsAlong (IsMade (Some f)) None create_pieces)
@@ -29,7 +31,7 @@ pub record HasRun (asks : Asks) (status : Status) (left : Option (List ℕ)) (to
   -- damage: never where the files stand for a collection, or where there is no manifest; and it isn't passed over
   pub sound : status ≡ Malformed → (c : Collection) → StandsFor c told → ⊥
   pub there : (f : Files) → told ≡ Some f → status ≡ Malformed → IsTrue (is_some (f manifest_name))
-  pub damage : status ≡ Malformed → TellsDamage before now count_before count_now
+  pub damage : status ≡ Malformed → TellsDamageOf asks before now count_before count_now
   pub intact : (f : Files) → told ≡ Some f → HasDone status → NeedsRepository asks → IsIntact told
   pub intact_priors : (f : Files) → told ≡ Some f → HasDone status → ReadsPriors asks → IsIntactWithPriors told
   -- there is no manifest where one is needed

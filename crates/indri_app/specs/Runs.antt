@@ -2,7 +2,7 @@
 use Rattle.std.specs.Prelude.{ℕ, ◌≡◌, ◌⊎◌, Bool, true, false, List, Option, None, Some, Result, Ok, Err}
 use Rattle.ri_base.specs.Expression.{ExprTree}
 use Rattle.store_ends.specs.Files.{Files, Leaves}
-use Rattle.command_words.specs.Table.{Asks, create}
+use Rattle.command_words.specs.Table.{Asks, add, create, delete, explain, gen, merge, prior, query, scan, session}
 use Rattle.command_pieces.specs.CommandFaults.{IsBrokenBy, IsDamage, of_items}
 use Rattle.command_pieces.specs.Lines.{EndsIn, WritesLine}
 use Rattle.command_pieces.specs.Pieces.{BrokenOff, Finished, Piece, StandsAlong, StoppedBetween, Writes, WritesFront, some_refused}
@@ -20,6 +20,7 @@ use Rattle.repository.specs.RealLimits.{StandsFor}
 use Rattle.repository.specs.Stands.{Collection}
 use Rattle.collection_commands.specs.Creation.{IsMade, create_pieces}
 use Rattle.collection_queries.specs.Priors.{names_with}
+use Rattle.sessions.specs.Sessions.{Grows}
 use Rattle.indri_app.specs.Command.{AreBegun, AreBegunBy, ArePieces, text_refusal}
 use Rattle.indri_app.specs.LastLines.{IsClosed, exists_line, last_line, read_line, store_line}
 use Rattle.indri_app.specs.declared.status.Status.{Status}
@@ -113,6 +114,23 @@ IsUntouched status = (status ≡ Usage) ⊎ (status ≡ QueryRefused) ⊎ (statu
 -- what is written ends with the line of the damage that was found, and of it all but where the sink's count rose
 abbrev pub TellsDamage : Option (List ℕ) → Option (List ℕ) → ℕ → ℕ → Type 0
 TellsDamage before now count_before count_now = (why : CommandFault) × IsDamage why × ((line : List ℕ) × (last_line why ≡ Some line) × WritesLine before now line count_before count_now)
+
+-- the same behind what a session has written
+abbrev pub TellsDamageOf : Asks → Option (List ℕ) → Option (List ℕ) → ℕ → ℕ → Type 0
+TellsDamageOf (scan text) before now count_before count_now = TellsDamage before now count_before count_now
+TellsDamageOf create before now count_before count_now = TellsDamage before now count_before count_now
+TellsDamageOf add before now count_before count_now = TellsDamage before now count_before count_now
+TellsDamageOf delete before now count_before count_now = TellsDamage before now count_before count_now
+TellsDamageOf merge before now count_before count_now = TellsDamage before now count_before count_now
+TellsDamageOf (prior name) before now count_before count_now = TellsDamage before now count_before count_now
+TellsDamageOf (session mu) before now count_before count_now = (written : Option (List ℕ)) × Grows before written × TellsDamage written now count_before count_now
+TellsDamageOf (gen count) before now count_before count_now = TellsDamage before now count_before count_now
+TellsDamageOf (query question) before now count_before count_now = TellsDamage before now count_before count_now
+TellsDamageOf (explain rank question) before now count_before count_now = TellsDamage before now count_before count_now
+
+-- all pieces were done
+abbrev pub IsAllDone : Status → Type 0
+IsAllDone status = (status ≡ Done) ⊎ (status ≡ SomeRefused)
 
 -- a command was done
 abbrev pub HasDone : Status → Type 0

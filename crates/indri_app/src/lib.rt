@@ -8,6 +8,7 @@ mod opening;
 mod program;
 mod question;
 mod scan;
+mod session;
 mod status;
 mod texts;
 

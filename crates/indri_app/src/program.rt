@@ -2,8 +2,10 @@
 ghost use Rattle.std.specs.Prelude.{◌≡◌, ◌≢◌, ◌≤◌, List, None, Option, ℕ, map, IfSome};
 ghost use Rattle.ri_ends.specs.Causes.{Rose};
 ghost use Rattle.command_words.specs.Asked.{AreInRange, told_words};
+ghost use Rattle.command_words.specs.Table as asks;
 ghost use Rattle.command_words.specs.Table.{Asks, create};
 ghost use Rattle.query_refusals.specs.Lines.{line_of};
+ghost use Rattle.smoothing.specs.Fractions.{IsMu};
 ghost use Rattle.smoothing.specs.declared.rule.RuleKind.TheVariants.{Dirichlet};
 ghost use Rattle.store_ends.specs.Files.{GoesOn, IsQuiet};
 ghost use Rattle.collection_queries.specs.Answer.{IsRule};
@@ -20,6 +22,7 @@ use crate::changing::{Change, change_files};
 use crate::ending::{close, finish, finish_items, tell, write_reply};
 use crate::question::{AskFault, ask};
 use crate::scan::scan;
+use crate::session::session_files;
 use crate::texts::{TextFault, read_expression};
 use belief_nodes::BeliefNode;
 use collection_commands::create_repository;
@@ -138,7 +141,34 @@ fn run_question<K: Sink, T: Store>(
     }
 }
 
-/// Does the command of the words. `session` and `gen` are none yet.
+/// Does what the script of the input asks for, over the repository of a store.
+fn run_session<S: Source, K: Sink, T: Store>(
+    alloc: Global,
+    mu: u32,
+    source: &mut S,
+    sink: &mut K,
+    store: &mut T,
+    plugs: &mut [Box<dyn BeliefNode>],
+) -> Status
+    requires mu { IsMu mu }
+    requires plugs { map (λ plug. meaning plug) plugs.old ≡ run_priors }
+    ensures has_run { HasRun (asks.session mu) result (S.left source.old) (T.files store.old) (T.files store.new) (T.since store.old) (T.since store.new) (K.taken sink.old) (K.taken sink.new) (K.faults sink.old) (K.faults sink.new) }
+    ensures untouched { IsUntouched result → IsQuiet T.files T.layers T.clock T.since T.longest T.held store.old store.new × (source.new ≡ source.old) }
+    ensures goes_on { GoesOn T.layers T.clock T.longest T.held store.old store.new }
+    ensures layers { S.layers source.new ≡ S.layers source.old }
+    ensures held { S.held source.new ≡ S.held source.old }
+    ensures read { result ≡ Status.ReadFault → Rose (S.faults source.old) (S.faults source.new) }
+    ensures read_later { S.faults source.old ≤ S.faults source.new }
+    ensures write { result ≡ Status.WriteFault → Rose (K.faults sink.old) (K.faults sink.new) }
+    ensures write_later { K.faults sink.old ≤ K.faults sink.new }
+    ensures store { result ≡ Status.StoreFault → Rose (T.faults store.old) (T.faults store.new) }
+    ensures store_later { T.faults store.old ≤ T.faults store.new }
+{
+    let answer = session_files(alloc, mu, source, sink, store, plugs);
+    finish(alloc, answer, sink)
+}
+
+/// Does the command of the words. `gen` is none yet.
 #[tactic(auto, unfolding(crate::specs::Command::usage_line))]
 fn run_words<S: Source, K: Sink, T: Store>(
     alloc: Global,
@@ -183,7 +213,8 @@ fn run_words<S: Source, K: Sink, T: Store>(
             let shown = Shown::Explanation { rank };
             run_question(alloc, &asked.text, asked.mu, &shown, plugs, sink, store)
         }
-        Words::Session(_) | Words::Gen(_) => tell(sink, USAGE, Status::Usage),
+        Words::Session(mu) => run_session(alloc, mu, source, sink, store, plugs),
+        Words::Gen(_) => tell(sink, USAGE, Status::Usage),
     }
 }
 

@@ -1,6 +1,6 @@
 use Rattle.repository.specs.Names.{manifest_name}
 use Rattle.indri_app.specs.LastLines.{absent_line}
-use Rattle.indri_app.proofs.ChangingLemmas.{change-needs, change-not_create, change-not_scan, change-reads}
+use Rattle.indri_app.proofs.ChangingLemmas.{change-in_order, change-needs, change-not_create, change-not_scan, change-reads, change-tells}
 use Rattle.indri_app.specs.Changes.{told_change}
 use Rattle.indri_app.proofs.Closing.{ended-runs}
 use Rattle.indri_app.proofs.Ended.{absent-ended, absent-first, absent-line-ended, damage-ended, damage-first, done-ended, exists-not_ended, first-ended, line-first, read-ended, rose-later, store-ended, there-ended, untouched-ended, usage-not_ended, without-ended, write-ended}
@@ -15,12 +15,13 @@ returns-clause-has_run g c =
     record {
       runs = λ k stands. ended-runs _ (told_change what) k _ _ _ _ _ answer _ _ _ _ did.write_later (did.done k stands) (did.broken k stands) ended;
       stops = did.stops;
+      order = λ k stands all. change-in_order what k _;
       made = λ is f told none. absurd (change-not_create what is);
       made_stops = λ is f told none. absurd (change-not_create what is);
       scans = λ text is. absurd (change-not_scan what text is);
       sound = λ is k stands. first-ended ⊥ answer _ _ _ _ _ (did.honest k stands) ended is;
       there = λ f told is. there-ended (f manifest_name) answer _ _ _ _ _ (λ none. did.without f told none) ended is;
-      damage = λ is. damage-first _ _ _ _ _ _ (first-ended _ answer _ _ _ _ _ did.first ended is).2 did.write_later (damage-ended answer _ _ _ _ _ ended is);
+      damage = λ is. change-tells what _ _ _ _ (damage-first _ _ _ _ _ _ (first-ended _ answer _ _ _ _ _ did.first ended is).2 did.write_later (damage-ended answer _ _ _ _ _ ended is));
       intact = λ f told has needs. done-ended _ answer _ _ _ _ _ (did.intact f told) ended has;
       intact_priors = λ f told has reads. absurd (change-reads what reads);
       absent = λ f told is. (change-needs what, did.absent f told (absent-ended answer _ _ _ _ _ ended is));

@@ -13,6 +13,7 @@ returns-in-Ok-clause-has_run g c = λ left.
     record {
       runs = λ k stands. let has = stands-there k _ stands in absurd (did.exists has.0 has.1 has.2).1;
       stops = λ k stands. let has = stands-there k _ stands in absurd (did.exists has.0 has.1 has.2).1;
+      order = λ k stands all. tt;
       made = λ is f told none. did.finished f told none;
       made_stops = λ is f told none. c.create_repository.ensures.stops f told none;
       scans = λ text is. absurd cc;
@@ -43,6 +44,7 @@ returns-in-Err-clause-has_run g c = λ left.
       stops = λ k stands.
           let has = stands-there k _ stands in
           stops-none (g.T.Store.files c.args.store.now) create k left _ _ (did.exists has.0 has.1 has.2).2.no_more;
+      order = λ k stands all. tt;
       made = λ is f told none. made-closed f _ _ _ _ why _ _ _ _ did.write_later did.only (did.broken f told none) ends;
       made_stops = λ is f told none. c.create_repository.ensures.stops f told none;
       scans = λ text is. absurd cc;

@@ -5,7 +5,7 @@ use Rattle.indri_app.specs.Opened.{IsOpenFault}
 use Rattle.indri_app.specs.Runs.{IsReplyStatus}
 use Rattle.indri_app.specs.Asked.{IsBrokenOver}
 use Rattle.indri_app.specs.declared.status.Status.TheVariants as status
-use Rattle.indri_app.proofs.AskedRuns.{asked-needs, asked-not_create, asked-not_scan, asked-runs, damage-not_want, damage-over, intact-of, over-absent, refused-runs, some-of, tells-not, want-runs}
+use Rattle.indri_app.proofs.AskedRuns.{asked-in_order, asked-needs, asked-not_create, asked-not_scan, asked-runs, asked-tells, damage-not_want, damage-over, intact-of, over-absent, refused-runs, some-of, tells-not, want-runs}
 use Rattle.indri_app.proofs.Closing.{stops-none}
 use Rattle.indri_app.proofs.Ended.{absent-closed, absent-closed-status, absent-line-closed, damage-closed, done-not_closed-any, exists-closed, exists-line-closed, malformed-closed, read-closed, store-closed, usage-not_closed, write-closed}
 use Rattle.indri_app.proofs.program.run_question.Goals as goal
@@ -23,6 +23,7 @@ returns-in-Ok-clause-has_run g c = λ asks left by'.
     record {
       runs = λ k stands. asked-runs _ _ asks k left _ _ _ _ text mu shown c.in-Ok.reply _ by' same stands (did.asked k stands) c.write_reply.ensures.written;
       stops = λ k stands. stops-none _ asks k left _ _ c.ask.ensures.quiet.no_more;
+      order = λ k stands all. asked-in_order asks k left text mu shown by';
       made = λ is f told none. absurd (asked-not_create asks text mu shown by' is);
       made_stops = λ is f told none. absurd (asked-not_create asks text mu shown by' is);
       scans = λ other is. absurd (asked-not_scan asks text mu shown other by' is);
@@ -59,6 +60,7 @@ returns-in-Err-Refused-clause-has_run g c = λ asks left by'.
     record {
       runs = λ k stands. refused-runs _ _ asks k left _ _ _ _ text mu shown c.in-Err-Refused.refusal _ by' same stands (did.refused k stands) tells;
       stops = λ k stands. stops-none _ asks k left _ _ c.ask.ensures.quiet.no_more;
+      order = λ k stands all. asked-in_order asks k left text mu shown by';
       made = λ is f told none. absurd (asked-not_create asks text mu shown by' is);
       made_stops = λ is f told none. absurd (asked-not_create asks text mu shown by' is);
       scans = λ other is. absurd (asked-not_scan asks text mu shown other by' is);
@@ -96,12 +98,13 @@ returns-in-Err-Broken-clause-has_run g c = λ asks left by'.
     record {
       runs = λ k stands. want-runs _ _ asks k left _ _ _ _ why _ (omega arith) same stands (did.refused k stands) ends;
       stops = λ k stands. stops-none _ asks k left _ _ c.ask.ensures.quiet.no_more;
+      order = λ k stands all. asked-in_order asks k left text mu shown by';
       made = λ is f told none. absurd (asked-not_create asks text mu shown by' is);
       made_stops = λ is f told none. absurd (asked-not_create asks text mu shown by' is);
       scans = λ other is. absurd (asked-not_scan asks text mu shown other by' is);
       sound = λ is k stands. damage-not_want why (malformed-closed why _ _ _ _ _ ends is) (did.refused k stands);
       there = λ f told is. some-of (f manifest_name) (damage-over f why (malformed-closed why _ _ _ _ _ ends is) (did.there f told));
-      damage = λ is. damage-closed why _ _ _ _ _ ends is;
+      damage = λ is. asked-tells asks _ _ _ _ text mu shown by' (damage-closed why _ _ _ _ _ ends is);
       intact = λ f told has needs. absurd (done-not_closed-any why _ _ _ _ _ ends has);
       intact_priors = λ f told has reads. absurd (done-not_closed-any why _ _ _ _ _ ends has);
       absent = λ f told is. (asked-needs asks text mu shown by', subst (IsBrokenOver f) (absent-closed why _ _ _ _ _ ends is) (did.there f told));

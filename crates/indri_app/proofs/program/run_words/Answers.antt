@@ -57,3 +57,12 @@ returns-in-Query-clause-usage g c = λ is. absurd ((c.run_question.ensures.has_r
 
 pub returns-in-Explain-clause-usage : goal.returns-in-Explain-clause-usage
 returns-in-Explain-clause-usage g c = λ is. absurd ((c.run_question-in-Explain.ensures.has_run (explain c.in-Explain.rank (told_asked c.in-Explain.asked)) None (sym c.deref-in-Explain.ensures, refl, refl)).command is)
+
+pub run_session-requires : goal.run_session-requires
+run_session-requires g c = let mu = rw c.in-Session.is at c.requires.ranges in record { mu = mu; plugs = c.requires.plugs }
+
+pub returns-in-Session-clause-has_run : goal.returns-in-Session-clause-has_run
+returns-in-Session-clause-has_run g c = rw c.in-Session.is c.run_session.ensures.has_run
+
+pub returns-in-Session-clause-usage : goal.returns-in-Session-clause-usage
+returns-in-Session-clause-usage g c = λ is. absurd (c.run_session.ensures.has_run.command is)

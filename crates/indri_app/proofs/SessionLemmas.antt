@@ -1,0 +1,90 @@
+-- A run of `session`.
+use Rattle.std.proofs.Common.{◌≡◌, ◌≤◌, inl, inr, ℕ, Bool, List, Option, None, Some, Result, Ok, Err, refl, subst}
+use Rattle.std.specs.Prelude.{IfErr, OnOk}
+use Rattle.std.specs.List.{AllZip}
+use Rattle.std.specs.Option.{IfSome}
+use Rattle.store_ends.specs.Files.{Files}
+use Rattle.command_words.specs.Table.{session}
+use Rattle.command_pieces.specs.CommandFaults.{IsDamage}
+use Rattle.command_pieces.specs.declared.command_fault.CommandFault.{CommandFault}
+use Rattle.command_pieces.specs.declared.command_fault.CommandFault.TheVariants as fault
+use Rattle.holdings.specs.declared.limits.Limits.{Limits}
+use Rattle.repository.specs.Opening.{IsRepositoryOpened}
+use Rattle.repository.specs.RealLimits.{AreReal}
+use Rattle.repository.specs.Stands.{Collection, IsPriorListed, Prior}
+use Rattle.repository.specs.States.{State}
+use Rattle.script_reader.specs.Items.{items}
+use Rattle.smoothing.specs.declared.rule.RuleKind.TheVariants.{Dirichlet}
+use Rattle.sessions.specs.Faults.{IsSessionFault}
+use Rattle.sessions.specs.Orders.{AreTrue}
+use Rattle.sessions.specs.Sessions.{Grows, begun}
+use Rattle.indri_app.specs.Asked.{IsIntactWithPriors}
+use Rattle.indri_app.specs.Changes.{IsFoundFirst, IsOverFault}
+use Rattle.indri_app.specs.Command.{ShowsInOrder}
+use Rattle.indri_app.specs.Runs.{IsAllDone, IsEnded, IsUntouched, TellsDamage}
+use Rattle.indri_app.specs.declared.status.Status.{Status}
+use Rattle.indri_app.proofs.Ended.{absent-ended, damage-first, done-not_closed, exists-not_ended, refused-not_ended, some-not_closed, usage-not_ended}
+
+session-over_one : (why : CommandFault) → IsSessionFault why → IsOverFault why
+session-over_one fault.Read is = tt
+session-over_one fault.Write is = tt
+session-over_one fault.Store is = tt
+session-over_one (fault.Malformed f p place) is = tt
+session-over_one (fault.Missing f) is = tt
+session-over_one fault.NoRepository is = absurd is
+session-over_one fault.Exists is = absurd is
+session-over_one fault.Memory is = tt
+
+pub session-over : (answer : Result Bool CommandFault) → IfErr answer IsSessionFault → IfErr answer IsOverFault
+session-over (Ok refused) is = tt
+session-over (Err why) is = session-over_one why is
+
+pub session-not_absent : (answer : Result Bool CommandFault) → IfErr answer IsSessionFault → answer ≡ Err fault.NoRepository → ⊥
+session-not_absent answer is e = subst (λ (r : Result Bool CommandFault). IfErr r IsSessionFault) e is
+
+-- what is found first by an open repository is damage
+pub undamaged-late : (answer : Result Bool CommandFault) → IfErr answer IsSessionFault → IfErr answer (λ why. IsDamage why → ⊥) → IfErr answer (λ why. IsFoundFirst why → ⊥)
+undamaged-late (Ok refused) is never = tt
+undamaged-late (Err fault.Read) is never = λ first. first
+undamaged-late (Err fault.Write) is never = λ first. first
+undamaged-late (Err fault.Store) is never = λ first. first
+undamaged-late (Err (fault.Malformed f p place)) is never = never
+undamaged-late (Err (fault.Missing f)) is never = never
+undamaged-late (Err fault.NoRepository) is never = absurd is
+undamaged-late (Err fault.Exists) is never = absurd is
+undamaged-late (Err fault.Memory) is never = λ first. first
+
+-- its status says that all was done
+pub all-ended : (P : Type 0) (answer : Result Bool CommandFault) (s : Status) (mid now : Option (List ℕ)) (b z : ℕ) → OnOk answer P → IsEnded answer s mid now b z → IsAllDone s → P
+all-ended P (Ok refused) s mid now b z p ends all = p
+all-ended P (Err why) s mid now b z p ends all = absurd (elim all [ inl e ↦ done-not_closed why s mid now b z ends e | inr e ↦ some-not_closed why s mid now b z ends e ])
+
+-- nothing was done where there was no manifest
+pub session-untouched : (Q : Type 0) (answer : Result Bool CommandFault) (s : Status) (mid now : Option (List ℕ)) (b z : ℕ) → (answer ≡ Err fault.NoRepository → Q) → IfErr answer IsOverFault → IsEnded answer s mid now b z → IsUntouched s → Q
+session-untouched Q answer s mid now b z q only ends un = elim un [
+  | inl e ↦ absurd (usage-not_ended answer s mid now b z ends e)
+  | inr more ↦ elim more [
+    | inl e ↦ absurd (refused-not_ended answer s mid now b z ends e)
+    | inr last ↦ elim last [
+      | inl e ↦ q (absent-ended answer s mid now b z ends e)
+      | inr e ↦ absurd (exists-not_ended answer s mid now b z only ends e)
+    ]
+  ]
+]
+
+-- ---- what is said of the script
+
+pub in-order : (mu : ℕ) (c : Collection) (limits : Limits) (left : Option (List ℕ)) (answer : Result Bool CommandFault) → AreReal limits → OnOk answer (IfSome left (λ bytes. AreTrue (begun limits (Dirichlet mu) c) (items bytes)))
+    → OnOk answer (ShowsInOrder (session mu) c left)
+in-order mu c limits left (Err why) real true' = tt
+in-order mu c limits None (Ok refused) real true' = tt
+in-order mu c limits (Some bytes) (Ok refused) real true' = (limits, real, true')
+
+-- the files of a repository that was opened, and of its priors, are in their grammar
+pub with-priors : (told : Option Files) (s : State) (answer : Result Bool CommandFault) → IsRepositoryOpened told s.held.limits s → OnOk answer ((ps : List Prior) × AllZip (IsPriorListed told) s.priors ps) → OnOk answer (IsIntactWithPriors told)
+with-priors told s (Err why) opened priors = tt
+with-priors told s (Ok refused) opened priors = (s.held.limits, (s, opened, priors))
+
+-- damage is told behind what was written
+pub damage-behind : (start mid now : Option (List ℕ)) (a b z : ℕ) → Grows start mid → a ≤ b → TellsDamage mid now b z → (written : Option (List ℕ)) × Grows start written × TellsDamage written now a z
+damage-behind start mid now a b z grows h tells = (mid, grows, damage-first mid mid now a b z refl h tells)

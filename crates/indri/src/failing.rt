@@ -25,7 +25,7 @@ const BOTH_LINES: &str = "1 - -0.263034 d2 0 1\n2 > -0.847996 d1 0 2\n";
 
 const BOTH: (Status, &str) = (Status::Done, BOTH_LINES);
 
-static CASES: [Case; 8] = [
+static CASES: [Case; 9] = [
     Case {
         before: &[],
         texts: &["create"],
@@ -85,6 +85,18 @@ static CASES: [Case; 8] = [
         query: &["query", "--mu", "1", "a"],
         old: BOTH,
         new: BOTH,
+    },
+    Case {
+        before: &[CREATE, ADD_TWO],
+        texts: &["session", "--mu", "1"],
+        input: "add 29\n<DOC><DOCNO>d3</DOCNO>b</DOC>\ndelete d1\nopen q 5 b\nstep q 9\nshow q\nend\n",
+        reads: 12,
+        writes: 6,
+        status: Status::Done,
+        text: "added d3 1\ndeleted d1\nopened q 2\nstepped q 2 of 2\nresults q 1\n1 - -0.415037 d3 0 1\nended 2\n",
+        query: &["query", "--mu", "1", "b"],
+        old: (Status::Done, "1 - -1.169925 d1 0 2\n"),
+        new: (Status::Done, "1 - -0.415037 d3 0 1\n"),
     },
     Case {
         before: &[CREATE, ADD_TWO],

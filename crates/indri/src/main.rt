@@ -9,6 +9,8 @@ mod failing;
 #[cfg(test)]
 mod merge_tests;
 #[cfg(test)]
+mod session_tests;
+#[cfg(test)]
 mod store_tests;
 #[cfg(test)]
 mod tests;

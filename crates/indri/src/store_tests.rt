@@ -433,7 +433,7 @@ fn stands(alloc: Global, store: &mut MemStore) -> bool {
 }
 
 /// Whether a store whose call of that number fails, and leaves the file so, stands for one of these collections: behind `create`, `add` of
-/// one document and then of another, `delete` of that, and `merge`.
+/// one document and then of another, `delete` of that, `merge`, and a session that does all of these.
 fn stands_behind(alloc: Global, call: u64, left: Left) -> bool {
     let mut fails = Vec::new(alloc);
     if fails.push(StoreFail { call, left }).is_err() {
@@ -447,6 +447,10 @@ fn stands_behind(alloc: Global, call: u64, left: Left) -> bool {
         ("add", second),
         ("delete", "d2"),
         ("merge", ""),
+        (
+            "session",
+            "add 29\n<DOC><DOCNO>d2</DOCNO>a</DOC>\nflush\ndelete d2\nmerge\nturn 9\nend\n",
+        ),
     ] {
         let Some(words) = words_of(alloc, &[texts]) else {
             return false;
@@ -467,7 +471,7 @@ fn stands_behind(alloc: Global, call: u64, left: Left) -> bool {
 
 #[test]
 fn each_call_of_the_store_fails(rt: HostRuntime) {
-    for call in 1..40 {
+    for call in 1..70 {
         assert!(rt; stands_behind(rt.alloc(), call, Left::Old));
         assert!(rt; stands_behind(rt.alloc(), call, Left::New));
         assert!(rt; stands_behind(rt.alloc(), call, Left::Torn(Vec::new(rt.alloc()))));

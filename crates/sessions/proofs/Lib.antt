@@ -1,0 +1,5 @@
+pub mod Beginning
+pub mod Following
+pub mod Standing
+pub mod StepLemmas
+pub mod TextLemmas

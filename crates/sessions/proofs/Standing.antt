@@ -10,6 +10,8 @@ use Rattle.store_ends.proofs.Files.{Leaves-same, Leaves-then}
 use Rattle.command_pieces.specs.CommandFaults.{IsBrokenBy, of_files, of_items}
 use Rattle.command_pieces.specs.Pieces.{Finished, Piece, StandsAlong, StoppedBetween, Writes, WritesFront, kept_behind, text_of}
 use Rattle.command_pieces.specs.Written.{AllWritten, Plain}
+use Rattle.command_pieces.specs.declared.command_fault.CommandFault.{CommandFault}
+use Rattle.command_pieces.specs.declared.command_fault.CommandFault.TheVariants as command
 use Rattle.command_pieces.specs.declared.fault.Fault.{Fault}
 use Rattle.command_pieces.specs.declared.fault.Fault.TheVariants as fault
 use Rattle.command_pieces.proofs.Commands.{by-files}
@@ -18,7 +20,7 @@ use Rattle.repository.specs.RealLimits.{StandsFor}
 use Rattle.repository.specs.Stands.{Collection}
 use Rattle.script_reader.specs.declared.item.Item.{Item}
 use Rattle.desk.specs.State.{State}
-use Rattle.sessions.specs.Faults.{IsItemFault}
+use Rattle.sessions.specs.Faults.{IsItemFault, IsSessionFault}
 use Rattle.sessions.specs.Items.{item_piece, item_reply, kept_by}
 use Rattle.sessions.specs.Sessions.{Grows}
 
@@ -97,3 +99,13 @@ pub items-only : (e : Fault) → (e ≡ fault.Read → ⊥) → IsItemFault (of_
 items-only fault.Read read = absurd (read refl)
 items-only fault.Write read = tt
 items-only fault.Memory read = tt
+
+pub item-only : (e : CommandFault) → IsItemFault e → IsSessionFault e
+item-only command.Read only = tt
+item-only command.Write only = tt
+item-only command.Store only = tt
+item-only (command.Malformed file part place) only = tt
+item-only (command.Missing file) only = tt
+item-only command.NoRepository only = absurd only
+item-only command.Exists only = absurd only
+item-only command.Memory only = tt

@@ -13,7 +13,7 @@ use Rattle.sessions.specs.Items.{pieces_of, state_behind_all}
 use Rattle.sessions.specs.Orders.{AreTrue}
 use Rattle.sessions.specs.Sessions.{IsUnderWay}
 use Rattle.sessions.proofs.Following.{Along-here, Along-next, Finished-next, Finished-start, all-done, broken-next, end-next, followed-more, followed-start, kept-next, kept-start, refused-next, refused-start, some-done, state-next, state-none, stopped-here, true-next, true-start}
-use Rattle.sessions.proofs.Standing.{grows-none, grows-then}
+use Rattle.sessions.proofs.Standing.{grows-none, grows-then, item-only}
 use Rattle.sessions.proofs.items.take_items.Goals as goal
 
 pub items-init : goal.items-init
@@ -76,3 +76,102 @@ items-preserved g c =
         store_later = search rules;
       },
     )
+
+-- the script is read to its end
+
+pub returns-in-Ok-None-clause-refused : goal.returns-in-Ok-None-clause-refused
+returns-in-Ok-None-clause-refused g c = λ kept way.
+    let inv = c.items.invariant in
+    let gives = rw c.in-Ok-None.field-0-is at c.in-Ok-None.ensures.items in
+    let start = state_of (g.T.Store.files c.args.store.now) c.args.desk.now.kept in
+    all-done (λ (is : List Item). some_refused (pieces_of start is) ≡ c.items.some_refused) inv.0 _ _ _ _ _ inv.1.followed gives (sym (inv.1.refused kept way))
+
+pub returns-in-Ok-None-clause-finished : goal.returns-in-Ok-None-clause-finished
+returns-in-Ok-None-clause-finished g c = λ kept way.
+    let inv = c.items.invariant in
+    let gives = rw c.in-Ok-None.field-0-is at c.in-Ok-None.ensures.items in
+    let start = state_of (g.T.Store.files c.args.store.now) c.args.desk.now.kept in
+    all-done (λ (is : List Item). Finished StandsFor kept (pieces_of start is) (g.K.Sink.taken c.args.sink.now) (g.K.Sink.taken c.items.sink) (g.T.Store.files c.items.store)) inv.0 _ _ _ _ _ inv.1.followed gives (inv.1.finished kept way)
+
+pub returns-in-Ok-None-clause-stands : goal.returns-in-Ok-None-clause-stands
+returns-in-Ok-None-clause-stands g c = λ kept way.
+    let inv = c.items.invariant in
+    let gives = rw c.in-Ok-None.field-0-is at c.in-Ok-None.ensures.items in
+    let ended = inv.1.ended kept way (sym (rw c.in-Ok-None.field-0-is at c.in-Ok-None.ensures.none)) in
+    let start = state_of (g.T.Store.files c.args.store.now) c.args.desk.now.kept in
+    all-done (λ (is : List Item). StandsFor (collection_of (state_behind_all start is)) (g.T.Store.files c.items.store)) inv.0 _ _ _ _ _ inv.1.followed gives
+    (subst (λ (k : Collection). StandsFor k (g.T.Store.files c.items.store)) ended (inv.1.finished kept way).files_stand)
+
+pub returns-in-Ok-None-clause-order : goal.returns-in-Ok-None-clause-order
+returns-in-Ok-None-clause-order g c = λ kept way.
+    let inv = c.items.invariant in
+    let gives = rw c.in-Ok-None.field-0-is at c.in-Ok-None.ensures.items in
+    let start = state_of (g.T.Store.files c.args.store.now) c.args.desk.now.kept in
+    all-done (λ (is : List Item). AreTrue start is) inv.0 _ _ _ _ _ inv.1.followed gives (inv.1.order kept way)
+
+pub returns-in-Ok-None-clause-stops : goal.returns-in-Ok-None-clause-stops
+returns-in-Ok-None-clause-stops g c = λ kept way.
+    let inv = c.items.invariant in
+    let start = state_of (g.T.Store.files c.args.store.now) c.args.desk.now.kept in
+    some-done (λ (is : List Item). Leaves (g.T.Store.since c.args.store.now) (g.T.Store.since c.items.store) (StandsAlong StandsFor kept (pieces_of start is))) inv.0 _ _ _ inv.1.followed
+    (λ rest. Along-here _ _ kept start inv.0 rest (inv.1.stops kept way))
+
+-- the source fails, or there is no memory for an item
+
+pub returns-in-Err-Read-clause-broken : goal.returns-in-Err-Read-clause-broken
+returns-in-Err-Read-clause-broken g c = λ kept way.
+    let inv = c.items.invariant in
+    let start = state_of (g.T.Store.files c.args.store.now) c.args.desk.now.kept in
+    some-done (λ (is : List Item). IsBrokenBy fault.Read StandsFor kept (pieces_of start is) (g.K.Sink.taken c.args.sink.now) (g.K.Sink.taken c.items.sink) (g.T.Store.files c.items.store)) inv.0 _ _ _ inv.1.followed
+    (λ rest. stopped-here kept start inv.0 rest _ _ _ (inv.1.finished kept way))
+
+pub returns-in-Err-Read-clause-stops : goal.returns-in-Err-Read-clause-stops
+returns-in-Err-Read-clause-stops g c = λ kept way.
+    let inv = c.items.invariant in
+    let start = state_of (g.T.Store.files c.args.store.now) c.args.desk.now.kept in
+    some-done (λ (is : List Item). Leaves (g.T.Store.since c.args.store.now) (g.T.Store.since c.items.store) (StandsAlong StandsFor kept (pieces_of start is))) inv.0 _ _ _ inv.1.followed
+    (λ rest. Along-here _ _ kept start inv.0 rest (inv.1.stops kept way))
+
+pub returns-in-Err-Memory-clause-broken : goal.returns-in-Err-Memory-clause-broken
+returns-in-Err-Memory-clause-broken g c = λ kept way.
+    let inv = c.items.invariant in
+    let start = state_of (g.T.Store.files c.args.store.now) c.args.desk.now.kept in
+    some-done (λ (is : List Item). IsBrokenBy fault.Memory StandsFor kept (pieces_of start is) (g.K.Sink.taken c.args.sink.now) (g.K.Sink.taken c.items.sink) (g.T.Store.files c.items.store)) inv.0 _ _ _ inv.1.followed
+    (λ rest. stopped-here kept start inv.0 rest _ _ _ (inv.1.finished kept way))
+
+pub returns-in-Err-Memory-clause-stops : goal.returns-in-Err-Memory-clause-stops
+returns-in-Err-Memory-clause-stops g c = λ kept way.
+    let inv = c.items.invariant in
+    let start = state_of (g.T.Store.files c.args.store.now) c.args.desk.now.kept in
+    some-done (λ (is : List Item). Leaves (g.T.Store.since c.args.store.now) (g.T.Store.since c.items.store) (StandsAlong StandsFor kept (pieces_of start is))) inv.0 _ _ _ inv.1.followed
+    (λ rest. Along-here _ _ kept start inv.0 rest (inv.1.stops kept way))
+
+-- an item is broken off
+
+pub returns-in-Err-clause-broken : goal.returns-in-Err-clause-broken
+returns-in-Err-clause-broken g c = λ kept way.
+    let inv = c.items.invariant in
+    let i = c.in-Ok-Some.item in
+    let gives = rw c.in-Ok-Some.field-0-is at c.in-Ok-Some.ensures.items in
+    let start = state_of (g.T.Store.files c.args.store.now) c.args.desk.now.kept in
+    let here = state_of (g.T.Store.files c.items.store) c.items.desk.kept in
+    some-done (λ (is : List Item). IsBrokenBy c.in-Err.fault StandsFor kept (pieces_of start is) (g.K.Sink.taken c.args.sink.now) (g.K.Sink.taken c.take_item.new.sink) (g.T.Store.files c.take_item.new.store)) (inv.0 ++ i ∷ []) _ _ _
+    (followed-more inv.0 i _ _ _ _ _ inv.1.followed gives)
+    (λ rest. broken-next start here inv.0 i (inv.1.state kept way) _ kept rest _ _ _ _ _ (inv.1.finished kept way) (c.in-Err.ensures.broken _ (inv.1.way kept way)))
+
+pub returns-in-Err-clause-stops : goal.returns-in-Err-clause-stops
+returns-in-Err-clause-stops g c = λ kept way.
+    let inv = c.items.invariant in
+    let i = c.in-Ok-Some.item in
+    let gives = rw c.in-Ok-Some.field-0-is at c.in-Ok-Some.ensures.items in
+    let start = state_of (g.T.Store.files c.args.store.now) c.args.desk.now.kept in
+    let here = state_of (g.T.Store.files c.items.store) c.items.desk.kept in
+    some-done (λ (is : List Item). Leaves (g.T.Store.since c.args.store.now) (g.T.Store.since c.take_item.new.store) (StandsAlong StandsFor kept (pieces_of start is))) (inv.0 ++ i ∷ []) _ _ _
+    (followed-more inv.0 i _ _ _ _ _ inv.1.followed gives)
+    (λ rest. Along-here _ _ kept start (inv.0 ++ i ∷ []) rest (Along-next start here inv.0 i (inv.1.state kept way) _ _ _ kept (inv.1.stops kept way) (c.take_item.ensures.stops _ (inv.1.way kept way))))
+
+pub returns-in-Err-clause-grows : goal.returns-in-Err-clause-grows
+returns-in-Err-clause-grows g c = grows-then _ _ _ c.items.invariant.1.grows c.take_item.ensures.grows
+
+pub returns-in-Err-clause-only : goal.returns-in-Err-clause-only
+returns-in-Err-clause-only g c = item-only c.in-Err.fault c.in-Err.ensures.only

@@ -5,6 +5,8 @@ ghost use Rattle.std.specs.Prelude.{◌≡◌, IfOk};
 ghost use Rattle.belief_nodes.specs.Priors.{no_prior};
 
 #[cfg(test)]
+mod failing;
+#[cfg(test)]
 mod rows;
 #[cfg(test)]
 mod running;

@@ -1,6 +1,7 @@
 -- The state in which a session begins.
 use Rattle.std.proofs.Common.{◌≡◌, ◌≤◌, ◌<◌, ◌+◌, ◌-◌, ℕ, List, [], length, map, drop, get_or, refl, sym, ap, subst, ◌∙◌, arith, Option, None, Some}
 use Rattle.std.specs.Option.{IfSome, option_map}
+use Rattle.std.proofs.lemmas.Bool.{leb-true}
 use Rattle.std.proofs.lemmas.List.{get_or-append_right, get_or-drop, get_or-map, get_or_append_left, length-map}
 use Rattle.ri_base.specs.Faults.{IsOutside}
 use Rattle.ri_base.specs.Keeps.{Rose}
@@ -61,8 +62,7 @@ plugs-with ps few nine = record {
 
 few-priors : (told : Option Files) (s : repositories.State) → IsBacked told s → length s.priors ≤ 8
 few-priors told s backed =
-    let few = backed.has.form.1.0.1.1.0.0 in
-    subst (λ (ps : List PriorEntry). length ps ≤ 8) backed.priors_are (omega (arith, few))
+    subst (λ (ps : List PriorEntry). length ps ≤ 8) backed.priors_are (leb-true (length backed.list.priors) 8 backed.has.form.1.0.1.1.0.0)
 
 few-read : (told : Option Files) (s : repositories.State) → IsBacked told s → length (priors_in told s.priors) ≤ 8
 few-read told s backed =

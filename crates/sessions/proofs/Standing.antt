@@ -1,6 +1,6 @@
 -- One item as a piece.
 use Rattle.std.proofs.Common.{◌≡◌, ◌⊎◌, inl, inr, ℕ, List, [], ◌∷◌, ◌++◌, refl, ap, sym, ◌∙◌, subst, Option, Some, None, append-nil, append_assoc}
-use Rattle.std.specs.Prelude.{take, unwrap_or}
+use Rattle.std.specs.Prelude.{IfSome, OnOk, Result, Ok, Err, take, unwrap_or}
 use Rattle.std.specs.Io.KnownBytes.{append_known}
 use Rattle.ri_base.specs.Faults.{IsOutside}
 use Rattle.ri_base.specs.declared.seg_fault.SegFault.{SegFault}
@@ -109,3 +109,13 @@ item-only (command.Missing file) only = tt
 item-only command.NoRepository only = absurd only
 item-only command.Exists only = absurd only
 item-only command.Memory only = tt
+
+-- ---- results
+
+pub on-ok : {A E : Type 0} (r : Result A E) (P : Type 0) → P → OnOk r P
+on-ok (Ok x) P p = p
+on-ok (Err e) P p = tt
+
+pub if-all : (left : Option (List ℕ)) (P : List ℕ → Type 0) → ((bytes : List ℕ) → P bytes) → IfSome left (λ bytes. P bytes)
+if-all None P all = tt
+if-all (Some bytes) P all = all bytes

@@ -1,5 +1,5 @@
 -- What a step leaves as it was, and what it is as an item.
-use Rattle.std.proofs.Common.{◌≡◌, ◌⊎◌, inl, inr, ℕ, Bool, true, false, List, Option, None, Some, Result, Ok, Err, map, refl, sym, ap, subst, ◌∙◌}
+use Rattle.std.proofs.Common.{◌≡◌, ◌⊎◌, inl, inr, ℕ, Bool, true, false, List, Option, None, Some, Result, Ok, Err, refl, sym, ap, subst, ◌∙◌, true≢false}
 use Rattle.std.specs.Prelude.{nat_le, nat_lt, is_some, length, slice_get, unwrap_or, ◌+◌, ◌-◌, if◌then◌else◌}
 use Rattle.store_ends.specs.Files.{Files, Leaves}
 use Rattle.store_ends.proofs.Files.{Leaves-same, Leaves-then}
@@ -243,18 +243,18 @@ unfolding item_flushes state_behind step
 end-step kept s = refl
 
 pub end-kept : (kept : Collection) (s : State) (i : Item) → is_end (Some i) ≡ true → kept_by kept s i ≡ collection_of (state_behind s i)
-end-kept kept s (item.Event (event.Document d)) ends = cc
-end-kept kept s (item.Event (event.Delete docno)) ends = cc
-end-kept kept s (item.Event event.Flush) ends = cc
-end-kept kept s (item.Event event.Merge) ends = cc
-end-kept kept s (item.Event (event.Turn docs)) ends = cc
-end-kept kept s (item.Event (event.Open name k text)) ends = cc
-end-kept kept s (item.Event (event.Step name docs)) ends = cc
-end-kept kept s (item.Event (event.Show name)) ends = cc
-end-kept kept s (item.Event (event.Explain name rank)) ends = cc
-end-kept kept s (item.Event (event.Scan text)) ends = cc
-end-kept kept s (item.Event (event.Close name)) ends = cc
+end-kept kept s (item.Event (event.Document d)) ends = absurd (true≢false (sym ends))
+end-kept kept s (item.Event (event.Delete docno)) ends = absurd (true≢false (sym ends))
+end-kept kept s (item.Event event.Flush) ends = absurd (true≢false (sym ends))
+end-kept kept s (item.Event event.Merge) ends = absurd (true≢false (sym ends))
+end-kept kept s (item.Event (event.Turn docs)) ends = absurd (true≢false (sym ends))
+end-kept kept s (item.Event (event.Open name k text)) ends = absurd (true≢false (sym ends))
+end-kept kept s (item.Event (event.Step name docs)) ends = absurd (true≢false (sym ends))
+end-kept kept s (item.Event (event.Show name)) ends = absurd (true≢false (sym ends))
+end-kept kept s (item.Event (event.Explain name rank)) ends = absurd (true≢false (sym ends))
+end-kept kept s (item.Event (event.Scan text)) ends = absurd (true≢false (sym ends))
+end-kept kept s (item.Event (event.Close name)) ends = absurd (true≢false (sym ends))
 end-kept kept s (item.Event event.End) ends = end-step kept s
-end-kept kept s (item.Unread kind place) ends = cc
-end-kept kept s (item.Trec why) ends = cc
-end-kept kept s (item.Token why) ends = cc
+end-kept kept s (item.Unread kind place) ends = absurd (true≢false (sym ends))
+end-kept kept s (item.Trec why) ends = absurd (true≢false (sym ends))
+end-kept kept s (item.Token why) ends = absurd (true≢false (sym ends))

@@ -15,7 +15,7 @@ use Rattle.sessions.specs.Items.{pieces_of, state_behind_all}
 use Rattle.sessions.specs.Orders.{AreTrue}
 use Rattle.sessions.specs.Sessions.{IsUnderWay}
 use Rattle.sessions.proofs.Following.{Along-here, Along-next, Finished-next, Finished-start, all-done, broken-next, end-next, followed-more, followed-start, kept-next, kept-start, refused-next, refused-start, some-done, state-next, state-none, stopped-here, true-next, true-start}
-use Rattle.sessions.proofs.Standing.{grows-none, grows-then, if-all, item-only}
+use Rattle.sessions.proofs.Standing.{broken-honest, grows-none, grows-then, if-all, item-only}
 use Rattle.sessions.proofs.items.take_items.Goals as goal
 
 pub items-init : goal.items-init
@@ -176,6 +176,10 @@ returns-in-Err-clause-broken g c = λ kept way.
     some-done (λ (is : List Item). IsBrokenBy c.in-Err.fault StandsFor kept (pieces_of start is) (g.K.Sink.taken c.args.sink.now) (g.K.Sink.taken c.take_item.new.sink) (g.T.Store.files c.take_item.new.store)) (inv.0 ++ i ∷ []) _ _ _
     (followed-more inv.0 i _ _ _ _ _ inv.1.followed gives)
     (λ rest. broken-next start here inv.0 i (inv.1.state kept way) _ kept rest _ _ _ _ _ (inv.1.finished kept way) (c.in-Err.ensures.broken _ (inv.1.way kept way)))
+
+pub returns-in-Err-clause-honest : goal.returns-in-Err-clause-honest
+returns-in-Err-clause-honest g c = λ kept way.
+    broken-honest c.in-Err.fault _ _ _ _ _ (c.in-Err.ensures.broken _ (c.items.invariant.1.way kept way))
 
 pub returns-in-Err-clause-stops : goal.returns-in-Err-clause-stops
 returns-in-Err-clause-stops g c = λ kept way.

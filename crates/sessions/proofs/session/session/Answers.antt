@@ -14,7 +14,7 @@ use Rattle.sessions.specs.Items.{pieces_of, state_behind_all}
 use Rattle.sessions.specs.Orders.{AreTrue}
 use Rattle.sessions.specs.Sessions.{session_pieces}
 use Rattle.sessions.proofs.Beginning.{ahead-read, begun-all, behind-on, files-fault, merge-none, none-begun, quiet-on, rose-earlier, stops-quiet, stops-read}
-use Rattle.sessions.proofs.Standing.{grows-none}
+use Rattle.sessions.proofs.Standing.{grows-none, outside-honest}
 use Rattle.sessions.proofs.session.session.Goals as goal
 
 -- the files of the priors aren't read
@@ -36,6 +36,9 @@ returns-in-Err-clause-only g c = rw c.of_files.ensures (files-fault c.in-Err.fau
 
 pub returns-in-Err-clause-goes_on : goal.returns-in-Err-clause-goes_on
 returns-in-Err-clause-goes_on g c = quiet-on g.T.Store.files g.T.Store.layers g.T.Store.clock g.T.Store.since g.T.Store.longest g.T.Store.held _ _ c.take_priors.ensures.quiet
+
+pub returns-in-Err-clause-honest : goal.returns-in-Err-clause-honest
+returns-in-Err-clause-honest g c = λ k ahead. rw c.of_files.ensures (outside-honest c.in-Err.fault (c.in-Err.ensures.honest ahead.backed))
 
 -- there is no memory for a desk
 
@@ -100,6 +103,15 @@ returns-clause-broken g c = λ k ahead.
     let all = begun-all _ c.args.repository c.in-Ok-new.desk.kept _ k (Dirichlet c.args.mu) made.repository made.queries c.requires.none kind now (made.backed _ now.backed (merge-none _ _ c.requires.none))
     (c.in-Ok.ensures.priors k ahead.reads) (length-map c.take_priors.new.plugs _ ∙ c.take_priors.ensures.nine) in
     subst (λ (s : State). IfErr c.take_items.result (λ (why : CommandFault). IfSome (g.S.Source.left c.args.source.now) (λ bytes. IsBrokenBy why StandsFor k (pieces_of s (items bytes)) (g.K.Sink.taken c.args.sink.now) (g.K.Sink.taken c.take_items.new.sink) (g.T.Store.files c.take_items.new.store)))) all.1 (c.take_items.ensures.broken k all.0)
+
+pub returns-clause-honest : goal.returns-clause-honest
+returns-clause-honest g c = λ k ahead.
+    let now = ahead-read _ _ c.args.repository k c.take_priors.ensures.quiet.same_files ahead in
+    let made = c.in-Ok-new.ensures in
+    let kind = c.in-Ok-new.desk.same_kind ∙ ap (λ r. r.kind) (made.rule ∙ c.new-rule.ensures) in
+    let all = begun-all _ c.args.repository c.in-Ok-new.desk.kept _ k (Dirichlet c.args.mu) made.repository made.queries c.requires.none kind now (made.backed _ now.backed (merge-none _ _ c.requires.none))
+    (c.in-Ok.ensures.priors k ahead.reads) (length-map c.take_priors.new.plugs _ ∙ c.take_priors.ensures.nine) in
+    c.take_items.ensures.honest k all.0
 
 pub returns-clause-stops : goal.returns-clause-stops
 returns-clause-stops g c = λ k ahead.

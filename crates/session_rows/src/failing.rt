@@ -55,39 +55,53 @@ fn ended(
     Some((answer, text.as_bytes().starts_with(sink.bytes())))
 }
 
-/// Whether the session ends so where the call of the store of this number fails: done whole, or broken off.
-fn breaks_at_call(alloc: Global, call: u64, left: Left) -> Option<bool> {
+/// What a failing call leaves: the old file, the new one, nothing, or a front of it.
+fn left_of(alloc: Global, way: u32) -> Option<Left> {
+    match way {
+        0 => Some(Left::Old),
+        1 => Some(Left::New),
+        2 => Some(Left::Torn(Vec::new(alloc))),
+        _ => Some(Left::Torn(b"indriseg".to_vec(alloc).ok()?)),
+    }
+}
+
+/// Whether the session is broken off so where the call of the store of this number fails. None where no call of it failed, and it was
+/// done whole.
+fn breaks_at_call(alloc: Global, call: u64, way: u32) -> Option<bool> {
     let (script, text, _) = MERGED;
+    let left = left_of(alloc, way)?;
     let Some(mut store) = begun(alloc, call, left) else {
-        return Some(false);
+        return Some(true);
     };
     let mut source = source_of(alloc, script, 7, 0)?;
     let mut sink = MemSink::new(alloc, Vec::new(alloc));
     let (answer, front) = ended(alloc, &mut store, &mut source, &mut sink, text)?;
-    let seen = is_seen(alloc, &mut store, &MERGED_SEEN)?;
-    if answer == Ok(false) {
-        return if sink.bytes() == text.as_bytes() && seen {
-            None
-        } else {
-            Some(false)
-        };
+    if answer == Ok(false) && sink.bytes() == text.as_bytes() {
+        return None;
     }
+    let seen = is_seen(alloc, &mut store, &MERGED_SEEN)?;
     Some(answer == Err(CommandFault::Store) && front && seen)
+}
+
+/// The first call that doesn't fail, where each one before it breaks the session off as it must.
+fn calls_of(alloc: Global, way: u32) -> Option<u64> {
+    for call in 1..=60 {
+        match breaks_at_call(alloc, call, way) {
+            Some(true) => {}
+            Some(false) => return Some(call + 100),
+            None => return Some(call),
+        }
+    }
+    None
 }
 
 #[test]
 fn each_call_fails(rt: HostRuntime) -> Result<(), Fail> {
     let alloc = rt.alloc();
-    let mut call = 3;
-    for _ in 0..60 {
-        if breaks_at_call(alloc, call, Left::Old).is_none() {
-            break;
-        }
-        assert_eq!(rt; breaks_at_call(alloc, call, Left::Old), Some(true));
-        call += 1;
-    }
-    assert!(rt; call > 9, "{call}");
-    assert!(rt; call < 63, "{call}");
+    assert_eq!(rt; calls_of(alloc, 0), Some(7));
+    assert_eq!(rt; calls_of(alloc, 1), Some(7));
+    assert_eq!(rt; calls_of(alloc, 2), Some(7));
+    assert_eq!(rt; calls_of(alloc, 3), Some(7));
     Ok(())
 }
 

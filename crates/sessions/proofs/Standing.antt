@@ -1,13 +1,13 @@
 -- One item as a piece.
 use Rattle.std.proofs.Common.{◌≡◌, ◌⊎◌, inl, inr, ℕ, List, [], ◌∷◌, ◌++◌, refl, ap, sym, ◌∙◌, subst, Option, Some, None, append-nil, append_assoc}
-use Rattle.std.specs.Prelude.{take, unwrap_or}
+use Rattle.std.specs.Prelude.{IfSome, OnOk, Result, Ok, Err, take, unwrap_or}
 use Rattle.std.specs.Io.KnownBytes.{append_known}
 use Rattle.ri_base.specs.Faults.{IsOutside}
 use Rattle.ri_base.specs.declared.seg_fault.SegFault.{SegFault}
 use Rattle.ri_base.specs.declared.seg_fault.SegFault.TheVariants as files
 use Rattle.store_ends.specs.Files.{Files, Leaves}
 use Rattle.store_ends.proofs.Files.{Leaves-same, Leaves-then}
-use Rattle.command_pieces.specs.CommandFaults.{IsBrokenBy, of_files, of_items}
+use Rattle.command_pieces.specs.CommandFaults.{IsBrokenBy, IsDamage, of_files, of_items}
 use Rattle.command_pieces.specs.Pieces.{Finished, Piece, StandsAlong, StoppedBetween, Writes, WritesFront, kept_behind, text_of}
 use Rattle.command_pieces.specs.Written.{AllWritten, Plain}
 use Rattle.command_pieces.specs.declared.command_fault.CommandFault.{CommandFault}
@@ -109,3 +109,31 @@ item-only (command.Missing file) only = tt
 item-only command.NoRepository only = absurd only
 item-only command.Exists only = absurd only
 item-only command.Memory only = tt
+
+-- ---- no file is to blame
+
+pub broken-honest : (e : CommandFault) (kept : Collection) (ps : List (Piece Collection)) (before now : Option (List ℕ)) (f : Option Files) → IsBrokenBy e StandsFor kept ps before now f → IsDamage e → ⊥
+broken-honest command.Read kept ps before now f broken damage = damage
+broken-honest command.Write kept ps before now f broken damage = damage
+broken-honest command.Store kept ps before now f broken damage = damage
+broken-honest (command.Malformed file part place) kept ps before now f broken damage = broken
+broken-honest (command.Missing file) kept ps before now f broken damage = broken
+broken-honest command.NoRepository kept ps before now f broken damage = damage
+broken-honest command.Exists kept ps before now f broken damage = damage
+broken-honest command.Memory kept ps before now f broken damage = damage
+
+pub outside-honest : (e : SegFault) → IsOutside e → IsDamage (of_files e) → ⊥
+outside-honest (files.Malformed file part place) outside damage = outside
+outside-honest (files.Missing file) outside damage = outside
+outside-honest files.Store outside damage = damage
+outside-honest files.Memory outside damage = damage
+
+-- ---- results
+
+pub on-ok : {A E : Type 0} (r : Result A E) (P : Type 0) → P → OnOk r P
+on-ok (Ok x) P p = p
+on-ok (Err e) P p = tt
+
+pub if-all : (left : Option (List ℕ)) (P : List ℕ → Type 0) → ((bytes : List ℕ) → P bytes) → IfSome left (λ bytes. P bytes)
+if-all None P all = tt
+if-all (Some bytes) P all = all bytes

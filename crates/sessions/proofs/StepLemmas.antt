@@ -1,5 +1,5 @@
 -- What a step leaves as it was, and what it is as an item.
-use Rattle.std.proofs.Common.{◌≡◌, ◌⊎◌, inl, inr, ℕ, Bool, true, false, List, Option, None, Some, Result, Ok, Err, map, refl, sym, ap, subst, ◌∙◌}
+use Rattle.std.proofs.Common.{◌≡◌, ◌⊎◌, inl, inr, ℕ, Bool, true, false, List, Option, None, Some, Result, Ok, Err, refl, sym, ap, subst, ◌∙◌, true≢false}
 use Rattle.std.specs.Prelude.{nat_le, nat_lt, is_some, length, slice_get, unwrap_or, ◌+◌, ◌-◌, if◌then◌else◌}
 use Rattle.store_ends.specs.Files.{Files, Leaves}
 use Rattle.store_ends.proofs.Files.{Leaves-same, Leaves-then}
@@ -159,39 +159,39 @@ module _ (before : Option Files) (old : Keeps) (plugs : List Prior) (kept : Coll
 -- ---- what is shown is in a true order
 
 true-told : (s : State) (q : Query) (t : Told) (r : Reply) → Shows t r → IsTrueOf s (Some q) r → IsTrueTold s (Some q) t
-true-told s q (told.results name scale entries) r shows true =
-    record { hits = shows.0; are = shows.1.1; written = hits-text scale shows.0 entries shows.1.1; ordered = subst (IsTrueOf s (Some q)) shows.1.0 true }
-true-told s q (told.added docno tokens) r shows true = tt
-true-told s q (told.deleted docno) r shows true = tt
-true-told s q (told.flushed live) r shows true = tt
-true-told s q (told.merging size) r shows true = tt
-true-told s q (told.turned credit size) r shows true = tt
-true-told s q (told.merged live) r shows true = tt
-true-told s q (told.opened name live) r shows true = tt
-true-told s q (told.stepped name credit live) r shows true = tt
-true-told s q (told.explained line) r shows true = tt
-true-told s q (told.extents found) r shows true = tt
-true-told s q (told.closed name) r shows true = tt
-true-told s q (told.ended live) r shows true = tt
-true-told s q (told.refused why) r shows true = tt
+true-told s q (told.results name scale entries) r shows holds =
+    record { hits = shows.0; are = shows.1.1; written = hits-text scale shows.0 entries shows.1.1; ordered = subst (IsTrueOf s (Some q)) shows.1.0 holds }
+true-told s q (told.added docno tokens) r shows holds = tt
+true-told s q (told.deleted docno) r shows holds = tt
+true-told s q (told.flushed live) r shows holds = tt
+true-told s q (told.merging size) r shows holds = tt
+true-told s q (told.turned credit size) r shows holds = tt
+true-told s q (told.merged live) r shows holds = tt
+true-told s q (told.opened name live) r shows holds = tt
+true-told s q (told.stepped name credit live) r shows holds = tt
+true-told s q (told.explained line) r shows holds = tt
+true-told s q (told.extents found) r shows holds = tt
+true-told s q (told.closed name) r shows holds = tt
+true-told s q (told.ended live) r shows holds = tt
+true-told s q (told.refused why) r shows holds = tt
 
 true-shown : (s : State) (o : Option Query) (t : Told) (r : Reply) → Shows t r → IsTrueOf s o r → IsTrueTold s o t
-true-shown s None t r shows true = tt
-true-shown s (Some q) t r shows true = true-told s q t r shows true
+true-shown s None t r shows holds = tt
+true-shown s (Some q) t r shows holds = true-told s q t r shows holds
 
 pub true-step : (s : State) (e : Event) (r : Reply) → Shows (step s e).1 r → IsTrueReply s e r → IsTrueItem s (item.Event e)
-true-step s (event.Document d) r shows true = tt
-true-step s (event.Delete docno) r shows true = tt
-true-step s event.Flush r shows true = tt
-true-step s event.Merge r shows true = tt
-true-step s (event.Turn docs) r shows true = tt
-true-step s (event.Open name k text) r shows true = tt
-true-step s (event.Step name docs) r shows true = tt
-true-step s (event.Show name) r shows true = true-shown s (named name s.queries) (step s (event.Show name)).1 r shows true
-true-step s (event.Explain name rank) r shows true = tt
-true-step s (event.Scan text) r shows true = tt
-true-step s (event.Close name) r shows true = tt
-true-step s event.End r shows true = tt
+true-step s (event.Document d) r shows holds = tt
+true-step s (event.Delete docno) r shows holds = tt
+true-step s event.Flush r shows holds = tt
+true-step s event.Merge r shows holds = tt
+true-step s (event.Turn docs) r shows holds = tt
+true-step s (event.Open name k text) r shows holds = tt
+true-step s (event.Step name docs) r shows holds = tt
+true-step s (event.Show name) r shows holds = true-shown s (named name s.queries) (step s (event.Show name)).1 r shows holds
+true-step s (event.Explain name rank) r shows holds = tt
+true-step s (event.Scan text) r shows holds = tt
+true-step s (event.Close name) r shows holds = tt
+true-step s event.End r shows holds = tt
 
 -- ---- what is no event
 
@@ -243,18 +243,18 @@ unfolding item_flushes state_behind step
 end-step kept s = refl
 
 pub end-kept : (kept : Collection) (s : State) (i : Item) → is_end (Some i) ≡ true → kept_by kept s i ≡ collection_of (state_behind s i)
-end-kept kept s (item.Event (event.Document d)) ends = cc
-end-kept kept s (item.Event (event.Delete docno)) ends = cc
-end-kept kept s (item.Event event.Flush) ends = cc
-end-kept kept s (item.Event event.Merge) ends = cc
-end-kept kept s (item.Event (event.Turn docs)) ends = cc
-end-kept kept s (item.Event (event.Open name k text)) ends = cc
-end-kept kept s (item.Event (event.Step name docs)) ends = cc
-end-kept kept s (item.Event (event.Show name)) ends = cc
-end-kept kept s (item.Event (event.Explain name rank)) ends = cc
-end-kept kept s (item.Event (event.Scan text)) ends = cc
-end-kept kept s (item.Event (event.Close name)) ends = cc
+end-kept kept s (item.Event (event.Document d)) ends = absurd (true≢false (sym ends))
+end-kept kept s (item.Event (event.Delete docno)) ends = absurd (true≢false (sym ends))
+end-kept kept s (item.Event event.Flush) ends = absurd (true≢false (sym ends))
+end-kept kept s (item.Event event.Merge) ends = absurd (true≢false (sym ends))
+end-kept kept s (item.Event (event.Turn docs)) ends = absurd (true≢false (sym ends))
+end-kept kept s (item.Event (event.Open name k text)) ends = absurd (true≢false (sym ends))
+end-kept kept s (item.Event (event.Step name docs)) ends = absurd (true≢false (sym ends))
+end-kept kept s (item.Event (event.Show name)) ends = absurd (true≢false (sym ends))
+end-kept kept s (item.Event (event.Explain name rank)) ends = absurd (true≢false (sym ends))
+end-kept kept s (item.Event (event.Scan text)) ends = absurd (true≢false (sym ends))
+end-kept kept s (item.Event (event.Close name)) ends = absurd (true≢false (sym ends))
 end-kept kept s (item.Event event.End) ends = end-step kept s
-end-kept kept s (item.Unread kind place) ends = cc
-end-kept kept s (item.Trec why) ends = cc
-end-kept kept s (item.Token why) ends = cc
+end-kept kept s (item.Unread kind place) ends = absurd (true≢false (sym ends))
+end-kept kept s (item.Trec why) ends = absurd (true≢false (sym ends))
+end-kept kept s (item.Token why) ends = absurd (true≢false (sym ends))

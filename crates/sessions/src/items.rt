@@ -3,7 +3,7 @@ ghost use Rattle.std.specs.Prelude.{◌≡◌, ◌≤◌, length, map, IfErr, If
 ghost use Rattle.ri_ends.specs.Causes.{Rose};
 ghost use Rattle.store_ends.specs.Files.{GoesOn, Leaves};
 ghost use Rattle.smoothing.specs.Fractions.{Computes};
-ghost use Rattle.command_pieces.specs.CommandFaults.{IsBrokenBy};
+ghost use Rattle.command_pieces.specs.CommandFaults.{IsBrokenBy, IsDamage};
 ghost use Rattle.command_pieces.specs.Pieces.{Finished, StandsAlong, some_refused};
 ghost use Rattle.repository.specs.RealLimits.{StandsFor};
 ghost use Rattle.repository.specs.Stands.{Collection};
@@ -50,6 +50,7 @@ pub fn take_items<F: Fn(u32, u32, u64, u64) -> Fraction, S: Source, K: Sink, T: 
         → OnOk result (IfSome (S.left source.old) (λ bytes. AreTrue (state_of (T.files store.old) desk.old.kept) (items bytes))) }
     ensures broken { (kept : Collection) → IsUnderWay (T.files store.old) desk.old.kept (map (λ plug. meaning plug) plugs.old) kept
         → IfErr result (λ why. IfSome (S.left source.old) (λ bytes. IsBrokenBy why StandsFor kept (pieces_of (state_of (T.files store.old) desk.old.kept) (items bytes)) (K.taken sink.old) (K.taken sink.new) (T.files store.new))) }
+    ensures honest { (kept : Collection) → IsUnderWay (T.files store.old) desk.old.kept (map (λ plug. meaning plug) plugs.old) kept → IfErr result (λ why. IsDamage why → ⊥) }
     ensures stops { (kept : Collection) → IsUnderWay (T.files store.old) desk.old.kept (map (λ plug. meaning plug) plugs.old) kept
         → IfSome (S.left source.old) (λ bytes. Leaves (T.since store.old) (T.since store.new) (StandsAlong StandsFor kept (pieces_of (state_of (T.files store.old) desk.old.kept) (items bytes)))) }
 

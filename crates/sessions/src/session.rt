@@ -7,7 +7,7 @@ ghost use Rattle.store_ends.specs.Files.{Files, GoesOn, Leaves};
 ghost use Rattle.smoothing.specs.Counts.{AreCounts};
 ghost use Rattle.smoothing.specs.Fractions.{IsMu, dirichlet};
 ghost use Rattle.smoothing.specs.declared.rule.RuleKind.TheVariants.{Dirichlet};
-ghost use Rattle.command_pieces.specs.CommandFaults.{IsBrokenBy};
+ghost use Rattle.command_pieces.specs.CommandFaults.{IsBrokenBy, IsDamage};
 ghost use Rattle.command_pieces.specs.Pieces.{Finished, StandsAlong, some_refused};
 ghost use Rattle.repository.specs.RealLimits.{StandsFor};
 ghost use Rattle.repository.specs.Stands.{Collection, IsPriorListed, Prior};
@@ -62,6 +62,7 @@ pub fn session<S: Source, K: Sink, T: Store>(
     // Where it is broken off, and whenever it is stopped, it is done as far as some of its items.
     ensures broken { (c : Collection) → IsAhead (T.files store.old) repository c c
         → IfErr result (λ why. IfSome (S.left source.old) (λ bytes. IsBrokenBy why StandsFor c (session_pieces repository.held.limits (Dirichlet mu) c bytes) (K.taken sink.old) (K.taken sink.new) (T.files store.new))) }
+    ensures honest { (c : Collection) → IsAhead (T.files store.old) repository c c → IfErr result (λ why. IsDamage why → ⊥) }
     ensures stops { (c : Collection) → IsAhead (T.files store.old) repository c c
         → IfSome (S.left source.old) (λ bytes. Leaves (T.since store.old) (T.since store.new) (StandsAlong StandsFor c (session_pieces repository.held.limits (Dirichlet mu) c bytes))) }
 

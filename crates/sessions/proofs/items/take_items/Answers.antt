@@ -1,11 +1,13 @@
-use Rattle.std.proofs.Common.{rules, ◌≡◌, ◌∙◌, [], ◌∷◌, ◌++◌, List, length, map, refl, subst, sym, arith, true, false}
+use Rattle.std.proofs.Common.{rules, ◌≡◌, ◌∙◌, [], ◌∷◌, ◌++◌, List, length, map, refl, subst, sym, arith, true≢false}
 use Rattle.store_ends.specs.Files.{Leaves}
 use Rattle.store_ends.proofs.Files.{Leaves-same}
 use Rattle.command_pieces.specs.CommandFaults.{IsBrokenBy}
 use Rattle.command_pieces.specs.Pieces.{Finished, StandsAlong, kept_behind, some_refused}
 use Rattle.command_pieces.specs.declared.command_fault.CommandFault.TheVariants as fault
+use Rattle.command_pieces.proofs.Joining.{StoppedBetween-none}
 use Rattle.repository.specs.RealLimits.{StandsFor}
 use Rattle.repository.specs.Stands.{Collection}
+use Rattle.script_reader.specs.Items.{items}
 use Rattle.script_reader.specs.declared.item.Item.{Item}
 use Rattle.desk.specs.Backed.{state_of}
 use Rattle.desk.specs.State.{collection_of}
@@ -13,7 +15,7 @@ use Rattle.sessions.specs.Items.{pieces_of, state_behind_all}
 use Rattle.sessions.specs.Orders.{AreTrue}
 use Rattle.sessions.specs.Sessions.{IsUnderWay}
 use Rattle.sessions.proofs.Following.{Along-here, Along-next, Finished-next, Finished-start, all-done, broken-next, end-next, followed-more, followed-start, kept-next, kept-start, refused-next, refused-start, some-done, state-next, state-none, stopped-here, true-next, true-start}
-use Rattle.sessions.proofs.Standing.{grows-none, grows-then, item-only}
+use Rattle.sessions.proofs.Standing.{broken-honest, grows-none, grows-then, if-all, item-only}
 use Rattle.sessions.proofs.items.take_items.Goals as goal
 
 pub items-init : goal.items-init
@@ -28,7 +30,7 @@ items-init g c =
         refused = λ kept way. refused-start start;
         finished = λ kept way. Finished-start kept start _ _ way.stands;
         order = λ kept way. true-start start;
-        ended = λ kept way ends. cc;
+        ended = λ kept way ends. absurd (true≢false (sym ends ∙ c.in-Ok.ensures.goes_on));
         stops = λ kept way. Leaves-same _ _;
         grows = grows-none _ _ refl;
         usable = λ on. c.requires.usable;
@@ -76,6 +78,22 @@ items-preserved g c =
         store_later = search rules;
       },
     )
+
+-- there is no memory for a reader
+
+pub returns-in_default-clause-broken : goal.returns-in_default-clause-broken
+returns-in_default-clause-broken g c = λ kept way.
+    let start = state_of (g.T.Store.files c.args.store.now) c.args.desk.now.kept in
+    if-all (g.S.Source.left c.args.source.now) (λ bytes. IsBrokenBy fault.Memory StandsFor kept (pieces_of start (items bytes)) (g.K.Sink.taken c.args.sink.now) (g.K.Sink.taken c.args.sink.now) (g.T.Store.files c.args.store.now))
+    (λ bytes. StoppedBetween-none StandsFor kept (pieces_of start (items bytes)) _ _ _ refl way.stands)
+
+pub returns-in_default-clause-stops : goal.returns-in_default-clause-stops
+returns-in_default-clause-stops g c = λ kept way.
+    let start = state_of (g.T.Store.files c.args.store.now) c.args.desk.now.kept in
+    if-all (g.S.Source.left c.args.source.now) (λ bytes. Leaves (g.T.Store.since c.args.store.now) (g.T.Store.since c.args.store.now) (StandsAlong StandsFor kept (pieces_of start (items bytes)))) (λ bytes. Leaves-same _ _)
+
+pub returns-in_default-clause-grows : goal.returns-in_default-clause-grows
+returns-in_default-clause-grows g c = grows-none _ _ refl
 
 -- the script is read to its end
 
@@ -158,6 +176,10 @@ returns-in-Err-clause-broken g c = λ kept way.
     some-done (λ (is : List Item). IsBrokenBy c.in-Err.fault StandsFor kept (pieces_of start is) (g.K.Sink.taken c.args.sink.now) (g.K.Sink.taken c.take_item.new.sink) (g.T.Store.files c.take_item.new.store)) (inv.0 ++ i ∷ []) _ _ _
     (followed-more inv.0 i _ _ _ _ _ inv.1.followed gives)
     (λ rest. broken-next start here inv.0 i (inv.1.state kept way) _ kept rest _ _ _ _ _ (inv.1.finished kept way) (c.in-Err.ensures.broken _ (inv.1.way kept way)))
+
+pub returns-in-Err-clause-honest : goal.returns-in-Err-clause-honest
+returns-in-Err-clause-honest g c = λ kept way.
+    broken-honest c.in-Err.fault _ _ _ _ _ (c.in-Err.ensures.broken _ (c.items.invariant.1.way kept way))
 
 pub returns-in-Err-clause-stops : goal.returns-in-Err-clause-stops
 returns-in-Err-clause-stops g c = λ kept way.

@@ -9,10 +9,10 @@ use Rattle.command_pieces.specs.Written.{Plain}
 use Rattle.session_replies.specs.Told.{reply_piece}
 use Rattle.script_reader.specs.declared.item.Item.TheVariants.{Event}
 use Rattle.desk.specs.Backed.{IsUsable, state_of}
-use Rattle.desk.proofs.Points.{on-ok}
 use Rattle.sessions.specs.Items.{item_reply, kept_by, state_behind}
 use Rattle.sessions.specs.Orders.{IsTrueItem}
 use Rattle.sessions.specs.Sessions.{IsUnderWay}
+use Rattle.sessions.proofs.Standing.{on-ok}
 use Rattle.sessions.proofs.StepLemmas.{either-step, goes-on, reply-step, stands-step, stands-under, state-step, stops-step, true-step}
 use Rattle.sessions.proofs.TextLemmas.{shown-piece}
 use Rattle.sessions.proofs.turn.do_event.Goals as goal

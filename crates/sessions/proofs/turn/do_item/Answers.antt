@@ -9,8 +9,8 @@ use Rattle.refusals.specs.Lines.{refusal_piece}
 use Rattle.refusals.specs.declared.refusal.Refusal.TheVariants.{Document, Input}
 use Rattle.script_reader.specs.declared.item.Item.{Item}
 use Rattle.desk.specs.Backed.{state_of}
-use Rattle.desk.proofs.Points.{on-ok}
 use Rattle.sessions.specs.Items.{item_reply, unread_reply}
+use Rattle.sessions.proofs.Standing.{on-ok}
 use Rattle.sessions.proofs.StepLemmas.{IsNoEvent, none-state, none-true, none-way, token-reply, trec-reply, unread-reply}
 use Rattle.sessions.proofs.turn.do_item.Goals as goal
 

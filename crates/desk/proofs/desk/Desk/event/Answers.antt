@@ -1,7 +1,8 @@
-use Rattle.std.proofs.Common.{◌≡◌, [], subst, sym}
+use Rattle.std.proofs.Common.{◌≡◌, [], None, subst, sym}
 use Rattle.repository.specs.Writes.{AreGone}
 use Rattle.desk.specs.Backed.{Keeps, Steps}
-use Rattle.desk.proofs.EventExits.{usable-set}
+use Rattle.desk.specs.Keeping.{StaysIfRefused}
+use Rattle.desk.proofs.EventExits.{stays-usable, usable-set}
 use Rattle.desk.proofs.desk.Desk.event.Goals as goal
 
 pub answer-requires-clause-kind : goal.answer-requires-clause-kind
@@ -17,3 +18,7 @@ returns-in-Ok-clause-steps g c = λ backed plugs.
 pub returns-in-Ok-clause-swept : goal.returns-in-Ok-clause-swept
 returns-in-Ok-clause-swept g c = λ last.
     subst (λ (x : Keeps). (x.repository.stale ≡ []) × AreGone c.args.self.now.kept.repository.stale (g.T.Store.files c.answer.new.store)) (sym c.set_usable.ensures) (c.in-Ok.ensures.swept last)
+
+pub returns-in-Ok-clause-unchanged : goal.returns-in-Ok-clause-unchanged
+returns-in-Ok-clause-unchanged g c =
+    subst (λ (x : Keeps). StaysIfRefused c.in-Ok.reply c.args.self.now.kept x) (sym c.set_usable.ensures) (stays-usable c.args.event c.args.self.now.kept c.answer.new.self c.in-Ok.reply c.requires.usable.0 (λ hits. c.in-Ok.ensures.refuses hits None) c.in-Ok.ensures.unchanged)

@@ -163,6 +163,7 @@ never-ended live why is = cc
 
 -- the end is never refused, and behind another event the desk may be used on
 usable-same : (e : Event) (old new : Keeps) (why : Refusal) → old.usable ≡ true → (needs_hits e ≡ false → (step (state_of None old) e).1 ≡ told.refused why) → new ≡ old → with_usable new (not (is_end e)) ≡ old
+unfolding step
 usable-same event.End old new why on refused same = absurd (never-ended _ why (refused refl))
 usable-same e old new why on refused same = ap (λ (x : Keeps). with_usable x true) same ∙ ap (with_usable old) (sym on)
 

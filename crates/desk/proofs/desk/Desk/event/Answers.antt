@@ -1,6 +1,6 @@
-use Rattle.std.proofs.Common.{◌≡◌, [], None, subst, sym}
+use Rattle.std.proofs.Common.{◌≡◌, [], Bool, None, not, subst, sym}
 use Rattle.repository.specs.Writes.{AreGone}
-use Rattle.desk.specs.Backed.{Keeps, Steps}
+use Rattle.desk.specs.Backed.{Keeps, Steps, with_usable}
 use Rattle.desk.specs.Keeping.{StaysIfRefused}
 use Rattle.desk.proofs.EventExits.{stays-usable, usable-set}
 use Rattle.desk.proofs.desk.Desk.event.Goals as goal
@@ -21,4 +21,7 @@ returns-in-Ok-clause-swept g c = λ last.
 
 pub returns-in-Ok-clause-unchanged : goal.returns-in-Ok-clause-unchanged
 returns-in-Ok-clause-unchanged g c =
-    subst (λ (x : Keeps). StaysIfRefused c.in-Ok.reply c.args.self.now.kept x) (sym c.set_usable.ensures) (stays-usable c.args.event c.args.self.now.kept c.answer.new.self c.in-Ok.reply c.requires.usable.0 (λ hits. c.in-Ok.ensures.refuses hits None) c.in-Ok.ensures.unchanged)
+    let stays = stays-usable c.args.event c.args.self.now.kept c.answer.new.self c.in-Ok.reply c.requires.usable.0 (λ hits. c.in-Ok.ensures.refuses hits None) c.in-Ok.ensures.unchanged in
+    let same : StaysIfRefused c.in-Ok.reply c.args.self.now.kept (with_usable c.answer.new.self (not c.is_end-is_last.result)) =
+        subst (λ (b : Bool). StaysIfRefused c.in-Ok.reply c.args.self.now.kept (with_usable c.answer.new.self (not b))) (sym c.is_end-is_last.ensures) stays in
+    subst (λ (x : Keeps). StaysIfRefused c.in-Ok.reply c.args.self.now.kept x) (sym c.set_usable.ensures) same

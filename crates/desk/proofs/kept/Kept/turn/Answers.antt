@@ -123,4 +123,7 @@ invariant_of-self-2 g c = λ usable working.
     kept-repository s.repository c.merge_turn.new.self s.queries.items s.counts (priors-turned c.merge_turn.result c.args.docs s.repository c.merge_turn.new.self c.merge_turn.ensures.state c.merge_turn.ensures.broken working) (c.self.invariant usable (ap (λ (x : Keeps). x.repository.usable) c.self.view_is ∙ c.requires.usable.1))
 
 pub returns-clause-unchanged : goal.returns-clause-unchanged
-returns-clause-unchanged g c = subst (λ (x : Reply). StaysIfRefused x c.args.self.now _) (sym c.turned_reply.ensures) (turn-stays c.in_ok-turned.turned c.live_count.result c.args.self.now _)
+returns-clause-unchanged g c =
+    let s = c.self.inside in
+    let behind : Keeps = record { repository = c.merge_turn.new.self; kind = s.kind; queries = s.queries.items; counts = s.counts; cache = c.merge_turn.new.cache; usable = s.usable } in
+    subst (λ (x : Reply). StaysIfRefused x c.args.self.now behind) (sym c.turned_reply.ensures) (turn-stays c.in_ok-turned.turned c.live_count.result c.args.self.now behind)

@@ -1,6 +1,6 @@
 -- Events by their kind: what follows where an event may write, and where it writes nothing.
 use Rattle.std.proofs.Common.{◌≡◌, ◌∙◌, ℕ, Bool, true, false, List, refl, sym, ap, subst, inr, arith, Option, None, true≢false}
-use Rattle.std.specs.Prelude.{Result, Ok, Err, IfErr, IfOk}
+use Rattle.std.specs.Prelude.{Result, Ok, Err, IfErr, IfOk, not}
 use Rattle.ri_base.specs.Documents.{Document}
 use Rattle.ri_base.specs.Faults.{IsOutside}
 use Rattle.ri_base.specs.declared.seg_fault.SegFault.{SegFault}
@@ -11,11 +11,13 @@ use Rattle.repository.specs.Writes.{IsEither}
 use Rattle.session_events.specs.Events.{is_end}
 use Rattle.session_events.specs.declared.event.Event.{Event}
 use Rattle.session_events.specs.declared.event.Event.TheVariants as event
+use Rattle.session_replies.specs.declared.reply.Refusal.{Refusal}
 use Rattle.session_replies.specs.declared.reply.Reply.{Reply}
 use Rattle.session_replies.specs.declared.reply.Reply.TheVariants as reply
 use Rattle.desk.specs.Backed.{Keeps, Steps, state_of, with_usable}
+use Rattle.desk.specs.Keeping.{StaysIfRefused}
 use Rattle.desk.specs.Orders.{IsTrueReply}
-use Rattle.desk.specs.Points.{is_inside, kept_behind, may_write}
+use Rattle.desk.specs.Points.{is_inside, kept_behind, may_write, needs_hits}
 use Rattle.desk.specs.State.{State}
 use Rattle.desk.specs.Step.{step}
 use Rattle.desk.specs.Told as told
@@ -149,3 +151,22 @@ usable-set e before after old new usable r steps =
       shows = steps.shows;
       backed = record { repository = b.repository; queries = b.queries; merge = b.merge; counts = b.counts; cache = b.cache };
     }
+
+-- ---- an event that is refused changes nothing
+
+pub stays-same : (r : Reply) (old new : Keeps) → new ≡ old → StaysIfRefused r old new
+stays-same (reply.Refused why) old new same = same
+stays-same r old new same = tt
+
+never-ended : (live : ℕ) (why : Refusal) → told.ended live ≡ told.refused why → ⊥
+never-ended live why is = cc
+
+-- the end is never refused, and behind another event the desk may be used on
+usable-same : (e : Event) (old new : Keeps) (why : Refusal) → old.usable ≡ true → (needs_hits e ≡ false → (step (state_of None old) e).1 ≡ told.refused why) → new ≡ old → with_usable new (not (is_end e)) ≡ old
+unfolding step
+usable-same event.End old new why on refused same = absurd (never-ended _ why (refused refl))
+usable-same e old new why on refused same = ap (λ (x : Keeps). with_usable x true) same ∙ ap (with_usable old) (sym on)
+
+pub stays-usable : (e : Event) (old new : Keeps) (r : Reply) → old.usable ≡ true → (needs_hits e ≡ false → RefusesAs r (step (state_of None old) e).1) → StaysIfRefused r old new → StaysIfRefused r old (with_usable new (not (is_end e)))
+stays-usable e old new (reply.Refused why) on refused same = usable-same e old new why on refused same
+stays-usable e old new r on refused same = tt

@@ -24,6 +24,7 @@ use Rattle.session_replies.specs.Told.{IsReply}
 use Rattle.session_replies.specs.declared.reply.Reply.TheVariants as reply
 use Rattle.session_replies.specs.declared.reply.Refusal.TheVariants.{NoMerge}
 use Rattle.desk.specs.Backed.{IsDeskBacked, IsMergeBacked, Keeps, Steps, merge_of, state_of}
+use Rattle.desk.specs.Keeping.{StaysIfRefused}
 use Rattle.desk.specs.Points.{kept_behind}
 use Rattle.desk.specs.Replying.{turned_reply}
 use Rattle.desk.specs.State.{collection_of}
@@ -253,3 +254,7 @@ turn-refuses told d now docs count t same some = by t
 pub turn-form : (t : Turned) (count : ℕ) → IsReply (turned_reply t count)
 turn-form (turn.Open credit size) count = tt
 turn-form turn.Done count = tt
+
+pub turn-stays : (t : Turned) (count : ℕ) (old new : Keeps) → StaysIfRefused (turned_reply t count) old new
+turn-stays (turn.Open credit size) count old new = tt
+turn-stays turn.Done count old new = tt

@@ -1,4 +1,4 @@
--- What a desk keeps of its open queries, whatever the files are.
+-- What a desk keeps of its open queries, and where an event is refused, whatever the files are.
 use Rattle.std.specs.Prelude.{◌≡◌, ◌≤◌, ◌<◌, ◌-◌, ◌^◌, ◌⊎◌, ⊤, ℕ, Contains, List, true, length}
 use Rattle.std.specs.List.{All, IsDistinct}
 use Rattle.std.specs.Str.{bytes_eq}
@@ -9,8 +9,11 @@ use Rattle.holdings.specs.MarkedParts.{docnos_of}
 use Rattle.collection_queries.specs.Searching.{HasNetwork}
 use Rattle.repository.specs.States.{State}
 use Rattle.session_events.specs.declared.event.TheConstants.{MAX_RESULTS}
+use Rattle.desk.specs.Backed.{Keeps}
 use Rattle.desk.specs.declared.query.TheConstants.{MAX_QUERIES}
 use Rattle.desk.specs.declared.query.OpenQuery.{OpenQuery}
+use Rattle.session_replies.specs.declared.reply.Reply.{Reply}
+use Rattle.session_replies.specs.declared.reply.Reply.TheVariants as reply
 
 -- a leaf is no prior, or one of the first so many, or that of the lengths, which is the ninth
 abbrev pub AsksFor : ℕ → LeafTree → Type 0
@@ -35,3 +38,8 @@ pub record AreKept (s : State) (queries : List OpenQuery) (counts : List Kept) :
   pub few : length queries ≤ MAX_QUERIES
   pub each : All (IsOpen (length s.priors)) queries
   pub early : AreEarly counts
+
+-- an event that is refused changes nothing of what is kept
+abbrev pub StaysIfRefused : Reply → Keeps → Keeps → Type 0
+StaysIfRefused (reply.Refused why) old new = new ≡ old
+StaysIfRefused r old new = Unit {0}

@@ -9,6 +9,7 @@ ghost use Rattle.repository.specs.Stands.{Collection, Stands};
 ghost use Rattle.repository.specs.States.{IsBacked};
 ghost use Rattle.repository.specs.Writes.{AreGone, IsEither};
 ghost use Rattle.desk.specs.Backed.{IsDeskBacked, IsMergeBacked, IsUsable, Steps, state_of};
+ghost use Rattle.desk.specs.Keeping.{StaysIfRefused};
 ghost use Rattle.desk.specs.Points.{is_inside, kept_behind, may_write, needs_hits};
 ghost use Rattle.desk.specs.Queries.{priors_in};
 ghost use Rattle.session_replies.specs.Told.{IsReply};
@@ -82,6 +83,9 @@ impl<F: Fn(u32, u32, u64, u64) -> Fraction> Desk<F> {
         // Whatever the files are, it is refused just where the definition says. Of an explanation only the refusal of a rank rests on them.
         ensures refuses { needs_hits event ≡ false → IfOk result (λ reply. (told : Option Files) → RefusesAs reply (step (state_of told self.old.kept) event).1) }
         ensures early { IfOk result (λ reply. (told : Option Files) → reply_early reply ≡ told_early (step (state_of told self.old.kept) event).1) }
+
+        // Where it is refused, all that is kept stays as it is.
+        ensures unchanged { IfOk result (λ reply. StaysIfRefused reply self.old.kept self.new.kept) }
 
         // Behind a flush point the files stand for the live documents, and behind another event for what they stood for.
         ensures done { OnOk result ((kept : Collection) → IsDeskBacked (T.files store.old) self.old.kept → Stands self.old.kept.repository.held.limits (T.files store.old) kept

@@ -18,7 +18,7 @@ ghost use Rattle.desk.specs.Queries.{priors_in};
 ghost use Rattle.desk.specs.Replying.{not_added, turned_reply};
 ghost use Rattle.session_replies.specs.Told.{IsReply};
 ghost use Rattle.desk.specs.Orders.{IsTrueReply};
-ghost use Rattle.desk.specs.Keeping.{AsksFor};
+ghost use Rattle.desk.specs.Keeping.{AsksFor, StaysIfRefused};
 ghost use Rattle.desk.specs.Plugs.{ArePlugs};
 ghost use Rattle.desk.specs.Step.{open_step, step};
 ghost use Rattle.desk.specs.Told.{RefusesAs, reply_early, told_early};
@@ -189,6 +189,7 @@ impl Kept {
             → Leaves (T.since store.old) (T.since store.new) (IsEither self.old.repository.held.limits kept (kept_behind kept (step (state_of (T.files store.old) self.old) event))) }
         ensures swept { is_end event ≡ true → OnOk result ((self.new.repository.stale ≡ []) × AreGone self.old.repository.stale (T.files store.new)) }
         ensures kind { self.new.kind ≡ self.old.kind }
+        ensures unchanged { IfOk result (λ reply. StaysIfRefused reply self.old self.new) }
         ensures usable { OnOk result (IsUsable self.new) }
         ensures inside { is_inside event ≡ true → IfErr result (λ fault. fault ≡ SegFault.Memory) }
         ensures quiet { may_write event ≡ false → IsQuiet T.files T.layers T.clock T.since T.longest T.held store.old store.new }
@@ -226,6 +227,7 @@ impl Kept {
         ensures refuses { needs_hits event ≡ false → IfOk result (λ reply. (told : Option Files) → RefusesAs reply (step (state_of told self.old) event).1) }
         ensures early { IfOk result (λ reply. (told : Option Files) → reply_early reply ≡ told_early (step (state_of told self.old) event).1) }
         ensures kind { self.new.kind ≡ self.old.kind }
+        ensures unchanged { IfOk result (λ reply. StaysIfRefused reply self.old self.new) }
         ensures usable { OnOk result (IsUsable self.new) }
         ensures inside { is_inside event ≡ true → IfErr result (λ fault. fault ≡ SegFault.Memory) }
         ensures quiet { IsQuiet T.files T.layers T.clock T.since T.longest T.held store.old store.new }
@@ -250,6 +252,7 @@ impl Kept {
         ensures refuses { IfOk result (λ reply. (told : Option Files) → RefusesAs reply (step (state_of told self.old) event).1) }
         ensures memory { IfErr result (λ fault. fault ≡ SegFault.Memory) }
         ensures kind { self.new.kind ≡ self.old.kind }
+        ensures unchanged { IfOk result (λ reply. StaysIfRefused reply self.old self.new) }
         ensures usable { OnOk result (IsUsable self.new) }
     {
         match event {
@@ -284,6 +287,7 @@ impl Kept {
         ensures refuses { needs_hits event ≡ false → IfOk result (λ reply. (told : Option Files) → RefusesAs reply (step (state_of told self.old) event).1) }
         ensures early { IfOk result (λ reply. (told : Option Files) → reply_early reply ≡ told_early (step (state_of told self.old) event).1) }
         ensures kind { self.new.kind ≡ self.old.kind }
+        ensures unchanged { IfOk result (λ reply. StaysIfRefused reply self.old self.new) }
         ensures usable { OnOk result (IsUsable self.new) }
         ensures quiet { IsQuiet T.files T.layers T.clock T.since T.longest T.held store.old store.new }
         ensures stay { map (λ plug. meaning plug) plugs.new ≡ map (λ plug. meaning plug) plugs.old }
@@ -320,6 +324,7 @@ impl Kept {
             → Leaves (T.since store.old) (T.since store.new) (IsEither self.old.repository.held.limits kept (kept_behind kept (step (state_of (T.files store.old) self.old) event))) }
         ensures swept { is_end event ≡ true → OnOk result ((self.new.repository.stale ≡ []) × AreGone self.old.repository.stale (T.files store.new)) }
         ensures kind { self.new.kind ≡ self.old.kind }
+        ensures unchanged { IfOk result (λ reply. StaysIfRefused reply self.old self.new) }
         ensures usable { OnOk result (IsUsable self.new) }
         ensures goes_on { GoesOn T.layers T.clock T.longest T.held store.old store.new }
         ensures honest { IsDeskBacked (T.files store.old) self.old → IfErr result IsOutside }
@@ -341,6 +346,7 @@ impl Kept {
         ensures refuses { IfOk result (λ reply. (told : Option Files) → RefusesAs reply (step (state_of told self.old) (event.Document doc)).1) }
         ensures memory { IfErr result (λ fault. fault ≡ SegFault.Memory) }
         ensures kind { self.new.kind ≡ self.old.kind }
+        ensures unchanged { IfOk result (λ reply. StaysIfRefused reply self.old self.new) }
         ensures usable { OnOk result (IsUsable self.new) }
     {
         let docno = doc.docno().clone_in(alloc)?;
@@ -356,6 +362,7 @@ impl Kept {
         ensures form { IsReply result }
         ensures refuses { (told : Option Files) → RefusesAs result (step (state_of told self.old) (event.Delete docno)).1 }
         ensures kind { self.new.kind ≡ self.old.kind }
+        ensures unchanged { StaysIfRefused result self.old self.new }
         ensures usable { IsUsable self.new }
     {
         if self.repository.delete(&docno).is_err() {
@@ -376,6 +383,7 @@ impl Kept {
         ensures stops { (kept : Collection) → IsDeskBacked (T.files store.old) self.old → Stands self.old.repository.held.limits (T.files store.old) kept
             → Leaves (T.since store.old) (T.since store.new) (IsEither self.old.repository.held.limits kept (kept_behind kept (step (state_of (T.files store.old) self.old) event.Flush))) }
         ensures kind { self.new.kind ≡ self.old.kind }
+        ensures unchanged { IfOk result (λ reply. StaysIfRefused reply self.old self.new) }
         ensures usable { OnOk result (IsUsable self.new) }
         ensures goes_on { GoesOn T.layers T.clock T.longest T.held store.old store.new }
         ensures honest { IsDeskBacked (T.files store.old) self.old → IfErr result IsOutside }
@@ -393,6 +401,7 @@ impl Kept {
         ensures refuses { IfOk result (λ reply. (told : Option Files) → RefusesAs reply (step (state_of told self.old) event.Merge).1) }
         ensures memory { IfErr result (λ fault. fault ≡ SegFault.Memory) }
         ensures kind { self.new.kind ≡ self.old.kind }
+        ensures unchanged { IfOk result (λ reply. StaysIfRefused reply self.old self.new) }
         ensures usable { OnOk result (IsUsable self.new) }
     {
         if self.repository.merge_open() {
@@ -416,6 +425,7 @@ impl Kept {
         ensures stops { (kept : Collection) → IsDeskBacked (T.files store.old) self.old → Stands self.old.repository.held.limits (T.files store.old) kept
             → Leaves (T.since store.old) (T.since store.new) (IsEither self.old.repository.held.limits kept (kept_behind kept (step (state_of (T.files store.old) self.old) (event.Turn docs)))) }
         ensures kind { self.new.kind ≡ self.old.kind }
+        ensures unchanged { IfOk result (λ reply. StaysIfRefused reply self.old self.new) }
         ensures usable { OnOk result (IsUsable self.new) }
         ensures goes_on { GoesOn T.layers T.clock T.longest T.held store.old store.new }
         ensures honest { IsDeskBacked (T.files store.old) self.old → IfErr result IsOutside }
@@ -445,6 +455,7 @@ impl Kept {
         ensures refuses { IfOk result (λ reply. (told : Option Files) → RefusesAs reply (step (state_of told self.old) (event.Open name k text.now)).1) }
         ensures form { IfOk result IsReply }
         ensures kind { self.new.kind ≡ self.old.kind }
+        ensures unchanged { IfOk result (λ reply. StaysIfRefused reply self.old self.new) }
         ensures usable { OnOk result (IsUsable self.new) }
         ensures quiet { IsQuiet T.files T.layers T.clock T.since T.longest T.held store.old store.new }
         ensures honest { IsDeskBacked (T.files store.old) self.old → IfErr result IsOutside }
@@ -475,6 +486,7 @@ impl Kept {
         ensures refuses { IfOk result (λ reply. (told : Option Files) → RefusesAs reply (open_step (state_of told self.old) name k (Ok (whole_checked checked))).1) }
         ensures form { IfOk result IsReply }
         ensures kind { self.new.kind ≡ self.old.kind }
+        ensures unchanged { IfOk result (λ reply. StaysIfRefused reply self.old self.new) }
         ensures usable { OnOk result (IsUsable self.new) }
         ensures quiet { IsQuiet T.files T.layers T.clock T.since T.longest T.held store.old store.new }
         ensures honest { IsDeskBacked (T.files store.old) self.old → IfErr result IsOutside }
@@ -526,6 +538,7 @@ impl Kept {
         ensures stay { map (λ plug. meaning plug) plugs.new ≡ map (λ plug. meaning plug) plugs.old }
         ensures form { IfOk result IsReply }
         ensures kind { self.new.kind ≡ self.old.kind }
+        ensures unchanged { IfOk result (λ reply. StaysIfRefused reply self.old self.new) }
         ensures usable { OnOk result (IsUsable self.new) }
         ensures quiet { IsQuiet T.files T.layers T.clock T.since T.longest T.held store.old store.new }
         ensures honest { IsDeskBacked (T.files store.old) self.old → IfErr result IsOutside }
@@ -577,6 +590,7 @@ impl Kept {
         ensures early { IfOk result (λ reply. (told : Option Files) → reply_early reply ≡ told_early (step (state_of told self.old) (event.Explain name rank)).1) }
         ensures form { IfOk result IsReply }
         ensures kind { self.new.kind ≡ self.old.kind }
+        ensures unchanged { IfOk result (λ reply. StaysIfRefused reply self.old self.new) }
         ensures usable { OnOk result (IsUsable self.new) }
         ensures quiet { IsQuiet T.files T.layers T.clock T.since T.longest T.held store.old store.new }
         ensures honest { IsDeskBacked (T.files store.old) self.old → IfErr result IsOutside }
@@ -620,6 +634,7 @@ impl Kept {
         ensures refuses { IfOk result (λ reply. (told : Option Files) → RefusesAs reply (step (state_of told self.old) (event.Scan text.now)).1) }
         ensures form { IfOk result IsReply }
         ensures kind { self.new.kind ≡ self.old.kind }
+        ensures unchanged { IfOk result (λ reply. StaysIfRefused reply self.old self.new) }
         ensures usable { OnOk result (IsUsable self.new) }
         ensures quiet { IsQuiet T.files T.layers T.clock T.since T.longest T.held store.old store.new }
         ensures honest { IsDeskBacked (T.files store.old) self.old → IfErr result IsOutside }
@@ -642,6 +657,7 @@ impl Kept {
         ensures refuses { (told : Option Files) → RefusesAs result (step (state_of told self.old) (event.Close name)).1 }
         ensures form { IsReply result }
         ensures kind { self.new.kind ≡ self.old.kind }
+        ensures unchanged { StaysIfRefused result self.old self.new }
         ensures usable { IsUsable self.new }
     {
         match self.find(&name) {
@@ -667,6 +683,7 @@ impl Kept {
             → Leaves (T.since store.old) (T.since store.new) (IsEither self.old.repository.held.limits kept (kept_behind kept (step (state_of (T.files store.old) self.old) event.End))) }
         ensures swept { OnOk result ((self.new.repository.stale ≡ []) × AreGone self.old.repository.stale (T.files store.new)) }
         ensures kind { self.new.kind ≡ self.old.kind }
+        ensures unchanged { IfOk result (λ reply. StaysIfRefused reply self.old self.new) }
         ensures usable { OnOk result (IsUsable self.new) }
         ensures goes_on { GoesOn T.layers T.clock T.longest T.held store.old store.new }
         ensures honest { IsDeskBacked (T.files store.old) self.old → IfErr result IsOutside }

@@ -1,7 +1,8 @@
-use Rattle.std.proofs.Common.{◌≡◌, [], subst, sym}
+use Rattle.std.proofs.Common.{◌≡◌, [], Bool, None, not, subst, sym}
 use Rattle.repository.specs.Writes.{AreGone}
-use Rattle.desk.specs.Backed.{Keeps, Steps}
-use Rattle.desk.proofs.EventExits.{usable-set}
+use Rattle.desk.specs.Backed.{Keeps, Steps, with_usable}
+use Rattle.desk.specs.Keeping.{StaysIfRefused}
+use Rattle.desk.proofs.EventExits.{stays-usable, usable-set}
 use Rattle.desk.proofs.desk.Desk.event.Goals as goal
 
 pub answer-requires-clause-kind : goal.answer-requires-clause-kind
@@ -17,3 +18,10 @@ returns-in-Ok-clause-steps g c = λ backed plugs.
 pub returns-in-Ok-clause-swept : goal.returns-in-Ok-clause-swept
 returns-in-Ok-clause-swept g c = λ last.
     subst (λ (x : Keeps). (x.repository.stale ≡ []) × AreGone c.args.self.now.kept.repository.stale (g.T.Store.files c.answer.new.store)) (sym c.set_usable.ensures) (c.in-Ok.ensures.swept last)
+
+pub returns-in-Ok-clause-unchanged : goal.returns-in-Ok-clause-unchanged
+returns-in-Ok-clause-unchanged g c =
+    let stays = stays-usable c.args.event c.args.self.now.kept c.answer.new.self c.in-Ok.reply c.requires.usable.0 (λ hits. c.in-Ok.ensures.refuses hits None) c.in-Ok.ensures.unchanged in
+    let same : StaysIfRefused c.in-Ok.reply c.args.self.now.kept (with_usable c.answer.new.self (not c.is_end-is_last.result)) =
+        subst (λ (b : Bool). StaysIfRefused c.in-Ok.reply c.args.self.now.kept (with_usable c.answer.new.self (not b))) (sym c.is_end-is_last.ensures) stays in
+    subst (λ (x : Keeps). StaysIfRefused c.in-Ok.reply c.args.self.now.kept x) (sym c.set_usable.ensures) same

@@ -8,8 +8,10 @@ use Rattle.session_events.specs.declared.event.Event.TheVariants as event
 use Rattle.session_replies.specs.declared.reply.Reply.{Reply}
 use Rattle.session_replies.specs.declared.reply.Reply.TheVariants as reply
 use Rattle.desk.specs.Backed.{Keeps, Steps, state_of}
+use Rattle.desk.specs.Keeping.{StaysIfRefused}
 use Rattle.desk.proofs.Cases.{answers-ok, step-added}
 use Rattle.desk.proofs.DocumentExits.{add-done, live-told, not-added-refuses, not-added-steps, with_repository}
+use Rattle.desk.proofs.EventExits.{if-ok-all, stays-same}
 use Rattle.desk.proofs.Exits.{accepted-by}
 use Rattle.desk.proofs.KeptLemmas.{kept-repository, priors-call}
 use Rattle.desk.proofs.kept.Kept.add.Goals as goal
@@ -60,3 +62,9 @@ invariant_of-self-2 c = λ usable working.
     let s = c.self.inside in
     kept-repository s.repository c.add.new.self s.queries.items s.counts
     (priors-call c.add.result s.repository c.add.new.self (with_held s.repository (added s.repository.held c.args.doc)) c.add.ensures.added c.add.ensures.kept refl) (c.self.invariant usable (sym c.add.ensures.usable ∙ working))
+
+pub returns-clause-unchanged : goal.returns-clause-unchanged
+returns-clause-unchanged c =
+    let s = c.self.inside in
+    let view : Keeps = record { repository = s.repository; kind = s.kind; queries = s.queries.items; counts = s.counts; cache = s.cache; usable = s.usable } in
+    if-ok-all c.not_added.result (λ (r : Reply). StaysIfRefused r c.args.self.now (with_repository view c.add.new.self)) (λ r. stays-same r c.args.self.now (with_repository view c.add.new.self) (ap (with_repository view) c.in-Err.ensures.kept ∙ c.self.view_is))

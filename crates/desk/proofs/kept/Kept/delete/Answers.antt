@@ -10,7 +10,7 @@ use Rattle.session_events.specs.declared.event.Event.TheVariants as event
 use Rattle.session_replies.specs.declared.reply.Refusal.TheVariants.{NoSuchDoc}
 use Rattle.desk.specs.Backed.{Keeps, state_of}
 use Rattle.desk.proofs.Cases.{step-deleted}
-use Rattle.desk.proofs.DocumentExits.{absent-step, delete-done, err-of, live-there, live-told, ok-of, refused-done}
+use Rattle.desk.proofs.DocumentExits.{absent-step, delete-done, err-of, live-there, live-told, ok-of, refused-done, with_repository}
 use Rattle.desk.proofs.Exits.{accepted-by, refused-by}
 use Rattle.desk.proofs.KeptLemmas.{kept-repository, priors-call}
 use Rattle.desk.proofs.kept.Kept.delete.Goals as goal
@@ -60,3 +60,10 @@ invariant_of-self-2 c = λ usable working.
     let s = c.self.inside in
     kept-repository s.repository c.delete.new.self s.queries.items s.counts
     (priors-call c.delete.result s.repository c.delete.new.self (with_held s.repository (deleted s.repository.held c.args.docno)) c.delete.ensures.deleted c.delete.ensures.kept refl) (c.self.invariant usable (sym c.delete.ensures.usable ∙ working))
+
+pub returns-then-is_err-clause-unchanged : goal.returns-then-is_err-clause-unchanged
+returns-then-is_err-clause-unchanged c =
+    let s = c.self.inside in
+    let view : Keeps = record { repository = s.repository; kind = s.kind; queries = s.queries.items; counts = s.counts; cache = s.cache; usable = s.usable } in
+    let was : is_err c.delete.result ≡ true = sym c.is_err.ensures.value ∙ c.if-is_err.true in
+    ap (with_repository view) (err-of c.delete.result (c.delete.new.self ≡ s.repository) was c.delete.ensures.kept) ∙ c.self.view_is

@@ -8,12 +8,13 @@ use Rattle.session_replies.specs.declared.reply.Reply.{Reply}
 use Rattle.session_replies.specs.declared.reply.Reply.TheVariants as reply
 use Rattle.session_replies.specs.declared.reply.Refusal.TheVariants.{NoMerge}
 use Rattle.desk.specs.Backed.{Keeps, Steps, state_of}
+use Rattle.desk.specs.Keeping.{StaysIfRefused}
 use Rattle.desk.specs.Step.{step}
 use Rattle.desk.specs.Told.{RefusesAs}
 use Rattle.desk.proofs.Exits.{of-now, refused-by, refused-exit}
 use Rattle.desk.proofs.KeptLemmas.{kept-repository, priors-turned}
 use Rattle.desk.proofs.MergeExits.{with_merged}
-use Rattle.desk.proofs.TurnExits.{nomerge-kept, nomerge-step, none-below, same-below, turn-form, turn-honest, turn-kept, turn-now, turn-refuses, turn-steps, turn-stops}
+use Rattle.desk.proofs.TurnExits.{nomerge-kept, nomerge-step, none-below, same-below, turn-form, turn-honest, turn-kept, turn-now, turn-refuses, turn-stays, turn-steps, turn-stops}
 use Rattle.desk.proofs.kept.Kept.turn.Goals as goal
 
 pub returns-then-not-merge_open-clause-steps : goal.returns-then-not-merge_open-clause-steps
@@ -120,3 +121,9 @@ pub invariant_of-self-2 : goal.invariant_of-self-2
 invariant_of-self-2 g c = λ usable working.
     let s = c.self.inside in
     kept-repository s.repository c.merge_turn.new.self s.queries.items s.counts (priors-turned c.merge_turn.result c.args.docs s.repository c.merge_turn.new.self c.merge_turn.ensures.state c.merge_turn.ensures.broken working) (c.self.invariant usable (ap (λ (x : Keeps). x.repository.usable) c.self.view_is ∙ c.requires.usable.1))
+
+pub returns-clause-unchanged : goal.returns-clause-unchanged
+returns-clause-unchanged g c =
+    let s = c.self.inside in
+    let behind : Keeps = record { repository = c.merge_turn.new.self; kind = s.kind; queries = s.queries.items; counts = s.counts; cache = c.merge_turn.new.cache; usable = s.usable } in
+    subst (λ (x : Reply). StaysIfRefused x c.args.self.now behind) (sym c.turned_reply.ensures) (turn-stays c.in_ok-turned.turned c.live_count.result c.args.self.now behind)

@@ -34,5 +34,6 @@ text_kept (x ∷ kept) w before text =
     and_from (is_utf8 x.now) _ parts.0 (text_kept kept w parts.1 text)
 
 pub no_command : (command : List ℕ) (given : Values) → bytes_eq command (codes "scan") ≡ false → bytes_eq command (codes "query") ≡ false → bytes_eq command (codes "explain") ≡ false
-    → bytes_eq command (codes "create") ≡ false → bytes_eq command (codes "add") ≡ false → bytes_eq command (codes "delete") ≡ false → bytes_eq command (codes "merge") ≡ false → bytes_eq command (codes "prior") ≡ false → None ≡ command_by command given
-no_command command given scan query explain create add delete merge prior = rw (scan, query, explain, create, add, delete, merge, prior) refl
+    → bytes_eq command (codes "create") ≡ false → bytes_eq command (codes "add") ≡ false → bytes_eq command (codes "delete") ≡ false → bytes_eq command (codes "merge") ≡ false → bytes_eq command (codes "prior") ≡ false
+    → bytes_eq command (codes "session") ≡ false → bytes_eq command (codes "gen") ≡ false → None ≡ command_by command given
+no_command command given scan query explain create add delete merge prior session gen = rw (scan, query, explain, create, add, delete, merge, prior, session, gen) refl

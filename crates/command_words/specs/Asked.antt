@@ -1,10 +1,11 @@
 -- What the answer of `read_words` says.
 use Rattle.std.specs.Prelude.{ℕ, ◌≤◌, List, Option, String, option_map, string_bytes}
 use Rattle.smoothing.specs.Fractions.{IsMu}
-use Rattle.command_words.specs.Table.{Asks, Question, add, create, delete, explain, merge, prior, query, scan}
+use Rattle.generated_events.specs.declared.generator.TheConstants.{MAX_GENERATED}
+use Rattle.command_words.specs.Table.{Asks, Question, add, create, delete, explain, gen, merge, prior, query, scan, session}
 use Rattle.command_words.specs.declared.words.Asked.{Asked}
 use Rattle.command_words.specs.declared.words.Words.{Words}
-use Rattle.command_words.specs.declared.words.Words.TheVariants.{Add, Create, Delete, Explain, Merge, Prior, Query, Scan}
+use Rattle.command_words.specs.declared.words.Words.TheVariants.{Add, Create, Delete, Explain, Gen, Merge, Prior, Query, Scan, Session}
 use Rattle.command_words.specs.declared.words.TheConstants.{MAX_RESULTS}
 
 abbrev pub told_labels : {Z : Type 0} → Option (String Z × String Z) → Option (List ℕ × List ℕ)
@@ -22,6 +23,8 @@ told_words Add = add
 told_words Delete = delete
 told_words Merge = merge
 told_words (Prior name) = prior name
+told_words (Session mu) = session mu
+told_words (Gen count) = gen count
 
 -- the numbers of a query are in their ranges
 pub record IsInRange (asked : Asked) : Type 0 where
@@ -38,3 +41,5 @@ AreInRange Add = Unit {0}
 AreInRange Delete = Unit {0}
 AreInRange Merge = Unit {0}
 AreInRange (Prior name) = Unit {0}
+AreInRange (Session mu) = IsMu mu
+AreInRange (Gen count) = (1 ≤ count) × (count ≤ MAX_GENERATED)

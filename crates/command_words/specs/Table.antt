@@ -5,6 +5,7 @@ use Rattle.std.specs.Str.{bytes_eq}
 use Rattle.ri_base.specs.Ascii.{lower}
 use Rattle.ri_base.specs.Text.{is_name}
 use Rattle.smoothing.specs.declared.rule.TheConstants.{MAX_MU}
+use Rattle.generated_events.specs.declared.generator.TheConstants.{MAX_GENERATED}
 use Rattle.command_words.specs.Given.{Values, given_by}
 use Rattle.line_parts.specs.Digits.{number_to}
 use Rattle.command_words.specs.Numbers.{number_or}
@@ -28,6 +29,8 @@ pub data Asks : Type 0 where
   delete : Asks
   merge : Asks
   prior : List ℕ → Asks
+  session : ℕ → Asks
+  gen : ℕ → Asks
 
 -- ---- the topic and the run: both or neither, each of 1 to 64 bytes from 33 to 126
 
@@ -86,6 +89,16 @@ name_in word = if is_name (map lower word) then Some (map lower word) else None
 abbrev pub prior_by : Values → Option Asks
 prior_by given = if has_options given then None else option_map prior (option_and_then name_in (only_word given))
 
+-- session [--mu N]
+abbrev pub session_by : Values → Option Asks
+session_by given =
+    if is_some given.first || is_some given.second || is_some given.k || is_some given.topic || is_some given.run then None
+    else option_map session (number_or DEFAULT_MU MAX_MU given.mu)
+
+-- gen N
+abbrev pub gen_by : Values → Option Asks
+gen_by given = if has_options given then None else option_map gen (option_and_then (number_to MAX_GENERATED) (only_word given))
+
 abbrev pub command_by : List ℕ → Values → Option Asks
 command_by command given =
     if bytes_eq command (codes "scan") then scan_by given
@@ -96,6 +109,8 @@ command_by command given =
     else if bytes_eq command (codes "delete") then bare_by delete given
     else if bytes_eq command (codes "merge") then bare_by merge given
     else if bytes_eq command (codes "prior") then prior_by given
+    else if bytes_eq command (codes "session") then session_by given
+    else if bytes_eq command (codes "gen") then gen_by given
     else None
 
 -- what the words ask for, where they are in the table: a folder, a command, and what stands behind them

@@ -3,12 +3,13 @@ ghost use Rattle.std.specs.Prelude.{◌≡◌, ◌++◌, ◌∷◌, [], IfOk, If
 ghost use Rattle.std.specs.Str.{is_utf8};
 ghost use Rattle.command_words.specs.Asked.{AreInRange, told_labels, told_words};
 ghost use Rattle.command_words.specs.Given.{told_given};
-ghost use Rattle.command_words.specs.Table.{asks_of, bare_by, command_by, explain_by, has_options, only_word, prior_by, query_by, scan_by};
+ghost use Rattle.command_words.specs.Table.{asks_of, bare_by, command_by, explain_by, gen_by, has_options, only_word, prior_by, query_by, scan_by, session_by};
 ghost use Rattle.command_words.specs.Texts.{are_texts};
 
 use crate::given::{Given, given_by};
 use crate::labels::labels_of;
 use crate::numbers::{number_or, number_to};
+use generated_events::MAX_GENERATED;
 use ri_base::{ArgList, Name, NoMemory};
 use smoothing::MAX_MU;
 use std::alloc::Global;
@@ -53,6 +54,10 @@ pub enum Words {
     Merge,
     /// The rows of the input, for the prior of this name.
     Prior(Name),
+    /// A session by the script of the input, of this number of Dirichlet smoothing, from 1 to [`MAX_MU`].
+    Session(u32),
+    /// A collection that is made of so many documents, from 1 to [`MAX_GENERATED`], and its answer to a query.
+    Gen(u32),
 }
 
 /// Whether an option stands behind the command.
@@ -182,6 +187,36 @@ fn prior_words(alloc: Global, given: &Given) -> Result<Option<Words>, NoMemory>
     }
 }
 
+fn session_words(given: &Given) -> Option<Words>
+    ensures words { option_map told_words result ≡ session_by (told_given given.now) }
+    ensures ranges { IfSome result AreInRange }
+{
+    let Given {
+        first: None,
+        second: None,
+        k: None,
+        mu,
+        topic: None,
+        run: None,
+    } = *given
+    else {
+        return None;
+    };
+    let mu = number_or(DEFAULT_MU, MAX_MU, mu)?;
+    Some(Words::Session(mu))
+}
+
+fn gen_words(given: &Given) -> Option<Words>
+    ensures words { option_map told_words result ≡ gen_by (told_given given.now) }
+    ensures ranges { IfSome result AreInRange }
+{
+    if has_options(given) {
+        return None;
+    }
+    let count = number_to(MAX_GENERATED, only_word(given)?)?;
+    Some(Words::Gen(count))
+}
+
 fn command_words(alloc: Global, command: &str, given: &Given) -> Result<Option<Words>, NoMemory>
     ensures words { IfOk result (λ words. option_map told_words words ≡ command_by command.now (told_given given.now)) }
     ensures ranges { IfOk result (λ words. IfSome words AreInRange) }
@@ -195,6 +230,8 @@ fn command_words(alloc: Global, command: &str, given: &Given) -> Result<Option<W
         "delete" => Ok(bare_words(given, Words::Delete)),
         "merge" => Ok(bare_words(given, Words::Merge)),
         "prior" => prior_words(alloc, given),
+        "session" => Ok(session_words(given)),
+        "gen" => Ok(gen_words(given)),
         _ => Ok(None),
     }
 }

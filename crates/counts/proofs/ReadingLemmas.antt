@@ -1,6 +1,6 @@
 -- What reading leaves of a store and a cache, over several calls.
 use Rattle.std.proofs.Common.{◌≡◌, ◌<◌, ◌≤◌, ℕ, List, Option, Contains, get_or, length, inl, inr, sym, subst, arith}
-use Rattle.std.proofs.lemmas.List.Elements.{All-contains, Contains-get_or}
+use Rattle.std.proofs.lemmas.List.Elements.{All-contains}
 use Rattle.ri_base.specs.Faults.{IsOutside}
 use Rattle.ri_base.specs.Keeps.{Rose}
 use Rattle.ri_base.specs.declared.seg_fault.SegFault.{SegFault}
@@ -10,6 +10,7 @@ use Rattle.disk_index.specs.Cache.{IsCacheBacked, KeptBlock}
 use Rattle.disk_index.specs.Parts.{IsFileOf, IsPartBacked, Source}
 use Rattle.disk_index.specs.QuietLaws.{CacheKeeps-after, CacheKeeps-same, IsCacheBacked-kept, IsQuiet-same, IsQuiet-then}
 use Rattle.disk_index.specs.Snapshots.{AreBacked, IsFileAmong, Marked}
+use Rattle.disk_index.proofs.AmongLemmas.{blocks-among}
 use Rattle.counts.specs.Reading.{IsFaultOf, OnlyReads}
 
 -- a fault that came later came
@@ -42,23 +43,8 @@ module _ {S : Type 0} (files : S → Option Files) (layers : S → Option (List 
   reads-among parts i m s t c d lt is reads = record {
     quiet = reads.quiet;
     later = reads.later;
-    cache = record {
-      each = λ e h. elim (reads.cache.each e h) [
-        | inl was ↦ inl was
-        | inr new ↦ inr ((m, subst (Contains parts) (sym is) (Contains-get_or parts i m lt), new.0), new.1)
-      ];
-    };
+    cache = blocks-among parts i m lt is (files s) c d reads.cache;
   }
-
--- ---- a reader
-
--- a reader of a backed part and a backed cache is sound
-pub sound-of : (told here : Option Files) (source own : Source) (cached kept : List KeptBlock) → here ≡ told → own ≡ source → kept ≡ cached → IsPartBacked told source → IsCacheBacked told cached
-    → IsPartBacked here own × IsCacheBacked here kept
-sound-of told here source own cached kept same_told same_part same_cache part cache = (
-  subst (λ (f : Option Files). IsPartBacked f own) (sym same_told) (subst (IsPartBacked told) (sym same_part) part),
-  subst (λ (f : Option Files). IsCacheBacked f kept) (sym same_told) (subst (IsCacheBacked told) (sym same_cache) cache),
-)
 
 -- ---- faults
 

@@ -1,5 +1,5 @@
 -- Parts whose documents have the same docnos, lengths and fields: sizes and sums are the same.
-use Rattle.std.proofs.Common.{◌≡◌, ℕ, Bool, true, false, List, [], ◌∷◌, ◌+◌, Option, length, map, sum_by, refl, sym, ap, ◌∙◌}
+use Rattle.std.proofs.Common.{◌≡◌, ℕ, Bool, true, false, List, [], ◌∷◌, ◌++◌, ◌+◌, Option, length, map, sum_by, refl, sym, ap, ◌∙◌, arith}
 use Rattle.std.proofs.lemmas.List.{length-map}
 use Rattle.std.proofs.lemmas.List.Sums.{sum_by-cons}
 use Rattle.ri_base.specs.Collection.{token_count}
@@ -30,6 +30,14 @@ map-unmarked f [] ms = refl
 map-unmarked f (x ∷ xs) [] = refl
 map-unmarked f (x ∷ xs) (true ∷ ms) = map-unmarked f xs ms
 map-unmarked f (x ∷ xs) (false ∷ ms) = ap (λ l. f x ∷ l) (map-unmarked f xs ms)
+
+-- one more that isn't marked
+pub unmarked-push : {A : Type 0} (xs : List A) (ms : List Bool) (x : A) → length ms ≡ length xs → unmarked (xs ++ x ∷ []) (ms ++ false ∷ []) ≡ unmarked xs ms ++ x ∷ []
+unmarked-push [] [] x e = refl
+unmarked-push [] (m ∷ ms) x e = absurd (omega (arith, e))
+unmarked-push (y ∷ xs) [] x e = absurd (omega (arith, e))
+unmarked-push (y ∷ xs) (true ∷ ms) x e = unmarked-push xs ms x (omega (arith, e))
+unmarked-push (y ∷ xs) (false ∷ ms) x e = ap (λ l. y ∷ l) (unmarked-push xs ms x (omega (arith, e)))
 
 module _ (s t : Source) (same : outlines_of t ≡ outlines_of s) where
   pub size-alike : size t ≡ size s

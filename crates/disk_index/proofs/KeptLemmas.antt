@@ -1,15 +1,13 @@
 -- What was read of a segment keeps what a part on disk keeps.
 use Rattle.std.proofs.Common.{◌≡◌, ◌<◌, ◌≤◌, ◌⊎◌, ℕ, zero, suc, ◌+◌, ◌^◌, ◌&&◌, ◌||◌, ◌==◌, ltb, leb, List, [], ◌∷◌, length, map, get_or, Bool, true, false, Result, Ok, Err, IfOk, refl, ap, subst, ◌∙◌, inl, inr, arith}
 use Rattle.std.specs.Cmp.Lexicographic.{slice_cmp}
-use Rattle.std.specs.List.{All, AllByRecursion, AllPairs}
+use Rattle.std.specs.List.{All, AllPairs}
 use Rattle.std.specs.List.Sorted.{IsStrictlySortedBy}
-use Rattle.std.specs.Ordering.{match_ordering, nat_cmp}
-use Rattle.std.specs.declared.cmp.Ordering.{Ordering}
-use Rattle.std.specs.declared.cmp.Ordering.TheVariants.{Less, Equal, Greater}
+use Rattle.std.specs.Ordering.{nat_cmp}
+use Rattle.std.specs.declared.cmp.Ordering.TheVariants.{Less}
 use Rattle.std.proofs.lemmas.Bool.{and_parts, eqb-true, leb-true, ltb-true}
-use Rattle.std.proofs.lemmas.Cmp.{nat_list_cmp_total}
 use Rattle.std.proofs.lemmas.List.{get_or-map, length-map}
-use Rattle.std.proofs.lemmas.List.Elements.{All-cons, All-from_recursion, All-map, All-nil, All-weaker, recursion_from_All}
+use Rattle.std.proofs.lemmas.List.Elements.{All-cons, All-map, All-nil, All-weaker}
 use Rattle.std.proofs.lemmas.Map.Keys.{Less-from_sorted}
 use Rattle.ri_base.specs.Documents.{AreFields, Field, IsBefore}
 use Rattle.ri_base.specs.Vocabulary.{IsTermBefore}
@@ -17,6 +15,7 @@ use Rattle.ri_base.specs.declared.limits.TheConstants.{MAX_PART_DOCS}
 use Rattle.ri_base.specs.declared.seg_fault.SegFault.{SegFault}
 use Rattle.ri_base.specs.Fields.{is_before}
 use Rattle.ri_base.specs.Reading.{AllFit}
+use Rattle.ri_base.proofs.Order.{Rises, less_from_before, sorted_from}
 use Rattle.seg_codec.specs.Dictionary.{Behind, BehindTerm, behind, behind_term, end_of, end_of_all}
 use Rattle.seg_codec.specs.Documents.{first_row, is_behind, named, names_in_order}
 use Rattle.seg_codec.specs.Fits.{FitDictionary, FitDocuments, FitFields, FitsBlockPlace, FitsEntry, FitsHeader, FitsName, FitsRow, FitsTermBlocks}
@@ -36,28 +35,6 @@ all_pairs_cons R x xs all pairs (suc i) zero d lower inside = absurd (omega (ari
 all_pairs_cons R x xs all pairs (suc i) (suc j) d lower inside = pairs i j d (omega (arith, lower)) (omega (arith, inside))
 
 -- ---- texts in order
-
-less_from_before : (a b : List ℕ) → is_before a b ≡ true → slice_cmp nat_cmp a b ≡ Less
-less_from_before a b h = by (slice_cmp nat_cmp a b) refl h
-  where
-    by : (o : Ordering) → slice_cmp nat_cmp a b ≡ o → match_ordering o true false false ≡ true → slice_cmp nat_cmp a b ≡ Less
-    by Less e h = e
-    by Equal e h = absurd cc
-    by Greater e h = absurd cc
-
--- each stands behind the one before it
-abbrev Rises : List ℕ → List (List ℕ) → Type 0
-Rises before [] = Unit {0}
-Rises before (x ∷ xs) = (slice_cmp nat_cmp before x ≡ Less) × Rises x xs
-
-sorted_from : (before : List ℕ) (xs : List (List ℕ)) → Rises before xs → AllByRecursion (λ y. slice_cmp nat_cmp before y ≡ Less) xs × IsStrictlySortedBy (slice_cmp nat_cmp) xs
-unfolding IsStrictlySortedBy
-sorted_from before [] h = (tt, tt)
-sorted_from before (x ∷ xs) h =
-    let rest = sorted_from x xs h.1 in
-    let all : AllByRecursion (λ y. slice_cmp nat_cmp before y ≡ Less) xs =
-    recursion_from_All (λ y. slice_cmp nat_cmp before y ≡ Less) xs (All-weaker (λ y. slice_cmp nat_cmp x y ≡ Less) (λ y. slice_cmp nat_cmp before y ≡ Less) (λ y p. nat_list_cmp_total.trans before x y h.0 p) xs (All-from_recursion (λ y. slice_cmp nat_cmp x y ≡ Less) xs rest.0)) in
-    ((h.0, all), rest)
 
 names-rise : (before : List ℕ) (ns : List (List ℕ)) → AllFit FitsName (λ _ x. x) before ns → Rises before ns
 names-rise before [] h = tt

@@ -1,4 +1,5 @@
 pub mod AlikeLemmas
+pub mod AmongLemmas
 pub mod CacheLemmas
 pub mod CutLaws
 pub mod EntryLemmas

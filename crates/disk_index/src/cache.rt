@@ -94,6 +94,28 @@ impl BlockCache {
         }
         Ok(block)
     }
+
+    /// The same of a block that is asked for once: where it has to be read, it isn't kept.
+    pub(crate) fn once<T: Store>(
+        &mut self,
+        alloc: Global,
+        store: &mut T,
+        key: BlockKey,
+        documents: &Documents,
+    ) -> Result<Block, SegFault>
+        requires { key.place + key.length < 2 ^ 64 }
+        ensures exact { (f : Files) → T.files store.old ≡ Some f → IsCacheBacked (Some f) self.old → IfOk result (IsBlockIn f key) }
+        ensures fault { (f : Files) → T.files store.old ≡ Some f → IfErr result (IsBlockFault f key documents.now) }
+        ensures cache { AllKept self.old self.new }
+        ensures quiet { IsQuiet T.files T.layers T.clock T.since T.longest T.held store.old store.new }
+        ensures later { T.faults store.old ≤ T.faults store.new }
+        ensures store { result ≡ Err SegFault.Store → Rose (T.faults store.old) (T.faults store.new) }
+    {
+        match kept_at(&mut self.kept, key)? {
+            Some(block) => Ok(block),
+            None => read_block(alloc, store, key, documents),
+        }
+    }
 }
 
 /// The block of this key, where it is kept.

@@ -215,7 +215,7 @@ impl DiskIndex {
         self.ranks[range as usize].as_slice()
     }
 
-    /// The block of the term of this rank for the range.
+    /// The block of the term of this rank for the range. It isn't kept: a range is put together once.
     pub(crate) fn ranked_block<T: Store>(
         &self,
         alloc: Global,
@@ -236,7 +236,7 @@ impl DiskIndex {
     {
         match self.ranked_key(rank, range) {
             None => Ok(Block::empty(alloc)?),
-            Some(key) => cache.fetch(alloc, store, key, &self.documents),
+            Some(key) => cache.once(alloc, store, key, &self.documents),
         }
     }
 

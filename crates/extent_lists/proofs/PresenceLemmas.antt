@@ -10,13 +10,13 @@ use Rattle.extent_lists.specs.Operators.{HasEach, HasEachInside, IsChain, IsInSo
 use Rattle.extent_lists.specs.Presence.{may_with, may_each_with, may_some_with}
 
 -- each of the sets has an extent, where they have a chain
-chain-each : (n : ℕ) (Rs : List (ℕ → ℕ → Type 0)) (b e : ℕ) → IsChain n Rs b e → HasEach Rs
+pub chain-each : (n : ℕ) (Rs : List (ℕ → ℕ → Type 0)) (b e : ℕ) → IsChain n Rs b e → HasEach Rs
 chain-each n [] b e h = absurd h
 chain-each n (R ∷ []) b e h = ((b, e, h), tt)
 chain-each n (R ∷ S ∷ rest) b e h = ((b, h.0, h.2), chain-each n (S ∷ rest) h.1 e h.4)
 
 -- and where they have extents inside a window
-inside-each : (Rs : List (ℕ → ℕ → Type 0)) (b e : ℕ) → HasEachInside Rs b e → HasEach Rs
+pub inside-each : (Rs : List (ℕ → ℕ → Type 0)) (b e : ℕ) → HasEachInside Rs b e → HasEach Rs
 inside-each [] b e h = tt
 inside-each (R ∷ rest) b e h = ((h.0.0, h.0.1, h.0.2), inside-each rest b e h.1)
 

@@ -15,12 +15,13 @@ use Rattle.store_ends.specs.Files.{Files}
 use Rattle.disk_index.specs.Parts.{InMemory}
 use Rattle.disk_index.specs.Snapshots as snapshots
 use Rattle.disk_index.specs.Snapshots.{Marked, live_in, unmarked}
+use Rattle.disk_index.proofs.AlikeLemmas.{unmarked-push}
 use Rattle.holdings.specs.Kept.{AreKept, ArePlaced, cell, marked_at, row}
 use Rattle.holdings.specs.MarkedParts.{IsWhole, IsWritable, docnos_in, docnos_of, filled}
 use Rattle.holdings.specs.Marks.{cells}
 use Rattle.holdings.specs.declared.spot.Spot.{Spot}
 use Rattle.holdings.proofs.CellLemmas.{cell-added, cell-last, cell-marked, cell-unmarked, cells-push, length-row, map-push, past-end, push-last}
-use Rattle.holdings.proofs.LiveLemmas.{flat_map-more, flat_map-push, unmarked-push}
+use Rattle.holdings.proofs.LiveLemmas.{flat_map-more, flat_map-push}
 use Rattle.holdings.proofs.PlacedLemmas.{IsPlaced-add, IsPlaced-drop, some_same}
 
 pub either : (a b : Bool) → (a || b) ≡ true → (a ≡ true) ⊎ (b ≡ true)

@@ -1,5 +1,5 @@
 -- What parts read as, whatever the files are, and where documents are added or deleted.
-use Rattle.std.proofs.Common.{◌≡◌, ◌+◌, ℕ, zero, suc, Bool, true, false, List, [], ◌∷◌, ◌++◌, length, map, refl, ap, sym, ◌∙◌, arith, Option, append_assoc, length-append}
+use Rattle.std.proofs.Common.{◌≡◌, ◌+◌, ℕ, List, [], ◌∷◌, ◌++◌, length, map, refl, ap, sym, ◌∙◌, arith, Option, append_assoc, length-append}
 use Rattle.std.specs.List.{flat_map}
 use Rattle.std.specs.Prelude.{sum_by}
 use Rattle.std.proofs.lemmas.List.{append-nil, length-map, map-append}
@@ -74,13 +74,6 @@ docnos-live told (m ∷ ms) =
     ∙ ap (λ l. unmarked (docnos_in m.source) m.marks ++ l) (docnos-live told ms)
 
 -- ---- one document more
-
-pub unmarked-push : {A : Type 0} (xs : List A) (ms : List Bool) (x : A) → length ms ≡ length xs → unmarked (xs ++ x ∷ []) (ms ++ false ∷ []) ≡ unmarked xs ms ++ x ∷ []
-unmarked-push [] [] x e = refl
-unmarked-push [] (m ∷ ms) x e = absurd (omega (arith, e))
-unmarked-push (y ∷ xs) [] x e = absurd (omega (arith, e))
-unmarked-push (y ∷ xs) (true ∷ ms) x e = unmarked-push xs ms x (omega (arith, e))
-unmarked-push (y ∷ xs) (false ∷ ms) x e = ap (λ l. y ∷ l) (unmarked-push xs ms x (omega (arith, e)))
 
 pub flat_map-push : {A B : Type 0} (f : A → List B) (xs : List A) (x : A) → flat_map f (xs ++ x ∷ []) ≡ flat_map f xs ++ f x
 flat_map-push f [] x = append-nil (f x)

@@ -3,7 +3,7 @@ use Rattle.std.proofs.Common.{◌≡◌, ◌≤◌, inl, inr, ℕ, List, [], ◌
 use Rattle.std.specs.Prelude.{is_some}
 use Rattle.std.specs.Option.{IfSome}
 use Rattle.store_ends.specs.Files.{Files}
-use Rattle.command_words.specs.Table.{Asks, Question, add, create, delete, explain, merge, prior, query, scan}
+use Rattle.command_words.specs.Table.{Asks, Question, add, create, delete, explain, gen, merge, prior, query, scan, session}
 use Rattle.query_reader.specs.QueryText.{query_text}
 use Rattle.query_refusals.specs.Lines.{line_of}
 use Rattle.query_refusals.specs.declared.refusal.QueryRefusal.{QueryRefusal}
@@ -41,6 +41,8 @@ asked-needs add text mu shown by' = absurd by'
 asked-needs delete text mu shown by' = absurd by'
 asked-needs merge text mu shown by' = absurd by'
 asked-needs (prior name) text mu shown by' = absurd by'
+asked-needs (session m) text mu shown by' = absurd by'
+asked-needs (gen count) text mu shown by' = absurd by'
 asked-needs (query question) text mu shown by' = tt
 asked-needs (explain rank question) text mu shown by' = tt
 
@@ -60,6 +62,8 @@ asked-pieces told add c bytes text mu shown piece by' asked = absurd by'
 asked-pieces told delete c bytes text mu shown piece by' asked = absurd by'
 asked-pieces told merge c bytes text mu shown piece by' asked = absurd by'
 asked-pieces told (prior name) c bytes text mu shown piece by' asked = absurd by'
+asked-pieces told (session m) c bytes text mu shown piece by' asked = absurd by'
+asked-pieces told (gen count) c bytes text mu shown piece by' asked = absurd by'
 asked-pieces told (query question) c bytes text mu shown piece by' asked = answer-as c question (shown_for question) text mu shown piece by'.0 by'.1 by'.2 asked
 asked-pieces told (explain rank question) c bytes text mu shown piece by' asked = answer-as c question (explanation rank) text mu shown piece by'.0 by'.1 by'.2 asked
 
@@ -78,6 +82,8 @@ text-as names add text mu shown by' = absurd by'
 text-as names delete text mu shown by' = absurd by'
 text-as names merge text mu shown by' = absurd by'
 text-as names (prior name) text mu shown by' = absurd by'
+text-as names (session m) text mu shown by' = absurd by'
+text-as names (gen count) text mu shown by' = absurd by'
 text-as names (query question) text mu shown by' = ap (λ (t : List ℕ). query_refusal names (query_text t)) by'.0
 text-as names (explain rank question) text mu shown by' = ap (λ (t : List ℕ). query_refusal names (query_text t)) by'.0
 

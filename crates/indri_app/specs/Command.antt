@@ -1,6 +1,6 @@
 -- What the words of the command line ask for, and the pieces of that command on a collection.
-use Rattle.std.specs.Prelude.{◌≡◌, ◌⊎◌, ℕ, List, [], ◌∷◌, codes, Option, None, Some, Result, Ok, Err}
-use Rattle.command_words.specs.Table.{Asks, Question, add, create, delete, explain, merge, prior, query, scan}
+use Rattle.std.specs.Prelude.{◌≡◌, ◌⊎◌, ℕ, List, [], ◌∷◌, codes, Option, None, Some, Result, Ok, Err, option_and_then}
+use Rattle.command_words.specs.Table.{Asks, Question, add, asks_of, create, delete, explain, gen, merge, prior, query, scan, session}
 use Rattle.ri_base.specs.Expression.{ExprTree}
 use Rattle.ri_base.specs.Query.{QueryTree}
 use Rattle.smoothing.specs.declared.rule.RuleKind.TheVariants.{Dirichlet}
@@ -28,6 +28,18 @@ use Rattle.collection_queries.specs.Answer.{IsAnswerText}
 use Rattle.collection_queries.specs.Priors.{names_with, priors_with}
 use Rattle.collection_queries.specs.Shown.{Shown, explanation, shown_for}
 
+-- ---- words
+
+-- `session` and `gen` are no commands yet
+abbrev pub built : Asks → Option Asks
+built (session mu) = None
+built (gen count) = None
+built asks = Some asks
+
+-- what the words ask for, where they are a command
+abbrev pub command_of : List (List ℕ) → Option Asks
+command_of words = option_and_then built (asks_of words)
+
 -- ---- texts
 
 -- the refusal of a text that isn't read
@@ -51,6 +63,8 @@ text_refusal names add = None
 text_refusal names delete = None
 text_refusal names merge = None
 text_refusal names (prior name) = None
+text_refusal names (session mu) = None
+text_refusal names (gen count) = None
 text_refusal names (query question) = query_refusal names (query_text question.text)
 text_refusal names (explain rank question) = query_refusal names (query_text question.text)
 
@@ -91,6 +105,8 @@ ArePieces told add c bytes pieces = (limits : Limits) × AreReal limits × (piec
 ArePieces told delete c bytes pieces = pieces ≡ delete_pieces c bytes
 ArePieces told merge c bytes pieces = pieces ≡ merge_pieces c
 ArePieces told (prior name) c bytes pieces = ArePriorPieces (name_refusal c name) c name bytes pieces
+ArePieces told (session mu) c bytes pieces = ⊥
+ArePieces told (gen count) c bytes pieces = ⊥
 ArePieces told (query question) c bytes pieces = AreAnswer c question (shown_for question) pieces
 ArePieces told (explain rank question) c bytes pieces = AreAnswer c question (explanation rank) pieces
 
@@ -113,6 +129,8 @@ NeedsRepository add = Unit {0}
 NeedsRepository delete = Unit {0}
 NeedsRepository merge = Unit {0}
 NeedsRepository (prior name) = Unit {0}
+NeedsRepository (session mu) = ⊥
+NeedsRepository (gen count) = ⊥
 NeedsRepository (query question) = Unit {0}
 NeedsRepository (explain rank question) = Unit {0}
 
@@ -124,6 +142,8 @@ ReadsPriors add = ⊥
 ReadsPriors delete = ⊥
 ReadsPriors merge = ⊥
 ReadsPriors (prior name) = ⊥
+ReadsPriors (session mu) = ⊥
+ReadsPriors (gen count) = ⊥
 ReadsPriors (query question) = Unit {0}
 ReadsPriors (explain rank question) = Unit {0}
 
@@ -139,5 +159,7 @@ IsAskedBy add text mu shown = ⊥
 IsAskedBy delete text mu shown = ⊥
 IsAskedBy merge text mu shown = ⊥
 IsAskedBy (prior name) text mu shown = ⊥
+IsAskedBy (session m) text mu shown = ⊥
+IsAskedBy (gen count) text mu shown = ⊥
 IsAskedBy (query question) text mu shown = (question.text ≡ text) × (question.mu ≡ mu) × (shown_for question ≡ shown)
 IsAskedBy (explain rank question) text mu shown = (question.text ≡ text) × (question.mu ≡ mu) × (explanation rank ≡ shown)

@@ -2,7 +2,7 @@
 ghost use Rattle.std.specs.Prelude.{◌≡◌, ◌≢◌, ◌≤◌, List, None, Option, ℕ, map, IfSome};
 ghost use Rattle.ri_ends.specs.Causes.{Rose};
 ghost use Rattle.command_words.specs.Asked.{AreInRange, told_words};
-ghost use Rattle.command_words.specs.Table.{Asks, asks_of, create};
+ghost use Rattle.command_words.specs.Table.{Asks, create};
 ghost use Rattle.query_refusals.specs.Lines.{line_of};
 ghost use Rattle.smoothing.specs.declared.rule.RuleKind.TheVariants.{Dirichlet};
 ghost use Rattle.store_ends.specs.Files.{GoesOn, IsQuiet};
@@ -11,7 +11,7 @@ ghost use Rattle.collection_queries.specs.Priors.{run_priors};
 ghost use Rattle.collection_queries.specs.Searching.{IsShowable};
 ghost use Rattle.collection_queries.specs.Shown.{told_shown};
 ghost use Rattle.indri_app.specs.Changes.{told_change};
-ghost use Rattle.indri_app.specs.Command.{IsAskedBy, usage_line};
+ghost use Rattle.indri_app.specs.Command.{IsAskedBy, built, command_of, usage_line};
 ghost use Rattle.indri_app.specs.HasRun.{HasRun};
 ghost use Rattle.indri_app.specs.Runs.{IsPlainStatus, IsUntouched, ScansTo, Tells};
 
@@ -138,7 +138,8 @@ fn run_question<K: Sink, T: Store>(
     }
 }
 
-/// Does the command of the words.
+/// Does the command of the words. `session` and `gen` are none yet.
+#[tactic(auto, unfolding(crate::specs::Command::usage_line))]
 fn run_words<S: Source, K: Sink, T: Store>(
     alloc: Global,
     words: Words,
@@ -149,7 +150,9 @@ fn run_words<S: Source, K: Sink, T: Store>(
 ) -> Status
     requires ranges { AreInRange words }
     requires plugs { map (λ plug. meaning plug) plugs.old ≡ run_priors }
-    ensures has_run { HasRun (told_words words) result (S.left source.old) (T.files store.old) (T.files store.new) (T.since store.old) (T.since store.new) (K.taken sink.old) (K.taken sink.new) (K.faults sink.old) (K.faults sink.new) }
+    ensures has_run { IfSome (built (told_words words)) (λ asks. HasRun asks result (S.left source.old) (T.files store.old) (T.files store.new) (T.since store.old) (T.since store.new) (K.taken sink.old) (K.taken sink.new) (K.faults sink.old) (K.faults sink.new)) }
+    ensures usage { result ≡ Status.Usage → built (told_words words) ≡ None }
+    ensures no_command { built (told_words words) ≡ None → Tells Status.Usage usage_line result (K.taken sink.old) (K.taken sink.new) × IsQuiet T.files T.layers T.clock T.since T.longest T.held store.old store.new × (source.new ≡ source.old) }
     ensures untouched { IsUntouched result → IsQuiet T.files T.layers T.clock T.since T.longest T.held store.old store.new × (source.new ≡ source.old) }
     ensures goes_on { GoesOn T.layers T.clock T.longest T.held store.old store.new }
     ensures layers { S.layers source.new ≡ S.layers source.old }
@@ -180,6 +183,7 @@ fn run_words<S: Source, K: Sink, T: Store>(
             let shown = Shown::Explanation { rank };
             run_question(alloc, &asked.text, asked.mu, &shown, plugs, sink, store)
         }
+        Words::Session(_) | Words::Gen(_) => tell(sink, USAGE, Status::Usage),
     }
 }
 
@@ -197,11 +201,11 @@ pub fn run<S: Source, K: Sink, T: Store>(
     requires plugs { map (λ plug. meaning plug) plugs.old ≡ run_priors }
 
     // What the command has done, and what a stop may leave.
-    ensures has_run { IfSome (asks_of words.now) (λ asks. HasRun asks result (S.left source.old) (T.files store.old) (T.files store.new) (T.since store.old) (T.since store.new) (K.taken sink.old) (K.taken sink.new) (K.faults sink.old) (K.faults sink.new)) }
+    ensures has_run { IfSome (command_of words.now) (λ asks. HasRun asks result (S.left source.old) (T.files store.old) (T.files store.new) (T.since store.old) (T.since store.new) (K.taken sink.old) (K.taken sink.new) (K.faults sink.old) (K.faults sink.new)) }
 
     // Words that are no command, and nothing else.
-    ensures usage { result ≡ Status.Usage → asks_of words.now ≡ None }
-    ensures no_command { asks_of words.now ≡ None → Tells Status.Usage usage_line result (K.taken sink.old) (K.taken sink.new) × IsQuiet T.files T.layers T.clock T.since T.longest T.held store.old store.new × (source.new ≡ source.old) }
+    ensures usage { result ≡ Status.Usage → command_of words.now ≡ None }
+    ensures no_command { command_of words.now ≡ None → Tells Status.Usage usage_line result (K.taken sink.old) (K.taken sink.new) × IsQuiet T.files T.layers T.clock T.since T.longest T.held store.old store.new × (source.new ≡ source.old) }
 
     // With these nothing is done with the files and the input.
     ensures untouched { IsUntouched result → IsQuiet T.files T.layers T.clock T.since T.longest T.held store.old store.new × (source.new ≡ source.old) }

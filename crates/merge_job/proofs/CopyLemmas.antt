@@ -1,8 +1,6 @@
 -- One document more is copied.
-use Rattle.std.proofs.Common.{◌≡◌, ◌<◌, ◌≤◌, ◌+◌, ◌*◌, ◌/◌, ◌%◌, ℕ, suc, Bool, true, false, List, [], ◌∷◌, ◌++◌, length, map, get_or, take, drop, inl, inr, ap, sym, subst, ◌∙◌, arith, append_assoc, length-append, Option}
-use Rattle.std.specs.List.{Contains}
+use Rattle.std.proofs.Common.{◌≡◌, ◌<◌, ◌≤◌, ◌+◌, ◌*◌, ◌/◌, ◌%◌, ℕ, suc, Bool, true, false, List, [], ◌∷◌, ◌++◌, length, map, get_or, take, drop, ap, sym, subst, ◌∙◌, arith, append_assoc, length-append, Option}
 use Rattle.std.proofs.lemmas.List.{length-map, map-append, drop_all, get_or-map}
-use Rattle.std.proofs.lemmas.List.Elements.{Contains-get_or}
 use Rattle.std.proofs.lemmas.List.Sums.{sum_by-cons, sum_by-append}
 use Rattle.ri_base.specs.Collection.{token_count}
 use Rattle.ri_base.specs.Documents.{Document}
@@ -12,9 +10,10 @@ use Rattle.seg_codec.specs.Segment.{entry_of}
 use Rattle.seg_codec.specs.declared.documents.Entry.{Entry}
 use Rattle.disk_index.specs.Blocks.{of_range}
 use Rattle.disk_index.specs.Cache.{CacheKeeps, IsCacheBacked, KeptBlock}
-use Rattle.disk_index.specs.Parts.{IsFileOf, IsPartBacked, Source, reads, size}
-use Rattle.disk_index.specs.QuietLaws.{CacheKeeps-after, IsCacheBacked-kept}
-use Rattle.disk_index.specs.Snapshots.{AreBacked, IsFileAmong, Marked, unmarked}
+use Rattle.disk_index.specs.Parts.{IsPartBacked, Source, reads, size}
+use Rattle.disk_index.specs.QuietLaws.{IsCacheBacked-kept}
+use Rattle.disk_index.specs.Snapshots.{AreBacked, Marked, unmarked}
+use Rattle.disk_index.proofs.AmongLemmas.{backed-at}
 use Rattle.disk_index.proofs.RebuildLemmas.{map-range}
 use Rattle.disk_index.proofs.RebuiltLemmas.{reads-length}
 use Rattle.merge_job.specs.Range.{IsRange, IsRangeNow}
@@ -107,12 +106,6 @@ to-next f parts p j m within at past =
 
 -- one of the parts
 module _ (parts : List Marked) (q p : ℕ) (m : Marked) (within : p < length parts) (same : q ≡ p) (at : m ≡ get_or parts p m) where
-  pub part-there : Contains parts m
-  part-there = subst (Contains parts) (sym at) (Contains-get_or parts p m within)
-
-  pub part-backed : (told : Option Files) → AreBacked told parts → IsPartBacked told m.source
-  part-backed told backed = subst (λ (x : Marked). IsPartBacked told x.source) (sym at) (backed p m within)
-
   -- its tokens are among those of all
   pub tokens-part : (i n : ℕ) → n + tokens_of (rest entries parts q i) ≤ MAX_HELD_TOKENS → n + tokens_of (rest_in entries m i) ≤ MAX_HELD_TOKENS
   tokens-part i n room =
@@ -132,18 +125,7 @@ module _ (parts : List Marked) (q p : ℕ) (m : Marked) (within : p < length par
       → (AreBacked told parts → IsCacheBacked told c → xs ++ rest (reads told) parts q i ≡ all) → AreBacked told parts → IsCacheBacked told c → ys ++ rest (reads told) parts q j ≡ all
   exact-at told here IsOwn c d i j xs ys all stay keeps one before backed cached =
       let now = subst (λ (f : Option Files). IsPartBacked f m.source → IsCacheBacked f d → ys ++ rest_in (reads f) m j ≡ xs ++ rest_in (reads f) m i) stay one in
-      in-part-at (reads told) i j xs ys all (now (part-backed told backed) (IsCacheBacked-kept told IsOwn c d keeps cached)) (before backed cached)
-
-  -- the cache has nothing new but blocks of the parts' files
-  pub keeps-among : (told here : Option Files) (c d e : List KeptBlock) → here ≡ told → CacheKeeps told (IsFileAmong parts) c d → CacheKeeps here (IsFileOf m.source) d e → CacheKeeps told (IsFileAmong parts) c e
-  keeps-among told here c d e stay first second =
-      let wider : CacheKeeps here (IsFileAmong parts) d e = record {
-        each = λ b h. elim (second.each b h) [
-          | inl was ↦ inl was
-          | inr new ↦ inr ((m, part-there, new.0), new.1)
-        ];
-      } in
-      CacheKeeps-after told here (IsFileAmong parts) c d e stay first wider
+      in-part-at (reads told) i j xs ys all (now (backed-at parts p m within at told backed) (IsCacheBacked-kept told IsOwn c d keeps cached)) (before backed cached)
 
 -- where nothing is left, all that were wanted are copied
 pub all-copied : (taken more : List Document) (parts : List Marked) (p i q j goal : ℕ) → map entry_of more ++ rest entries parts q j ≡ map entry_of taken ++ rest entries parts p i → length parts ≤ q

@@ -5,6 +5,7 @@ use Rattle.std.proofs.lemmas.List.{append-nil, length-set, take_more, length-tak
 use Rattle.std.proofs.lemmas.List.Elements.{All-cons, All-head, All-tail, All-nil}
 use Rattle.disk_index.specs.Parts.{reads, size}
 use Rattle.disk_index.specs.Snapshots.{Marked, live, live_in, unmarked}
+use Rattle.disk_index.proofs.AlikeLemmas.{unmarked-push}
 use Rattle.disk_index.proofs.RebuiltLemmas.{reads-length}
 use Rattle.merge_job.specs.Marking.{IsPlace, before, lengths, marked_from, together}
 use Rattle.merge_job.specs.Marks.{all_mapped, mapped}
@@ -126,13 +127,6 @@ marked-all front (suc n) (false ∷ fs) e =
     ap (λ l. marked_from l (length front + 1) fs) put ∙ ap (λ k. marked_from ((front ++ false ∷ []) ++ replicate n false) k fs) long
     ∙ marked-all (front ++ false ∷ []) n fs (omega (arith, e)) ∙ append_assoc front (false ∷ []) fs
 
-unmarked-last : {A : Type 0} (xs : List A) (ms : List Bool) (x : A) → length ms ≡ length xs → unmarked (xs ++ x ∷ []) (ms ++ false ∷ []) ≡ unmarked xs ms ++ x ∷ []
-unmarked-last [] [] x e = refl
-unmarked-last [] (m ∷ ms) x e = absurd (omega (arith, e))
-unmarked-last (y ∷ xs) [] x e = absurd (omega (arith, e))
-unmarked-last (y ∷ xs) (true ∷ ms) x e = unmarked-last xs ms x (omega (arith, e))
-unmarked-last (y ∷ xs) (false ∷ ms) x e = ap (λ l. y ∷ l) (unmarked-last xs ms x (omega (arith, e)))
-
 marked-last : {A : Type 0} (xs : List A) (ms : List Bool) (x : A) → length ms ≡ length xs → unmarked (xs ++ x ∷ []) (ms ++ true ∷ []) ≡ unmarked xs ms
 marked-last [] [] x e = refl
 marked-last [] (m ∷ ms) x e = absurd (omega (arith, e))
@@ -147,7 +141,7 @@ pub mapped-live : (old now : List Bool) (i : ℕ) → length now ≡ length old 
 mapped-live old now i long within live =
     let o : take (i + 1) old ≡ take i old ++ false ∷ [] = take_more old i false within ∙ ap (λ b. take i old ++ b ∷ []) live in
     let n = take_more now i false (omega (arith, long, within)) in
-    ap (λ ms. unmarked (take (i + 1) now) ms) o ∙ ap (λ xs. unmarked xs (take i old ++ false ∷ [])) n ∙ unmarked-last (take i now) (take i old) (get_or now i false) (same-takes i old now (sym long))
+    ap (λ ms. unmarked (take (i + 1) now) ms) o ∙ ap (λ xs. unmarked xs (take i old ++ false ∷ [])) n ∙ unmarked-push (take i now) (take i old) (get_or now i false) (same-takes i old now (sym long))
 
 pub mapped-dead : (old now : List Bool) (i : ℕ) → length now ≡ length old → i < length old → get_or old i false ≡ true → mapped (take (i + 1) old) (take (i + 1) now) ≡ mapped (take i old) (take i now)
 mapped-dead old now i long within dead =

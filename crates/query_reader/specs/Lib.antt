@@ -3,6 +3,7 @@ pub mod Bytes
 pub mod Operators
 pub mod Parts
 pub mod Items
+pub mod Names
 pub mod Exprs
 pub mod Beliefs
 pub mod QueryText

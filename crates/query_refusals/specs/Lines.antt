@@ -3,26 +3,10 @@ use Rattle.std.specs.Prelude.{ℕ, List, [], ◌++◌, codes}
 use Rattle.command_pieces.specs.Written.{Plain, refused_piece}
 use Rattle.query_check.specs.declared.fault.CheckFault.{CheckFault}
 use Rattle.query_check.specs.declared.fault.CheckFault.TheVariants as check
-use Rattle.query_reader.specs.declared.fault.QueryKind.{QueryKind}
-use Rattle.query_reader.specs.declared.fault.QueryKind.TheVariants as text
+use Rattle.query_reader.specs.Names.{kind_name}
 use Rattle.refusals.specs.Lines.{named_line, placed_line}
 use Rattle.query_refusals.specs.declared.refusal.QueryRefusal.{QueryRefusal}
 use Rattle.query_refusals.specs.declared.refusal.QueryRefusal.TheVariants as refusal
-
-abbrev pub kind_name : QueryKind → List ℕ
-kind_name text.Expected = codes "Query Expected"
-kind_name text.UnknownOperator = codes "Query UnknownOperator"
-kind_name text.BadNumber = codes "Query BadNumber"
-kind_name text.EmptyTerm = codes "Query EmptyTerm"
-kind_name text.EmptyOperator = codes "Query EmptyOperator"
-kind_name text.TooDeep = codes "Query TooDeep"
-kind_name text.TooManyNodes = codes "Query TooManyNodes"
-kind_name text.FilterInside = codes "Query FilterInside"
-kind_name text.WindowInside = codes "Query WindowInside"
-kind_name text.ContextInside = codes "Query ContextInside"
-kind_name text.BadField = codes "Query BadField"
-kind_name text.WeightTooLong = codes "Query WeightTooLong"
-kind_name text.NotYetBuilt = codes "Query NotYetBuilt"
 
 abbrev pub check_name : CheckFault → List ℕ
 check_name check.NoWeight = codes "NoWeight"

@@ -1,34 +1,13 @@
 // The lines of refusals of a command's text.
 ghost use Rattle.std.specs.Prelude.{◌≡◌, IfOk};
-ghost use Rattle.query_refusals.specs.Lines.{check_name, kind_name, line_of, refusal_piece};
+ghost use Rattle.query_refusals.specs.Lines.{check_name, line_of, refusal_piece};
 
 use crate::QueryRefusal;
 use command_pieces::Reply;
 use query_check::CheckFault;
-use query_reader::QueryKind;
 use refusals::{named_line, placed_line};
 use ri_base::NoMemory;
 use std::alloc::Global;
-
-fn kind_name(kind: QueryKind) -> &'static [u8]
-    ensures { result.now ≡ kind_name kind }
-{
-    match kind {
-        QueryKind::Expected => b"Query Expected",
-        QueryKind::UnknownOperator => b"Query UnknownOperator",
-        QueryKind::BadNumber => b"Query BadNumber",
-        QueryKind::EmptyTerm => b"Query EmptyTerm",
-        QueryKind::EmptyOperator => b"Query EmptyOperator",
-        QueryKind::TooDeep => b"Query TooDeep",
-        QueryKind::TooManyNodes => b"Query TooManyNodes",
-        QueryKind::FilterInside => b"Query FilterInside",
-        QueryKind::WindowInside => b"Query WindowInside",
-        QueryKind::ContextInside => b"Query ContextInside",
-        QueryKind::BadField => b"Query BadField",
-        QueryKind::WeightTooLong => b"Query WeightTooLong",
-        QueryKind::NotYetBuilt => b"Query NotYetBuilt",
-    }
-}
 
 /// The name of a fault of the check, with the prior that isn't known.
 fn check_name(alloc: Global, fault: &CheckFault) -> Result<Vec<u8>, NoMemory>
@@ -53,7 +32,7 @@ pub fn line_of(alloc: Global, refusal: &QueryRefusal) -> Result<Vec<u8>, NoMemor
     ensures { IfOk result (λ line. line.items ≡ line_of refusal.now) }
 {
     match refusal {
-        QueryRefusal::Text { kind, place } => placed_line(alloc, kind_name(*kind), *place as u64),
+        QueryRefusal::Text { kind, place } => placed_line(alloc, kind.name(), *place as u64),
         QueryRefusal::Check(fault) => {
             let name = check_name(alloc, fault)?;
             named_line(alloc, b"Check", &name)

@@ -13,7 +13,8 @@ use Rattle.ri_base.specs.Pair.{Pair}
 use Rattle.ri_base.specs.Places.{places, places_from}
 use Rattle.ri_base.specs.declared.limits.TheConstants.{MAX_DOC_TOKENS}
 use Rattle.extent_lists.specs.Extents.{Ext, Exts}
-use Rattle.extent_lists.specs.Operators.{HasEach, IsChain, IsInSome, HasEachInside}
+use Rattle.extent_lists.specs.Operators.{HasEach, IsChain, IsInSome}
+use Rattle.extent_lists.proofs.PresenceLemmas.{chain-each, inside-each}
 use Rattle.range_bounds.specs.Most.{capped, each_occurs, most_by, most_of_first, total_most}
 use Rattle.range_bounds.proofs.Members.{HasFew, capped_few, distinct_le, member_left, member_right}
 
@@ -45,17 +46,6 @@ unfolding places
 word_has t d b h = subst (λ m. is_member nat_eq (places_from 0 t d.tokens) m ≡ true) (omega arith) (places_has 0 t d.tokens b h)
 
 -- ---- several sets
-
--- each of the sets has an extent, where they have a chain
-chain_each : (n : ℕ) (Rs : List (ℕ → ℕ → Type 0)) (b e : ℕ) → IsChain n Rs b e → HasEach Rs
-chain_each n [] b e h = absurd h
-chain_each n (R ∷ []) b e h = ((b, e, h), tt)
-chain_each n (R ∷ S ∷ rest) b e h = ((b, h.0, h.2), chain_each n (S ∷ rest) h.1 e h.4)
-
--- and where they have extents inside a window
-inside_each : (Rs : List (ℕ → ℕ → Type 0)) (b e : ℕ) → HasEachInside Rs b e → HasEach Rs
-inside_each [] b e h = tt
-inside_each (R ∷ rest) b e h = ((h.0.0, h.0.1, h.0.2), inside_each rest b e h.1)
 
 -- a set whose extents begin within n tokens, at no more than m places
 pub record IsBound (n m : ℕ) (R : ℕ → ℕ → Type 0) : Type 0 where
@@ -136,11 +126,11 @@ module _ (terms names : List ℕ → ℕ) (d : Document) where
       })
       bound_of (ordered n xs) =
           let a = bounds_of xs in
-          needs_each xs (most_of_first terms names xs) (IsChain n (Exts xs d)) (Ext (ordered n xs) d) a (chain_first n xs a) (λ b e r. (e, r.ends)) (λ b e r. chain_each n (Exts xs d) b e r.ends)
+          needs_each xs (most_of_first terms names xs) (IsChain n (Exts xs d)) (Ext (ordered n xs) d) a (chain_first n xs a) (λ b e r. (e, r.ends)) (λ b e r. chain-each n (Exts xs d) b e r.ends)
       bound_of (unordered n xs) =
           let a = bounds_of xs in
           needs_each xs (capped (total_most terms names xs)) (IsInSome (Exts xs d)) (Ext (unordered n xs) d) a (capped_bound _ _ (some_total xs a))
-          (λ b e r. (r.ends.begins.0, r.ends.begins.2)) (λ b e r. inside_each (Exts xs d) b e r.ends.each)
+          (λ b e r. (r.ends.begins.0, r.ends.begins.2)) (λ b e r. inside-each (Exts xs d) b e r.ends.each)
       bound_of (syn xs) = capped_bound (total_most terms names xs) (Ext (syn xs) d) (some_total xs (bounds_of xs))
       bound_of (any f) = capped_bound (names f) (Ext (any f) d) (record {
         few = counts.each_name f;

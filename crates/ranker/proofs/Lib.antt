@@ -3,6 +3,5 @@ pub mod HeldLemmas
 pub mod PassedLemmas
 pub mod PlaceLemmas
 pub mod RankingLemmas
-pub mod ReadingLemmas
 pub mod SkippingLemmas
 pub mod WindowLemmas

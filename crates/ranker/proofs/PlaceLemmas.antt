@@ -1,9 +1,8 @@
 -- Places in the parts of a snapshot, and the live documents before them.
-use Rattle.std.proofs.Common.{◌≡◌, ◌<◌, ◌≤◌, ℕ, zero, suc, ◌+◌, ◌-◌, min, nat_lt, if◌then◌else◌, Bool, true, false, List, [], ◌∷◌, ◌++◌, Option, None, Contains, length, take, get_or, inl, inr, refl, sym, ap, subst, ◌∙◌, arith, append_assoc, append-nil}
+use Rattle.std.proofs.Common.{◌≡◌, ◌<◌, ◌≤◌, ℕ, zero, suc, ◌+◌, ◌-◌, min, nat_lt, if◌then◌else◌, Bool, true, false, List, [], ◌∷◌, ◌++◌, Option, None, length, take, get_or, refl, sym, ap, subst, ◌∙◌, arith, append_assoc, append-nil}
 use Rattle.std.proofs.lemmas.Bool.Decides.{nat_tests}
 use Rattle.std.proofs.lemmas.Grind.{flat_map-append}
 use Rattle.std.proofs.lemmas.List.{length-append, nil_from_length, take_all, take_more}
-use Rattle.std.proofs.lemmas.List.Elements.{Contains-get_or}
 use Rattle.ri_base.specs.Documents.{Document}
 use Rattle.ri_base.specs.Query.{FilterTree}
 use Rattle.store_ends.specs.Files.{Files}
@@ -11,9 +10,8 @@ use Rattle.smoothing.specs.declared.rule.RuleKind.{RuleKind}
 use Rattle.query_check.specs.Leaves.{LeafTree}
 use Rattle.belief_nodes.specs.Network.{NetworkTree}
 use Rattle.belief_nodes.specs.Priors.{Prior}
-use Rattle.disk_index.specs.Cache.{CacheKeeps, KeptBlock}
-use Rattle.disk_index.specs.Parts.{InMemory, IsFileOf, reads, size}
-use Rattle.disk_index.specs.Snapshots.{IsFileAmong, IsSnapshot, Marked, live, live_in, unmarked}
+use Rattle.disk_index.specs.Parts.{InMemory, reads, size}
+use Rattle.disk_index.specs.Snapshots.{IsSnapshot, Marked, live, live_in, unmarked}
 use Rattle.disk_index.proofs.LiveLemmas.{live-few, live-length}
 use Rattle.disk_index.proofs.RebuiltLemmas.{reads-length}
 use Rattle.document_scoring.specs.declared.scoring.Row.{Row}
@@ -237,14 +235,3 @@ left-falls n part docs most now lt some few is = by (nat_lt docs most) refl is
     by : (b : Bool) → nat_lt docs most ≡ b → now ≡ (if b then part + 1 else part) → n - now + min (most - docs) 1 < n - part + min most 1
     by true e is = omega (arith, lt, some, few, is)
     by false e is = let all : most ≤ docs = grind (arith, nat_tests) in omega (arith, lt, some, few, is, all)
-
--- ---- blocks
-
--- a part's file is among those of the parts
-pub blocks-among : (told : Option Files) (parts : List Marked) (i : ℕ) (m : Marked) (c d : List KeptBlock) → i < length parts → m ≡ get_or parts i m → CacheKeeps told (IsFileOf m.source) c d → CacheKeeps told (IsFileAmong parts) c d
-blocks-among told parts i m c d lt is keeps = record {
-  each = λ e h. elim (keeps.each e h) [
-    | inl was ↦ inl was
-    | inr new ↦ inr ((m, subst (Contains parts) (sym is) (Contains-get_or parts i m lt), new.0), new.1)
-  ];
-}

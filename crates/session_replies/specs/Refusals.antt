@@ -1,7 +1,6 @@
 -- The lines of refusals.
 use Rattle.std.specs.Prelude.{ℕ, List, [], ◌∷◌, ◌++◌, codes}
-use Rattle.query_reader.specs.declared.fault.QueryKind.{QueryKind}
-use Rattle.query_reader.specs.declared.fault.QueryKind.TheVariants as text
+use Rattle.query_reader.specs.Names.{kind_name}
 use Rattle.refusals.specs.Lines.{named_line, placed_line}
 use Rattle.session_replies.specs.declared.reply.CheckKind.{CheckKind}
 use Rattle.session_replies.specs.declared.reply.CheckKind.TheVariants as check
@@ -11,22 +10,6 @@ use Rattle.session_replies.specs.declared.reply.Refusal.TheVariants.{NameTaken, 
 -- refused KIND
 abbrev pub bare_line : List ℕ → List ℕ
 bare_line kind = codes "refused " ++ kind ++ 10 ∷ []
-
--- the kind of a text that isn't read
-abbrev pub text_name : QueryKind → List ℕ
-text_name text.Expected = codes "Query Expected"
-text_name text.UnknownOperator = codes "Query UnknownOperator"
-text_name text.BadNumber = codes "Query BadNumber"
-text_name text.EmptyTerm = codes "Query EmptyTerm"
-text_name text.EmptyOperator = codes "Query EmptyOperator"
-text_name text.TooDeep = codes "Query TooDeep"
-text_name text.TooManyNodes = codes "Query TooManyNodes"
-text_name text.FilterInside = codes "Query FilterInside"
-text_name text.WindowInside = codes "Query WindowInside"
-text_name text.ContextInside = codes "Query ContextInside"
-text_name text.BadField = codes "Query BadField"
-text_name text.WeightTooLong = codes "Query WeightTooLong"
-text_name text.NotYetBuilt = codes "Query NotYetBuilt"
 
 -- the kind of a query that is read and has a fault, with the prior that isn't known
 abbrev pub check_name : CheckKind → List ℕ
@@ -47,5 +30,5 @@ refusal_text MergeOpen = bare_line (codes "MergeOpen")
 refusal_text (Repeated docno) = named_line (codes "Repeated") docno
 refusal_text (CollectionFull docno) = named_line (codes "CollectionFull") docno
 refusal_text (NoSuchDoc docno) = named_line (codes "NoSuchDoc") docno
-refusal_text (Query kind place) = placed_line (text_name kind) place
+refusal_text (Query kind place) = placed_line (kind_name kind) place
 refusal_text (Check kind) = named_line (codes "Check") (check_name kind)

@@ -1,9 +1,8 @@
 // The lines of refusals.
 ghost use Rattle.std.specs.Prelude.{◌≡◌, IfOk};
-ghost use Rattle.session_replies.specs.Refusals.{bare_line, check_name, refusal_text, text_name};
+ghost use Rattle.session_replies.specs.Refusals.{bare_line, check_name, refusal_text};
 
 use crate::{CheckKind, Refusal};
-use query_reader::QueryKind;
 use refusals::{named_line, placed_line};
 use ri_base::NoMemory;
 use std::alloc::Global;
@@ -16,26 +15,6 @@ fn bare_line(alloc: Global, kind: &[u8]) -> Result<Vec<u8>, NoMemory>
     line.extend_from_slice(kind)?;
     line.push(b'\n')?;
     Ok(line)
-}
-
-fn text_name(kind: QueryKind) -> &'static [u8]
-    ensures { result.now ≡ text_name kind }
-{
-    match kind {
-        QueryKind::Expected => b"Query Expected",
-        QueryKind::UnknownOperator => b"Query UnknownOperator",
-        QueryKind::BadNumber => b"Query BadNumber",
-        QueryKind::EmptyTerm => b"Query EmptyTerm",
-        QueryKind::EmptyOperator => b"Query EmptyOperator",
-        QueryKind::TooDeep => b"Query TooDeep",
-        QueryKind::TooManyNodes => b"Query TooManyNodes",
-        QueryKind::FilterInside => b"Query FilterInside",
-        QueryKind::WindowInside => b"Query WindowInside",
-        QueryKind::ContextInside => b"Query ContextInside",
-        QueryKind::BadField => b"Query BadField",
-        QueryKind::WeightTooLong => b"Query WeightTooLong",
-        QueryKind::NotYetBuilt => b"Query NotYetBuilt",
-    }
 }
 
 /// The kind of a query that has a fault, with the prior that isn't known.
@@ -70,7 +49,7 @@ pub fn refusal_text(alloc: Global, refusal: &Refusal) -> Result<Vec<u8>, NoMemor
         Refusal::Repeated(docno) => named_line(alloc, b"Repeated", docno.as_bytes()),
         Refusal::CollectionFull(docno) => named_line(alloc, b"CollectionFull", docno.as_bytes()),
         Refusal::NoSuchDoc(docno) => named_line(alloc, b"NoSuchDoc", docno.as_bytes()),
-        Refusal::Query(kind, place) => placed_line(alloc, text_name(*kind), *place as u64),
+        Refusal::Query(kind, place) => placed_line(alloc, kind.name(), *place as u64),
         Refusal::Check(kind) => named_line(alloc, b"Check", &check_name(alloc, kind)?),
     }
 }

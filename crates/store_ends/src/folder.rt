@@ -1,5 +1,5 @@
 // A folder of the system.
-ghost use Rattle.std.specs.Prelude.{◌≡◌, ◌++◌, ◌∷◌, OnOk};
+ghost use Rattle.std.specs.Prelude.{◌≡◌, ◌≤◌, ◌++◌, ◌∷◌, OnOk, length};
 ghost use Rattle.std.specs.Bool.{OnTrue};
 ghost use Rattle.std.specs.Io.{ReadsAtMost};
 ghost use Rattle.std.specs.String.{string_bytes};
@@ -15,15 +15,37 @@ use std::{fs, io};
 // The file that is written before it takes another's place. No call can name it.
 const BESIDE: &str = ".new";
 
-/// A file that is open for reading, by its name, with the length that it had when it was opened.
+// A page of a file has so many bytes: a block of a segment is mostly smaller, and a page is read as soon as a part of it.
+const PAGE: usize = 16 * 1024;
+
+// The pages that were read are kept of a file of so many bytes at most: as much memory as two parts of usual words take.
+const MOST_KEPT: u64 = 16 * 1024 * 1024;
+
+/// A file that is open for reading, by its name, with the length that it had when it was opened, and its pages that were read. Of a
+/// large file none is kept.
 #[derive(Drop)]
-struct Opened<R: Files> {
+struct Opened<'a, R: Files + AllocGlobal> {
+    rt: &'a R,
     name: String,
     file: R::File,
     length: u64,
+    pages: Vec<Option<Vec<u8>>>,
 }
 
-impl<R: Files> Opened<R> {
+impl<'a, R: Files + AllocGlobal> Opened<'a, R> {
+    // An open file of this name and length, of which no page was read.
+    fn new(rt: &'a R, name: &str, file: R::File, length: u64) -> io::Result<Self> {
+        let mut kept = String::with_capacity(rt.alloc(), name.len())?;
+        kept.push_str(name)?;
+        Ok(Opened {
+            rt,
+            name: kept,
+            file,
+            length,
+            pages: unread_pages(rt, length)?,
+        })
+    }
+
     // The file's bytes from a place on, as many as there are and as have room.
     fn read_at(&mut self, at: u64, buf: &mut [u8]) -> io::Result<usize>
         ensures bound { ReadsAtMost result buf.new }
@@ -31,9 +53,96 @@ impl<R: Files> Opened<R> {
         if at >= self.length {
             return Ok(0);
         }
-        self.file.seek(SeekFrom::Start(at))?;
-        fill(&mut self.file, buf)
+        if self.pages.is_empty() || buf.len() > PAGE {
+            return read_from(&mut self.file, at, buf);
+        }
+        self.read_pages(at, buf)
     }
+
+    // The same of a file whose pages are kept: so many bytes lie in two pages at most.
+    fn read_pages(&mut self, at: u64, buf: &mut [u8]) -> io::Result<usize>
+        ensures { ReadsAtMost result buf.new }
+    {
+        let front = self.copy_page(at, buf)?;
+        if front == buf.len() {
+            return Ok(front);
+        }
+        let rest = self.copy_page(at.saturating_add(front as u64), &mut buf[front..])?;
+        Ok(front + rest)
+    }
+
+    // The bytes from a place on to the end of its page, as many as there are and as have room.
+    fn copy_page(&mut self, at: u64, buf: &mut [u8]) -> io::Result<usize>
+        ensures { ReadsAtMost result buf.new }
+    {
+        let page = self.page((at / PAGE as u64) as usize)?;
+        let bytes = behind(page, (at % PAGE as u64) as usize);
+        Ok(copy_front(bytes, buf))
+    }
+
+    // The bytes of a page of this number, of which there are none behind the last page.
+    fn page(&mut self, number: usize) -> io::Result<&[u8]> {
+        if number >= self.pages.len() {
+            return Ok(&[]);
+        }
+        if self.pages[number].is_none() {
+            let page = read_page(self.rt, &mut self.file, number)?;
+            self.pages[number] = Some(page);
+        }
+        match &self.pages[number] {
+            Some(page) => Ok(page.as_slice()),
+            None => Ok(&[]),
+        }
+    }
+}
+
+// Room for the pages of a file of this length, where they are kept.
+fn unread_pages<R: AllocGlobal>(rt: &R, length: u64) -> io::Result<Vec<Option<Vec<u8>>>> {
+    let mut pages = Vec::new(rt.alloc());
+    if length <= MOST_KEPT {
+        for _page in 0..length.div_ceil(PAGE as u64) {
+            pages.push(None)?;
+        }
+    }
+    Ok(pages)
+}
+
+// The page of this number.
+fn read_page<R: AllocGlobal>(
+    rt: &R,
+    file: &mut (impl Read + Seek),
+    number: usize,
+) -> io::Result<Vec<u8>> {
+    let mut page = vec![in rt.alloc(); 0u8; PAGE]?;
+    let at = (number as u64).saturating_mul(PAGE as u64);
+    let count = read_from(file, at, &mut page)?;
+    page.truncate(count);
+    Ok(page)
+}
+
+// The file's bytes from a place on, as many as there are and as have room.
+fn read_from(file: &mut (impl Read + Seek), at: u64, buf: &mut [u8]) -> io::Result<usize>
+    ensures { ReadsAtMost result buf.new }
+{
+    file.seek(SeekFrom::Start(at))?;
+    fill(file, buf)
+}
+
+// The bytes from a place on, of which there are none behind the last.
+fn behind(bytes: &[u8], at: usize) -> &[u8] {
+    if at >= bytes.len() {
+        return &[];
+    }
+    &bytes[at..]
+}
+
+// Copies as many bytes as have room, and says how many.
+fn copy_front(bytes: &[u8], buf: &mut [u8]) -> usize
+    ensures { result ≤ length buf.new }
+{
+    let count = bytes.len().min(buf.len());
+    buf[..count].copy_from_slice(&bytes[..count]);
+    count
 }
 
 /// A folder by its path, with the room for the paths of its files. The file that was read last stays open until one is changed or
@@ -44,7 +153,7 @@ pub(crate) struct Folder<'a, R: Files + AllocGlobal> {
     folder: &'a str,
     path: String,
     beside: String,
-    opened: Option<Opened<R>>,
+    opened: Option<Opened<'a, R>>,
 }
 
 impl<'a, R: Files + AllocGlobal> Folder<'a, R> {
@@ -99,13 +208,7 @@ impl<'a, R: Files + AllocGlobal> Folder<'a, R> {
             return Ok(());
         };
         let file = File::open(self.rt, self.path.as_str())?;
-        let mut kept = String::with_capacity(self.rt.alloc(), name.len())?;
-        kept.push_str(name)?;
-        self.opened = Some(Opened {
-            name: kept,
-            file,
-            length,
-        });
+        self.opened = Some(Opened::new(self.rt, name, file, length)?);
         Ok(())
     }
 

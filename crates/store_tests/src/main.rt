@@ -9,5 +9,7 @@ mod folder;
 mod fronts;
 #[cfg(test)]
 mod memory;
+#[cfg(test)]
+mod pages;
 
 fn main() {}

@@ -5,7 +5,7 @@ use std::alloc::Global;
 use std::test::Fail;
 
 /// The words behind a folder with a `|` between two of them, and what they ask for.
-static ASKED: [(&str, &str); 34] = [
+static ASKED: [(&str, &str); 43] = [
     ("scan|a", "Some(Scan(\"a\"))"),
     ("scan|", "Some(Scan(\"\"))"),
     ("scan|-", "Some(Scan(\"-\"))"),
@@ -109,13 +109,41 @@ static ASKED: [(&str, &str); 34] = [
     ("delete", "Some(Delete)"),
     ("delete|--", "Some(Delete)"),
     ("merge", "Some(Merge)"),
+    ("session", "Some(Session(2500))"),
+    ("session|--mu|1", "Some(Session(1))"),
+    ("session|--mu=1000000", "Some(Session(1000000))"),
+    ("session|--mu|3|--", "Some(Session(3))"),
+    ("gen|3", "Some(Gen(3))"),
+    ("gen|1", "Some(Gen(1))"),
+    ("gen|100000", "Some(Gen(100000))"),
+    ("gen|--|5", "Some(Gen(5))"),
+    ("gen|5|--", "Some(Gen(5))"),
 ];
 
 /// Words behind a folder that are in no row of the table of commands.
-static REFUSED: [&str; 92] = [
+static REFUSED: [&str; 111] = [
     "sing|a",
     "merge|a",
-    "gen|3",
+    "session|a",
+    "session|",
+    "session|--|a",
+    "session|--k|3",
+    "session|--topic|t|--run|r",
+    "session|--mu|0",
+    "session|--mu|1000001",
+    "session|--mu|01",
+    "session|--mu|1|--mu|1",
+    "session|--mu",
+    "gen",
+    "gen|",
+    "gen|a",
+    "gen|0",
+    "gen|100001",
+    "gen|03",
+    "gen|+3",
+    "gen|-3",
+    "gen|3|4",
+    "gen|--mu|3|3",
     "create|a",
     "create|",
     "create|--k|3",

@@ -1,9 +1,9 @@
-use Rattle.std.proofs.Common.{◌≡◌, ◌<◌, IfOk, Contains, subst, sym}
-use Rattle.std.proofs.lemmas.List.Elements.{All-contains, Contains-get_or}
+use Rattle.std.proofs.Common.{◌≡◌, ◌<◌, IfOk, subst, sym}
 use Rattle.ri_base.specs.Collection.{document_at}
 use Rattle.query_check.specs.Answers.{whole_checked}
-use Rattle.disk_index.specs.Parts.{IsPartBacked, reads, size}
+use Rattle.disk_index.specs.Parts.{reads, size}
 use Rattle.disk_index.specs.Snapshots.{Marked}
+use Rattle.disk_index.proofs.AmongLemmas.{backed-at}
 use Rattle.counts.proofs.ReadingLemmas.{reads-among}
 use Rattle.result_explanation.specs.Explanation.{IsExplanation}
 use Rattle.collection_queries.specs.Places.{part_at}
@@ -20,8 +20,7 @@ pub returns-clause-honest : goal.returns-clause-honest
 returns-clause-honest g c = λ backed cached.
     let parts = c.args.parts.now in
     let m = c.index-parts-number.result in
-    let there : Contains parts m = subst (Contains parts) (sym c.index-parts-number.is) (Contains-get_or parts c.args.place.0 m c.requires.place.part) in
-    c.explain_in.ensures.honest (All-contains (λ (p : Marked). IsPartBacked (g.T.Store.files c.args.store.now) p.source) parts m backed there) cached
+    c.explain_in.ensures.honest (backed-at parts c.args.place.0 m c.requires.place.part c.index-parts-number.is (g.T.Store.files c.args.store.now) backed) cached
 
 pub returns-clause-reads : goal.returns-clause-reads
 returns-clause-reads g c = reads-among _ _ _ _ _ _ _ c.args.parts.now c.args.place.0 c.index-parts-number.result _ _ _ _ c.requires.place.part c.index-parts-number.is c.explain_in.ensures.reads
@@ -32,6 +31,5 @@ returns-clause-exact g c = λ backed cached.
     let parts = c.args.parts.now in
     let m = c.index-parts-number.result in
     let at : part_at parts c.args.place.0 ≡ m = part-is parts c.args.place.0 m c.requires.place.part c.index-parts-number.is in
-    let there : Contains parts m = subst (Contains parts) (sym c.index-parts-number.is) (Contains-get_or parts c.args.place.0 m c.requires.place.part) in
     subst (λ (p : Marked). IfOk c.explain_in.result (IsExplanation c.args.names.now (whole_checked c.args.checked.now) c.args.stats.now (document_at (reads told p.source) c.args.place.1) c.args.rank c.args.hit)) (sym at)
-    (c.explain_in.ensures.exact (All-contains (λ (p : Marked). IsPartBacked told p.source) parts m backed there) cached)
+    (c.explain_in.ensures.exact (backed-at parts c.args.place.0 m c.requires.place.part c.index-parts-number.is told backed) cached)

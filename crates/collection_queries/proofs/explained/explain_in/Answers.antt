@@ -5,7 +5,7 @@ use Rattle.query_check.specs.Answers.{whole_checked}
 use Rattle.store_ends.specs.Files.{Files}
 use Rattle.disk_index.specs.Parts.{reads, size, source_of}
 use Rattle.disk_index.proofs.RebuiltLemmas.{reads-length}
-use Rattle.counts.proofs.ReadingLemmas.{sound-of}
+use Rattle.disk_index.proofs.AmongLemmas.{sound-of}
 use Rattle.result_explanation.specs.Explanation.{IsExplanation}
 use Rattle.collection_queries.proofs.explained.explain_in.Goals as goal
 

@@ -6,7 +6,7 @@ use Rattle.store_ends.specs.Files.{Files}
 use Rattle.disk_index.specs.Parts.{Source, reads, size, source_of}
 use Rattle.disk_index.proofs.RebuiltLemmas.{reads-length}
 use Rattle.counts.specs.Sums.{occurrences}
-use Rattle.counts.proofs.ReadingLemmas.{sound-of}
+use Rattle.disk_index.proofs.AmongLemmas.{sound-of}
 use Rattle.counts.proofs.sums.in_document.Goals as goal
 
 pub occurrences-requires : goal.occurrences-requires

@@ -1,10 +1,10 @@
-use Rattle.std.proofs.Common.{◌+◌, Contains, Option, option_copied, sum_by, sym, ap, subst, ◌∙◌, arith}
-use Rattle.std.proofs.lemmas.List.Elements.{All-contains, Contains-get_or}
+use Rattle.std.proofs.Common.{◌+◌, Option, option_copied, sum_by, ap, ◌∙◌, arith}
 use Rattle.std.proofs.lemmas.Result.{err_from_is_err_and}
 use Rattle.ri_base.specs.Expression.{expr_tree}
 use Rattle.store_ends.specs.Files.{Files}
 use Rattle.disk_index.specs.Parts.{IsPartBacked}
-use Rattle.disk_index.specs.Snapshots.{Marked, live_in}
+use Rattle.disk_index.specs.Snapshots.{live_in}
+use Rattle.disk_index.proofs.AmongLemmas.{backed-at, there-at}
 use Rattle.counts.specs.Sums.{counted_tokens, occurrences}
 use Rattle.counts.proofs.ReadingLemmas.{cache-backed, fault-of, part-backed, reads-among, reads-same, reads-then}
 use Rattle.counts.proofs.SumsLemmas.{live-all, live-more, live-within, part-short}
@@ -35,10 +35,9 @@ loop-marked-preserved g c =
     let reads = c.loop-marked.invariant.reads in
     let f = occurrences (expr_tree c.args.expr.now) (option_copied c.args.context) in
     let k = counted_tokens (option_copied c.args.context) in
-    let there : Contains ms m = subst (Contains ms) (sym c.marked-item.is) (Contains-get_or ms i m c.loop-marked-test.true) in
     record {
       counted = λ backed cached.
-          let part : IsPartBacked told m.source = All-contains (λ (p : Marked). IsPartBacked told p.source) ms m backed there in
+          let part : IsPartBacked told m.source = backed-at ms i m c.loop-marked-test.true c.marked-item.is told backed in
           let found = c.in_ok-found.ensures.exact (part-backed _ _ _ _ _ _ _ _ _ _ _ _ m.source reads part) (cache-backed _ _ _ _ _ _ _ _ _ _ _ _ reads cached) in
           let own = ap (λ (t : Option Files). sum_by f (live_in t m)) reads.quiet.same_files in
           let more = live-more f told ms i m c.loop-marked-test.true c.marked-item.is in
@@ -56,7 +55,7 @@ returns-in_err-found-clause-fault g c =
     let i = c.loop-marked.marked-index in
     let m = c.marked-item.result in
     let reads = c.loop-marked.invariant.reads in
-    let there : Contains ms m = subst (Contains ms) (sym c.marked-item.is) (Contains-get_or ms i m c.loop-marked-test.true) in
+    let there = there-at ms i m c.loop-marked-test.true c.marked-item.is in
     let p = err_from_is_err_and c.from_residual.result c.from_residual.ensures.1 in
     rw (p.1, p.2) (fault-of (g.T.Store.files c.args.store.now) ms m c.args.cache.now c.in_err-found.field-0.0 there (λ part cached.
     c.in_err-found.ensures.honest (part-backed _ _ _ _ _ _ _ _ _ _ _ _ m.source reads part) (cache-backed _ _ _ _ _ _ _ _ _ _ _ _ reads cached)))

@@ -9,7 +9,7 @@ use Rattle.extent_lists.specs.Listing.{IsListing}
 use Rattle.extent_evaluation.specs.Listed.{extent_list}
 use Rattle.disk_index.specs.Parts.{Source, reads, size, source_of}
 use Rattle.disk_index.proofs.RebuiltLemmas.{reads-length}
-use Rattle.counts.proofs.ReadingLemmas.{sound-of}
+use Rattle.disk_index.proofs.AmongLemmas.{sound-of}
 use Rattle.desk.proofs.scanning.extents_of.Goals as goal
 
 pub extents-requires : goal.extents-requires

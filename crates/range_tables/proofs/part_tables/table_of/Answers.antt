@@ -5,7 +5,7 @@ use Rattle.ri_base.specs.Documents.{Document}
 use Rattle.store_ends.specs.Files.{Files}
 use Rattle.disk_index.specs.Parts.{reads, source_of}
 use Rattle.range_bounds.specs.Tables.{IsTableOf, names_of, terms_of}
-use Rattle.range_tables.proofs.ReadingLemmas.{sound-of}
+use Rattle.disk_index.proofs.AmongLemmas.{sound-of}
 use Rattle.range_tables.proofs.part_tables.table_of.Goals as goal
 
 pub returns-clause-exact : goal.returns-clause-exact

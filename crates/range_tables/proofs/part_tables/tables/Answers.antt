@@ -10,9 +10,9 @@ use Rattle.disk_index.specs.Cache.{CacheKeeps, IsCacheBacked}
 use Rattle.disk_index.specs.Parts.{IsFileOf, IsPartBacked, Source, reads}
 use Rattle.disk_index.specs.QuietLaws.{CacheKeeps-same, IsCacheBacked-kept, IsQuiet-same, IsQuiet-then}
 use Rattle.disk_index.specs.Snapshots.{IsFileAmong, Marked}
+use Rattle.disk_index.proofs.AmongLemmas.{backed-at, keeps-among}
 use Rattle.range_bounds.specs.Bounds.{CountsFor}
 use Rattle.range_bounds.specs.Tables.{AreTablesOf, IsTableOf, names_of, terms_of}
-use Rattle.range_tables.proofs.ReadingLemmas.{backed-at, keeps-among}
 use Rattle.range_tables.proofs.TableLemmas.{tables_more}
 use Rattle.range_tables.proofs.part_tables.tables.Goals as goal
 
@@ -42,7 +42,7 @@ loop-marked-preserved g c =
     let names = subst (λ ns. All (Contains (names_of table)) ns) c.in_ok-asked.ensures.names c.in_ok-table.ensures.names in
     record {
       exact = λ backed cached.
-          let part : IsPartBacked here m.source = subst (λ (f : Option Files). IsPartBacked f m.source) (sym same) (backed-at told parts i m c.loop-marked-test.true c.marked-item.is backed) in
+          let part : IsPartBacked here m.source = subst (λ (f : Option Files). IsPartBacked f m.source) (sym same) (backed-at parts i m c.loop-marked-test.true c.marked-item.is told backed) in
           let blocks : IsCacheBacked here c.loop-marked.cache =
           subst (λ (f : Option Files). IsCacheBacked f c.loop-marked.cache) (sym same) (IsCacheBacked-kept told (IsFileAmong parts) c.args.cache.now c.loop-marked.cache inv.cache cached) in
           let found : IsTableOf (reads told m.source) table =
@@ -51,7 +51,7 @@ loop-marked-preserved g c =
           tables_more (λ (n : Marked). reads told n.source) parts i m c.loop-marked.tables.items c.push.new.self.items table c.loop-marked-test.true c.marked-item.is pushed (inv.exact backed cached) found;
       each = ap length pushed ∙ omega (arith, length-append c.loop-marked.tables.items (table ∷ []), inv.each);
       counts = subst (All (CountsFor (map leaf_tree c.args.leaves.now))) (sym pushed) (All-push (CountsFor (map leaf_tree c.args.leaves.now)) c.loop-marked.tables.items table inv.counts (record { words = words; names = names }));
-      cache = keeps-among told here parts i m c.args.cache.now c.loop-marked.cache c.table_of.new.cache c.loop-marked-test.true c.marked-item.is same inv.cache
+      cache = keeps-among parts i m c.loop-marked-test.true c.marked-item.is told here c.args.cache.now c.loop-marked.cache c.table_of.new.cache same inv.cache
           (subst (λ (s : Source). CacheKeeps here (IsFileOf s) c.loop-marked.cache c.table_of.new.cache) own c.table_of.ensures.cache);
       quiet = IsQuiet-then g.T.Store.files g.T.Store.layers g.T.Store.clock g.T.Store.since g.T.Store.longest g.T.Store.held g.T.Store.faults c.args.store.now c.loop-marked.store c.table_of.new.store inv.quiet c.table_of.ensures.quiet;
       later = omega (arith, inv.later, c.table_of.ensures.later);
@@ -65,7 +65,7 @@ returns-in_err-table-clause-honest g c = λ backed cached.
     let inv = c.loop-marked.invariant in
     let m : Marked = c.marked-item.result in
     let same : here ≡ told = inv.quiet.same_files in
-    let part : IsPartBacked here m.source = subst (λ (f : Option Files). IsPartBacked f m.source) (sym same) (backed-at told parts c.loop-marked.marked-index m c.loop-marked-test.true c.marked-item.is backed) in
+    let part : IsPartBacked here m.source = subst (λ (f : Option Files). IsPartBacked f m.source) (sym same) (backed-at parts c.loop-marked.marked-index m c.loop-marked-test.true c.marked-item.is told backed) in
     let blocks : IsCacheBacked here c.loop-marked.cache =
     subst (λ (f : Option Files). IsCacheBacked f c.loop-marked.cache) (sym same) (IsCacheBacked-kept told (IsFileAmong parts) c.args.cache.now c.loop-marked.cache inv.cache cached) in
     let p = err_from_is_err_and c.from_residual-in_err-table.result c.from_residual-in_err-table.ensures.1 in
@@ -74,13 +74,13 @@ returns-in_err-table-clause-honest g c = λ backed cached.
 pub returns-in_err-table-clause-cache : goal.returns-in_err-table-clause-cache
 returns-in_err-table-clause-cache g c =
     let here = g.T.Store.files c.loop-marked.store in
-    keeps-among (g.T.Store.files c.args.store.now) here c.args.parts.now c.loop-marked.marked-index c.marked-item.result c.args.cache.now c.loop-marked.cache c.table_of.new.cache c.loop-marked-test.true c.marked-item.is
+    keeps-among c.args.parts.now c.loop-marked.marked-index c.marked-item.result c.loop-marked-test.true c.marked-item.is (g.T.Store.files c.args.store.now) here c.args.cache.now c.loop-marked.cache c.table_of.new.cache
     c.loop-marked.invariant.quiet.same_files c.loop-marked.invariant.cache (subst (λ (s : Source). CacheKeeps here (IsFileOf s) c.loop-marked.cache c.table_of.new.cache) c.part.ensures.part c.table_of.ensures.cache)
 
 pub returns-in_err-map_err-clause-cache : goal.returns-in_err-map_err-clause-cache
 returns-in_err-map_err-clause-cache g c =
     let here = g.T.Store.files c.loop-marked.store in
-    keeps-among (g.T.Store.files c.args.store.now) here c.args.parts.now c.loop-marked.marked-index c.marked-item.result c.args.cache.now c.loop-marked.cache c.table_of.new.cache c.loop-marked-test.true c.marked-item.is
+    keeps-among c.args.parts.now c.loop-marked.marked-index c.marked-item.result c.loop-marked-test.true c.marked-item.is (g.T.Store.files c.args.store.now) here c.args.cache.now c.loop-marked.cache c.table_of.new.cache
     c.loop-marked.invariant.quiet.same_files c.loop-marked.invariant.cache (subst (λ (s : Source). CacheKeeps here (IsFileOf s) c.loop-marked.cache c.table_of.new.cache) c.part.ensures.part c.table_of.ensures.cache)
 
 pub returns-clause-exact : goal.returns-clause-exact

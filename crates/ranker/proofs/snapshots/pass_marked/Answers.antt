@@ -11,7 +11,7 @@ use Rattle.ranker.specs.Passed.{IsAhead}
 use Rattle.ranker.specs.Windows.{KeepsWindows}
 use Rattle.ranker.specs.declared.place.Passed.{Passed}
 use Rattle.ranker.proofs.AheadLemmas.{IsAhead-read}
-use Rattle.ranker.proofs.ReadingLemmas.{sound-of}
+use Rattle.disk_index.proofs.AmongLemmas.{sound-of}
 use Rattle.ranker.proofs.snapshots.pass_marked.Goals as goal
 
 pub pass_part-requires-clause-id : goal.pass_part-requires-clause-id

@@ -1,14 +1,14 @@
-use Rattle.std.proofs.Common.{Contains, length, map, ap, sym, subst, ◌∙◌, arith}
-use Rattle.std.proofs.lemmas.List.Elements.{All-contains, Contains-get_or}
+use Rattle.std.proofs.Common.{length, map, ap, sym, subst, ◌∙◌, arith}
 use Rattle.std.proofs.lemmas.Result.{err_from_is_err_and}
 use Rattle.ri_base.specs.Query.{filter_tree}
 use Rattle.belief_nodes.specs.Network.{network_tree}
 use Rattle.disk_index.specs.Parts.{IsPartBacked, reads, size}
 use Rattle.disk_index.specs.Snapshots.{Marked, live, live_in}
+use Rattle.disk_index.proofs.AmongLemmas.{backed-at, blocks-among}
 use Rattle.ranker.specs.First.{Advances}
 use Rattle.ranker.specs.Passed.{IsAhead, IsAheadAt, IsPlace, behind, passed}
 use Rattle.ranker.specs.declared.place.Place.{Place}
-use Rattle.ranker.proofs.PlaceLemmas.{Advances-place, IsAheadAt-behind, IsPlace-behind, blocks-among, credit-behind, credit-few, part-behind, part-is}
+use Rattle.ranker.proofs.PlaceLemmas.{Advances-place, IsAheadAt-behind, IsPlace-behind, credit-behind, credit-few, part-behind, part-is}
 use Rattle.ranker.proofs.WindowLemmas.{KeepsWindows-among, live-among}
 use Rattle.ranker.proofs.snapshots.pass_next.Goals as goal
 
@@ -37,8 +37,7 @@ returns-clause-first g c = λ backed cached known.
     let m = c.index-parts-at.result in
     let priors = map (λ b. (goal.BeliefNode-dyn g (b.vtable, b.value)).meaning b.value) c.args.plugs.now in
     let is = part-is parts at.part m c.requires.some c.index-parts-at.is in
-    let there : Contains parts m = subst (Contains parts) (sym c.index-parts-at.is) (Contains-get_or parts at.part m c.requires.some) in
-    let own : IsPartBacked told m.source = All-contains (λ (p : Marked). IsPartBacked told p.source) parts m backed there in
+    let own : IsPartBacked told m.source = backed-at parts at.part m c.requires.some c.index-parts-at.is told backed in
     let kind = c.args.rule.now.kind in
     let filters = map filter_tree c.args.filters.now in
     let network = network_tree c.args.network.now in
@@ -56,8 +55,7 @@ returns-clause-ahead g c = λ backed cached known.
     let filters = map filter_tree c.args.filters.now in
     let leaves = (network_tree c.args.network.now).leaves in
     let is = part-is parts at.part m c.requires.some c.index-parts-at.is in
-    let there : Contains parts m = subst (Contains parts) (sym c.index-parts-at.is) (Contains-get_or parts at.part m c.requires.some) in
-    let own : IsPartBacked told m.source = All-contains (λ (p : Marked). IsPartBacked told p.source) parts m backed there in
+    let own : IsPartBacked told m.source = backed-at parts at.part m c.requires.some c.index-parts-at.is told backed in
     subst (λ (p : Place). IsAheadAt filters leaves told parts p) (sym c.place_behind.ensures)
     (IsAheadAt-behind filters leaves told parts at to c.args.most m is
     (c.in_ok-to.ensures.ahead own cached (subst (λ (p : Marked). IsAhead filters leaves (reads told p.source) at.id at.ahead) is known)))
@@ -85,17 +83,16 @@ pub returns-clause-next : goal.returns-clause-next
 returns-clause-next g c = ap (λ (p : Place). p.part) c.place_behind.ensures ∙ part-behind c.args.at.now c.in_ok-to.to c.args.most
 
 pub returns-clause-cache : goal.returns-clause-cache
-returns-clause-cache g c = blocks-among (g.T.Store.files c.args.store.now) c.args.parts.now c.args.at.now.part c.index-parts-at.result c.args.cache.now c.pass_marked.new.cache c.requires.some c.index-parts-at.is c.pass_marked.ensures.cache
+returns-clause-cache g c = blocks-among c.args.parts.now c.args.at.now.part c.index-parts-at.result c.requires.some c.index-parts-at.is (g.T.Store.files c.args.store.now) c.args.cache.now c.pass_marked.new.cache c.pass_marked.ensures.cache
 
 pub returns-in_err-to-clause-cache : goal.returns-in_err-to-clause-cache
-returns-in_err-to-clause-cache g c = blocks-among (g.T.Store.files c.args.store.now) c.args.parts.now c.args.at.now.part c.index-parts-at.result c.args.cache.now c.pass_marked.new.cache c.requires.some c.index-parts-at.is c.pass_marked.ensures.cache
+returns-in_err-to-clause-cache g c = blocks-among c.args.parts.now c.args.at.now.part c.index-parts-at.result c.requires.some c.index-parts-at.is (g.T.Store.files c.args.store.now) c.args.cache.now c.pass_marked.new.cache c.pass_marked.ensures.cache
 
 pub returns-in_err-to-clause-honest : goal.returns-in_err-to-clause-honest
 returns-in_err-to-clause-honest g c = λ backed cached.
     let told = g.T.Store.files c.args.store.now in
     let parts = c.args.parts.now in
     let m = c.index-parts-at.result in
-    let there : Contains parts m = subst (Contains parts) (sym c.index-parts-at.is) (Contains-get_or parts c.args.at.now.part m c.requires.some) in
-    let own : IsPartBacked told m.source = All-contains (λ (p : Marked). IsPartBacked told p.source) parts m backed there in
+    let own : IsPartBacked told m.source = backed-at parts c.args.at.now.part m c.requires.some c.index-parts-at.is told backed in
     let p = err_from_is_err_and c.from_residual.result c.from_residual.ensures.1 in
     rw (p.1, p.2) (c.in_err-to.ensures.honest own cached)

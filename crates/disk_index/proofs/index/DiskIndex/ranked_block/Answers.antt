@@ -1,11 +1,10 @@
-use Rattle.std.proofs.Common.{◌≡◌, List, Option, IfErr, ap, subst, sym, ◌∙◌}
+use Rattle.std.proofs.Common.{◌≡◌, List, Option, IfErr, ap, inl, subst, sym, ◌∙◌}
 use Rattle.store_ends.specs.Files.{Files}
 use Rattle.seg_codec.specs.declared.documents.Entry.{Entry}
 use Rattle.disk_index.specs.Blocks.{IsBlockFault}
 use Rattle.disk_index.specs.Cache.{IsCacheBacked}
 use Rattle.disk_index.specs.Kept.{Kept, place_of}
 use Rattle.disk_index.specs.Ranks.{term_of}
-use Rattle.disk_index.proofs.CacheLemmas.{CacheKeeps-number}
 use Rattle.disk_index.proofs.FaultLemmas.{range-fault}
 use Rattle.disk_index.proofs.KeyLemmas.{key-number, keyed, outside_fault, right_block, unkeyed}
 use Rattle.disk_index.proofs.index.DiskIndex.ranked_block.Goals as goal
@@ -17,21 +16,19 @@ returns-in_ok-empty-in-None-clause-exact g c = λ docs b backed.
 pub returns-in-Some-clause-exact : goal.returns-in-Some-clause-exact
 returns-in-Some-clause-exact g c = λ docs b backed.
     let k = keyed (g.T.Store.files c.args.store.now) c.args.self.now docs (term_of c.args.self.now.dictionary c.args.rank) c.args.range c.in-Some.key c.in-Some.ensures.key b in
-    right_block b.has.files c.args.self.now.outlines c.in-Some.key _ k c.fetch.result (c.fetch.ensures.exact b.has.files b.has.is_told (subst (λ (f : Option Files). IsCacheBacked f c.args.cache.now) b.has.is_told backed))
+    right_block b.has.files c.args.self.now.outlines c.in-Some.key _ k c.once.result (c.once.ensures.exact b.has.files b.has.is_told (subst (λ (f : Option Files). IsCacheBacked f c.args.cache.now) b.has.is_told backed))
 
 pub returns-in-Some-clause-honest : goal.returns-in-Some-clause-honest
 returns-in-Some-clause-honest g c = λ docs b.
     let same : c.self.inside.documents ≡ c.args.self.now.outlines = ap (λ (k : Kept). k.outlines) c.self.view_is in
     let k = keyed (g.T.Store.files c.args.store.now) c.args.self.now docs (term_of c.args.self.now.dictionary c.args.rank) c.args.range c.in-Some.key c.in-Some.ensures.key b in
-    outside_fault b.has.files c.args.self.now.outlines c.in-Some.key _ k c.fetch.result
-    (subst (λ (es : List Entry). IfErr c.fetch.result (IsBlockFault b.has.files c.in-Some.key es)) same (c.fetch.ensures.fault b.has.files b.has.is_told))
+    outside_fault b.has.files c.args.self.now.outlines c.in-Some.key _ k c.once.result
+    (subst (λ (es : List Entry). IfErr c.once.result (IsBlockFault b.has.files c.in-Some.key es)) same (c.once.ensures.fault b.has.files b.has.is_told))
 
 pub returns-in-Some-clause-fault : goal.returns-in-Some-clause-fault
 returns-in-Some-clause-fault g c = λ f told.
     let own = key-number c.args.self.now.number c.args.range (place_of c.args.self.now.dictionary (term_of c.args.self.now.dictionary c.args.rank) c.args.range) c.in-Some.key c.in-Some.ensures.key in
-    range-fault f c.in-Some.key c.self.inside.documents c.args.self.now.number own c.fetch.result (c.fetch.ensures.fault f told)
+    range-fault f c.in-Some.key c.self.inside.documents c.args.self.now.number own c.once.result (c.once.ensures.fault f told)
 
 pub returns-in-Some-clause-cache : goal.returns-in-Some-clause-cache
-returns-in-Some-clause-cache g c =
-    CacheKeeps-number (g.T.Store.files c.args.store.now) c.in-Some.key.number c.args.self.now.number _ _
-    (key-number c.args.self.now.number c.args.range (place_of c.args.self.now.dictionary (term_of c.args.self.now.dictionary c.args.rank) c.args.range) c.in-Some.key c.in-Some.ensures.key) c.fetch.ensures.cache
+returns-in-Some-clause-cache g c = record { each = λ e h. inl (c.once.ensures.cache e h) }

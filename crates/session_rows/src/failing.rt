@@ -98,10 +98,10 @@ fn calls_of(alloc: Global, way: u32) -> Option<u64> {
 #[test]
 fn each_call_fails(rt: HostRuntime) -> Result<(), Fail> {
     let alloc = rt.alloc();
-    assert_eq!(rt; calls_of(alloc, 0), Some(7));
-    assert_eq!(rt; calls_of(alloc, 1), Some(7));
-    assert_eq!(rt; calls_of(alloc, 2), Some(7));
-    assert_eq!(rt; calls_of(alloc, 3), Some(7));
+    assert_eq!(rt; calls_of(alloc, 0), Some(12));
+    assert_eq!(rt; calls_of(alloc, 1), Some(12));
+    assert_eq!(rt; calls_of(alloc, 2), Some(12));
+    assert_eq!(rt; calls_of(alloc, 3), Some(12));
     Ok(())
 }
 

@@ -45,11 +45,11 @@ some-done Q done r (Some bytes) (Some ys) f q =
     subst Q all (q (items_left r ys))
 
 -- The script ends.
-pub all-done : (Q : List Item → Type 0) (done : List Item) (r r' : ItemReader) (start old new : Option (List ℕ)) → AreFollowed done r start old → option_map (items_left r) old ≡ option_map (answer_items None r') new → Q done → IfSome start (λ bytes. Q (items bytes))
-all-done Q done r r' None old new f e q = tt
-all-done Q done r r' (Some bytes) None new f e q = cc
-all-done Q done r r' (Some bytes) (Some ys) None f e q = cc
-all-done Q done r r' (Some bytes) (Some ys) (Some zs) f e q =
+pub all-done : (Q : List Item → Type 0) (done : List Item) (r : ItemReader) (start old new : Option (List ℕ)) → AreFollowed done r start old → option_map (items_left r) old ≡ option_map (λ rest. []) new → Q done → IfSome start (λ bytes. Q (items bytes))
+all-done Q done r None old new f e q = tt
+all-done Q done r (Some bytes) None new f e q = cc
+all-done Q done r (Some bytes) (Some ys) None f e q = cc
+all-done Q done r (Some bytes) (Some ys) (Some zs) f e q =
     let none : items_left r ys ≡ [] = cc in
     let all : done ++ items_left r ys ≡ items bytes = cc in
     subst Q (sym (append-nil done) ∙ ap (λ rest. done ++ rest) (sym none) ∙ all) q

@@ -2,8 +2,8 @@
 #![tactic(auto)]
 
 mod items;
-mod session;
+mod script;
 mod turn;
 
 pub use items::take_items;
-pub use session::session;
+pub use script::session;

@@ -102,14 +102,14 @@ returns-in-Ok-None-clause-refused g c = λ kept way.
     let inv = c.items.invariant in
     let gives = rw c.in-Ok-None.field-0-is at c.in-Ok-None.ensures.items in
     let start = state_of (g.T.Store.files c.args.store.now) c.args.desk.now.kept in
-    all-done (λ (is : List Item). some_refused (pieces_of start is) ≡ c.items.some_refused) inv.0 _ _ _ _ _ inv.1.followed gives (sym (inv.1.refused kept way))
+    all-done (λ (is : List Item). some_refused (pieces_of start is) ≡ c.items.some_refused) inv.0 _ _ _ _ inv.1.followed gives (sym (inv.1.refused kept way))
 
 pub returns-in-Ok-None-clause-finished : goal.returns-in-Ok-None-clause-finished
 returns-in-Ok-None-clause-finished g c = λ kept way.
     let inv = c.items.invariant in
     let gives = rw c.in-Ok-None.field-0-is at c.in-Ok-None.ensures.items in
     let start = state_of (g.T.Store.files c.args.store.now) c.args.desk.now.kept in
-    all-done (λ (is : List Item). Finished StandsFor kept (pieces_of start is) (g.K.Sink.taken c.args.sink.now) (g.K.Sink.taken c.items.sink) (g.T.Store.files c.items.store)) inv.0 _ _ _ _ _ inv.1.followed gives (inv.1.finished kept way)
+    all-done (λ (is : List Item). Finished StandsFor kept (pieces_of start is) (g.K.Sink.taken c.args.sink.now) (g.K.Sink.taken c.items.sink) (g.T.Store.files c.items.store)) inv.0 _ _ _ _ inv.1.followed gives (inv.1.finished kept way)
 
 pub returns-in-Ok-None-clause-stands : goal.returns-in-Ok-None-clause-stands
 returns-in-Ok-None-clause-stands g c = λ kept way.
@@ -117,7 +117,7 @@ returns-in-Ok-None-clause-stands g c = λ kept way.
     let gives = rw c.in-Ok-None.field-0-is at c.in-Ok-None.ensures.items in
     let ended = inv.1.ended kept way (sym (rw c.in-Ok-None.field-0-is at c.in-Ok-None.ensures.none)) in
     let start = state_of (g.T.Store.files c.args.store.now) c.args.desk.now.kept in
-    all-done (λ (is : List Item). StandsFor (collection_of (state_behind_all start is)) (g.T.Store.files c.items.store)) inv.0 _ _ _ _ _ inv.1.followed gives
+    all-done (λ (is : List Item). StandsFor (collection_of (state_behind_all start is)) (g.T.Store.files c.items.store)) inv.0 _ _ _ _ inv.1.followed gives
     (subst (λ (k : Collection). StandsFor k (g.T.Store.files c.items.store)) ended (inv.1.finished kept way).files_stand)
 
 pub returns-in-Ok-None-clause-order : goal.returns-in-Ok-None-clause-order
@@ -125,7 +125,7 @@ returns-in-Ok-None-clause-order g c = λ kept way.
     let inv = c.items.invariant in
     let gives = rw c.in-Ok-None.field-0-is at c.in-Ok-None.ensures.items in
     let start = state_of (g.T.Store.files c.args.store.now) c.args.desk.now.kept in
-    all-done (λ (is : List Item). AreTrue start is) inv.0 _ _ _ _ _ inv.1.followed gives (inv.1.order kept way)
+    all-done (λ (is : List Item). AreTrue start is) inv.0 _ _ _ _ inv.1.followed gives (inv.1.order kept way)
 
 pub returns-in-Ok-None-clause-stops : goal.returns-in-Ok-None-clause-stops
 returns-in-Ok-None-clause-stops g c = λ kept way.

@@ -77,5 +77,26 @@ returns-in-Trec-clause-usable g c = on-ok c.tell_refusal.result _ (λ on. c.requ
 pub returns-in-Token-clause-reply : goal.returns-in-Token-clause-reply
 returns-in-Token-clause-reply g c = λ kept way.
     let s = state_of (g.T.Store.files c.args.store.now) c.args.desk.now.kept in
-    IfOk-weaker c.tell_refusal-2.result (λ (p : Plain). p ≡ refusal_piece (Document c.in-Token.refusal)) (λ p. p ≡ item_reply s c.args.item)
-    (λ p is. is ∙ subst (λ (i : Item). refusal_piece (Document c.in-Token.refusal) ≡ item_reply s i) (sym c.in-Token.is) (token-reply s c.in-Token.refusal)) c.tell_refusal-2.ensures.piece
+    IfOk-weaker c.tell_refusal-in-Token.result (λ (p : Plain). p ≡ refusal_piece (Document c.in-Token.refusal)) (λ p. p ≡ item_reply s c.args.item)
+    (λ p is. is ∙ subst (λ (i : Item). refusal_piece (Document c.in-Token.refusal) ≡ item_reply s i) (sym c.in-Token.is) (token-reply s c.in-Token.refusal)) c.tell_refusal-in-Token.ensures.piece
+
+pub returns-in-Token-clause-state : goal.returns-in-Token-clause-state
+returns-in-Token-clause-state g c = λ kept way. on-ok c.tell_refusal-in-Token.result _ (none-state _ c.args.item (subst IsNoEvent (sym c.in-Token.is) tt))
+
+pub returns-in-Token-clause-way : goal.returns-in-Token-clause-way
+returns-in-Token-clause-way g c = λ kept way. on-ok c.tell_refusal-in-Token.result _ (none-way (g.T.Store.files c.args.store.now) c.args.desk.now.kept _ kept c.args.item (subst IsNoEvent (sym c.in-Token.is) tt) way)
+
+pub returns-in-Token-clause-order : goal.returns-in-Token-clause-order
+returns-in-Token-clause-order g c = λ kept way. on-ok c.tell_refusal-in-Token.result _ (none-true _ c.args.item (subst IsNoEvent (sym c.in-Token.is) tt))
+
+pub returns-in-Token-clause-now : goal.returns-in-Token-clause-now
+returns-in-Token-clause-now g c = λ kept way. inl way.stands
+
+pub returns-in-Token-clause-stops : goal.returns-in-Token-clause-stops
+returns-in-Token-clause-stops g c = λ kept way. Leaves-same _ _
+
+pub returns-in-Token-clause-honest : goal.returns-in-Token-clause-honest
+returns-in-Token-clause-honest g c = λ kept way. IfErr-weaker c.tell_refusal-in-Token.result (λ (e : SegFault). e ≡ fault.Memory) IsOutside (λ e is. subst IsOutside (sym is) tt) c.tell_refusal-in-Token.ensures.only
+
+pub returns-in-Token-clause-usable : goal.returns-in-Token-clause-usable
+returns-in-Token-clause-usable g c = on-ok c.tell_refusal-in-Token.result _ (λ on. c.requires.usable)

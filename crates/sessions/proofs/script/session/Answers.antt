@@ -15,7 +15,7 @@ use Rattle.sessions.specs.Orders.{AreTrue}
 use Rattle.sessions.specs.Sessions.{session_pieces}
 use Rattle.sessions.proofs.Beginning.{ahead-read, begun-all, behind-on, files-fault, merge-none, none-begun, quiet-on, rose-earlier, stops-quiet, stops-read}
 use Rattle.sessions.proofs.Standing.{grows-none, outside-honest}
-use Rattle.sessions.proofs.session.session.Goals as goal
+use Rattle.sessions.proofs.script.session.Goals as goal
 
 -- the files of the priors aren't read
 

@@ -14,6 +14,26 @@ use Rattle.sessions.proofs.Standing.{on-ok}
 use Rattle.sessions.proofs.StepLemmas.{IsNoEvent, none-state, none-true, none-way, token-reply, trec-reply, unread-reply}
 use Rattle.sessions.proofs.turn.do_item.Goals as goal
 
+-- an event
+
+pub returns-in-Event-clause-reply : goal.returns-in-Event-clause-reply
+returns-in-Event-clause-reply g c = rw c.in-Event.is c.do_event.ensures.reply
+
+pub returns-in-Event-clause-state : goal.returns-in-Event-clause-state
+returns-in-Event-clause-state g c = rw c.in-Event.is c.do_event.ensures.state
+
+pub returns-in-Event-clause-way : goal.returns-in-Event-clause-way
+returns-in-Event-clause-way g c = rw c.in-Event.is c.do_event.ensures.way
+
+pub returns-in-Event-clause-order : goal.returns-in-Event-clause-order
+returns-in-Event-clause-order g c = rw c.in-Event.is c.do_event.ensures.order
+
+pub returns-in-Event-clause-now : goal.returns-in-Event-clause-now
+returns-in-Event-clause-now g c = rw c.in-Event.is c.do_event.ensures.now
+
+pub returns-in-Event-clause-stops : goal.returns-in-Event-clause-stops
+returns-in-Event-clause-stops g c = rw c.in-Event.is c.do_event.ensures.stops
+
 -- a line that is no event
 
 pub returns-in-Unread-clause-reply : goal.returns-in-Unread-clause-reply

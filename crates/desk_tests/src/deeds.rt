@@ -27,13 +27,41 @@ pub struct KnownDocument {
 
 /// The documents by their numbers.
 pub static DOCUMENTS: [KnownDocument; 7] = [
-    KnownDocument { text: "a", length: 1, counts: [1, 0, 0] },
-    KnownDocument { text: "a b", length: 2, counts: [1, 1, 0] },
-    KnownDocument { text: "b b c", length: 3, counts: [0, 2, 1] },
-    KnownDocument { text: "c", length: 1, counts: [0, 0, 1] },
-    KnownDocument { text: "a a c", length: 3, counts: [2, 0, 1] },
-    KnownDocument { text: "b c", length: 2, counts: [0, 1, 1] },
-    KnownDocument { text: "c a", length: 2, counts: [1, 0, 1] },
+    KnownDocument {
+        text: "a",
+        length: 1,
+        counts: [1, 0, 0],
+    },
+    KnownDocument {
+        text: "a b",
+        length: 2,
+        counts: [1, 1, 0],
+    },
+    KnownDocument {
+        text: "b b c",
+        length: 3,
+        counts: [0, 2, 1],
+    },
+    KnownDocument {
+        text: "c",
+        length: 1,
+        counts: [0, 0, 1],
+    },
+    KnownDocument {
+        text: "a a c",
+        length: 3,
+        counts: [2, 0, 1],
+    },
+    KnownDocument {
+        text: "b c",
+        length: 2,
+        counts: [0, 1, 1],
+    },
+    KnownDocument {
+        text: "c a",
+        length: 2,
+        counts: [1, 0, 1],
+    },
 ];
 
 /// The words, and behind them the same with a prior. A text is that of the word with the number's rest by 3.
@@ -117,7 +145,11 @@ impl Chance {
             13 => Deed::Explain { name, rank: few },
             14 => Deed::Scan(number),
             15 => Deed::Close(name),
-            _ => Deed::Open { name, k: few, text: number },
+            _ => Deed::Open {
+                name,
+                k: few,
+                text: number,
+            },
         }
     }
 }

@@ -3,15 +3,15 @@ use std::alloc::Global;
 use store_ends::{MemStore, Store, StoreFail};
 
 /// Nothing is listed. The next file has number 1.
-pub const NONE: &[u8] =
-    b"indriman\x01\0\0\0\x01\0\0\0\0\0\0\0\0\0\0\0\0\0\0\0\0\0\0\0\0";
+pub const NONE: &[u8] = b"indriman\x01\0\0\0\x01\0\0\0\0\0\0\0\0\0\0\0\0\0\0\0\0\0\0\0\0";
 
 /// The prior `home`, whose file has number 1, and nothing else. The next file has number 2.
 pub const HOME: &[u8] =
     b"indriman\x01\0\0\0\x02\0\0\0\0\0\0\0\0\0\0\0\0\0\0\0\0\0\0\0\x01\x04home\x01\0\0\0\0\0\0\0";
 
 /// The rows of a prior: `d1` has 1 / 2, and the others have 1 / 4.
-pub const ROWS: &[u8] = b"indripri\x01\x01\0\0\0\0\0\0\0\x04\0\0\0\0\0\0\0\x01\0\0\0\x02d1\x01\0\0\0\0\0\0\0\x02\0\0\0\0\0\0\0";
+pub const ROWS: &[u8] =
+    b"indripri\x01\x01\0\0\0\0\0\0\0\x04\0\0\0\0\0\0\0\x01\0\0\0\x02d1\x01\0\0\0\0\0\0\0\x02\0\0\0\0\0\0\0";
 
 /// `d1` with the tokens `b a`, and `d2` with the token `a`.
 pub const TURNED: &[u8] =

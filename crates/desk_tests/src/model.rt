@@ -65,7 +65,9 @@ fn belief(docs: &[u32], number: u32, text: u32) -> (u64, u64) {
     let twice = tokens_of(docs).max(1).saturating_mul(2);
     let found = occurrences(docs, text).saturating_mul(2).max(1);
     (
-        twice.saturating_mul(count_in(number, text)).saturating_add(found),
+        twice
+            .saturating_mul(count_in(number, text))
+            .saturating_add(found),
         twice.saturating_mul(known(number).length.saturating_add(1)),
     )
 }
@@ -126,11 +128,18 @@ impl Query {
     fn put_explained(&self, number: u32, rank: u32, out: &mut String) -> Option<()> {
         let (word, length) = (word_of(self.text), known(number).length);
         let scale = if has_prior(self.text) { 2 } else { 1 };
-        let (tf, cf) = (count_in(number, self.text), occurrences(&self.live, self.text));
+        let (tf, cf) = (
+            count_in(number, self.text),
+            occurrences(&self.live, self.text),
+        );
         let (p, q) = belief(&self.live, number, self.text);
         let total = tokens_of(&self.live);
         write!(out, "result {rank} d{number} 0 {length}\nscale {scale}\n").ok()?;
-        write!(out, "leaf 1 \"{word}\" tf {tf} len {length} cf {cf} total {total} belief {p}/{q}\n").ok()?;
+        write!(
+            out,
+            "leaf 1 \"{word}\" tf {tf} len {length} cf {cf} total {total} belief {p}/{q}\n"
+        )
+        .ok()?;
         put_places(number, word, "at", out)?;
         if has_prior(self.text) {
             let (p, q) = prior(number);
@@ -189,7 +198,10 @@ impl Model {
 
     fn add(&mut self, number: u32, out: &mut String) -> Option<()> {
         let length = known(number).length;
-        let (documents, tokens) = (self.documents.saturating_add(1), self.tokens.saturating_add(length));
+        let (documents, tokens) = (
+            self.documents.saturating_add(1),
+            self.tokens.saturating_add(length),
+        );
         if self.live.contains(&number) {
             return write!(out, "refused Repeated d{number}\n").ok();
         }
@@ -246,7 +258,14 @@ impl Model {
         self.queries.iter().position(|query| query.name == name)
     }
 
-    fn open(&mut self, alloc: Global, name: u32, k: u32, text: u32, out: &mut String) -> Option<()> {
+    fn open(
+        &mut self,
+        alloc: Global,
+        name: u32,
+        k: u32,
+        text: u32,
+        out: &mut String,
+    ) -> Option<()> {
         if self.find(name).is_some() {
             return write!(out, "refused NameTaken q{name}\n").ok();
         }
@@ -256,7 +275,13 @@ impl Model {
         let live = self.live.to_vec(alloc).ok()?;
         write!(out, "opened q{name} {}\n", live.len()).ok()?;
         self.queries
-            .push(Query { name, live, text, k, credit: 0 })
+            .push(Query {
+                name,
+                live,
+                text,
+                k,
+                credit: 0,
+            })
             .ok()
     }
 

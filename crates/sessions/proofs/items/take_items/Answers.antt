@@ -23,7 +23,7 @@ items-init g c =
     let start = state_of (g.T.Store.files c.args.store.now) c.args.desk.now.kept in (
       [],
       record {
-        followed = followed-start _ _ c.in-Ok.ensures.items;
+        followed = followed-start c.in-Ok.reader _ c.in-Ok.ensures.items;
         ready = c.in-Ok.ensures.ready _ _ (g.met.S.Source.is_bounded c.args.source.now);
         state = λ kept way. state-none start;
         way = λ kept way. subst (IsUnderWay _ _ _) (sym (kept-start kept start)) way;
@@ -56,7 +56,7 @@ items-preserved g c =
     let here = state_of (g.T.Store.files c.items.store) c.items.desk.kept in (
       inv.0 ++ i ∷ [],
       record {
-        followed = followed-more inv.0 i _ _ _ _ _ inv.1.followed gives;
+        followed = followed-more inv.0 i c.items.reader c.next_item.new.self _ _ _ inv.1.followed gives;
         ready = c.in-Ok-Some.ensures.ready;
         state = λ kept way. state-next start here inv.0 i (inv.1.state kept way) _ (done.state _ (inv.1.way kept way));
         way = λ kept way. subst (IsUnderWay _ _ _) (kept-next start here inv.0 i (inv.1.state kept way) kept) (done.way _ (inv.1.way kept way));
@@ -102,14 +102,14 @@ returns-in-Ok-None-clause-refused g c = λ kept way.
     let inv = c.items.invariant in
     let gives = rw c.in-Ok-None.field-0-is at c.in-Ok-None.ensures.items in
     let start = state_of (g.T.Store.files c.args.store.now) c.args.desk.now.kept in
-    all-done (λ (is : List Item). some_refused (pieces_of start is) ≡ c.items.some_refused) inv.0 _ _ _ _ inv.1.followed gives (sym (inv.1.refused kept way))
+    all-done (λ (is : List Item). some_refused (pieces_of start is) ≡ c.items.some_refused) inv.0 c.items.reader _ _ _ inv.1.followed gives (sym (inv.1.refused kept way))
 
 pub returns-in-Ok-None-clause-finished : goal.returns-in-Ok-None-clause-finished
 returns-in-Ok-None-clause-finished g c = λ kept way.
     let inv = c.items.invariant in
     let gives = rw c.in-Ok-None.field-0-is at c.in-Ok-None.ensures.items in
     let start = state_of (g.T.Store.files c.args.store.now) c.args.desk.now.kept in
-    all-done (λ (is : List Item). Finished StandsFor kept (pieces_of start is) (g.K.Sink.taken c.args.sink.now) (g.K.Sink.taken c.items.sink) (g.T.Store.files c.items.store)) inv.0 _ _ _ _ inv.1.followed gives (inv.1.finished kept way)
+    all-done (λ (is : List Item). Finished StandsFor kept (pieces_of start is) (g.K.Sink.taken c.args.sink.now) (g.K.Sink.taken c.items.sink) (g.T.Store.files c.items.store)) inv.0 c.items.reader _ _ _ inv.1.followed gives (inv.1.finished kept way)
 
 pub returns-in-Ok-None-clause-stands : goal.returns-in-Ok-None-clause-stands
 returns-in-Ok-None-clause-stands g c = λ kept way.
@@ -117,7 +117,7 @@ returns-in-Ok-None-clause-stands g c = λ kept way.
     let gives = rw c.in-Ok-None.field-0-is at c.in-Ok-None.ensures.items in
     let ended = inv.1.ended kept way (sym (rw c.in-Ok-None.field-0-is at c.in-Ok-None.ensures.none)) in
     let start = state_of (g.T.Store.files c.args.store.now) c.args.desk.now.kept in
-    all-done (λ (is : List Item). StandsFor (collection_of (state_behind_all start is)) (g.T.Store.files c.items.store)) inv.0 _ _ _ _ inv.1.followed gives
+    all-done (λ (is : List Item). StandsFor (collection_of (state_behind_all start is)) (g.T.Store.files c.items.store)) inv.0 c.items.reader _ _ _ inv.1.followed gives
     (subst (λ (k : Collection). StandsFor k (g.T.Store.files c.items.store)) ended (inv.1.finished kept way).files_stand)
 
 pub returns-in-Ok-None-clause-order : goal.returns-in-Ok-None-clause-order
@@ -125,13 +125,13 @@ returns-in-Ok-None-clause-order g c = λ kept way.
     let inv = c.items.invariant in
     let gives = rw c.in-Ok-None.field-0-is at c.in-Ok-None.ensures.items in
     let start = state_of (g.T.Store.files c.args.store.now) c.args.desk.now.kept in
-    all-done (λ (is : List Item). AreTrue start is) inv.0 _ _ _ _ inv.1.followed gives (inv.1.order kept way)
+    all-done (λ (is : List Item). AreTrue start is) inv.0 c.items.reader _ _ _ inv.1.followed gives (inv.1.order kept way)
 
 pub returns-in-Ok-None-clause-stops : goal.returns-in-Ok-None-clause-stops
 returns-in-Ok-None-clause-stops g c = λ kept way.
     let inv = c.items.invariant in
     let start = state_of (g.T.Store.files c.args.store.now) c.args.desk.now.kept in
-    some-done (λ (is : List Item). Leaves (g.T.Store.since c.args.store.now) (g.T.Store.since c.items.store) (StandsAlong StandsFor kept (pieces_of start is))) inv.0 _ _ _ inv.1.followed
+    some-done (λ (is : List Item). Leaves (g.T.Store.since c.args.store.now) (g.T.Store.since c.items.store) (StandsAlong StandsFor kept (pieces_of start is))) inv.0 c.items.reader _ _ inv.1.followed
     (λ rest. Along-here _ _ kept start inv.0 rest (inv.1.stops kept way))
 
 -- the source fails, or there is no memory for an item
@@ -140,28 +140,28 @@ pub returns-in-Err-Read-clause-broken : goal.returns-in-Err-Read-clause-broken
 returns-in-Err-Read-clause-broken g c = λ kept way.
     let inv = c.items.invariant in
     let start = state_of (g.T.Store.files c.args.store.now) c.args.desk.now.kept in
-    some-done (λ (is : List Item). IsBrokenBy fault.Read StandsFor kept (pieces_of start is) (g.K.Sink.taken c.args.sink.now) (g.K.Sink.taken c.items.sink) (g.T.Store.files c.items.store)) inv.0 _ _ _ inv.1.followed
+    some-done (λ (is : List Item). IsBrokenBy fault.Read StandsFor kept (pieces_of start is) (g.K.Sink.taken c.args.sink.now) (g.K.Sink.taken c.items.sink) (g.T.Store.files c.items.store)) inv.0 c.items.reader _ _ inv.1.followed
     (λ rest. stopped-here kept start inv.0 rest _ _ _ (inv.1.finished kept way))
 
 pub returns-in-Err-Read-clause-stops : goal.returns-in-Err-Read-clause-stops
 returns-in-Err-Read-clause-stops g c = λ kept way.
     let inv = c.items.invariant in
     let start = state_of (g.T.Store.files c.args.store.now) c.args.desk.now.kept in
-    some-done (λ (is : List Item). Leaves (g.T.Store.since c.args.store.now) (g.T.Store.since c.items.store) (StandsAlong StandsFor kept (pieces_of start is))) inv.0 _ _ _ inv.1.followed
+    some-done (λ (is : List Item). Leaves (g.T.Store.since c.args.store.now) (g.T.Store.since c.items.store) (StandsAlong StandsFor kept (pieces_of start is))) inv.0 c.items.reader _ _ inv.1.followed
     (λ rest. Along-here _ _ kept start inv.0 rest (inv.1.stops kept way))
 
 pub returns-in-Err-Memory-clause-broken : goal.returns-in-Err-Memory-clause-broken
 returns-in-Err-Memory-clause-broken g c = λ kept way.
     let inv = c.items.invariant in
     let start = state_of (g.T.Store.files c.args.store.now) c.args.desk.now.kept in
-    some-done (λ (is : List Item). IsBrokenBy fault.Memory StandsFor kept (pieces_of start is) (g.K.Sink.taken c.args.sink.now) (g.K.Sink.taken c.items.sink) (g.T.Store.files c.items.store)) inv.0 _ _ _ inv.1.followed
+    some-done (λ (is : List Item). IsBrokenBy fault.Memory StandsFor kept (pieces_of start is) (g.K.Sink.taken c.args.sink.now) (g.K.Sink.taken c.items.sink) (g.T.Store.files c.items.store)) inv.0 c.items.reader _ _ inv.1.followed
     (λ rest. stopped-here kept start inv.0 rest _ _ _ (inv.1.finished kept way))
 
 pub returns-in-Err-Memory-clause-stops : goal.returns-in-Err-Memory-clause-stops
 returns-in-Err-Memory-clause-stops g c = λ kept way.
     let inv = c.items.invariant in
     let start = state_of (g.T.Store.files c.args.store.now) c.args.desk.now.kept in
-    some-done (λ (is : List Item). Leaves (g.T.Store.since c.args.store.now) (g.T.Store.since c.items.store) (StandsAlong StandsFor kept (pieces_of start is))) inv.0 _ _ _ inv.1.followed
+    some-done (λ (is : List Item). Leaves (g.T.Store.since c.args.store.now) (g.T.Store.since c.items.store) (StandsAlong StandsFor kept (pieces_of start is))) inv.0 c.items.reader _ _ inv.1.followed
     (λ rest. Along-here _ _ kept start inv.0 rest (inv.1.stops kept way))
 
 -- an item is broken off
@@ -173,8 +173,8 @@ returns-in-Err-clause-broken g c = λ kept way.
     let gives = rw c.in-Ok-Some.field-0-is at c.in-Ok-Some.ensures.items in
     let start = state_of (g.T.Store.files c.args.store.now) c.args.desk.now.kept in
     let here = state_of (g.T.Store.files c.items.store) c.items.desk.kept in
-    some-done (λ (is : List Item). IsBrokenBy c.in-Err.fault StandsFor kept (pieces_of start is) (g.K.Sink.taken c.args.sink.now) (g.K.Sink.taken c.take_item.new.sink) (g.T.Store.files c.take_item.new.store)) (inv.0 ++ i ∷ []) _ _ _
-    (followed-more inv.0 i _ _ _ _ _ inv.1.followed gives)
+    some-done (λ (is : List Item). IsBrokenBy c.in-Err.fault StandsFor kept (pieces_of start is) (g.K.Sink.taken c.args.sink.now) (g.K.Sink.taken c.take_item.new.sink) (g.T.Store.files c.take_item.new.store)) (inv.0 ++ i ∷ []) c.next_item.new.self _ _
+    (followed-more inv.0 i c.items.reader c.next_item.new.self _ _ _ inv.1.followed gives)
     (λ rest. broken-next start here inv.0 i (inv.1.state kept way) _ kept rest _ _ _ _ _ (inv.1.finished kept way) (c.in-Err.ensures.broken _ (inv.1.way kept way)))
 
 pub returns-in-Err-clause-honest : goal.returns-in-Err-clause-honest
@@ -188,8 +188,8 @@ returns-in-Err-clause-stops g c = λ kept way.
     let gives = rw c.in-Ok-Some.field-0-is at c.in-Ok-Some.ensures.items in
     let start = state_of (g.T.Store.files c.args.store.now) c.args.desk.now.kept in
     let here = state_of (g.T.Store.files c.items.store) c.items.desk.kept in
-    some-done (λ (is : List Item). Leaves (g.T.Store.since c.args.store.now) (g.T.Store.since c.take_item.new.store) (StandsAlong StandsFor kept (pieces_of start is))) (inv.0 ++ i ∷ []) _ _ _
-    (followed-more inv.0 i _ _ _ _ _ inv.1.followed gives)
+    some-done (λ (is : List Item). Leaves (g.T.Store.since c.args.store.now) (g.T.Store.since c.take_item.new.store) (StandsAlong StandsFor kept (pieces_of start is))) (inv.0 ++ i ∷ []) c.next_item.new.self _ _
+    (followed-more inv.0 i c.items.reader c.next_item.new.self _ _ _ inv.1.followed gives)
     (λ rest. Along-here _ _ kept start (inv.0 ++ i ∷ []) rest (Along-next start here inv.0 i (inv.1.state kept way) _ _ _ kept (inv.1.stops kept way) (c.take_item.ensures.stops _ (inv.1.way kept way))))
 
 pub returns-in-Err-clause-grows : goal.returns-in-Err-clause-grows

@@ -23,5 +23,5 @@ pub returns-in-Ok-clause-unchanged : goal.returns-in-Ok-clause-unchanged
 returns-in-Ok-clause-unchanged g c =
     let stays = stays-usable c.args.event c.args.self.now.kept c.answer.new.self c.in-Ok.reply c.requires.usable.0 (λ hits. c.in-Ok.ensures.refuses hits None) c.in-Ok.ensures.unchanged in
     let same : StaysIfRefused c.in-Ok.reply c.args.self.now.kept (with_usable c.answer.new.self (not c.is_end-is_last.result)) =
-        subst (λ (b : Bool). StaysIfRefused c.in-Ok.reply c.args.self.now.kept (with_usable c.answer.new.self (not b))) (sym c.is_end-is_last.ensures) stays in
+    subst (λ (b : Bool). StaysIfRefused c.in-Ok.reply c.args.self.now.kept (with_usable c.answer.new.self (not b))) (sym c.is_end-is_last.ensures) stays in
     subst (λ (x : Keeps). StaysIfRefused c.in-Ok.reply c.args.self.now.kept x) (sym c.set_usable.ensures) same

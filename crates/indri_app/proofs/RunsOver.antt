@@ -15,10 +15,6 @@ use Rattle.indri_app.specs.declared.status.Status.TheVariants as status
 use Rattle.indri_app.proofs.Closing.{stops-none}
 use Rattle.indri_app.proofs.PlainRuns.{scan-runs, scans-memory}
 
--- a value that is there isn't none
-pub some-none : {A : Type 0} (x : A) (o : Option A) → Some x ≡ o → o ≡ None → ⊥
-some-none x o some none = let both : Some x ≡ None = some ∙ none in absurd cc
-
 memory-runs : (told : Option Files) (asks : Asks) (c : Collection) (left before : Option (List ℕ)) (a z : ℕ) → StandsFor c told → IfSome left (λ bytes. RunsTo status.Memory told asks c bytes before before told a z)
 memory-runs told asks c None before a z stands = tt
 memory-runs told asks c (Some bytes) before a z stands = ([], inl refl, StoppedBetween-none StandsFor c [] before before told refl stands)
@@ -52,7 +48,7 @@ pub memory-some : (found : Option Asks) (left : Option (List ℕ)) (told : Optio
 memory-some None left told past before a z = tt
 memory-some (Some asks) left told past before a z = memory-has_run asks left told past before a z
 
-not-plain : (s t : Status) → IsPlainStatus s → s ≡ t → (IsPlainStatus t → ⊥) → ⊥
+pub not-plain : (s t : Status) → IsPlainStatus s → s ≡ t → (IsPlainStatus t → ⊥) → ⊥
 not-plain s t plain e never = never (subst IsPlainStatus e plain)
 
 pub scan-has_run : (text : List ℕ) (s : Status) (left : Option (List ℕ)) (told : Option Files) (past : ℕ → Files → Type 0) (before now : Option (List ℕ)) (a z : ℕ) → IsPlainStatus s → IfSome left (λ bytes. ScansTo s text bytes before now a z) → HasRun (scan text) s left told told past past before now a z

@@ -1,7 +1,8 @@
-use Rattle.std.proofs.Common.{refl, sym}
+use Rattle.std.proofs.Common.{None, refl, sym}
 use Rattle.command_words.specs.Table.{explain, query}
 use Rattle.command_words.specs.Asked.{told_asked}
-use Rattle.indri_app.proofs.RunsOver.{scan-has_run}
+use Rattle.indri_app.specs.declared.status.Status.TheVariants.{Usage}
+use Rattle.indri_app.proofs.RunsOver.{not-plain, scan-has_run}
 use Rattle.indri_app.proofs.program.run_words.Goals as goal
 
 pub returns-in-Scan-clause-has_run : goal.returns-in-Scan-clause-has_run

@@ -88,7 +88,7 @@ returns-in-Err-clause-broken g c = λ k stands.
     want-begun-some c.in-Err.fault _ (asks.session c.args.mu) k _ _ _ _ (c.in-Err.ensures.honest k stands) refl (subst (λ f. StandsFor k f) (sym same) stands)
 
 pub returns-in-Err-clause-stops : goal.returns-in-Err-clause-stops
-returns-in-Err-clause-stops g c = λ k stands. stops-none _ (asks.session c.args.mu) k _ _ _ c.open_repository.ensures.quiet.no_more
+returns-in-Err-clause-stops g c = λ k stands. stops-none (g.T.Store.files c.args.store.now) (asks.session c.args.mu) k _ _ _ c.open_repository.ensures.quiet.no_more
 
 pub returns-in-Err-clause-honest : goal.returns-in-Err-clause-honest
 returns-in-Err-clause-honest g c = λ k stands. want-late c.in-Err.fault (c.in-Err.ensures.honest k stands)

@@ -1,0 +1,4 @@
+pub mod Aparts
+pub mod Beaten
+pub mod Counts
+pub mod Kepts

@@ -1,0 +1,18 @@
+use Rattle.std.proofs.Common.{rules, subst, sym}
+use Rattle.std.specs.BinaryHeap.{heap_items}
+use Rattle.bounded_keys.specs.Kept.{IsKept}
+use Rattle.bounded_keys.proofs.Kepts.{Keeps-more, Keeps-offered}
+use Rattle.bounded_keys.proofs.contenders.Contenders.offer.Goals as goal
+
+pub returns-then-len-self-clause-kept : goal.returns-then-len-self-clause-kept
+returns-then-len-self-clause-kept g c = λ all h.
+    let b = c.self.inside in
+    let kept = subst (IsKept g.T.Ord.cmp g.T.Leading.number all) (sym c.self.view_is) h in
+    Keeps-more g.T.Ord.cmp g.met.T.Ord.total g.T.Leading.number g.met.T.Leading.by_number b.most b.scale all (heap_items b.heap) b.near.items _ c.args.item (search rules) c.in_ok-push.ensures.permutation kept
+
+pub returns-clause-kept : goal.returns-clause-kept
+returns-clause-kept g c = λ all h.
+    let b = c.self.inside in
+    let kept = subst (IsKept g.T.Ord.cmp g.T.Leading.number all) (sym c.self.view_is) h in
+    Keeps-offered g.T.Ord.cmp g.met.T.Ord.total g.T.Leading.number g.met.T.Leading.by_number b.most b.scale all (heap_items b.heap) b.near.items (heap_items c.displaced-other.new.heap) c.keep_near.new.near.items
+    c.args.item c.displaced-other.result c.threshold_of-threshold.result c.threshold_of-threshold.ensures (λ others f. c.displaced-other.ensures.apart b.most all others (search rules) f) c.in_ok-keep_near.ensures kept

@@ -8,6 +8,7 @@ pub mod EndExits
 pub mod EventExits
 pub mod Exits
 pub mod FlushExits
+pub mod Found
 pub mod FormLemmas
 pub mod Frames
 pub mod Keeping

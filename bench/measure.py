@@ -20,8 +20,8 @@ The inputs are made in a temporary folder, the same ones each time, and so are t
     matches       131,072 documents of 20 words: queries of a word, of three words, of a phrase and of a window, of which 128 to
                   131,072 documents have each
     delete        60,000 documents of 25 words, of which one, a tenth or all are deleted, and a query behind it
-    merge         60,000 documents of 25 words, and 6,000 of 300 words, in four segments, all of them live or every second one:
-                  `merge`, against an `add` of the live ones alone
+    merge         60,000 documents of 25 words, and 6,000 of 300 words, in ten segments, all of them live or every second one:
+                  `merge`, against an `add` of all of them
     prior         100,000 rows of a prior, and a query with it, against the same query without
     windows       one document of 1,000,000 tokens, half of which are words of the windows: scans and queries
     fields        65,535 fields of distinct names, one inside the other; as many of one name, one inside the other and one
@@ -137,9 +137,10 @@ MATCHED = {"one{n}": 8, "one{n} two{n} three{n}": 16, "#1(one{n} two{n})": 16, "
 DELETE_MICROSECONDS = 8
 LIVE_TO_ALL = 1.2
 
-# A merge against an `add` of the same documents, which holds them in memory as parts: the most times of its time and its peak.
+# A merge against an `add` of the documents of its segments, which holds them in memory as parts: the most times of its time and its
+# peak. A merge reads what is dead too, so these are all documents, whether they are live or not.
 MERGED = ((60_000, 25), (6_000, 300))
-MERGE_PARTS = 4
+MERGE_PARTS = 10
 MERGE_TO_ADD = 3
 MERGE_PEAK_TO_ADD = 2
 
@@ -532,16 +533,8 @@ def measure_delete(table):
         table.row(f"delete {shown} of 60,000 documents", f"{times[shown]:7.1f} ms of {count}", cell, f"manifest {manifest} bytes", asked)
 
 
-def write_live(path, paths, every):
-    """The lines of these files, each of which is a document, without those of each so many. The answer is how many are left."""
-    lines = [line for part in paths for line in part.read_text().splitlines(keepends=True)]
-    live = [line for i, line in enumerate(lines) if every == 0 or i % every]
-    path.write_text("".join(live))
-    return len(live)
-
-
 def measure_merge(table):
-    live, docnos = table.folder / "live", table.folder / "docnos"
+    joined, docnos = table.folder / "joined", table.folder / "docnos"
     whole, begun, changed = table.folder / "whole", table.folder / "begun", table.folder / "merged"
     merge = Job(table.words(changed, "merge"), begun=begun, changed=changed)
     for most, words in MERGED:
@@ -550,13 +543,14 @@ def measure_merge(table):
         paths = [table.folder / f"part{i}" for i in range(MERGE_PARTS)]
         for i, path in enumerate(paths):
             inputs.short_documents(path, i * each, each, words)
+        joined.write_text("".join(part.read_text() for part in paths))
         table.collection(whole.name, *paths)
-        for shown, every in (("all live", 0), ("every second dead", 2)):
-            count = write_live(live, paths, every)
-            docnos.write_text("".join(f"d{i}\n" for i in range(0, each * MERGE_PARTS, every)) if every else "")
+        for shown, dead in (("all live", range(0)), ("every second dead", range(0, each * MERGE_PARTS, 2))):
+            docnos.write_text("".join(f"d{i}\n" for i in dead))
+            count = each * MERGE_PARTS - len(dead)
             copied(whole, begun)
             table.make(begun, "delete", path=docnos)
-            (added, held), (taken, peak) = table.best(table.add(live), merge)
+            (added, held), (taken, peak) = table.best(table.add(joined), merge)
             table.row(
                 f"merge, {most:,} documents of {words} words, {shown}",
                 f"{taken:7.3f} s",

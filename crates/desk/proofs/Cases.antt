@@ -4,14 +4,14 @@ use Rattle.std.specs.Prelude.{Result, Ok, Err, nat_le, nat_lt, is_some, slice_ge
 use Rattle.ri_base.specs.Documents.{Document}
 use Rattle.ri_base.specs.Expression.{ExprTree}
 use Rattle.query_check.specs.Check.{CheckedTree}
-use Rattle.collection_queries.specs.Priors.{names_with}
+use Rattle.desk.specs.Priors.{names_with}
 use Rattle.holdings.specs.Contents.{Answers}
 use Rattle.holdings.specs.Parts.{without}
 use Rattle.holdings.specs.declared.refusals.AddRefusal.TheVariants as add
 use Rattle.repository.specs.Stands.{Collection}
 use Rattle.session_events.specs.declared.event.Event.TheVariants as event
-use Rattle.session_replies.specs.declared.reply.Refusal.{Refusal}
-use Rattle.session_replies.specs.declared.reply.Refusal.TheVariants.{NameTaken, NoSuchName, NotYet, DeskFull, NoMerge, NoSuchRank, MergeOpen, Repeated, CollectionFull, NoSuchDoc}
+use Rattle.desk.specs.declared.reply.Refusal.{Refusal}
+use Rattle.desk.specs.declared.reply.Refusal.TheVariants.{NameTaken, NoSuchName, NotYet, DeskFull, NoMerge, NoSuchRank, MergeOpen, Repeated, CollectionFull, NoSuchDoc}
 use Rattle.desk.specs.Answers.{Entry}
 use Rattle.desk.specs.Asked.{asked, scanned}
 use Rattle.desk.specs.Points.{kept_behind}

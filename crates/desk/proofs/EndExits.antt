@@ -16,7 +16,7 @@ use Rattle.repository.specs.States.{ReadsAs, kept_numbers, listed_numbers}
 use Rattle.repository.specs.Writes.{AreGone, IsBeside, IsEither, IsSavedAs, Writes, Wrote}
 use Rattle.repository.proofs.KeepLemmas.{backed-merge}
 use Rattle.session_events.specs.declared.event.Event.TheVariants as event
-use Rattle.session_replies.specs.declared.reply.Reply.TheVariants as reply
+use Rattle.desk.specs.declared.reply.Reply.TheVariants as reply
 use Rattle.desk.specs.Backed.{IsDeskBacked, IsMergeBacked, Keeps, Steps, StepsTo, merge_of, state_of}
 use Rattle.desk.specs.Points.{kept_behind}
 use Rattle.desk.specs.Queries.{IsCacheKept, IsQueryBacked}

@@ -7,9 +7,9 @@ use Rattle.holdings.specs.declared.limits.Limits.{Limits}
 use Rattle.repository.specs.Stands.{Collection}
 use Rattle.repository.specs.States.{ReadsAs}
 use Rattle.session_events.specs.declared.event.Event.{Event}
-use Rattle.session_replies.specs.declared.reply.Refusal.{Refusal}
-use Rattle.session_replies.specs.declared.reply.Reply.{Reply}
-use Rattle.session_replies.specs.declared.reply.Reply.TheVariants as reply
+use Rattle.desk.specs.declared.reply.Refusal.{Refusal}
+use Rattle.desk.specs.declared.reply.Reply.{Reply}
+use Rattle.desk.specs.declared.reply.Reply.TheVariants as reply
 use Rattle.desk.specs.Backed.{IsDeskBacked, Keeps, Steps, merge_of, state_of}
 use Rattle.desk.specs.Queries.{query_of}
 use Rattle.desk.specs.State.{Merge, Query, State}

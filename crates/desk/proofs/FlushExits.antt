@@ -16,7 +16,7 @@ use Rattle.repository.specs.States.{ReadsAs, listed_numbers, part_numbers}
 use Rattle.repository.specs.Writes.{IsBeside, IsEither, IsSavedAs, Writes, Wrote}
 use Rattle.repository.proofs.NumberLemmas.{among-behind, among-either, among-left}
 use Rattle.session_events.specs.declared.event.Event.TheVariants as event
-use Rattle.session_replies.specs.declared.reply.Reply.TheVariants as reply
+use Rattle.desk.specs.declared.reply.Reply.TheVariants as reply
 use Rattle.desk.specs.Backed.{IsDeskBacked, Keeps, Steps, merge_of, state_of}
 use Rattle.desk.specs.Points.{kept_behind}
 use Rattle.desk.specs.Queries.{priors_in}

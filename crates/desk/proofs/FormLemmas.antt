@@ -8,9 +8,9 @@ use Rattle.query_check.specs.declared.checked.Checked.{Checked}
 use Rattle.belief_nodes.specs.Network.{network_tree}
 use Rattle.ranked_output.specs.Marks.{IsScale}
 use Rattle.ranker.specs.Windows.{AreWindows}
-use Rattle.collection_queries.proofs.SearchLemmas.{as-few, as-many-beliefs}
+use Rattle.desk.proofs.SearchLemmas.{as-few, as-many-beliefs}
 use Rattle.session_events.specs.declared.event.TheConstants.{MAX_RESULTS}
-use Rattle.session_replies.specs.Told.{AreResults, leaf_count}
+use Rattle.desk.specs.Replied.{AreResults, leaf_count}
 use Rattle.desk.specs.Keeping.{IsOpen}
 use Rattle.desk.specs.declared.query.OpenQuery.{OpenQuery}
 

@@ -22,8 +22,8 @@ use Rattle.repository.specs.States.{IsBacked, listed_numbers, part_numbers}
 use Rattle.repository.specs.Steps.{with_held}
 use Rattle.repository.specs.Writes.{IsBeside}
 use Rattle.query_check.specs.Answers.{whole_checked}
-use Rattle.collection_queries.specs.Priors.{priors_with}
-use Rattle.collection_queries.proofs.AnswerLemmas.{empty-cache, empty-sums}
+use Rattle.desk.specs.Priors.{priors_with}
+use Rattle.desk.proofs.AnswerLemmas.{empty-cache, empty-sums}
 use Rattle.ranker.specs.Ranking.{query_network}
 use Rattle.ranker.specs.Searches.{IsTaken}
 use Rattle.desk.proofs.Frames.{Stay, backed-same, cache-same, listed-stays, live-same, taken-same}

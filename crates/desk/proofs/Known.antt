@@ -11,7 +11,7 @@ use Rattle.query_check.specs.Leaves as leaves
 use Rattle.query_check.specs.Leaves.{LeafTree}
 use Rattle.belief_nodes.specs.Priors as nodes
 use Rattle.belief_nodes.specs.Priors.{no_prior, prior_at, prior_fraction}
-use Rattle.collection_queries.specs.Priors.{kept_prior, length_prior, priors_with, run_priors}
+use Rattle.desk.specs.Priors.{kept_prior, length_prior, priors_with, run_priors}
 use Rattle.repository.specs.Stands.{Prior}
 use Rattle.desk.specs.Keeping.{AsksFor}
 use Rattle.desk.specs.Plugs.{ArePlugs, IsPlugOf}

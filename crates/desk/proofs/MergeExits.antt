@@ -23,8 +23,8 @@ use Rattle.repository.specs.States.{IsBacked, ReadsAs, listed_numbers, part_numb
 use Rattle.repository.specs.Writes.{IsBeside}
 use Rattle.repository.proofs.SaveLemmas.{numbers-sealed}
 use Rattle.session_events.specs.declared.event.Event.TheVariants as event
-use Rattle.session_replies.specs.declared.reply.Reply.TheVariants as reply
-use Rattle.session_replies.specs.declared.reply.Refusal.TheVariants.{MergeOpen}
+use Rattle.desk.specs.declared.reply.Reply.TheVariants as reply
+use Rattle.desk.specs.declared.reply.Refusal.TheVariants.{MergeOpen}
 use Rattle.desk.specs.Backed.{IsDeskBacked, IsMergeBacked, Keeps, Steps, merge_of, state_of}
 use Rattle.desk.specs.Queries.{AreListed, IsCacheKept, priors_in}
 use Rattle.desk.specs.State.{Merge, collection_of, opened_merge, turned_merge}

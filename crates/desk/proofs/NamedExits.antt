@@ -16,10 +16,10 @@ use Rattle.holdings.proofs.LiveLemmas.{docnos-live}
 use Rattle.ranker.specs.Ranking.{IsAnswerBy}
 use Rattle.ranker.specs.Searches.{IsAnswerOf, filters_of, searched}
 use Rattle.ranker.proofs.PlaceLemmas.{credit-le}
-use Rattle.collection_queries.specs.Priors.{priors_with}
+use Rattle.desk.specs.Priors.{priors_with}
 use Rattle.session_events.specs.declared.event.Event.TheVariants as event
-use Rattle.session_replies.specs.declared.reply.Reply.TheVariants as reply
-use Rattle.session_replies.specs.declared.reply.Refusal.TheVariants.{NotYet}
+use Rattle.desk.specs.declared.reply.Reply.TheVariants as reply
+use Rattle.desk.specs.declared.reply.Refusal.TheVariants.{NotYet}
 use Rattle.desk.specs.Answers.{answer, entry_of}
 use Rattle.desk.specs.Backed.{IsDeskBacked, Keeps, Steps, state_of}
 use Rattle.desk.specs.Queries.{IsCacheKept, IsQueryBacked, priors_in, query_of}

@@ -28,13 +28,13 @@ use Rattle.ranker.specs.Searches.{IsTaken, searched}
 use Rattle.ranker.specs.declared.search.Search.{Search}
 use Rattle.repository.specs.States as repositories
 use Rattle.repository.specs.States.{part_numbers}
-use Rattle.collection_queries.specs.Priors.{priors_with}
+use Rattle.desk.specs.Priors.{priors_with}
 use Rattle.session_events.specs.declared.event.Event.TheVariants as event
 use Rattle.session_events.specs.declared.event.TheConstants.{MAX_RESULTS}
-use Rattle.session_replies.specs.declared.reply.Refusal.{Refusal}
-use Rattle.session_replies.specs.declared.reply.Refusal.TheVariants.{DeskFull, NameTaken}
-use Rattle.session_replies.specs.declared.reply.Reply.{Reply}
-use Rattle.session_replies.specs.declared.reply.Reply.TheVariants as reply
+use Rattle.desk.specs.declared.reply.Refusal.{Refusal}
+use Rattle.desk.specs.declared.reply.Refusal.TheVariants.{DeskFull, NameTaken}
+use Rattle.desk.specs.declared.reply.Reply.{Reply}
+use Rattle.desk.specs.declared.reply.Reply.TheVariants as reply
 use Rattle.desk.specs.Asked.{asked}
 use Rattle.desk.specs.Backed.{IsDeskBacked, Keeps, Steps, StepsTo, state_of}
 use Rattle.desk.specs.Keeping.{AsksFor, IsOpen}

@@ -22,10 +22,10 @@ use Rattle.true_order.specs.Ranked.{hit_beliefs}
 use Rattle.true_order.specs.TrueOrder.{IsTrueOrder}
 use Rattle.ranker.specs.Ranking.{IsAnswerBy, IsRankingBy, query_candidates, query_network}
 use Rattle.ranker.specs.Searches.{IsAnswerOf, filters_of, searched}
-use Rattle.collection_queries.specs.Priors.{priors_with}
+use Rattle.desk.specs.Priors.{priors_with}
 use Rattle.session_events.specs.declared.event.Event.TheVariants as event
-use Rattle.session_replies.specs.declared.reply.Refusal.{Refusal}
-use Rattle.session_replies.specs.declared.reply.Reply.TheVariants as reply
+use Rattle.desk.specs.declared.reply.Refusal.{Refusal}
+use Rattle.desk.specs.declared.reply.Reply.TheVariants as reply
 use Rattle.sorted_front.specs.Front.{in_order}
 use Rattle.sorted_front.proofs.FrontLemmas.{ranking_shows}
 use Rattle.desk.specs.Answers.{Entry, beliefs_behind, entry, entry_of, entry_order}

@@ -5,13 +5,13 @@ use Rattle.ri_base.specs.Expression.{ExprTree}
 use Rattle.ri_base.specs.declared.seg_fault.SegFault.{SegFault}
 use Rattle.store_ends.specs.Files.{Files}
 use Rattle.query_check.specs.Check.{CheckedTree}
-use Rattle.collection_queries.specs.Priors.{names_with}
+use Rattle.desk.specs.Priors.{names_with}
 use Rattle.holdings.specs.declared.limits.Limits.{Limits}
 use Rattle.repository.specs.Stands.{Collection, Stands}
 use Rattle.session_events.specs.declared.event.Event.{Event}
 use Rattle.session_events.specs.declared.event.Event.TheVariants as event
-use Rattle.session_replies.specs.declared.reply.Refusal.{Refusal}
-use Rattle.session_replies.specs.declared.reply.Reply.{Reply}
+use Rattle.desk.specs.declared.reply.Refusal.{Refusal}
+use Rattle.desk.specs.declared.reply.Reply.{Reply}
 use Rattle.desk.specs.Answers.{Entry}
 use Rattle.desk.specs.Asked.{asked, scanned}
 use Rattle.desk.specs.Points.{kept_behind, may_write}

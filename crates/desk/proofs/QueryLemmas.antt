@@ -15,7 +15,7 @@ use Rattle.ranker.specs.Ranking.{query_network}
 use Rattle.ranker.specs.Searches.{IsSameSearch, IsTaken, searched}
 use Rattle.ranker.specs.declared.search.Search.{Search}
 use Rattle.repository.specs.States.{State, part_numbers}
-use Rattle.collection_queries.specs.Priors.{priors_with}
+use Rattle.desk.specs.Priors.{priors_with}
 use Rattle.desk.specs.Backed.{Keeps}
 use Rattle.desk.specs.Keeping.{AsksFor}
 use Rattle.desk.specs.Plugs.{ArePlugs}

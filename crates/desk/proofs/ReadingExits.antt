@@ -21,13 +21,13 @@ use Rattle.result_explanation.specs.Explanation.{IsExplanation}
 use Rattle.ranker.specs.Searches.{searched}
 use Rattle.repository.specs.Stands.{Prior}
 use Rattle.repository.specs.States as repositories
-use Rattle.collection_queries.specs.Answer.{document_with}
-use Rattle.collection_queries.specs.Priors.{names_with, priors_with}
+use Rattle.desk.specs.Answer.{document_with}
+use Rattle.desk.specs.Priors.{names_with, priors_with}
 use Rattle.session_events.specs.declared.event.Event.{Event}
 use Rattle.session_events.specs.declared.event.Event.TheVariants as event
-use Rattle.session_replies.specs.declared.reply.Refusal.{Refusal}
-use Rattle.session_replies.specs.declared.reply.Reply.TheVariants as reply
-use Rattle.session_replies.specs.declared.reply.Refusal.TheVariants.{NoSuchRank}
+use Rattle.desk.specs.declared.reply.Refusal.{Refusal}
+use Rattle.desk.specs.declared.reply.Reply.TheVariants as reply
+use Rattle.desk.specs.declared.reply.Refusal.TheVariants.{NoSuchRank}
 use Rattle.desk.specs.Answers.{Entry, answer, entry_of}
 use Rattle.desk.specs.Asked.{scanned}
 use Rattle.desk.specs.Backed.{IsDeskBacked, Keeps, Steps, state_of}

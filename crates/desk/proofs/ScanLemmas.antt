@@ -12,7 +12,7 @@ use Rattle.disk_index.specs.Parts.{reads, size}
 use Rattle.disk_index.specs.Snapshots.{Marked, live, live_in, unmarked}
 use Rattle.disk_index.proofs.RebuiltLemmas.{reads-length}
 use Rattle.ranker.specs.Passed.{live_before}
-use Rattle.collection_queries.proofs.ListLemmas.{mapped-more}
+use Rattle.desk.proofs.ListLemmas.{mapped-more}
 use Rattle.desk.specs.Scanning.{extents_in, lines_of}
 
 -- one extent more

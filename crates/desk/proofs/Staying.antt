@@ -3,10 +3,10 @@ use Rattle.std.proofs.Common.{◌≡◌, refl, ℕ, ◌+◌, Bool, true, false, 
 use Rattle.std.specs.Prelude.{Result, Ok, Err, if◌then◌else◌, is_some, nat_le, nat_lt, slice_get, ◌-◌}
 use Rattle.ri_base.specs.Expression.{ExprTree}
 use Rattle.query_check.specs.Check.{CheckedTree}
-use Rattle.collection_queries.specs.Priors.{names_with}
+use Rattle.desk.specs.Priors.{names_with}
 use Rattle.session_events.specs.declared.event.Event.{Event}
 use Rattle.session_events.specs.declared.event.Event.TheVariants as event
-use Rattle.session_replies.specs.declared.reply.Refusal.{Refusal}
+use Rattle.desk.specs.declared.reply.Refusal.{Refusal}
 use Rattle.desk.specs.Answers.{Entry}
 use Rattle.desk.specs.Asked.{asked, scanned}
 use Rattle.desk.specs.State.{Merge, Query, State, named}

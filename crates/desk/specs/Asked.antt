@@ -11,10 +11,10 @@ use Rattle.query_check.specs.declared.fault.CheckFault.{CheckFault}
 use Rattle.query_check.specs.declared.fault.CheckFault.TheVariants as fault
 use Rattle.desk.specs.declared.asking.NotTaken.{NotTaken}
 use Rattle.desk.specs.declared.asking.NotTaken.TheVariants as not_taken
-use Rattle.session_replies.specs.declared.reply.CheckKind.{CheckKind}
-use Rattle.session_replies.specs.declared.reply.CheckKind.TheVariants as kind
-use Rattle.session_replies.specs.declared.reply.Refusal.{Refusal}
-use Rattle.session_replies.specs.declared.reply.Refusal.TheVariants as refusal
+use Rattle.desk.specs.declared.reply.CheckKind.{CheckKind}
+use Rattle.desk.specs.declared.reply.CheckKind.TheVariants as kind
+use Rattle.desk.specs.declared.reply.Refusal.{Refusal}
+use Rattle.desk.specs.declared.reply.Refusal.TheVariants as refusal
 
 -- the kind of a fault; a query is never checked to be short of memory
 abbrev pub kind_of : CheckFault → CheckKind

@@ -20,7 +20,7 @@ use Rattle.desk.specs.State.{Merge, State}
 use Rattle.desk.specs.Step.{step}
 use Rattle.desk.specs.Told.{Shows, Told}
 use Rattle.desk.specs.declared.query.OpenQuery.{OpenQuery}
-use Rattle.session_replies.specs.declared.reply.Reply.{Reply}
+use Rattle.desk.specs.declared.reply.Reply.{Reply}
 
 -- what a desk keeps
 pub record Keeps : Type 0 where

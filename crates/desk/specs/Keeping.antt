@@ -6,14 +6,14 @@ use Rattle.query_check.specs.Leaves.{LeafTree, extents, prior}
 use Rattle.belief_nodes.specs.Network.{network_tree}
 use Rattle.counts.specs.Kept.{Kept}
 use Rattle.holdings.specs.MarkedParts.{docnos_of}
-use Rattle.collection_queries.specs.Searching.{HasNetwork}
+use Rattle.desk.specs.Searching.{HasNetwork}
 use Rattle.repository.specs.States.{State}
 use Rattle.session_events.specs.declared.event.TheConstants.{MAX_RESULTS}
 use Rattle.desk.specs.Backed.{Keeps}
 use Rattle.desk.specs.declared.query.TheConstants.{MAX_QUERIES}
 use Rattle.desk.specs.declared.query.OpenQuery.{OpenQuery}
-use Rattle.session_replies.specs.declared.reply.Reply.{Reply}
-use Rattle.session_replies.specs.declared.reply.Reply.TheVariants as reply
+use Rattle.desk.specs.declared.reply.Reply.{Reply}
+use Rattle.desk.specs.declared.reply.Reply.TheVariants as reply
 
 -- a leaf is no prior, or one of the first so many, or that of the lengths, which is the ninth
 abbrev pub AsksFor : ℕ → LeafTree → Type 0

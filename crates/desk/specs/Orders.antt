@@ -2,11 +2,11 @@
 use Rattle.std.specs.Prelude.{Option, Some}
 use Rattle.ranked_output.specs.Texts.{lines_of}
 use Rattle.true_order.specs.TrueOrder.{IsTrueOrder}
-use Rattle.collection_queries.specs.Priors.{priors_with}
+use Rattle.desk.specs.Priors.{priors_with}
 use Rattle.session_events.specs.declared.event.Event.{Event}
 use Rattle.session_events.specs.declared.event.Event.TheVariants as event
-use Rattle.session_replies.specs.declared.reply.Reply.{Reply}
-use Rattle.session_replies.specs.declared.reply.Reply.TheVariants.{Results}
+use Rattle.desk.specs.declared.reply.Reply.{Reply}
+use Rattle.desk.specs.declared.reply.Reply.TheVariants.{Results}
 use Rattle.desk.specs.Answers.{beliefs_behind}
 use Rattle.desk.specs.State.{Query, State, named}
 

@@ -3,7 +3,7 @@ use Rattle.std.specs.Prelude.{◌≡◌, ◌<◌, ℕ, [], List, length, slice_i
 use Rattle.belief_nodes.specs.Priors as nodes
 use Rattle.belief_nodes.specs.Priors.{no_prior}
 use Rattle.repository.specs.Stands.{Prior}
-use Rattle.collection_queries.specs.Priors.{kept_prior, length_prior}
+use Rattle.desk.specs.Priors.{kept_prior, length_prior}
 
 -- a plug has just the rows and the rest of a stored prior
 pub record IsPlugOf (p : Prior) (plug : nodes.Prior) : Type 0 where

@@ -14,7 +14,7 @@ use Rattle.repository.specs.Names.{prior_name}
 use Rattle.repository.specs.Numbers.{is_among}
 use Rattle.repository.specs.Stands.{Prior}
 use Rattle.repository.specs.States.{State, listed_numbers, part_numbers}
-use Rattle.collection_queries.specs.Priors.{priors_with}
+use Rattle.desk.specs.Priors.{priors_with}
 use Rattle.desk.specs.State.{Query}
 use Rattle.desk.specs.declared.query.OpenQuery.{OpenQuery}
 

@@ -6,9 +6,9 @@ use Rattle.holdings.specs.declared.refusals.AddRefusal.{AddRefusal}
 use Rattle.holdings.specs.declared.refusals.AddRefusal.TheVariants as add
 use Rattle.repository.specs.declared.turned.Turned.{Turned}
 use Rattle.repository.specs.declared.turned.Turned.TheVariants as turn
-use Rattle.session_replies.specs.declared.reply.Refusal.TheVariants as refusal
-use Rattle.session_replies.specs.declared.reply.Reply.{Reply}
-use Rattle.session_replies.specs.declared.reply.Reply.TheVariants as reply
+use Rattle.desk.specs.declared.reply.Refusal.TheVariants as refusal
+use Rattle.desk.specs.declared.reply.Reply.{Reply}
+use Rattle.desk.specs.declared.reply.Reply.TheVariants as reply
 
 -- a document that isn't added is refused so, or memory was wanting
 abbrev pub not_added : AddRefusal → Result Reply SegFault

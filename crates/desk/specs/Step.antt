@@ -6,8 +6,8 @@ use Rattle.ri_base.specs.Documents.{Document}
 use Rattle.ri_base.specs.Expression.{ExprTree}
 use Rattle.query_check.specs.Check.{CheckedTree}
 use Rattle.document_scoring.specs.Counts.{stats_of}
-use Rattle.collection_queries.specs.Answer.{document_with}
-use Rattle.collection_queries.specs.Priors.{names_with, priors_with}
+use Rattle.desk.specs.Answer.{document_with}
+use Rattle.desk.specs.Priors.{names_with, priors_with}
 use Rattle.holdings.specs.Parts.{without}
 use Rattle.session_events.specs.declared.event.Event.{Event}
 use Rattle.session_events.specs.declared.event.Event.TheVariants as event
@@ -18,8 +18,8 @@ use Rattle.desk.specs.State.{Merge, Query, State, closed, merged, named, opened,
 use Rattle.desk.specs.Told as told
 use Rattle.desk.specs.Told.{Told}
 use Rattle.desk.specs.declared.query.TheConstants.{MAX_QUERIES}
-use Rattle.session_replies.specs.declared.reply.Refusal.{Refusal}
-use Rattle.session_replies.specs.declared.reply.Refusal.TheVariants.{NameTaken, NoSuchName, NotYet, DeskFull, NoMerge, NoSuchRank, MergeOpen, Repeated, CollectionFull, NoSuchDoc}
+use Rattle.desk.specs.declared.reply.Refusal.{Refusal}
+use Rattle.desk.specs.declared.reply.Refusal.TheVariants.{NameTaken, NoSuchName, NotYet, DeskFull, NoMerge, NoSuchRank, MergeOpen, Repeated, CollectionFull, NoSuchDoc}
 
 abbrev pub refuse : State → Refusal → State × Told
 refuse s why = (s, told.refused why)

@@ -8,10 +8,10 @@ use Rattle.query_check.specs.Check.{CheckedTree}
 use Rattle.ranked_output.specs.declared.explained.Explained.{Explained}
 use Rattle.result_explanation.specs.Explanation.{IsExplanation}
 use Rattle.desk.specs.Answers.{Entry, entry_of}
-use Rattle.session_replies.specs.declared.reply.Refusal.{Refusal}
-use Rattle.session_replies.specs.declared.reply.Refusal.TheVariants.{NoSuchRank}
-use Rattle.session_replies.specs.declared.reply.Reply.{Reply}
-use Rattle.session_replies.specs.declared.reply.Reply.TheVariants as reply
+use Rattle.desk.specs.declared.reply.Refusal.{Refusal}
+use Rattle.desk.specs.declared.reply.Refusal.TheVariants.{NoSuchRank}
+use Rattle.desk.specs.declared.reply.Reply.{Reply}
+use Rattle.desk.specs.declared.reply.Reply.TheVariants as reply
 
 -- a line of an answer, with the document in which it was found and all that it rests on
 pub record Line : Type 0 where

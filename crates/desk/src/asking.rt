@@ -9,7 +9,7 @@ ghost use Rattle.desk.specs.Keeping.{AsksFor};
 use query_check::{CheckFault, Checked, check};
 use query_reader::{QueryFault, read_expr, read_query};
 use ri_base::{ExtentExpr, Name};
-use session_replies::{CheckKind, Refusal};
+use crate::{CheckKind, Refusal};
 use std::alloc::Global;
 use std::str;
 

@@ -12,7 +12,7 @@ ghost use Rattle.desk.specs.Backed.{IsDeskBacked, IsMergeBacked, IsUsable, Steps
 ghost use Rattle.desk.specs.Keeping.{StaysIfRefused};
 ghost use Rattle.desk.specs.Points.{is_inside, kept_behind, may_write, needs_hits};
 ghost use Rattle.desk.specs.Queries.{priors_in};
-ghost use Rattle.session_replies.specs.Told.{IsReply};
+ghost use Rattle.desk.specs.Replied.{IsReply};
 ghost use Rattle.desk.specs.Orders.{IsTrueReply};
 ghost use Rattle.desk.specs.Plugs.{ArePlugs};
 ghost use Rattle.desk.specs.Step.{step};
@@ -23,7 +23,7 @@ use belief_nodes::BeliefNode;
 use repository::Repository;
 use ri_base::{Fraction, NoMemory, SegFault};
 use session_events::Event;
-use session_replies::Reply;
+use crate::Reply;
 use smoothing::Rule;
 use std::alloc::Global;
 use store_ends::Store;

@@ -16,7 +16,7 @@ ghost use Rattle.desk.specs.Scanning.{extents_in, lines_of};
 use disk_index::{BlockCache, MarkedPart, Part, PartReader};
 use extent_evaluation::{extents, extents_have_one_list};
 use ri_base::{Docno, ExtentExpr, Extents, NoMemory, SegFault};
-use session_replies::Scanned;
+use crate::Scanned;
 use std::alloc::Global;
 use store_ends::Store;
 

@@ -16,7 +16,7 @@ mod store_tests;
 mod tests;
 
 use belief_nodes::{BeliefNode, TablePlug};
-use collection_queries::length_plug;
+use desk::length_plug;
 use indri_app::{Status, run};
 use ri_base::{ArgList, NoMemory};
 use ri_ends::{Sink, Source, StdSink, StdSource};

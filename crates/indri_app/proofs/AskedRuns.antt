@@ -14,8 +14,8 @@ use Rattle.command_pieces.specs.declared.command_fault.CommandFault.TheVariants 
 use Rattle.repository.specs.Names.{manifest_name}
 use Rattle.repository.specs.RealLimits.{StandsFor}
 use Rattle.repository.specs.Stands.{Collection}
-use Rattle.collection_queries.specs.Priors.{names_with}
-use Rattle.collection_queries.specs.Shown.{Shown, explanation, shown_for}
+use Rattle.desk.specs.Priors.{names_with}
+use Rattle.desk.specs.Shown.{Shown, explanation, shown_for}
 use Rattle.indri_app.specs.Asked.{IsAsked, IsBrokenOver, IsIntact, IsIntactWithPriors}
 use Rattle.indri_app.specs.Command.{AreAnswer, ArePieces, IsAskedBy, NeedsRepository, ShowsInOrder, query_refusal, text_refusal}
 use Rattle.indri_app.specs.LastLines.{IsClosed}

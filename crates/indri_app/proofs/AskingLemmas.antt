@@ -17,8 +17,8 @@ use Rattle.command_pieces.specs.declared.command_fault.CommandFault.TheVariants 
 use Rattle.manifest.specs.declared.manifest.PriorEntry.{PriorEntry}
 use Rattle.repository.specs.Names.{manifest_name}
 use Rattle.repository.specs.Stands.{Collection, IsPriorListed, Prior as Kept}
-use Rattle.collection_queries.specs.Priors.{names_with, priors_with}
-use Rattle.collection_queries.specs.Shown.{Shown}
+use Rattle.desk.specs.Priors.{names_with, priors_with}
+use Rattle.desk.specs.Shown.{Shown}
 use Rattle.indri_app.specs.Asked.{IfRefused, IsAnswerOver, IsAskBroken, IsAskFault, IsAsked, IsBrokenOver, IsFaultOver, IsOpenAskFault, ask_fault}
 use Rattle.indri_app.specs.Command.{IsQuery, query_refusal}
 use Rattle.indri_app.specs.Opened.{IsAbsentFault, IsFileFault, IsOpenFault}

@@ -24,7 +24,7 @@ use Rattle.command_pieces.proofs.Lifting.{Finished-lifted, broken-lifted, refuse
 use Rattle.document_handlers.specs.Work.{input_pieces, scanning}
 use Rattle.repository.specs.RealLimits.{StandsFor}
 use Rattle.repository.specs.Stands.{Collection}
-use Rattle.collection_queries.specs.Priors.{names_with}
+use Rattle.desk.specs.Priors.{names_with}
 use Rattle.indri_app.specs.Command.{ArePieces, expr_refusal, text_refusal}
 use Rattle.indri_app.specs.LastLines.{read_line}
 use Rattle.indri_app.specs.Runs.{IsEnded, IsPlainStatus, IsReplyStatus, RunsTo, ScansFor, ScansTo, Tells, WritesBy, items_answer}

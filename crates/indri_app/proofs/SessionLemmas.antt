@@ -15,9 +15,9 @@ use Rattle.repository.specs.Stands.{Collection, IsPriorListed, Prior}
 use Rattle.repository.specs.States.{State}
 use Rattle.script_reader.specs.Items.{items}
 use Rattle.smoothing.specs.declared.rule.RuleKind.TheVariants.{Dirichlet}
-use Rattle.sessions.specs.Faults.{IsSessionFault}
-use Rattle.sessions.specs.Orders.{AreTrue}
-use Rattle.sessions.specs.Sessions.{Grows, begun}
+use Rattle.indri_app.specs.Faults.{IsSessionFault}
+use Rattle.indri_app.specs.Orders.{AreTrue}
+use Rattle.indri_app.specs.Sessions.{Grows, begun}
 use Rattle.indri_app.specs.Asked.{IsIntactWithPriors}
 use Rattle.indri_app.specs.Changes.{IsFoundFirst, IsOverFault}
 use Rattle.indri_app.specs.Command.{ShowsInOrder}

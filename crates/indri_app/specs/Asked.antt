@@ -16,9 +16,9 @@ use Rattle.repository.specs.Names.{manifest_name}
 use Rattle.repository.specs.Opening.{IsRepositoryOpened}
 use Rattle.repository.specs.Stands.{Collection, IsPriorListed, Prior}
 use Rattle.repository.specs.States.{State}
-use Rattle.collection_queries.specs.Answer.{IsAnswerText}
-use Rattle.collection_queries.specs.Priors.{names_with, priors_with}
-use Rattle.collection_queries.specs.Shown.{Shown}
+use Rattle.desk.specs.Answer.{IsAnswerText}
+use Rattle.desk.specs.Priors.{names_with, priors_with}
+use Rattle.desk.specs.Shown.{Shown}
 use Rattle.indri_app.specs.Command.{IsQuery, answer_piece, query_refusal}
 use Rattle.indri_app.specs.Opened.{IsFileFault, IsOpenFault, IsWant}
 use Rattle.indri_app.specs.declared.question.AskFault.{AskFault}

@@ -25,11 +25,11 @@ use Rattle.collection_commands.specs.Flushing.{delete_pieces, then_flushed}
 use Rattle.collection_commands.specs.Merging.{merge_pieces}
 use Rattle.collection_commands.specs.PriorSetting.{ArePriorPieces, name_refusal}
 use Rattle.script_reader.specs.Items.{items}
-use Rattle.sessions.specs.Orders.{AreTrue}
-use Rattle.sessions.specs.Sessions.{begun, session_pieces}
-use Rattle.collection_queries.specs.Answer.{IsAnswerText}
-use Rattle.collection_queries.specs.Priors.{names_with, priors_with}
-use Rattle.collection_queries.specs.Shown.{Shown, explanation, shown_for}
+use Rattle.indri_app.specs.Orders.{AreTrue}
+use Rattle.indri_app.specs.Sessions.{begun, session_pieces}
+use Rattle.desk.specs.Answer.{IsAnswerText}
+use Rattle.desk.specs.Priors.{names_with, priors_with}
+use Rattle.desk.specs.Shown.{Shown, explanation, shown_for}
 
 -- ---- words
 

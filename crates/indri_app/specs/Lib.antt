@@ -1,9 +1,16 @@
 pub mod Asked
 pub mod Changes
 pub mod Command
+pub mod Explanations
+pub mod Faults
 pub mod HasRun
+pub mod Items
 pub mod LastLines
 pub mod Opened
+pub mod Orders
+pub mod Results
 pub mod Runs
+pub mod Sessions
 pub mod Status
 pub mod Texts
+pub mod ToldTexts

@@ -19,8 +19,8 @@ use Rattle.query_refusals.specs.declared.refusal.QueryRefusal.TheVariants.{Text}
 use Rattle.repository.specs.RealLimits.{StandsFor}
 use Rattle.repository.specs.Stands.{Collection}
 use Rattle.collection_commands.specs.Creation.{IsMade, create_pieces}
-use Rattle.collection_queries.specs.Priors.{names_with}
-use Rattle.sessions.specs.Sessions.{Grows}
+use Rattle.desk.specs.Priors.{names_with}
+use Rattle.indri_app.specs.Sessions.{Grows}
 use Rattle.indri_app.specs.Command.{AreBegun, AreBegunBy, ArePieces, text_refusal}
 use Rattle.indri_app.specs.LastLines.{IsClosed, exists_line, last_line, read_line, store_line}
 use Rattle.indri_app.specs.declared.status.Status.{Status}

@@ -1,9 +1,9 @@
 // The texts of replies.
-ghost use Rattle.session_replies.specs.Told.{IsReply};
+ghost use Rattle.desk.specs.Replied.{IsReply};
 
 use query_reader::QueryKind;
 use ri_base::{Docno, Extent, Fractions, Hit, Hits, Name};
-use session_replies::{CheckKind, Refusal, Reply, Scanned, reply_text};
+use desk::{CheckKind, Refusal, Reply, Scanned, reply_text};
 use std::alloc::Global;
 use std::test::Fail;
 

@@ -1,6 +1,6 @@
 use Rattle.std.proofs.Common.{refl, subst, arith}
 use Rattle.repository.specs.Names.{manifest_name}
-use Rattle.collection_queries.specs.Shown.{told_shown}
+use Rattle.desk.specs.Shown.{told_shown}
 use Rattle.indri_app.specs.Opened.{IsOpenFault}
 use Rattle.indri_app.specs.Runs.{IsReplyStatus}
 use Rattle.indri_app.specs.Asked.{IsBrokenOver}

@@ -2,7 +2,7 @@ use Rattle.std.proofs.Common.{◌≡◌, ℕ, List, ap, length, map, sym, subst,
 use Rattle.std.proofs.lemmas.List.{length-map}
 use Rattle.manifest.specs.declared.manifest.PriorEntry.{PriorEntry}
 use Rattle.query_check.specs.Answers.{whole_checked}
-use Rattle.collection_queries.specs.Shown.{told_shown}
+use Rattle.desk.specs.Shown.{told_shown}
 use Rattle.indri_app.specs.Command.{IsQuery}
 use Rattle.indri_app.proofs.AskingLemmas.{asked-of, names-listed, text-not_store, text-only, text-refused}
 use Rattle.indri_app.proofs.question.ask_open.Goals as goal

@@ -6,7 +6,7 @@ use Rattle.repository.specs.RealLimits.{StandsFor}
 use Rattle.repository.specs.Stands.{Collection}
 use Rattle.smoothing.specs.declared.rule.RuleKind.TheVariants.{Dirichlet}
 use Rattle.collection_commands.specs.Ahead.{IsAhead}
-use Rattle.sessions.specs.Sessions.{session_pieces}
+use Rattle.indri_app.specs.Sessions.{session_pieces}
 use Rattle.indri_app.specs.Opened.{IsOpenFault}
 use Rattle.indri_app.proofs.ChangingLemmas.{goes-behind, open-over, quiet-goes_on, want-late}
 use Rattle.indri_app.proofs.Closing.{begun-by, done-by, stops-behind, stops-by, stops-none, want-begun-some}

@@ -5,8 +5,8 @@ use Rattle.holdings.specs.Parts.{is_live}
 use Rattle.holdings.specs.declared.refusals.AddRefusal.{AddRefusal}
 use Rattle.repository.specs.Steps.{with_held}
 use Rattle.session_events.specs.declared.event.Event.TheVariants as event
-use Rattle.session_replies.specs.declared.reply.Reply.{Reply}
-use Rattle.session_replies.specs.declared.reply.Reply.TheVariants as reply
+use Rattle.desk.specs.declared.reply.Reply.{Reply}
+use Rattle.desk.specs.declared.reply.Reply.TheVariants as reply
 use Rattle.desk.specs.Backed.{Keeps, Steps, state_of}
 use Rattle.desk.specs.Keeping.{StaysIfRefused}
 use Rattle.desk.proofs.Cases.{answers-ok, step-added}

@@ -1,8 +1,8 @@
 use Rattle.std.proofs.Common.{◌≡◌, ◌∙◌, ap, refl, subst, sym, List, None, Some}
 use Rattle.std.specs.List.{position}
 use Rattle.session_events.specs.declared.event.Event.TheVariants as event
-use Rattle.session_replies.specs.declared.reply.Reply.TheVariants as reply
-use Rattle.session_replies.specs.declared.reply.Refusal.TheVariants.{NoSuchName}
+use Rattle.desk.specs.declared.reply.Reply.TheVariants as reply
+use Rattle.desk.specs.declared.reply.Refusal.TheVariants.{NoSuchName}
 use Rattle.desk.specs.Backed.{Keeps, Steps, state_of}
 use Rattle.desk.specs.Keeping.{AreKept}
 use Rattle.desk.specs.declared.query.OpenQuery.{OpenQuery}

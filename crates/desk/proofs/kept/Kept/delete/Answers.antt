@@ -7,7 +7,7 @@ use Rattle.repository.specs.Stands.{Collection}
 use Rattle.repository.specs.States.{ReadsAs}
 use Rattle.repository.specs.Steps.{with_held, without_docno}
 use Rattle.session_events.specs.declared.event.Event.TheVariants as event
-use Rattle.session_replies.specs.declared.reply.Refusal.TheVariants.{NoSuchDoc}
+use Rattle.desk.specs.declared.reply.Refusal.TheVariants.{NoSuchDoc}
 use Rattle.desk.specs.Backed.{Keeps, state_of}
 use Rattle.desk.proofs.Cases.{step-deleted}
 use Rattle.desk.proofs.DocumentExits.{absent-step, delete-done, err-of, live-there, live-told, ok-of, refused-done, with_repository}

@@ -14,13 +14,13 @@ use Rattle.ranker.specs.Searches.{searched}
 use Rattle.ranker.specs.Windows.{IsWindowIn}
 use Rattle.result_explanation.specs.Explanation.{IsExplanation}
 use Rattle.repository.specs.States.{part_numbers}
-use Rattle.collection_queries.specs.Answer.{document_with}
-use Rattle.collection_queries.specs.Priors.{priors_with}
-use Rattle.collection_queries.proofs.ExplainedLemmas.{of_each}
-use Rattle.collection_queries.proofs.SearchLemmas.{as-many-leaves}
+use Rattle.desk.specs.Answer.{document_with}
+use Rattle.desk.specs.Priors.{priors_with}
+use Rattle.desk.proofs.ExplainedLemmas.{of_each}
+use Rattle.desk.proofs.SearchLemmas.{as-many-leaves}
 use Rattle.session_events.specs.declared.event.Event.TheVariants as event
-use Rattle.session_replies.specs.declared.reply.Reply.TheVariants as reply
-use Rattle.session_replies.specs.declared.reply.Refusal.TheVariants.{NoSuchName, NoSuchRank, NotYet}
+use Rattle.desk.specs.declared.reply.Reply.TheVariants as reply
+use Rattle.desk.specs.declared.reply.Refusal.TheVariants.{NoSuchName, NoSuchRank, NotYet}
 use Rattle.desk.specs.Backed.{IsDeskBacked, Keeps, Steps, state_of}
 use Rattle.desk.specs.Keeping.{IsOpen}
 use Rattle.desk.specs.Queries.{AreListed, IsCacheKept, IsQueryBacked, priors_in, query_of}

@@ -3,7 +3,7 @@ use Rattle.store_ends.specs.Files.{Leaves}
 use Rattle.repository.specs.Stands.{Collection, Stands}
 use Rattle.repository.specs.Writes.{IsEither}
 use Rattle.session_events.specs.declared.event.Event.TheVariants as event
-use Rattle.session_replies.specs.declared.reply.Reply.TheVariants as reply
+use Rattle.desk.specs.declared.reply.Reply.TheVariants as reply
 use Rattle.desk.specs.Backed.{Keeps, Steps, state_of}
 use Rattle.desk.specs.Points.{kept_behind}
 use Rattle.desk.specs.Step.{step}

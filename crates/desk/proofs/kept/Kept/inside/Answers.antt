@@ -1,7 +1,7 @@
 use Rattle.std.proofs.Common.{refl, subst, sym, Option}
 use Rattle.store_ends.specs.Files.{Files}
 use Rattle.session_events.specs.declared.event.Event.{Event}
-use Rattle.session_replies.specs.declared.reply.Reply.{Reply}
+use Rattle.desk.specs.declared.reply.Reply.{Reply}
 use Rattle.desk.specs.Backed.{IsDeskBacked, state_of}
 use Rattle.desk.specs.Keeping.{StaysIfRefused}
 use Rattle.desk.specs.Orders.{IsTrueReply}

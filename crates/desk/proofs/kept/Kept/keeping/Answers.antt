@@ -1,6 +1,6 @@
 use Rattle.std.proofs.Common.{◌≡◌, ◌∙◌, Option, sym}
 use Rattle.store_ends.specs.Files.{Files}
-use Rattle.session_replies.specs.declared.reply.Reply.{Reply}
+use Rattle.desk.specs.declared.reply.Reply.{Reply}
 use Rattle.desk.specs.Backed.{IsDeskBacked, Steps, state_of}
 use Rattle.desk.specs.Orders.{IsTrueReply}
 use Rattle.desk.specs.Points.{is_inside}

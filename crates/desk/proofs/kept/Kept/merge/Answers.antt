@@ -2,8 +2,8 @@ use Rattle.std.proofs.Common.{◌≡◌, ◌∙◌, true, ap, refl, sym, None}
 use Rattle.std.specs.Prelude.{is_some}
 use Rattle.std.specs.Option.{option_map}
 use Rattle.session_events.specs.declared.event.Event.TheVariants as event
-use Rattle.session_replies.specs.declared.reply.Reply.TheVariants as reply
-use Rattle.session_replies.specs.declared.reply.Refusal.TheVariants.{MergeOpen}
+use Rattle.desk.specs.declared.reply.Reply.TheVariants as reply
+use Rattle.desk.specs.declared.reply.Refusal.TheVariants.{MergeOpen}
 use Rattle.desk.specs.Backed.{Keeps, Steps, merge_of, state_of}
 use Rattle.desk.proofs.Cases.{step-merging}
 use Rattle.desk.proofs.Exits.{accepted-by, of-now, refused-by, refused-exit}

@@ -12,7 +12,7 @@ use Rattle.disk_index.specs.Snapshots.{Marked}
 use Rattle.document_scoring.specs.Counts.{stats_of}
 use Rattle.counts.specs.Kept.{AreSums}
 use Rattle.repository.specs.States as repositories
-use Rattle.session_replies.specs.declared.reply.Refusal.TheVariants.{DeskFull, NameTaken}
+use Rattle.desk.specs.declared.reply.Refusal.TheVariants.{DeskFull, NameTaken}
 use Rattle.desk.specs.Backed.{IsDeskBacked, Keeps}
 use Rattle.desk.specs.Keeping.{AreKept, AsksFor, IsOpen}
 use Rattle.desk.specs.declared.query.OpenQuery.{OpenQuery}

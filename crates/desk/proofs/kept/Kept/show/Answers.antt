@@ -5,11 +5,11 @@ use Rattle.ri_base.specs.declared.hit.Hit.{Hit}
 use Rattle.query_check.specs.Answers.{whole_checked}
 use Rattle.query_check.specs.declared.checked.Checked.{Checked}
 use Rattle.ranker.specs.Searches.{IsAnswerOf, searched}
-use Rattle.collection_queries.specs.Priors.{priors_with}
+use Rattle.desk.specs.Priors.{priors_with}
 use Rattle.session_events.specs.declared.event.Event.TheVariants as event
-use Rattle.session_replies.specs.Told.{AreResults}
-use Rattle.session_replies.specs.declared.reply.Reply.TheVariants as reply
-use Rattle.session_replies.specs.declared.reply.Refusal.TheVariants.{NoSuchName, NotYet}
+use Rattle.desk.specs.Replied.{AreResults}
+use Rattle.desk.specs.declared.reply.Reply.TheVariants as reply
+use Rattle.desk.specs.declared.reply.Refusal.TheVariants.{NoSuchName, NotYet}
 use Rattle.desk.specs.Backed.{Keeps, Steps, state_of}
 use Rattle.desk.specs.Keeping.{IsOpen}
 use Rattle.desk.specs.Orders.{IsTrueReply}

@@ -4,8 +4,8 @@ use Rattle.std.specs.List.{position}
 use Rattle.store_ends.specs.Files.{Files}
 use Rattle.belief_nodes.specs.Network.{network_tree}
 use Rattle.session_events.specs.declared.event.Event.TheVariants as event
-use Rattle.session_replies.specs.declared.reply.Reply.TheVariants as reply
-use Rattle.session_replies.specs.declared.reply.Refusal.TheVariants.{NoSuchName}
+use Rattle.desk.specs.declared.reply.Reply.TheVariants as reply
+use Rattle.desk.specs.declared.reply.Refusal.TheVariants.{NoSuchName}
 use Rattle.desk.specs.Backed.{IsDeskBacked, Keeps, Steps, state_of}
 use Rattle.desk.specs.Keeping.{IsOpen}
 use Rattle.desk.specs.Queries.{IsCacheKept, IsQueryBacked, query_of}

@@ -3,10 +3,10 @@ use Rattle.std.specs.Prelude.{is_some}
 use Rattle.std.proofs.lemmas.Result.{err_from_is_err_and}
 use Rattle.store_ends.proofs.Files.{Leaves-same}
 use Rattle.session_events.specs.declared.event.Event.TheVariants as event
-use Rattle.session_replies.specs.Told.{IsReply}
-use Rattle.session_replies.specs.declared.reply.Reply.{Reply}
-use Rattle.session_replies.specs.declared.reply.Reply.TheVariants as reply
-use Rattle.session_replies.specs.declared.reply.Refusal.TheVariants.{NoMerge}
+use Rattle.desk.specs.Replied.{IsReply}
+use Rattle.desk.specs.declared.reply.Reply.{Reply}
+use Rattle.desk.specs.declared.reply.Reply.TheVariants as reply
+use Rattle.desk.specs.declared.reply.Refusal.TheVariants.{NoMerge}
 use Rattle.desk.specs.Backed.{Keeps, Steps, state_of}
 use Rattle.desk.specs.Keeping.{StaysIfRefused}
 use Rattle.desk.specs.Step.{step}

@@ -1,9 +1,0 @@
-pub mod AnswerLemmas
-pub mod ExplainedLemmas
-pub mod LeafLemmas
-pub mod ListLemmas
-pub mod PlaceLemmas
-pub mod PlugLemmas
-pub mod PriorLemmas
-pub mod RankingLemmas
-pub mod SearchLemmas

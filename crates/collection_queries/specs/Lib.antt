@@ -1,6 +1,0 @@
-pub mod Answer
-pub mod Places
-pub mod Priors
-pub mod Ranking
-pub mod Searching
-pub mod Shown

@@ -1,0 +1,83 @@
+// A search over all documents of a snapshot.
+ghost use Rattle.std.specs.Prelude.{◌≡◌, true, length, map, All, Err, IfErr, IfOk, List, Option};
+ghost use Rattle.ri_base.specs.Faults.{IsOutside};
+ghost use Rattle.ri_base.specs.Keeps.{Rose};
+ghost use Rattle.ri_base.specs.Ratio.{ratio_of};
+ghost use Rattle.store_ends.specs.Files.{Files};
+ghost use Rattle.smoothing.specs.Counts.{AreCounts};
+ghost use Rattle.smoothing.specs.Fractions.{IsMu, dirichlet};
+ghost use Rattle.smoothing.specs.declared.rule.RuleKind.{RuleKind};
+ghost use Rattle.query_check.specs.Answers.{whole_checked};
+ghost use Rattle.belief_nodes.specs.Leaves.{AreLeafStats};
+ghost use Rattle.belief_nodes.specs.Network.{network_tree};
+ghost use Rattle.belief_nodes.specs.Priors.{Prior};
+ghost use Rattle.disk_index.specs.Cache.{IsCacheBacked};
+ghost use Rattle.disk_index.specs.Snapshots.{AreBacked, IsFileAmong};
+ghost use Rattle.counts.specs.Reading.{OnlyReads};
+ghost use Rattle.ranker.specs.Searches.{IsAnswerOf, IsTaken, searched};
+ghost use Rattle.ranker.specs.Windows.{AreWindows};
+ghost use Rattle.desk.specs.Answer.{IsRule};
+ghost use Rattle.desk.specs.Searching.{HasSearched};
+
+use belief_nodes::BeliefNode;
+use disk_index::{BlockCache, Snapshot};
+use query_check::Checked;
+use ranker::Search;
+use ri_base::{Fraction, Hits, LeafStats, SegFault};
+use smoothing::{Rule, RuleKind, dirichlet_fraction};
+use std::alloc::Global;
+use store_ends::Store;
+
+/// A search for the first results over the documents of a snapshot, `most` of them at most, that has passed them all. The
+/// statistics are those of the query's leaves, in order of their numbers.
+pub fn search_all<T: Store>(
+    alloc: Global,
+    kind: RuleKind,
+    checked: Checked,
+    stats: &[LeafStats],
+    plugs: &mut [Box<dyn BeliefNode>],
+    snapshot: Snapshot,
+    most: u32,
+    store: &mut T,
+    cache: &mut BlockCache,
+) -> Result<Search, SegFault>
+    requires rule { IsRule kind }
+    requires nine { length plugs.old ≡ 9 }
+    requires each { length stats.now ≡ length checked.leaves.items }
+    requires counted { All (λ s. AreLeafStats s) stats.now }
+    ensures searched { IfOk result (HasSearched snapshot (whole_checked checked) stats.now most) }
+    ensures taken { AreBacked (T.files store.old) snapshot → IsCacheBacked (T.files store.old) cache.old
+        → IfOk result (λ s. IsTaken kind (map (λ plug. meaning plug) plugs.old) (T.files store.old) s) }
+    ensures stay { map (λ plug. meaning plug) plugs.new ≡ map (λ plug. meaning plug) plugs.old }
+    ensures honest { AreBacked (T.files store.old) snapshot → IsCacheBacked (T.files store.old) cache.old → IfErr result IsOutside }
+    ensures reads { OnlyReads T.files T.layers T.clock T.since T.longest T.held T.faults (IsFileAmong snapshot) store.old store.new cache.old cache.new }
+    ensures store { result ≡ Err SegFault.Store → Rose (T.faults store.old) (T.faults store.new) }
+{
+    let RuleKind::Dirichlet { mu } = kind;
+    let rule = Rule::new(
+        kind,
+        |tf, len, cf, total| -> Fraction
+            requires mu { IsMu mu }
+            requires counts { AreCounts tf len cf total }
+            ensures { ratio_of result ≡ dirichlet mu tf len cf total }
+        { dirichlet_fraction(mu, tf, len, cf, total) },
+    );
+    let live = u64::from(snapshot.live_count());
+    let mut search = Search::new(alloc, snapshot, checked, stats, most)?;
+    search.step(alloc, live, &rule, plugs, store, cache)?;
+    Ok(search)
+}
+
+/// The results of a search that has passed all documents.
+pub fn results_of(search: &Search) -> &Hits
+    requires usable { search.now.usable ≡ true }
+    requires all { (told : Option Files) → search.now.at.credit ≡ length (searched told search.now) }
+    ensures answer { (kind : RuleKind) (priors : List Prior) (told : Option Files) → IsTaken kind priors told search.now
+        → IsAnswerOf kind priors search.now (searched told search.now) result.now }
+    ensures windows { (told : Option Files) → ∥ AreWindows (searched told search.now) (length (network_tree search.now.network).leaves) search.now.most result.now ∥₁ }
+{
+    match search.results() {
+        Some(hits) => hits,
+        None => unreachable!(),
+    }
+}

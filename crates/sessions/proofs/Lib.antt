@@ -1,5 +1,0 @@
-pub mod Beginning
-pub mod Following
-pub mod Standing
-pub mod StepLemmas
-pub mod TextLemmas

@@ -82,6 +82,14 @@ impl LogChain {
         self.digits
     }
 
+    /// The fraction whose logarithm they tell.
+    pub fn fraction(&self) -> Fraction
+        ensures p { result.p ≡ self.now.p }
+        ensures q { result.q ≡ self.now.q }
+    {
+        self.fraction
+    }
+
     /// How many squarings there were.
     pub fn level(&self) -> u32
         ensures value { result ≡ self.now.level }

@@ -7,7 +7,6 @@ use Rattle.ri_base.specs.declared.seg_fault.SegFault.{SegFault}
 use Rattle.store_ends.specs.Files.{Files, Leaves}
 use Rattle.store_ends.proofs.Files.{Leaves-now, Leaves-same, Leaves-then, SameWhere-told}
 use Rattle.command_pieces.specs.CommandFaults.{IsBrokenBy, of_files, of_items}
-use Rattle.command_pieces.specs.Faults.{IsCut}
 use Rattle.command_pieces.specs.Pieces.{Finished, StandsAlong}
 use Rattle.command_pieces.specs.Written.{AllWritten, Plain, with_flush}
 use Rattle.command_pieces.specs.declared.command_fault.CommandFault.{CommandFault}
@@ -21,7 +20,7 @@ use Rattle.repository.specs.RealLimits.{StandsFor}
 use Rattle.repository.specs.Stands.{Collection, Stands}
 use Rattle.repository.specs.States.{IsBacked, ReadsAs, State}
 use Rattle.repository.specs.Writes.{IsBeside, IsEither, Writes}
-use Rattle.repository.proofs.RealLemmas.{either-for, stands-for}
+use Rattle.repository.proofs.RealLemmas.{either-for}
 use Rattle.collection_commands.specs.Ahead.{IsAhead}
 
 -- ---- what the files stand for once a call that writes has answered, whatever the answer, and at each moment

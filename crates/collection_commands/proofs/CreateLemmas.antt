@@ -1,5 +1,5 @@
 -- The one piece of `create`.
-use Rattle.std.proofs.Common.{◌≡◌, ◌⊎◌, inl, inr, ℕ, Bool, true, false, List, [], ◌∷◌, Option, None, Some, refl, sym, ap, subst, ◌∙◌, append-nil}
+use Rattle.std.proofs.Common.{◌≡◌, ◌⊎◌, inl, inr, ℕ, true, false, List, [], ◌∷◌, Option, None, Some, refl, sym, ap, subst, ◌∙◌, append-nil}
 use Rattle.std.specs.Io.KnownBytes.{append_known}
 use Rattle.std.specs.Option.{option_map}
 use Rattle.std.specs.Prelude.{codes, is_some, not, take}
@@ -18,7 +18,7 @@ use Rattle.command_pieces.proofs.Commands.{Along-flush, StoppedBetween-flush, by
 use Rattle.command_pieces.proofs.Lifting.{BrokenOff-flush, Finished-flush}
 use Rattle.manifest.specs.Spelling.{manifest_text}
 use Rattle.repository.specs.Names.{manifest_name}
-use Rattle.repository.specs.Stands.{Collection, empty_collection, empty_manifest}
+use Rattle.repository.specs.Stands.{empty_collection, empty_manifest}
 use Rattle.repository.proofs.ManifestLemmas.{Stands-made}
 use Rattle.collection_commands.specs.Creation.{IsMade, create_pieces}
 

@@ -1,5 +1,5 @@
 -- A line of docnos, over a repository.
-use Rattle.std.proofs.Common.{◌≡◌, ℕ, Bool, true, false, List, refl, ap, sym, ◌∙◌, subst, Option, Result, Ok, Err, map}
+use Rattle.std.proofs.Common.{◌≡◌, ℕ, true, false, List, refl, ap, sym, ◌∙◌, subst, Option, Result, Ok, Err, map}
 use Rattle.std.specs.Prelude.{IfOk, OnOk}
 use Rattle.std.proofs.lemmas.Bool.{true_from_ne_false}
 use Rattle.std.specs.Set.{is_member}
@@ -48,9 +48,6 @@ pub deleted-reads : (told : Option Files) (s t : State) (c : Collection) (docno 
 deleted-reads told s t c docno reads live now = subst (ReadsAs told t) (behind-there c docno (sym (live-there told s c docno reads) ∙ true_from_ne_false (is_live s.held.parts docno) live)) now
 
 -- ---- a docno that isn't
-
-pub absent-reply : (told : Option Files) (s : State) (c : Collection) (docno : List ℕ) (p : Plain) → ReadsAs told s c → is_live s.held.parts docno ≡ false → p ≡ refusal_piece (refusal.NoSuchDoc docno) → p ≡ line_piece c (Docno docno)
-absent-reply told s c docno p reads live e = e ∙ piece-absent c docno (sym (live-there told s c docno reads) ∙ live)
 
 pub absent-reads : (told : Option Files) (s t : State) (c : Collection) (docno : List ℕ) → ReadsAs told s c → is_live s.held.parts docno ≡ false → t ≡ s → ReadsAs told t (behind_line c (Docno docno))
 absent-reads told s t c docno reads live same =

@@ -1,10 +1,10 @@
 -- Lines of docnos that are taken one by one.
-use Rattle.std.proofs.Common.{◌≡◌, ℕ, Bool, true, false, ◌||◌, List, [], ◌∷◌, ◌++◌, refl, ap, sym, ◌∙◌, subst, Option, Some, None, append_assoc, append-nil}
+use Rattle.std.proofs.Common.{◌≡◌, ℕ, Bool, false, ◌||◌, List, [], ◌∷◌, ◌++◌, refl, ap, sym, ◌∙◌, subst, Option, Some, None, append_assoc, append-nil}
 use Rattle.std.specs.Io.KnownBytes.{prepend_known}
 use Rattle.std.specs.Option.{option_map, IfSome}
 use Rattle.command_pieces.specs.Faults.{IsCut}
 use Rattle.command_pieces.specs.Pieces.{some_refused}
-use Rattle.command_pieces.specs.Written.{AllWritten, CutBetween, Plain}
+use Rattle.command_pieces.specs.Written.{AllWritten, CutBetween}
 use Rattle.command_pieces.specs.declared.fault.Fault.{Fault}
 use Rattle.command_pieces.proofs.Cut.{all-then, all_none, cut-behind, cut-more, cut-then}
 use Rattle.command_pieces.proofs.Joining.{refused-append, refused-one}

@@ -1,5 +1,5 @@
 -- The prior of a name and its rows, over the collection that a repository reads as.
-use Rattle.std.proofs.Common.{◌≡◌, ◌⊎◌, inl, inr, ℕ, suc, Bool, true, false, ◌||◌, List, [], ◌∷◌, Option, None, Some, Result, Ok, Err, length, map, refl, sym, ap, subst, ◌∙◌, arith}
+use Rattle.std.proofs.Common.{◌≡◌, inl, inr, ℕ, suc, Bool, true, false, ◌||◌, List, [], ◌∷◌, Option, None, Some, Result, Ok, Err, length, map, refl, sym, ap, subst, ◌∙◌, arith}
 use Rattle.std.specs.Prelude.{◌&&◌, ◌==◌, filter, is_some, not, nat_le, IfOk, IfErr, OnOk, IfSome, IsSome}
 use Rattle.std.specs.List.{AllZip, list_any}
 use Rattle.std.specs.List.Sorted.{IsPermutation}
@@ -9,7 +9,6 @@ use Rattle.std.proofs.lemmas.Slice.Zip.{AllZip-long}
 use Rattle.ri_base.specs.declared.fraction.Fraction.{Fraction}
 use Rattle.ri_base.specs.declared.limits.TheConstants.{MAX_PRIORS}
 use Rattle.store_ends.specs.Files.{Files, Leaves}
-use Rattle.store_ends.proofs.Files.{Leaves-same}
 use Rattle.command_pieces.specs.CommandFaults.{IsBrokenBy, IsChangeFault, of_items}
 use Rattle.command_pieces.specs.Faults.{IsCut}
 use Rattle.command_pieces.specs.Pieces.{Finished, StandsAlong, some_refused}
@@ -34,7 +33,7 @@ use Rattle.repository.specs.Priors.{is_full, is_named, is_same, with_prior}
 use Rattle.repository.specs.RealLimits.{StandsFor}
 use Rattle.repository.specs.Stands.{Collection, IsPriorListed, Prior}
 use Rattle.repository.specs.States.{ReadsAs, State}
-use Rattle.collection_commands.specs.PriorSetting.{ArePriorPieces, AreBegun, IsPriorBroken, IsPriorDone, IsTableOf, PriorStops, has_prior, name_pieces, name_refusal, prior_text, set_pieces, setting_pieces}
+use Rattle.collection_commands.specs.PriorSetting.{IsPriorBroken, IsPriorDone, IsTableOf, PriorStops, has_prior, name_pieces, name_refusal, prior_text, set_pieces, setting_pieces}
 use Rattle.collection_commands.specs.RowRefusals.{row_pieces}
 
 -- ---- its reply
@@ -99,11 +98,6 @@ module _ (why : Refusal) (c : Collection) (name : List ℕ) (is : name_refusal c
   named-broken (Err fault) None before now f change b = tt
   named-broken (Err fault) (Some bytes) before now f change b =
       subst (λ (w : Option Refusal). IsPriorBroken w fault c name bytes before now f) (sym is) (one-broken fault bytes before now f change b)
-
--- nothing is begun, and the files are as they were
-pub none-stops : (why : Option Refusal) (c : Collection) (name : List ℕ) (left : Option (List ℕ)) (past : ℕ → Files → Type 0) → IfSome left (λ bytes. PriorStops why c name bytes past past)
-none-stops why c name None past = tt
-none-stops why c name (Some bytes) past = ([], inl refl, Leaves-same past _)
 
 pub read-broken : (c : Collection) (name : List ℕ) (left : Option (List ℕ)) (taken : Option (List ℕ)) (f : Option Files) → StandsFor c f → IfSome left (λ bytes. IsPriorBroken None command.Read c name bytes taken taken f)
 read-broken c name None taken f s = tt

@@ -103,9 +103,6 @@ pub step-open : (s : State) (name : List ℕ) (k : ℕ) (text : List ℕ) (r : R
 unfolding step
 step-open s name k text r e = ap (open_step s name k) e
 
-pub open-refused : (s : State) (name : List ℕ) (k : ℕ) (why : Refusal) → open_step s name k (Err why) ≡ refuse s why
-open-refused s name k why = refl
-
 pub open-taken : (s : State) (name : List ℕ) (k : ℕ) (q : CheckedTree) → is_some (named name s.queries) ≡ true → open_step s name k (Ok q) ≡ refuse s (NameTaken name)
 open-taken s name k q taken = choice-yes (is_some (named name s.queries)) _ _ taken
 

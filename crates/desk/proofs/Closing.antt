@@ -9,7 +9,7 @@ use Rattle.holdings.specs.Parts.{live}
 use Rattle.holdings.proofs.RoomLemmas.{live-sealed}
 use Rattle.counts.specs.Kept.{AreSums, Kept}
 use Rattle.repository.specs.States as repositories
-use Rattle.repository.specs.States.{IsBacked, ReadsAs}
+use Rattle.repository.specs.States.{ReadsAs}
 use Rattle.repository.specs.Steps.{with_held}
 use Rattle.repository.proofs.KeepLemmas.{merging-closed}
 use Rattle.repository.proofs.SaveLemmas.{numbers-sealed}

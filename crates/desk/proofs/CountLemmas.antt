@@ -1,5 +1,5 @@
 -- How many documents and tokens are live is the same whatever the files are.
-use Rattle.std.proofs.Common.{◌≡◌, ◌∙◌, ℕ, List, [], ◌∷◌, length, map, refl, sym, ap, arith, Option}
+use Rattle.std.proofs.Common.{◌≡◌, ◌∙◌, ℕ, List, [], ◌∷◌, length, refl, sym, ap, arith, Option}
 use Rattle.std.specs.Prelude.{sum_by}
 use Rattle.std.proofs.lemmas.List.{length-map}
 use Rattle.std.proofs.lemmas.List.Sums.{sum_by-append, sum_by-cons}
@@ -8,12 +8,10 @@ use Rattle.ri_base.specs.Documents.{Document}
 use Rattle.store_ends.specs.Files.{Files}
 use Rattle.seg_codec.specs.Segment.{entry_of}
 use Rattle.seg_codec.specs.declared.documents.Entry.{Entry}
-use Rattle.disk_index.specs.Blocks.{told_file}
-use Rattle.disk_index.specs.Parts.{InMemory, OnDisk, Source, outlines_of, reads, size}
+use Rattle.disk_index.specs.Parts.{outlines_of, reads, size}
 use Rattle.disk_index.specs.Snapshots as snapshots
 use Rattle.disk_index.specs.Snapshots.{Marked, documents_held, live_in, unmarked}
-use Rattle.disk_index.proofs.AlikeLemmas.{map-unmarked, tokens-outlines}
-use Rattle.disk_index.proofs.RebuiltLemmas.{rebuilt-outlines}
+use Rattle.disk_index.proofs.AlikeLemmas.{map-unmarked, outlines-reads, tokens-outlines}
 use Rattle.holdings.specs.MarkedParts.{filled, tokens_held, tokens_in}
 use Rattle.holdings.specs.Parts.{Parts, all_parts, closed_by, sealed}
 use Rattle.holdings.proofs.LiveLemmas.{docnos-live}
@@ -22,13 +20,9 @@ pub length-alike : (a b : Option Files) (parts : List Marked) → length (snapsh
 length-alike a b parts =
     sym (length-map (snapshots.live a parts) (λ (d : Document). d.docno)) ∙ ap length (docnos-live a parts) ∙ sym (ap length (docnos-live b parts)) ∙ length-map (snapshots.live b parts) (λ (d : Document). d.docno)
 
-outlines-read : (told : Option Files) (s : Source) → map entry_of (reads told s) ≡ outlines_of s
-outlines-read told (InMemory docs) = refl
-outlines-read told (OnDisk kept) = rebuilt-outlines kept (told_file told kept.number)
-
 tokens-live : (told : Option Files) (m : Marked) → token_count (live_in told m) ≡ sum_by (λ (o : Entry). o.tokens) (unmarked (outlines_of m.source) m.marks)
 tokens-live told m =
-    tokens-outlines (live_in told m) ∙ ap (λ (os : List Entry). sum_by (λ (o : Entry). o.tokens) os) (map-unmarked entry_of (reads told m.source) m.marks ∙ ap (λ (os : List Entry). unmarked os m.marks) (outlines-read told m.source))
+    tokens-outlines (live_in told m) ∙ ap (λ (os : List Entry). sum_by (λ (o : Entry). o.tokens) os) (map-unmarked entry_of (reads told m.source) m.marks ∙ ap (λ (os : List Entry). unmarked os m.marks) (outlines-reads told m.source))
 
 pub tokens-alike : (a b : Option Files) (parts : List Marked) → token_count (snapshots.live a parts) ≡ token_count (snapshots.live b parts)
 tokens-alike a b [] = refl

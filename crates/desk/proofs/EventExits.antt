@@ -21,7 +21,7 @@ use Rattle.desk.specs.Points.{is_inside, kept_behind, may_write, needs_hits}
 use Rattle.desk.specs.State.{State}
 use Rattle.desk.specs.Step.{step}
 use Rattle.desk.specs.Told as told
-use Rattle.desk.specs.Told.{RefusesAs, Told, early, is_refusal, reply_early, told_early}
+use Rattle.desk.specs.Told.{RefusesAs, Told, is_refusal, reply_early, told_early}
 use Rattle.desk.proofs.Points.{kept-by}
 use Rattle.desk.proofs.WritingLemmas.{none-written}
 

@@ -55,16 +55,9 @@ state-by told d c qs m l k r eq em el ek = state-eq r.live_are r.documents_are r
 
 -- ---- the files are the same, though the store was read
 
-pub Backed-same : (b c : Option Files) (d : Keeps) → c ≡ b → IsDeskBacked b d → IsDeskBacked c d
-Backed-same b c d same backed = subst (λ (f : Option Files). IsDeskBacked f d) (sym same) backed
-
 -- what is shown of a desk that is backed holds of one that is the same
 pub of-now : (told : Option Files) (d now : Keeps) (P : Keeps → Type 0) → d ≡ now → (IsDeskBacked told d → P d) → IsDeskBacked told now → P now
 of-now told d now P same into backed = subst P same (into (subst (IsDeskBacked told) (sym same) backed))
-
--- a refusal leaves the desk that is seen as another
-pub refused-now : (e : Event) (told : Option Files) (d now : Keeps) (why : Refusal) → d ≡ now → step (state_of told d) e ≡ refuse (state_of told d) why → IsDeskBacked told now → Steps e told told now d (reply.Refused why)
-refused-now e told d now why same is backed = of-now told d now (λ (x : Keeps). Steps e told told x d (reply.Refused why)) same (λ b. refused-exit e told d why is b) backed
 
 -- and it is the same desk
 pub refused-here : (e : Event) (told : Option Files) (d now : Keeps) (why : Refusal) → d ≡ now → step (state_of told d) e ≡ refuse (state_of told d) why → IsDeskBacked told now → Steps e told told now now (reply.Refused why)

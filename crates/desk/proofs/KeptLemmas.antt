@@ -28,14 +28,6 @@ use Rattle.desk.specs.declared.query.OpenQuery.{OpenQuery}
 use Rattle.desk.specs.declared.query.TheConstants.{MAX_QUERIES}
 use Rattle.desk.proofs.Naming.{All-remove}
 
--- nothing is open yet
-pub kept-none : (s : State) → AreKept s [] []
-kept-none s = record {
-  few = omega arith;
-  each = All-nil (IsOpen (length s.priors));
-  early = λ e there. let within = there.1 in absurd (omega (arith, within));
-}
-
 -- a repository with as many priors
 pub kept-repository : (s t : State) (qs : List OpenQuery) (cs : List Kept) → t.priors ≡ s.priors → AreKept s qs cs → AreKept t qs cs
 kept-repository s t qs cs same kept = record { few = kept.few; each = subst (λ n. All (IsOpen n) qs) (sym (ap length same)) kept.each; early = kept.early }

@@ -10,6 +10,7 @@ pub mod EventExits
 pub mod Exits
 pub mod ExplainedLemmas
 pub mod FlushExits
+pub mod Found
 pub mod FormLemmas
 pub mod Frames
 pub mod Keeping

@@ -7,14 +7,14 @@ use Rattle.ri_base.specs.Documents.{Document}
 use Rattle.store_ends.specs.Files.{Files, SameWhere}
 use Rattle.disk_index.specs.Cache.{KeptBlock}
 use Rattle.disk_index.specs.Snapshots as snapshots
-use Rattle.disk_index.specs.Snapshots.{Marked, documents_held}
+use Rattle.disk_index.specs.Snapshots.{Marked}
 use Rattle.holdings.specs.Contents.{all_closed}
 use Rattle.holdings.specs.Parts.{live, sealed}
 use Rattle.holdings.proofs.RoomLemmas.{live-closed}
 use Rattle.counts.specs.Kept.{AreSums}
 use Rattle.merge_job.specs.Merge.{Merging, size_of}
 use Rattle.repository.specs.Merges as merges
-use Rattle.repository.specs.Merges.{IsMergeEnded, IsMergedTo, IsMerging, IsOpenMerging, IsTurnedOn, IsTurnedOver, dead_documents, dead_tokens, merge_begun, without_dead_of}
+use Rattle.repository.specs.Merges.{IsMergedTo, IsMerging, IsOpenMerging, IsTurnedOn, dead_documents, dead_tokens, merge_begun, without_dead_of}
 use Rattle.repository.specs.Numbers.{is_among}
 use Rattle.repository.specs.Saved.{IsUnlisted}
 use Rattle.repository.specs.Stands.{Collection}

@@ -4,7 +4,7 @@ use Rattle.std.specs.List.{AllZip}
 use Rattle.store_ends.specs.Files.{Files}
 use Rattle.manifest.specs.declared.manifest.PriorEntry.{PriorEntry}
 use Rattle.manifest.proofs.PriorLaws.{prior_again}
-use Rattle.repository.specs.Stands.{Collection, IsPriorListed, Prior}
+use Rattle.repository.specs.Stands.{IsPriorListed, Prior}
 use Rattle.repository.specs.States.{IsBacked, ReadsAs}
 use Rattle.desk.specs.Backed.{Keeps, state_of}
 use Rattle.desk.specs.Queries.{priors_in, read_table, table_in, table_of}
@@ -34,7 +34,3 @@ reads-state told d backed = record {
   tokens_are = refl;
   priors_are = subst (AllZip (IsPriorListed told) d.repository.priors) (priors-read told d.repository.priors backed.priors.0 backed.priors.1) backed.priors.1;
 }
-
--- and as no other collection
-pub reads-only : (told : Option Files) (d : Keeps) (c : Collection) → ReadsAs told d.repository c → c ≡ collection_of (state_of told d)
-reads-only told d c r = λ i. record { live = sym r.live_are i; documents = sym r.documents_are i; tokens = sym r.tokens_are i; priors = priors-read told d.repository.priors c.priors r.priors_are i }

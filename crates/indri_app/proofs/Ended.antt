@@ -1,6 +1,7 @@
 -- How a run ends, by what its command answers.
 use Rattle.std.proofs.Common.{◌≡◌, ◌≤◌, ◌⊎◌, inl, inr, ℕ, Bool, List, Option, None, Some, Result, Ok, Err, true, false, refl, sym, ap, subst, ◌∙◌, arith, take}
 use Rattle.std.specs.Prelude.{IfErr, OnOk, IsTrue, is_some}
+use Rattle.std.proofs.lemmas.Bool.{both_ways}
 use Rattle.ri_ends.specs.Causes.{Rose}
 use Rattle.command_pieces.specs.CommandFaults.{IsDamage}
 use Rattle.command_pieces.specs.Lines.{WritesLine}
@@ -8,7 +9,7 @@ use Rattle.command_pieces.specs.Pieces.{Writes}
 use Rattle.command_pieces.specs.declared.command_fault.CommandFault.{CommandFault}
 use Rattle.command_pieces.specs.declared.command_fault.CommandFault.TheVariants as fault
 use Rattle.indri_app.specs.Changes.{IsFoundFirst, IsOverFault}
-use Rattle.indri_app.specs.LastLines.{IsClosed, absent_line, exists_line, malformed_line, missing_line, status_of}
+use Rattle.indri_app.specs.LastLines.{EndsWith, IsClosed, absent_line, exists_line, last_line, malformed_line, missing_line, status_of}
 use Rattle.indri_app.specs.Opened.{IsAbsentFault}
 use Rattle.indri_app.specs.Runs.{HasDone, IsAbsentStatus, IsEnded, IsUntouched, TellsDamage}
 use Rattle.indri_app.specs.declared.status.Status.{Status}
@@ -32,157 +33,105 @@ line-first line start mid now a b z e h l = record {
 
 -- ---- why a command is broken off, and the status of its run
 
-pub closed-status : (why : CommandFault) (s : Status) (mid now : Option (List ℕ)) (b z : ℕ) → IsClosed why s mid now b z → (s ≡ status_of why) ⊎ (s ≡ status.Memory)
-closed-status fault.Read s mid now b z ends = elim ends [ inl h ↦ inl h.0 | inr h ↦ inr h.0 ]
-closed-status fault.Write s mid now b z ends = inl ends.0
-closed-status fault.Store s mid now b z ends = elim ends [ inl h ↦ inl h.0 | inr h ↦ inr h.0 ]
-closed-status (fault.Malformed f p place) s mid now b z ends = elim ends [ inl h ↦ inl h.0 | inr h ↦ inr h.0 ]
-closed-status (fault.Missing f) s mid now b z ends = elim ends [ inl h ↦ inl h.0 | inr h ↦ inr h.0 ]
-closed-status fault.NoRepository s mid now b z ends = elim ends [ inl h ↦ inl h.0 | inr h ↦ inr h.0 ]
-closed-status fault.Exists s mid now b z ends = elim ends [ inl h ↦ inl h.0 | inr h ↦ inr h.0 ]
-closed-status fault.Memory s mid now b z ends = inl ends.0
+ends-status : (line : Option (List ℕ)) (t s : Status) (mid now : Option (List ℕ)) (b z : ℕ) → EndsWith line t s mid now b z → (s ≡ t) ⊎ (s ≡ status.Memory)
+ends-status None t s mid now b z ends = inl ends.0
+ends-status (Some line) t s mid now b z ends = elim ends [ inl h ↦ inl h.0 | inr h ↦ inr h.0 ]
 
-read-of : (why : CommandFault) → status.ReadFault ≡ status_of why → why ≡ fault.Read
-read-of fault.Read e = refl
-read-of fault.Write e = absurd cc
-read-of fault.Store e = absurd cc
-read-of (fault.Malformed f p place) e = absurd cc
-read-of (fault.Missing f) e = absurd cc
-read-of fault.NoRepository e = absurd cc
-read-of fault.Exists e = absurd cc
-read-of fault.Memory e = absurd cc
+pub closed-status : (why : CommandFault) (s : Status) (mid now : Option (List ℕ)) (b z : ℕ) → IsClosed why s mid now b z → (s ≡ status_of why) ⊎ (s ≡ status.Memory)
+closed-status why s mid now b z ends = ends-status (last_line why) (status_of why) s mid now b z ends
+
+-- the fault of a status, where it is that of one alone
+abbrev fault_by : Status → Option CommandFault
+fault_by status.ReadFault = Some fault.Read
+fault_by status.WriteFault = Some fault.Write
+fault_by status.StoreFault = Some fault.Store
+fault_by status.NoRepository = Some fault.NoRepository
+fault_by status.Exists = Some fault.Exists
+fault_by s = None
+
+only-fault : (why f : CommandFault) → fault_by (status_of why) ≡ Some f → why ≡ f
+only-fault fault.Read f e = cc
+only-fault fault.Write f e = cc
+only-fault fault.Store f e = cc
+only-fault (fault.Malformed file part place) f e = cc
+only-fault (fault.Missing file) f e = cc
+only-fault fault.NoRepository f e = cc
+only-fault fault.Exists f e = cc
+only-fault fault.Memory f e = cc
+
+-- a run with such a status was broken off by its fault
+module _ (f : CommandFault) (t : Status) (is : fault_by t ≡ Some f) where
+  closed-by : (why : CommandFault) (s : Status) (mid now : Option (List ℕ)) (b z : ℕ) → IsClosed why s mid now b z → s ≡ t → why ≡ f
+  closed-by why s mid now b z ends e = elim (closed-status why s mid now b z ends) [
+    | inl w ↦ only-fault why f (ap fault_by (sym w ∙ e) ∙ is)
+    | inr m ↦ let x : None ≡ Some f = ap fault_by (sym m ∙ e) ∙ is in absurd cc
+  ]
+
+  ended-by : (answer : Result Bool CommandFault) (s : Status) (mid now : Option (List ℕ)) (b z : ℕ) → IsEnded answer s mid now b z → s ≡ t → answer ≡ Err f
+  ended-by (Ok false) s mid now b z (w, same) e = let x : None ≡ Some f = ap fault_by (sym w ∙ e) ∙ is in absurd cc
+  ended-by (Ok true) s mid now b z (w, same) e = let x : None ≡ Some f = ap fault_by (sym w ∙ e) ∙ is in absurd cc
+  ended-by (Err why) s mid now b z ends e = ap Err (closed-by why s mid now b z ends e)
 
 pub read-closed : (why : CommandFault) (s : Status) (mid now : Option (List ℕ)) (b z : ℕ) → IsClosed why s mid now b z → s ≡ status.ReadFault → why ≡ fault.Read
-read-closed why s mid now b z ends e = elim (closed-status why s mid now b z ends) [ inl w ↦ read-of why (sym e ∙ w) | inr m ↦ absurd cc ]
+read-closed = closed-by fault.Read status.ReadFault refl
 
 pub read-ended : (answer : Result Bool CommandFault) (s : Status) (mid now : Option (List ℕ)) (b z : ℕ) → IsEnded answer s mid now b z → s ≡ status.ReadFault → answer ≡ Err fault.Read
-read-ended (Ok false) s mid now b z (w, same) e = absurd cc
-read-ended (Ok true) s mid now b z (w, same) e = absurd cc
-read-ended (Err why) s mid now b z ends e = ap Err (read-closed why s mid now b z ends e)
-
-write-of : (why : CommandFault) → status.WriteFault ≡ status_of why → why ≡ fault.Write
-write-of fault.Read e = absurd cc
-write-of fault.Write e = refl
-write-of fault.Store e = absurd cc
-write-of (fault.Malformed f p place) e = absurd cc
-write-of (fault.Missing f) e = absurd cc
-write-of fault.NoRepository e = absurd cc
-write-of fault.Exists e = absurd cc
-write-of fault.Memory e = absurd cc
+read-ended = ended-by fault.Read status.ReadFault refl
 
 pub write-closed : (why : CommandFault) (s : Status) (mid now : Option (List ℕ)) (b z : ℕ) → IsClosed why s mid now b z → s ≡ status.WriteFault → why ≡ fault.Write
-write-closed why s mid now b z ends e = elim (closed-status why s mid now b z ends) [ inl w ↦ write-of why (sym e ∙ w) | inr m ↦ absurd cc ]
+write-closed = closed-by fault.Write status.WriteFault refl
 
 pub write-ended : (answer : Result Bool CommandFault) (s : Status) (mid now : Option (List ℕ)) (b z : ℕ) → IsEnded answer s mid now b z → s ≡ status.WriteFault → answer ≡ Err fault.Write
-write-ended (Ok false) s mid now b z (w, same) e = absurd cc
-write-ended (Ok true) s mid now b z (w, same) e = absurd cc
-write-ended (Err why) s mid now b z ends e = ap Err (write-closed why s mid now b z ends e)
-
-store-of : (why : CommandFault) → status.StoreFault ≡ status_of why → why ≡ fault.Store
-store-of fault.Read e = absurd cc
-store-of fault.Write e = absurd cc
-store-of fault.Store e = refl
-store-of (fault.Malformed f p place) e = absurd cc
-store-of (fault.Missing f) e = absurd cc
-store-of fault.NoRepository e = absurd cc
-store-of fault.Exists e = absurd cc
-store-of fault.Memory e = absurd cc
+write-ended = ended-by fault.Write status.WriteFault refl
 
 pub store-closed : (why : CommandFault) (s : Status) (mid now : Option (List ℕ)) (b z : ℕ) → IsClosed why s mid now b z → s ≡ status.StoreFault → why ≡ fault.Store
-store-closed why s mid now b z ends e = elim (closed-status why s mid now b z ends) [ inl w ↦ store-of why (sym e ∙ w) | inr m ↦ absurd cc ]
+store-closed = closed-by fault.Store status.StoreFault refl
 
 pub store-ended : (answer : Result Bool CommandFault) (s : Status) (mid now : Option (List ℕ)) (b z : ℕ) → IsEnded answer s mid now b z → s ≡ status.StoreFault → answer ≡ Err fault.Store
-store-ended (Ok false) s mid now b z (w, same) e = absurd cc
-store-ended (Ok true) s mid now b z (w, same) e = absurd cc
-store-ended (Err why) s mid now b z ends e = ap Err (store-closed why s mid now b z ends e)
-
-absent-of : (why : CommandFault) → status.NoRepository ≡ status_of why → why ≡ fault.NoRepository
-absent-of fault.Read e = absurd cc
-absent-of fault.Write e = absurd cc
-absent-of fault.Store e = absurd cc
-absent-of (fault.Malformed f p place) e = absurd cc
-absent-of (fault.Missing f) e = absurd cc
-absent-of fault.NoRepository e = refl
-absent-of fault.Exists e = absurd cc
-absent-of fault.Memory e = absurd cc
+store-ended = ended-by fault.Store status.StoreFault refl
 
 pub absent-closed : (why : CommandFault) (s : Status) (mid now : Option (List ℕ)) (b z : ℕ) → IsClosed why s mid now b z → s ≡ status.NoRepository → why ≡ fault.NoRepository
-absent-closed why s mid now b z ends e = elim (closed-status why s mid now b z ends) [ inl w ↦ absent-of why (sym e ∙ w) | inr m ↦ absurd cc ]
+absent-closed = closed-by fault.NoRepository status.NoRepository refl
 
 pub absent-ended : (answer : Result Bool CommandFault) (s : Status) (mid now : Option (List ℕ)) (b z : ℕ) → IsEnded answer s mid now b z → s ≡ status.NoRepository → answer ≡ Err fault.NoRepository
-absent-ended (Ok false) s mid now b z (w, same) e = absurd cc
-absent-ended (Ok true) s mid now b z (w, same) e = absurd cc
-absent-ended (Err why) s mid now b z ends e = ap Err (absent-closed why s mid now b z ends e)
-
-exists-of : (why : CommandFault) → status.Exists ≡ status_of why → why ≡ fault.Exists
-exists-of fault.Read e = absurd cc
-exists-of fault.Write e = absurd cc
-exists-of fault.Store e = absurd cc
-exists-of (fault.Malformed f p place) e = absurd cc
-exists-of (fault.Missing f) e = absurd cc
-exists-of fault.NoRepository e = absurd cc
-exists-of fault.Exists e = refl
-exists-of fault.Memory e = absurd cc
+absent-ended = ended-by fault.NoRepository status.NoRepository refl
 
 pub exists-closed : (why : CommandFault) (s : Status) (mid now : Option (List ℕ)) (b z : ℕ) → IsClosed why s mid now b z → s ≡ status.Exists → why ≡ fault.Exists
-exists-closed why s mid now b z ends e = elim (closed-status why s mid now b z ends) [ inl w ↦ exists-of why (sym e ∙ w) | inr m ↦ absurd cc ]
+exists-closed = closed-by fault.Exists status.Exists refl
 
 pub exists-ended : (answer : Result Bool CommandFault) (s : Status) (mid now : Option (List ℕ)) (b z : ℕ) → IsEnded answer s mid now b z → s ≡ status.Exists → answer ≡ Err fault.Exists
-exists-ended (Ok false) s mid now b z (w, same) e = absurd cc
-exists-ended (Ok true) s mid now b z (w, same) e = absurd cc
-exists-ended (Err why) s mid now b z ends e = ap Err (exists-closed why s mid now b z ends e)
+exists-ended = ended-by fault.Exists status.Exists refl
 
-usage-never : (why : CommandFault) → status.Usage ≡ status_of why → ⊥
-usage-never fault.Read e = absurd cc
-usage-never fault.Write e = absurd cc
-usage-never fault.Store e = absurd cc
-usage-never (fault.Malformed f p place) e = absurd cc
-usage-never (fault.Missing f) e = absurd cc
-usage-never fault.NoRepository e = absurd cc
-usage-never fault.Exists e = absurd cc
-usage-never fault.Memory e = absurd cc
+-- whether a fault may have it
+abbrev is_of_fault : Status → Bool
+is_of_fault status.Done = false
+is_of_fault status.Usage = false
+is_of_fault status.QueryRefused = false
+is_of_fault status.SomeRefused = false
+is_of_fault s = true
+
+of-fault : (why : CommandFault) → is_of_fault (status_of why) ≡ true
+of-fault fault.Read = refl
+of-fault fault.Write = refl
+of-fault fault.Store = refl
+of-fault (fault.Malformed file part place) = refl
+of-fault (fault.Missing file) = refl
+of-fault fault.NoRepository = refl
+of-fault fault.Exists = refl
+of-fault fault.Memory = refl
+
+-- no run that is broken off has such a status
+not_closed : (t : Status) → is_of_fault t ≡ false → (why : CommandFault) (s : Status) (mid now : Option (List ℕ)) (b z : ℕ) → IsClosed why s mid now b z → s ≡ t → ⊥
+not_closed t none why s mid now b z ends e = elim (closed-status why s mid now b z ends) [
+  | inl w ↦ both_ways true (sym (of-fault why) ∙ ap is_of_fault (sym w ∙ e) ∙ none) refl
+  | inr m ↦ both_ways true (ap is_of_fault (sym m ∙ e) ∙ none) refl
+]
 
 pub usage-not_closed : (why : CommandFault) (s : Status) (mid now : Option (List ℕ)) (b z : ℕ) → IsClosed why s mid now b z → s ≡ status.Usage → ⊥
-usage-not_closed why s mid now b z ends e = elim (closed-status why s mid now b z ends) [ inl w ↦ usage-never why (sym e ∙ w) | inr m ↦ absurd cc ]
-
-refused-never : (why : CommandFault) → status.QueryRefused ≡ status_of why → ⊥
-refused-never fault.Read e = absurd cc
-refused-never fault.Write e = absurd cc
-refused-never fault.Store e = absurd cc
-refused-never (fault.Malformed f p place) e = absurd cc
-refused-never (fault.Missing f) e = absurd cc
-refused-never fault.NoRepository e = absurd cc
-refused-never fault.Exists e = absurd cc
-refused-never fault.Memory e = absurd cc
+usage-not_closed = not_closed status.Usage refl
 
 pub refused-not_closed : (why : CommandFault) (s : Status) (mid now : Option (List ℕ)) (b z : ℕ) → IsClosed why s mid now b z → s ≡ status.QueryRefused → ⊥
-refused-not_closed why s mid now b z ends e = elim (closed-status why s mid now b z ends) [ inl w ↦ refused-never why (sym e ∙ w) | inr m ↦ absurd cc ]
-
-done-never : (why : CommandFault) → status.Done ≡ status_of why → ⊥
-done-never fault.Read e = absurd cc
-done-never fault.Write e = absurd cc
-done-never fault.Store e = absurd cc
-done-never (fault.Malformed f p place) e = absurd cc
-done-never (fault.Missing f) e = absurd cc
-done-never fault.NoRepository e = absurd cc
-done-never fault.Exists e = absurd cc
-done-never fault.Memory e = absurd cc
-
-pub done-not_closed : (why : CommandFault) (s : Status) (mid now : Option (List ℕ)) (b z : ℕ) → IsClosed why s mid now b z → s ≡ status.Done → ⊥
-done-not_closed why s mid now b z ends e = elim (closed-status why s mid now b z ends) [ inl w ↦ done-never why (sym e ∙ w) | inr m ↦ absurd cc ]
-
-some-never : (why : CommandFault) → status.SomeRefused ≡ status_of why → ⊥
-some-never fault.Read e = absurd cc
-some-never fault.Write e = absurd cc
-some-never fault.Store e = absurd cc
-some-never (fault.Malformed f p place) e = absurd cc
-some-never (fault.Missing f) e = absurd cc
-some-never fault.NoRepository e = absurd cc
-some-never fault.Exists e = absurd cc
-some-never fault.Memory e = absurd cc
-
-pub some-not_closed : (why : CommandFault) (s : Status) (mid now : Option (List ℕ)) (b z : ℕ) → IsClosed why s mid now b z → s ≡ status.SomeRefused → ⊥
-some-not_closed why s mid now b z ends e = elim (closed-status why s mid now b z ends) [ inl w ↦ some-never why (sym e ∙ w) | inr m ↦ absurd cc ]
+refused-not_closed = not_closed status.QueryRefused refl
 
 pub usage-not_ended : (answer : Result Bool CommandFault) (s : Status) (mid now : Option (List ℕ)) (b z : ℕ) → IsEnded answer s mid now b z → s ≡ status.Usage → ⊥
 usage-not_ended (Ok false) s mid now b z (w, same) e = absurd cc
@@ -196,8 +145,8 @@ refused-not_ended (Err why) s mid now b z ends e = refused-not_closed why s mid 
 
 pub done-not_closed-any : (why : CommandFault) (s : Status) (mid now : Option (List ℕ)) (b z : ℕ) → IsClosed why s mid now b z → HasDone s → ⊥
 done-not_closed-any why s mid now b z ends has = elim has [
-  | inl e ↦ done-not_closed why s mid now b z ends e
-  | inr other ↦ elim other [ inl e ↦ some-not_closed why s mid now b z ends e | inr e ↦ refused-not_closed why s mid now b z ends e ]
+  | inl e ↦ not_closed status.Done refl why s mid now b z ends e
+  | inr other ↦ elim other [ inl e ↦ not_closed status.SomeRefused refl why s mid now b z ends e | inr e ↦ refused-not_closed why s mid now b z ends e ]
 ]
 
 -- what holds where the command answered that it was done
@@ -289,15 +238,12 @@ pub without-ended : (answer : Result Bool CommandFault) (s : Status) (mid now : 
 without-ended (Ok refused) s mid now b z without ends = absurd without.0
 without-ended (Err why) s mid now b z without ends = absent-closed-status why s mid now b z without.1 ends
 
+line-closed : (line : List ℕ) (t s : Status) (mid now : Option (List ℕ)) (b z : ℕ) → EndsWith (Some line) t s mid now b z → (s ≡ status.Memory → ⊥) → WritesLine mid now line b z
+line-closed line t s mid now b z ends other = elim ends [ inl h ↦ h.1 | inr h ↦ absurd (other h.0) ]
+
 pub absent-line-closed : (why : CommandFault) (s : Status) (mid now : Option (List ℕ)) (b z : ℕ) → IsClosed why s mid now b z → s ≡ status.NoRepository → WritesLine mid now absent_line b z
-absent-line-closed fault.Read s mid now b z ends e = let w = absent-closed fault.Read s mid now b z ends e in absurd cc
-absent-line-closed fault.Write s mid now b z ends e = let w = absent-closed fault.Write s mid now b z ends e in absurd cc
-absent-line-closed fault.Store s mid now b z ends e = let w = absent-closed fault.Store s mid now b z ends e in absurd cc
-absent-line-closed (fault.Malformed f p place) s mid now b z ends e = let w = absent-closed (fault.Malformed f p place) s mid now b z ends e in absurd cc
-absent-line-closed (fault.Missing f) s mid now b z ends e = let w = absent-closed (fault.Missing f) s mid now b z ends e in absurd cc
-absent-line-closed fault.NoRepository s mid now b z ends e = elim ends [ inl (w, l) ↦ l | inr (w, same) ↦ absurd cc ]
-absent-line-closed fault.Exists s mid now b z ends e = let w = absent-closed fault.Exists s mid now b z ends e in absurd cc
-absent-line-closed fault.Memory s mid now b z ends e = let w = absent-closed fault.Memory s mid now b z ends e in absurd cc
+absent-line-closed why s mid now b z ends e =
+    line-closed absent_line status.NoRepository s mid now b z (subst (λ (w : CommandFault). IsClosed w s mid now b z) (absent-closed why s mid now b z ends e) ends) (λ (m : s ≡ status.Memory). cc)
 
 pub absent-line-ended : (answer : Result Bool CommandFault) (s : Status) (mid now : Option (List ℕ)) (b z : ℕ) → IsEnded answer s mid now b z → s ≡ status.NoRepository → WritesLine mid now absent_line b z
 absent-line-ended (Ok false) s mid now b z (w, same) e = absurd cc
@@ -305,14 +251,8 @@ absent-line-ended (Ok true) s mid now b z (w, same) e = absurd cc
 absent-line-ended (Err why) s mid now b z ends e = absent-line-closed why s mid now b z ends e
 
 pub exists-line-closed : (why : CommandFault) (s : Status) (mid now : Option (List ℕ)) (b z : ℕ) → IsClosed why s mid now b z → s ≡ status.Exists → WritesLine mid now exists_line b z
-exists-line-closed fault.Read s mid now b z ends e = let w = exists-closed fault.Read s mid now b z ends e in absurd cc
-exists-line-closed fault.Write s mid now b z ends e = let w = exists-closed fault.Write s mid now b z ends e in absurd cc
-exists-line-closed fault.Store s mid now b z ends e = let w = exists-closed fault.Store s mid now b z ends e in absurd cc
-exists-line-closed (fault.Malformed f p place) s mid now b z ends e = let w = exists-closed (fault.Malformed f p place) s mid now b z ends e in absurd cc
-exists-line-closed (fault.Missing f) s mid now b z ends e = let w = exists-closed (fault.Missing f) s mid now b z ends e in absurd cc
-exists-line-closed fault.NoRepository s mid now b z ends e = let w = exists-closed fault.NoRepository s mid now b z ends e in absurd cc
-exists-line-closed fault.Exists s mid now b z ends e = elim ends [ inl (w, l) ↦ l | inr (w, same) ↦ absurd cc ]
-exists-line-closed fault.Memory s mid now b z ends e = let w = exists-closed fault.Memory s mid now b z ends e in absurd cc
+exists-line-closed why s mid now b z ends e =
+    line-closed exists_line status.Exists s mid now b z (subst (λ (w : CommandFault). IsClosed w s mid now b z) (exists-closed why s mid now b z ends e) ends) (λ (m : s ≡ status.Memory). cc)
 
 -- a command that works on a repository isn't broken off because there is one
 pub exists-not_ended : (answer : Result Bool CommandFault) (s : Status) (mid now : Option (List ℕ)) (b z : ℕ) → IfErr answer IsOverFault → IsEnded answer s mid now b z → s ≡ status.Exists → ⊥

@@ -1,11 +1,9 @@
-use Rattle.std.proofs.Common.{rules, ◌≡◌, [], ◌∷◌, ◌++◌, ◌∙◌, List, Option, arith, subst}
-use Rattle.store_ends.specs.Files.{Files}
+use Rattle.std.proofs.Common.{rules, ◌≡◌, [], ◌∷◌, ◌++◌, ◌∙◌, List, arith, subst}
 use Rattle.command_pieces.specs.Faults.{IsCut}
 use Rattle.command_pieces.specs.Pieces.{some_refused}
 use Rattle.command_pieces.specs.Written.{AllWritten}
 use Rattle.command_pieces.specs.declared.fault.Fault.TheVariants as fault
 use Rattle.docno_lines.specs.declared.docno.DocnoLine.{DocnoLine}
-use Rattle.repository.specs.Stands.{Collection}
 use Rattle.repository.specs.States.{ReadsAs}
 use Rattle.collection_commands.specs.Deletions.{behind_lines, line_pieces}
 use Rattle.collection_commands.proofs.Following.{all-done, behind-next, behind-none, cut-here, cut-next, followed-more, followed-start, refused-next, refused-start, some-done, written-next, written-start}

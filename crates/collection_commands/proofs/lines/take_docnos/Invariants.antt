@@ -1,4 +1,4 @@
-use Rattle.std.proofs.Common.{◌≡◌, ◌+◌, ◌<◌, ◌≤◌, ◌^◌, length, true, List, Option}
+use Rattle.std.proofs.Common.{◌≡◌, ◌+◌, ◌<◌, ◌^◌, length, true, List, Option}
 use Rattle.std.specs.Io.KnownBytes.{prepend_known}
 use Rattle.read_ahead.specs.Ahead.{most_of}
 use Rattle.store_ends.specs.Files.{Files}

@@ -3,7 +3,7 @@ use Rattle.std.specs.Prelude.{◌==◌, IfSome, not}
 use Rattle.prior_lines.specs.Rows.{refusals}
 use Rattle.prior_lines.specs.declared.line.RowLine.{RowLine}
 use Rattle.collection_commands.proofs.FaultLemmas.{items_change}
-use Rattle.collection_commands.proofs.PriorLemmas.{lines-broken, memory-broken, none-stops, read-broken, set-broken, set-done, set-stops, table-of}
+use Rattle.collection_commands.proofs.PriorLemmas.{lines-broken, memory-broken, read-broken, set-broken, set-done, set-stops, table-of}
 use Rattle.collection_commands.proofs.prior_command.take_rows.Goals as goal
 
 -- the input isn't read to its end, or its rows aren't ordered

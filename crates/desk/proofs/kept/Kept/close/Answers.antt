@@ -9,6 +9,7 @@ use Rattle.desk.specs.declared.query.OpenQuery.{OpenQuery}
 use Rattle.desk.specs.Queries.{query_of}
 use Rattle.desk.proofs.Cases.{close-closed, close-noname}
 use Rattle.desk.proofs.Exits.{accepted-by, of-now, refused-by, refused-here}
+use Rattle.desk.proofs.Found.{place-of}
 use Rattle.desk.proofs.KeptLemmas.{kept-removed}
 use Rattle.desk.proofs.NamedExits.{close-exit, with_queries}
 use Rattle.desk.proofs.Naming.{found-place, is_named, named-here, named-none}
@@ -40,8 +41,7 @@ pub returns-in-Some-clause-steps : goal.returns-in-Some-clause-steps
 returns-in-Some-clause-steps c = λ told backed.
     let s = c.self.inside in
     let view : Keeps = record { repository = s.repository; kind = s.kind; queries = s.queries.items; counts = s.counts; cache = s.cache; usable = s.usable } in
-    let found : position (is_named c.args.name) s.queries.items ≡ Some c.in-Some.place = ap (λ (x : Keeps). position (is_named c.args.name) x.queries) c.self.view_is ∙ sym c.find.ensures ∙ c.in-Some.is in
-    let place = found-place c.args.name s.queries.items c.in-Some.place c.remove.result found in
+    let place = place-of view c.args.self.now c.args.name c.in-Some.place c.remove.result c.self.view_is (sym c.find.ensures ∙ c.in-Some.is) in
     of-now told view c.args.self.now (λ (x : Keeps). Steps (event.Close c.args.name) told told x (with_queries view c.remove.new.self.items) (reply.Closed c.args.name)) c.self.view_is
     (λ b. subst (λ (qs : List OpenQuery). Steps (event.Close c.args.name) told told view (with_queries view qs) (reply.Closed c.args.name)) (sym c.remove.ensures.items) (close-exit told view c.args.name c.in-Some.place c.remove.result place c.remove.ensures.value b)) backed
 
@@ -49,7 +49,6 @@ pub returns-in-Some-clause-refuses : goal.returns-in-Some-clause-refuses
 returns-in-Some-clause-refuses c = λ told.
     let s = c.self.inside in
     let view : Keeps = record { repository = s.repository; kind = s.kind; queries = s.queries.items; counts = s.counts; cache = s.cache; usable = s.usable } in
-    let found : position (is_named c.args.name) s.queries.items ≡ Some c.in-Some.place = ap (λ (x : Keeps). position (is_named c.args.name) x.queries) c.self.view_is ∙ sym c.find.ensures ∙ c.in-Some.is in
-    let place = found-place c.args.name s.queries.items c.in-Some.place c.remove.result found in
+    let place = place-of view c.args.self.now c.args.name c.in-Some.place c.remove.result c.self.view_is (sym c.find.ensures ∙ c.in-Some.is) in
     accepted-by (event.Close c.args.name) told view c.args.self.now _ c.self.view_is
     (close-closed (state_of told view) c.args.name (query_of told c.remove.result) (named-here told c.args.name s.queries.items c.in-Some.place c.remove.result place c.remove.ensures.value)) refl

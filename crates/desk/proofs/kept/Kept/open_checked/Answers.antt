@@ -8,7 +8,6 @@ use Rattle.query_check.specs.Answers.{whole_checked}
 use Rattle.query_check.specs.Leaves.{leaf_tree}
 use Rattle.query_check.specs.declared.leaf_kind.LeafKind.{LeafKind}
 use Rattle.disk_index.specs.Snapshots as snapshots
-use Rattle.disk_index.specs.Snapshots.{Marked}
 use Rattle.document_scoring.specs.Counts.{stats_of}
 use Rattle.counts.specs.Kept.{AreSums}
 use Rattle.repository.specs.States as repositories

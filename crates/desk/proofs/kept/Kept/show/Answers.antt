@@ -1,4 +1,4 @@
-use Rattle.std.proofs.Common.{◌≡◌, ◌∙◌, ap, get_or, length, refl, subst, sym, List, None, Some}
+use Rattle.std.proofs.Common.{◌≡◌, ◌∙◌, ap, length, refl, subst, sym, List, None}
 use Rattle.std.specs.Prelude.{is_some}
 use Rattle.std.specs.List.{position}
 use Rattle.ri_base.specs.declared.hit.Hit.{Hit}
@@ -11,15 +11,15 @@ use Rattle.desk.specs.Replied.{AreResults}
 use Rattle.desk.specs.declared.reply.Reply.TheVariants as reply
 use Rattle.desk.specs.declared.reply.Refusal.TheVariants.{NoSuchName, NotYet}
 use Rattle.desk.specs.Backed.{Keeps, Steps, state_of}
-use Rattle.desk.specs.Keeping.{IsOpen}
 use Rattle.desk.specs.Orders.{IsTrueReply}
 use Rattle.desk.specs.Queries.{IsQueryBacked, priors_in, query_of}
 use Rattle.desk.specs.State.{named}
 use Rattle.desk.proofs.Cases.{show-noname, show-results}
 use Rattle.desk.proofs.Exits.{accepted-by, of-now, refused-by, refused-exit, refused-here, refused-so}
+use Rattle.desk.proofs.Found.{open-of, place-of}
 use Rattle.desk.proofs.FormLemmas.{results-form}
 use Rattle.desk.proofs.NamedExits.{all-passed, not-yet, not-yet-shown, show-exit, shown-entries}
-use Rattle.desk.proofs.Naming.{at-place, found-place, is_named, named-here, named-none}
+use Rattle.desk.proofs.Naming.{at-place, is_named, named-here, named-none}
 use Rattle.desk.proofs.OrderLemmas.{shown-true, true-refused}
 use Rattle.desk.proofs.kept.Kept.show.Goals as goal
 
@@ -43,28 +43,22 @@ returns-in-None-clause-steps c = λ told backed.
     let s = c.self.inside in
     let name = c.args.name in
     let view : Keeps = record { repository = s.repository; kind = s.kind; queries = s.queries.items; counts = s.counts; cache = s.cache; usable = s.usable } in
-    let found : position (is_named c.args.name) s.queries.items ≡ Some c.in-Some.place = ap (λ (x : Keeps). position (is_named c.args.name) x.queries) c.self.view_is ∙ sym c.find.ensures ∙ c.in-Some.is in
-    let kept = c.self.invariant (ap (λ (x : Keeps). x.usable) c.self.view_is ∙ c.requires.usable.0) (ap (λ (x : Keeps). x.repository.usable) c.self.view_is ∙ c.requires.usable.1) in
     let q = c.index.result.now in
-    let place = found-place name s.queries.items c.in-Some.place q found in
-    let there : q ≡ get_or s.queries.items c.in-Some.place q = c.index.ensures in
-    let was : IsOpen (length s.repository.priors) q = at-place (IsOpen (length s.repository.priors)) s.queries.items c.in-Some.place q place.within there kept.each in
-    let less = not-yet told view name c.in-Some.place q place there was.usable (is_some c.results.result) (c.results.ensures.some told) (ap is_some c.in-None.is) in
-    refused-here (event.Show name) told view c.args.self.now (NotYet name) c.self.view_is (not-yet-shown told view name c.in-Some.place q place there less) backed
+    let place = place-of view c.args.self.now name c.in-Some.place q c.self.view_is (sym c.find.ensures ∙ c.in-Some.is) in
+    let was = open-of view c.args.self.now name c.in-Some.place q c.self.view_is (sym c.find.ensures ∙ c.in-Some.is) c.index.ensures c.self.invariant c.requires.usable in
+    let less = not-yet told view name c.in-Some.place q place c.index.ensures was.usable (is_some c.results.result) (c.results.ensures.some told) (ap is_some c.in-None.is) in
+    refused-here (event.Show name) told view c.args.self.now (NotYet name) c.self.view_is (not-yet-shown told view name c.in-Some.place q place c.index.ensures less) backed
 
 pub returns-in-None-clause-refuses : goal.returns-in-None-clause-refuses
 returns-in-None-clause-refuses c = λ told.
     let s = c.self.inside in
     let name = c.args.name in
     let view : Keeps = record { repository = s.repository; kind = s.kind; queries = s.queries.items; counts = s.counts; cache = s.cache; usable = s.usable } in
-    let found : position (is_named c.args.name) s.queries.items ≡ Some c.in-Some.place = ap (λ (x : Keeps). position (is_named c.args.name) x.queries) c.self.view_is ∙ sym c.find.ensures ∙ c.in-Some.is in
-    let kept = c.self.invariant (ap (λ (x : Keeps). x.usable) c.self.view_is ∙ c.requires.usable.0) (ap (λ (x : Keeps). x.repository.usable) c.self.view_is ∙ c.requires.usable.1) in
     let q = c.index.result.now in
-    let place = found-place name s.queries.items c.in-Some.place q found in
-    let there : q ≡ get_or s.queries.items c.in-Some.place q = c.index.ensures in
-    let was : IsOpen (length s.repository.priors) q = at-place (IsOpen (length s.repository.priors)) s.queries.items c.in-Some.place q place.within there kept.each in
-    let less = not-yet told view name c.in-Some.place q place there was.usable (is_some c.results.result) (c.results.ensures.some told) (ap is_some c.in-None.is) in
-    refused-by (event.Show name) told view c.args.self.now (NotYet name) c.self.view_is (not-yet-shown told view name c.in-Some.place q place there less)
+    let place = place-of view c.args.self.now name c.in-Some.place q c.self.view_is (sym c.find.ensures ∙ c.in-Some.is) in
+    let was = open-of view c.args.self.now name c.in-Some.place q c.self.view_is (sym c.find.ensures ∙ c.in-Some.is) c.index.ensures c.self.invariant c.requires.usable in
+    let less = not-yet told view name c.in-Some.place q place c.index.ensures was.usable (is_some c.results.result) (c.results.ensures.some told) (ap is_some c.in-None.is) in
+    refused-by (event.Show name) told view c.args.self.now (NotYet name) c.self.view_is (not-yet-shown told view name c.in-Some.place q place c.index.ensures less)
 
 pub returns-in-None-clause-order : goal.returns-in-None-clause-order
 returns-in-None-clause-order c = λ told backed. true-refused (state_of told c.args.self.now) (named c.args.name (state_of told c.args.self.now).queries) (NotYet c.args.name)
@@ -74,22 +68,19 @@ returns-in_ok-clone_in-in-Some-results-clause-steps c = λ told backed.
     let s = c.self.inside in
     let name = c.args.name in
     let view : Keeps = record { repository = s.repository; kind = s.kind; queries = s.queries.items; counts = s.counts; cache = s.cache; usable = s.usable } in
-    let found : position (is_named c.args.name) s.queries.items ≡ Some c.in-Some.place = ap (λ (x : Keeps). position (is_named c.args.name) x.queries) c.self.view_is ∙ sym c.find.ensures ∙ c.in-Some.is in
-    let kept = c.self.invariant (ap (λ (x : Keeps). x.usable) c.self.view_is ∙ c.requires.usable.0) (ap (λ (x : Keeps). x.repository.usable) c.self.view_is ∙ c.requires.usable.1) in
     let q = c.index.result.now in
-    let place = found-place name s.queries.items c.in-Some.place q found in
-    let there : q ≡ get_or s.queries.items c.in-Some.place q = c.index.ensures in
-    let was : IsOpen (length s.repository.priors) q = at-place (IsOpen (length s.repository.priors)) s.queries.items c.in-Some.place q place.within there kept.each in
-    let passed = all-passed told view name c.in-Some.place q place there (is_some c.results.result) (c.results.ensures.some told) (ap is_some c.in-Some-results.is) in
+    let place = place-of view c.args.self.now name c.in-Some.place q c.self.view_is (sym c.find.ensures ∙ c.in-Some.is) in
+    let was = open-of view c.args.self.now name c.in-Some.place q c.self.view_is (sym c.find.ensures ∙ c.in-Some.is) c.index.ensures c.self.invariant c.requires.usable in
+    let passed = all-passed told view name c.in-Some.place q place c.index.ensures (is_some c.results.result) (c.results.ensures.some told) (ap is_some c.in-Some-results.is) in
     let hits : List Hit = c.in_ok-clone_in-in-Some-results.field-0 in
     let same : hits ≡ c.in-Some-results.hits.now = c.in_ok-clone_in-in-Some-results.ensures in
     let scale : c.checked.result.now.scale ≡ (whole_checked q.search.checked).scale = ap (λ (x : Checked). x.scale) c.checked.ensures in
     of-now told view c.args.self.now (λ (x : Keeps). Steps (event.Show name) told told x x (reply.Results name c.checked.result.now.scale hits)) c.self.view_is
     (λ b.
-    let query : IsQueryBacked told s.repository s.kind q = at-place (IsQueryBacked told s.repository s.kind) s.queries.items c.in-Some.place q place.within there b.queries in
+    let query : IsQueryBacked told s.repository s.kind q = at-place (IsQueryBacked told s.repository s.kind) s.queries.items c.in-Some.place q place.within c.index.ensures b.queries in
     let priors = priors_with (priors_in told s.repository.priors) in
     let answered : IsAnswerOf s.kind priors q.search (searched told q.search) hits = subst (IsAnswerOf s.kind priors q.search (searched told q.search)) (sym same) (c.in-Some-results.ensures.answer s.kind priors told query.taken) in
-    show-exit told view name c.in-Some.place q place there hits c.checked.result.now.scale scale passed (shown-entries told view name c.in-Some.place q place there hits was.distinct query answered) b)
+    show-exit told view name c.in-Some.place q place c.index.ensures hits c.checked.result.now.scale scale passed (shown-entries told view name c.in-Some.place q place c.index.ensures hits was.distinct query answered) b)
     backed
 
 pub returns-in_ok-clone_in-in-Some-results-clause-order : goal.returns-in_ok-clone_in-in-Some-results-clause-order
@@ -97,33 +88,28 @@ returns-in_ok-clone_in-in-Some-results-clause-order c = λ told backed.
     let s = c.self.inside in
     let name = c.args.name in
     let view : Keeps = record { repository = s.repository; kind = s.kind; queries = s.queries.items; counts = s.counts; cache = s.cache; usable = s.usable } in
-    let found : position (is_named c.args.name) s.queries.items ≡ Some c.in-Some.place = ap (λ (x : Keeps). position (is_named c.args.name) x.queries) c.self.view_is ∙ sym c.find.ensures ∙ c.in-Some.is in
-    let kept = c.self.invariant (ap (λ (x : Keeps). x.usable) c.self.view_is ∙ c.requires.usable.0) (ap (λ (x : Keeps). x.repository.usable) c.self.view_is ∙ c.requires.usable.1) in
     let q = c.index.result.now in
-    let place = found-place name s.queries.items c.in-Some.place q found in
-    let there : q ≡ get_or s.queries.items c.in-Some.place q = c.index.ensures in
-    let was : IsOpen (length s.repository.priors) q = at-place (IsOpen (length s.repository.priors)) s.queries.items c.in-Some.place q place.within there kept.each in
+    let place = place-of view c.args.self.now name c.in-Some.place q c.self.view_is (sym c.find.ensures ∙ c.in-Some.is) in
+    let was = open-of view c.args.self.now name c.in-Some.place q c.self.view_is (sym c.find.ensures ∙ c.in-Some.is) c.index.ensures c.self.invariant c.requires.usable in
     let hits : List Hit = c.in_ok-clone_in-in-Some-results.field-0 in
     let same : hits ≡ c.in-Some-results.hits.now = c.in_ok-clone_in-in-Some-results.ensures in
     let scale : c.checked.result.now.scale ≡ q.search.checked.scale = ap (λ (x : Checked). x.scale) c.checked.ensures in
     of-now told view c.args.self.now (λ (x : Keeps). IsTrueReply (state_of told x) (event.Show name) (reply.Results name c.checked.result.now.scale hits)) c.self.view_is
     (λ b.
-    let query : IsQueryBacked told s.repository s.kind q = at-place (IsQueryBacked told s.repository s.kind) s.queries.items c.in-Some.place q place.within there b.queries in
+    let query : IsQueryBacked told s.repository s.kind q = at-place (IsQueryBacked told s.repository s.kind) s.queries.items c.in-Some.place q place.within c.index.ensures b.queries in
     let priors = priors_with (priors_in told s.repository.priors) in
     let answered : IsAnswerOf s.kind priors q.search (searched told q.search) hits = subst (IsAnswerOf s.kind priors q.search (searched told q.search)) (sym same) (c.in-Some-results.ensures.answer s.kind priors told query.taken) in
-    shown-true told view name c.in-Some.place q place there c.ranking_is_true.ensures c.checked.result.now.scale hits scale was.distinct query answered)
+    shown-true told view name c.in-Some.place q place c.index.ensures c.ranking_is_true.ensures c.checked.result.now.scale hits scale was.distinct query answered)
     backed
 
 pub returns-in_ok-clone_in-in-Some-results-clause-form : goal.returns-in_ok-clone_in-in-Some-results-clause-form
 returns-in_ok-clone_in-in-Some-results-clause-form c =
     let s = c.self.inside in
     let name = c.args.name in
-    let found : position (is_named c.args.name) s.queries.items ≡ Some c.in-Some.place = ap (λ (x : Keeps). position (is_named c.args.name) x.queries) c.self.view_is ∙ sym c.find.ensures ∙ c.in-Some.is in
-    let kept = c.self.invariant (ap (λ (x : Keeps). x.usable) c.self.view_is ∙ c.requires.usable.0) (ap (λ (x : Keeps). x.repository.usable) c.self.view_is ∙ c.requires.usable.1) in
+    let view : Keeps = record { repository = s.repository; kind = s.kind; queries = s.queries.items; counts = s.counts; cache = s.cache; usable = s.usable } in
     let q = c.index.result.now in
-    let place = found-place name s.queries.items c.in-Some.place q found in
-    let there : q ≡ get_or s.queries.items c.in-Some.place q = c.index.ensures in
-    let was : IsOpen (length s.repository.priors) q = at-place (IsOpen (length s.repository.priors)) s.queries.items c.in-Some.place q place.within there kept.each in
+    let place = place-of view c.args.self.now name c.in-Some.place q c.self.view_is (sym c.find.ensures ∙ c.in-Some.is) in
+    let was = open-of view c.args.self.now name c.in-Some.place q c.self.view_is (sym c.find.ensures ∙ c.in-Some.is) c.index.ensures c.self.invariant c.requires.usable in
     let scale : c.checked.result.now.scale ≡ q.search.checked.scale = ap (λ (x : Checked). x.scale) c.checked.ensures in
     subst (λ (hits : List Hit). AreResults c.checked.result.now.scale hits) (sym c.in_ok-clone_in-in-Some-results.ensures)
     (results-form (length s.repository.priors) c.checked.result.now.scale q (searched None q.search) c.in-Some-results.hits.now was scale (c.in-Some-results.ensures.windows None))
@@ -133,9 +119,7 @@ returns-in_ok-clone_in-in-Some-results-clause-refuses c = λ told.
     let s = c.self.inside in
     let name = c.args.name in
     let view : Keeps = record { repository = s.repository; kind = s.kind; queries = s.queries.items; counts = s.counts; cache = s.cache; usable = s.usable } in
-    let found : position (is_named c.args.name) s.queries.items ≡ Some c.in-Some.place = ap (λ (x : Keeps). position (is_named c.args.name) x.queries) c.self.view_is ∙ sym c.find.ensures ∙ c.in-Some.is in
     let q = c.index.result.now in
-    let place = found-place name s.queries.items c.in-Some.place q found in
-    let there : q ≡ get_or s.queries.items c.in-Some.place q = c.index.ensures in
-    let passed = all-passed told view name c.in-Some.place q place there (is_some c.results.result) (c.results.ensures.some told) (ap is_some c.in-Some-results.is) in
-    accepted-by (event.Show name) told view c.args.self.now _ c.self.view_is (show-results (state_of told view) name (query_of told q) (named-here told name s.queries.items c.in-Some.place q place there) passed) refl
+    let place = place-of view c.args.self.now name c.in-Some.place q c.self.view_is (sym c.find.ensures ∙ c.in-Some.is) in
+    let passed = all-passed told view name c.in-Some.place q place c.index.ensures (is_some c.results.result) (c.results.ensures.some told) (ap is_some c.in-Some-results.is) in
+    accepted-by (event.Show name) told view c.args.self.now _ c.self.view_is (show-results (state_of told view) name (query_of told q) (named-here told name s.queries.items c.in-Some.place q place c.index.ensures) passed) refl

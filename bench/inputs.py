@@ -1,4 +1,4 @@
-"""The texts that bench/measure.py and bench/stops.py measure and try, the same ones each time."""
+"""The texts that bench/measure.py, bench/folders.py and bench/sessions.py measure and try, the same ones each time."""
 import random
 
 VOCABULARY = [f"w{i}" for i in range(5000)] + ["the", "of", "rain", "launch"] * 50

@@ -1,5 +1,5 @@
 -- What is replied of a query has its form, whatever the files tell.
-use Rattle.std.proofs.Common.{◌≡◌, ◌∙◌, ℕ, List, [], ◌∷◌, length, refl, sym, arith}
+use Rattle.std.proofs.Common.{◌≡◌, ◌≤◌, ◌∙◌, ℕ, List, [], ◌∷◌, length, refl, sym, arith}
 use Rattle.std.specs.List.{All}
 use Rattle.std.proofs.lemmas.List.Elements.{All-head, All-nil, All-weaker}
 use Rattle.ri_base.specs.Documents.{Document}
@@ -25,11 +25,14 @@ as-first n (h ∷ hs) all =
     let first = All-head (λ (hit : Hit). length hit.fractions ≡ n) h hs all in
     All-weaker (λ (hit : Hit). length hit.fractions ≡ n) (λ (hit : Hit). length hit.fractions ≡ length h.fractions) (λ hit is. is ∙ sym first) (h ∷ hs) all
 
+-- the results of a search that was asked for no more than can be
+pub search-form : (checked : Checked) (scale n most : ℕ) (docs : List Document) (hits : List Hit) → scale ≡ checked.scale → most ≤ MAX_RESULTS → ∥ AreWindows docs n most hits ∥₁ → AreResults scale hits
+search-form checked scale n most docs hits is fits windows = record {
+  of_scale = scale-form checked scale is;
+  few = as-few docs n most MAX_RESULTS hits fits windows;
+  leaves = as-first n hits (as-many-beliefs docs n n most hits refl windows);
+}
+
 pub results-form : (count scale : ℕ) (q : OpenQuery) (docs : List Document) (hits : List Hit) → IsOpen count q → scale ≡ q.search.checked.scale → ∥ AreWindows docs (length (network_tree q.search.network).leaves) q.search.most hits ∥₁ → AreResults scale hits
 results-form count scale q docs hits was is windows =
-    let n = length (network_tree q.search.network).leaves in
-    record {
-      of_scale = scale-form q.search.checked scale is;
-      few = as-few docs n q.search.most MAX_RESULTS hits was.few windows;
-      leaves = as-first n hits (as-many-beliefs docs n n q.search.most hits refl windows);
-    }
+    search-form q.search.checked scale (length (network_tree q.search.network).leaves) q.search.most docs hits is was.few windows

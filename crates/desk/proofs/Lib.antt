@@ -17,6 +17,7 @@ pub mod Keeping
 pub mod KeptLemmas
 pub mod Known
 pub mod LeafLemmas
+pub mod LineLemmas
 pub mod ListLemmas
 pub mod MergeExits
 pub mod NamedExits

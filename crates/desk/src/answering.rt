@@ -23,7 +23,7 @@ ghost use Rattle.desk.specs.Shown.{explanation, results, told_shown};
 use crate::explained::{explain_hit, hit_of_rank};
 use crate::laws::ranking_is_true;
 use crate::leaves::all_stats;
-use crate::question_lines::lines_text;
+use crate::results::result_lines;
 use crate::search::{results_of, search_all};
 use crate::shown::Shown;
 use belief_nodes::BeliefNode;
@@ -69,7 +69,7 @@ fn results_text(
         → IfOk result (λ text. IsAnswerText kind priors [] (results search.now.most (told_labels labels.now)) (whole_checked search.now.checked) (searched told search.now) (Some text.items)) }
 {
     ranking_is_true();
-    lines_text(alloc, labels, search.checked(), results_of(search))
+    result_lines(alloc, labels, search.checked().scale, results_of(search))
 }
 
 /// What explains the result of that rank of a search, or none where there are fewer results.

@@ -6,10 +6,10 @@ ghost use Rattle.query_check.specs.Answers.{whole_checked};
 ghost use Rattle.desk.specs.Asked.{IsNotTaken, asked, check_fault, scanned, text_fault};
 ghost use Rattle.desk.specs.Keeping.{AsksFor};
 
+use crate::{CheckKind, Refusal};
 use query_check::{CheckFault, Checked, check};
 use query_reader::{QueryFault, read_expr, read_query};
 use ri_base::{ExtentExpr, Name};
-use crate::{CheckKind, Refusal};
 use std::alloc::Global;
 use std::str;
 

@@ -18,12 +18,12 @@ ghost use Rattle.desk.specs.Plugs.{ArePlugs};
 ghost use Rattle.desk.specs.Step.{step};
 ghost use Rattle.desk.specs.Told.{RefusesAs, reply_early, told_early};
 
+use crate::Reply;
 use crate::kept::Kept;
 use belief_nodes::BeliefNode;
 use repository::Repository;
 use ri_base::{Fraction, NoMemory, SegFault};
 use session_events::Event;
-use crate::Reply;
 use smoothing::Rule;
 use std::alloc::Global;
 use store_ends::Store;

@@ -13,10 +13,10 @@ ghost use Rattle.counts.specs.Reading.{OnlyReads};
 ghost use Rattle.ranker.specs.Passed.{live_before};
 ghost use Rattle.desk.specs.Scanning.{extents_in, lines_of};
 
+use crate::Scanned;
 use disk_index::{BlockCache, MarkedPart, Part, PartReader};
 use extent_evaluation::{extents, extents_have_one_list};
 use ri_base::{Docno, ExtentExpr, Extents, NoMemory, SegFault};
-use crate::Scanned;
 use std::alloc::Global;
 use store_ends::Store;
 

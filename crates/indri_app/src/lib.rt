@@ -4,13 +4,16 @@
 mod addition;
 mod changing;
 mod ending;
+mod items;
 mod opening;
 mod program;
 mod question;
 mod scan;
+mod script;
 mod session;
 mod status;
 mod texts;
+mod turn;
 
 pub use program::run;
 pub use status::Status;

@@ -20,9 +20,8 @@ ghost use Rattle.indri_app.specs.Sessions.{Grows, begun, session_collection, ses
 
 use crate::items::take_items;
 use belief_nodes::BeliefNode;
-use desk::take_priors;
 use command_pieces::CommandFault;
-use desk::Desk;
+use desk::{Desk, take_priors};
 use repository::Repository;
 use ri_base::Fraction;
 use ri_ends::{Sink, Source};

@@ -16,10 +16,10 @@ ghost use Rattle.indri_app.specs.Opened.{IsAbsentFault};
 ghost use Rattle.indri_app.specs.Runs.{IsBegun, IsDone, StopsAlong};
 
 use crate::opening::open_repository;
+use crate::script::session;
 use belief_nodes::BeliefNode;
 use command_pieces::CommandFault;
 use ri_ends::{Sink, Source};
-use crate::script::session;
 use std::alloc::Global;
 use store_ends::Store;
 

@@ -21,13 +21,12 @@ ghost use Rattle.indri_app.specs.Sessions.{Grows, IsUnderWay};
 
 use belief_nodes::BeliefNode;
 use command_pieces::{CommandFault, Reply as Piece};
-use desk::Desk;
+use desk::{Desk, Reply, piece_of};
 use refusals::{Refusal, placed_line, reply_of};
 use ri_base::{Fraction, SegFault};
 use ri_ends::Sink;
 use script_reader::{Item, Unread};
 use session_events::Event;
-use desk::{Reply, piece_of};
 use std::alloc::Global;
 use store_ends::Store;
 

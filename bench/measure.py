@@ -21,7 +21,14 @@ The inputs are made in a temporary folder, the same ones each time, and so are t
                   131,072 documents have each
     delete        60,000 documents of 25 words, of which one, a tenth or all are deleted, and a query behind it
     merge         60,000 documents of 25 words, and 6,000 of 300 words, in ten segments, all of them live or every second one:
-                  `merge`, against an `add` of all of them
+                  `merge`, against an `add` of all of them, and MB of segments that are read in a second
+    turns         a merge of 60,000 documents of 25 words in a session, by turns of 64 documents to all of them at once; and the
+                  exponent of the cost by turns of 64 documents, from 15,000 to 60,000 documents
+    steps         sixteen queries over 60,000 documents of 25 words in a session, by steps of 64 documents: one open at a time, and
+                  all open at once and each stepped in turn, which is the same work; and a query that finds nothing by steps of one
+                  document, against one step
+    session       sessions of 2,500, 5,000 and 10,000 lines: three of four lines add a document of 25 words, the others delete, flush,
+                  merge in turns, and ask queries of which some stay open; and the exponent of their cost
     prior         100,000 rows of a prior, and a query with it, against the same query without
     windows       one document of 1,000,000 tokens, half of which are words of the windows: scans and queries
     fields        65,535 fields of distinct names, one inside the other; as many of one name, one inside the other and one
@@ -55,6 +62,7 @@ does, and compares them with the list that these commands take; what they cost i
 import argparse
 import math
 import os
+import random
 import re
 import shutil
 import subprocess
@@ -143,6 +151,27 @@ MERGED = ((60_000, 25), (6_000, 300))
 MERGE_PARTS = 10
 MERGE_TO_ADD = 3
 MERGE_PEAK_TO_ADD = 2
+MERGE_SPEED = 8
+
+# A merge by many turns against one turn, both beyond a session without a merge; its peak in MiB.
+TURN_DOCUMENTS = 60_000
+TURN_SIZES = (64, 640, 6_400, TURN_DOCUMENTS)
+TURNS_TO_ONE = 2
+TURNS_EXPONENT = 1.2
+TURNS_PEAK = 160
+
+# Sixteen queries that are open at once against one at a time; the peak in MiB. What a step costs that finds nothing, in microseconds.
+STEP_QUERIES = 16
+STEP_SIZE = 64
+OPEN_TO_ONE = 1.5
+STEPS_PEAK = 160
+STEP_MICROSECONDS = 12
+
+# Sessions: the most milliseconds a line of the longest one, its peak in MiB, and the exponent of the cost.
+SESSION_LINES = (2_500, 5_000, 10_000)
+SESSION_LINE_MILLISECONDS = 1
+SESSION_EXPONENT = 1.6
+SESSION_PEAK = 120
 
 # What a row of `prior` costs, in microseconds; a query with the prior against the same without.
 PRIOR_ROWS = 100_000
@@ -318,6 +347,12 @@ class Table:
         """Adds to a folder that is new in each run."""
         folder = self.folder / "added"
         return Job(self.words(folder, "add"), path, way, statuses, self.empty, folder)
+
+    def session(self, folder, name, script, statuses=(0,)):
+        """Does a script, which is kept under this name, over a copy of a folder."""
+        path, changed = self.folder / f"{name}.script", self.folder / f"{name} done"
+        path.write_text(script)
+        return Job(self.words(changed, "session"), path, run_file, statuses, folder, changed)
 
     def query(self, folder, text, *options):
         return Job(self.words(folder, "query", *options, text))
@@ -550,15 +585,145 @@ def measure_merge(table):
             count = each * MERGE_PARTS - len(dead)
             copied(whole, begun)
             table.make(begun, "delete", path=docnos)
+            read = sum(file.stat().st_size for file in begun.glob("seg-*")) / MEGA
             (added, held), (taken, peak) = table.best(table.add(joined), merge)
             table.row(
                 f"merge, {most:,} documents of {words} words, {shown}",
                 f"{taken:7.3f} s",
                 f"{count / taken:7.0f} documents/s",
+                table.at_least(f"{read / taken:4.0f} MB/s", read / taken, MERGE_SPEED),
                 table.at_most(f"{taken / added:5.2f} times add", taken / added, MERGE_TO_ADD),
                 f"peak {peak:4.0f} MiB",
                 table.at_most(f"{peak / held:4.2f} times that of add", peak / held, MERGE_PEAK_TO_ADD),
             )
+
+
+def short_collection(table, documents):
+    """A folder with so many documents of 25 words in ten segments."""
+    each = max(documents // MERGE_PARTS, 1)
+    paths = [table.folder / f"part{i}" for i in range(MERGE_PARTS)]
+    for i, path in enumerate(paths):
+        inputs.short_documents(path, i * each, each, 25)
+    return table.collection(f"short{documents}", *paths), each * MERGE_PARTS
+
+
+def merge_in_turns(documents, size):
+    """The script of a merge of so many documents by turns of this size."""
+    return "merge\n" + f"turn {size}\n" * -(-documents // size) + "end\n"
+
+
+def measure_turns(table):
+    def turned(folder, documents, size):
+        return table.session(folder, f"turns{documents}-{size}", merge_in_turns(documents, size))
+
+    folder, documents = short_collection(table, table.sized(TURN_DOCUMENTS))
+    sizes = [size for size in TURN_SIZES[:-1] if size < documents] + [documents]
+    jobs = [turned(folder, documents, size) for size in sizes]
+    (opened, _), *found = table.best(table.session(folder, "nothing", "end\n"), *jobs)
+    whole = found[-1][0] - opened
+    for size, (taken, peak) in zip(sizes, found):
+        turns = -(-documents // size)
+        ratio = (taken - opened) / max(whole, 0.0001)
+        table.row(
+            f"session, a merge of 60,000 documents by turns of {size:,}",
+            f"{taken:7.3f} s",
+            f"{1000 * (taken - opened) / turns:9.3f} ms a turn",
+            table.at_most(f"{ratio:4.2f} times one turn", ratio, TURNS_TO_ONE),
+            table.at_most(f"peak {peak:4.0f} MiB", peak, TURNS_PEAK),
+        )
+    counts = [table.sized(TURN_DOCUMENTS // part) for part in (4, 2, 1)]
+    smaller = [short_collection(table, count) for count in counts]
+    times = [taken for taken, _ in table.best(*(turned(other, count, STEP_SIZE) for other, count in smaller))]
+    slope = exponent(counts, times)
+    table.row("session, merges by turns of 64", table.at_most(f"exponent {slope:4.2f}", slope, TURNS_EXPONENT))
+
+
+def stepped(name, documents, size):
+    return f"step {name} {size}\n" * -(-documents // size) + f"show {name}\n"
+
+
+def one_at_a_time(documents, texts):
+    rounds = (f"open q 10 {text}\n{stepped('q', documents, STEP_SIZE)}close q\n" for text in texts)
+    return "".join(rounds)
+
+
+def all_at_once(documents, texts):
+    names = [f"q{i}" for i in range(len(texts))]
+    opened = "".join(f"open {name} 10 {text}\n" for name, text in zip(names, texts))
+    steps = "".join(f"step {name} {STEP_SIZE}\n" for name in names) * -(-documents // STEP_SIZE)
+    return opened + steps + "".join(f"show {name}\n" for name in names)
+
+
+def measure_steps(table):
+    folder, documents = short_collection(table, table.sized(60_000))
+    texts = [f"w{i} w{i + 1} {word}" for i, word in enumerate(["the", "of", "rain", "launch"] * (STEP_QUERIES // 4))]
+    one = table.session(folder, "one at a time", one_at_a_time(documents, texts))
+    open_at_once = table.session(folder, "all at once", all_at_once(documents, texts))
+    (opened, _), (alone, held), (taken, peak) = table.best(table.session(folder, "nothing", "end\n"), one, open_at_once)
+    ratio = (taken - opened) / max(alone - opened, 0.0001)
+    steps = STEP_QUERIES * -(-documents // STEP_SIZE)
+    table.row(
+        "session, 16 queries over 60,000 documents, one open",
+        f"{alone:7.3f} s",
+        f"{1e6 * (alone - opened) / steps:7.1f} us a step of 64",
+        table.at_most(f"peak {held:4.0f} MiB", held, STEPS_PEAK),
+    )
+    table.row(
+        "session, the same with 16 open",
+        f"{taken:7.3f} s",
+        f"{1e6 * (taken - opened) / steps:7.1f} us a step of 64",
+        table.at_most(f"{ratio:4.2f} times one open", ratio, OPEN_TO_ONE),
+        table.at_most(f"peak {peak:4.0f} MiB", peak, STEPS_PEAK),
+    )
+    at_once = table.session(folder, "one step", f"open q 10 nowhere\nstep q {documents}\nshow q\n")
+    many = table.session(folder, "steps of one", f"open q 10 nowhere\n{stepped('q', documents, 1)}")
+    (whole, _), (taken, _) = table.best(at_once, many)
+    each = 1e6 * (taken - whole) / documents
+    shown = table.at_most(f"{each:5.2f} us a step", each, STEP_MICROSECONDS)
+    table.row("session, 60,000 steps of one document that find nothing", f"{taken:7.3f} s", shown, f"{whole:7.3f} s by one step")
+
+
+def session_lines(count):
+    """A script of so many lines. Each hundredth of it adds 75 documents, and asks, deletes, flushes and merges in turns."""
+    pick = random.Random(7)
+    lines, added = [], 0
+    while len(lines) < count:
+        at = len(lines) % 100
+        if at % 4:
+            text = f"<DOC><DOCNO>s{added}</DOCNO>{' '.join(pick.choices(VOCABULARY, k=25))}</DOC>"
+            lines.append(f"add {len(text)}\n{text}")
+            added += 1
+        elif at == 0:
+            lines.append("flush")
+        elif at in (4, 8, 12):
+            lines.append(f"open q{len(lines) % 500}x{at} 10 w{at} rain")
+        elif at in (16, 20, 24):
+            lines.append(f"step q{(len(lines) - at) % 500 + at - 12}x{at - 12} 1000000")
+        elif at == 28:
+            lines.append("merge" if len(lines) % 1000 < 100 else f"delete s{pick.randrange(added)}")
+        elif at < 60:
+            lines.append(f"turn {max(added // 6, 1)}")
+        elif at in (60, 64, 68):
+            lines.append(f"close q{(len(lines) - at) % 500 + at - 56}x{at - 56}")
+        else:
+            lines.append(f"delete s{pick.randrange(added)}")
+    return "\n".join(lines) + "\nend\n"
+
+
+def measure_session(table):
+    counts = [table.sized(count) for count in SESSION_LINES]
+    jobs = [table.session(table.empty, f"lines{count}", session_lines(count), (0, 3)) for count in counts]
+    found = table.best(*jobs)
+    slope = exponent(counts, [taken for taken, _ in found])
+    for count, (taken, peak) in zip(counts, found):
+        each = 1000 * taken / count
+        table.row(
+            f"session of {count:,} lines",
+            f"{taken:7.3f} s",
+            table.at_most(f"{each:6.3f} ms a line", each, SESSION_LINE_MILLISECONDS),
+            table.at_most(f"peak {peak:4.0f} MiB", peak, SESSION_PEAK),
+        )
+    table.row("sessions of these lengths", table.at_most(f"exponent {slope:4.2f}", slope, SESSION_EXPONENT))
 
 
 def measure_prior(table):
@@ -708,6 +873,9 @@ GROUPS = {
     "matches": measure_matches,
     "delete": measure_delete,
     "merge": measure_merge,
+    "turns": measure_turns,
+    "steps": measure_steps,
+    "session": measure_session,
     "prior": measure_prior,
     "windows": measure_windows,
     "fields": measure_fields,

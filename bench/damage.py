@@ -32,11 +32,11 @@ from pathlib import Path
 
 import answers
 import stored
-from runs import D1, D2, PROGRAM, Runner, stop_unless_built
+from runs import FIRST, SECOND, PROGRAM, Runner, stop_unless_built
 
 TOP = Path(__file__).resolve().parent.parent
 SHOWN = 20
-D3 = b"<DOC><DOCNO>d3</DOCNO>a a</DOC>"
+THIRD = b"<DOC><DOCNO>d3</DOCNO>a a</DOC>"
 
 
 # Runs and what is found of them.
@@ -135,7 +135,7 @@ def with_stale_files(files):
 def whole_folders(tried, pick):
     """The folders that are damaged, as files."""
     rows = "".join(f"n{i} {1 + i % 3}/4\n" for i in range(0, 60, 7)).encode() + b"* 1/3\n"
-    some = tried.make((["add"], D1 + D2), (["prior", "home"], b"d1 1/2\n"))
+    some = tried.make((["add"], FIRST + SECOND), (["prior", "home"], b"d1 1/2\n"))
     parts = tried.make(
         (["add"], small_documents(pick, 0, 70)),
         (["add"], small_documents(pick, 70, 9)),
@@ -197,7 +197,7 @@ def random_commands(pick):
     yield ["query", "--mu", str(pick.choice((1, 90, 2500))), "--k", str(pick.choice((3, 100))), pick.choice(QUERIES)], b""
     yield ["query", pick.choice(WORDS)], b""
     yield ["explain", "--mu", "7", str(pick.randrange(1, 4)), pick.choice(QUERIES)], b""
-    yield ["add"], D1 + small_document(pick, "new1") + small_document(pick, f"n{pick.randrange(80)}")
+    yield ["add"], FIRST + small_document(pick, "new1") + small_document(pick, f"n{pick.randrange(80)}")
     yield ["delete"], f"n{pick.randrange(80)}\nnobody\nn{pick.randrange(80)}\nd2\n".encode()
     yield ["merge"], b""
     yield ["prior", pick.choice(("home", "fresh"))], b"d1 1/5\n* 1/2\nn4 3/3\n"
@@ -257,7 +257,7 @@ WORKED_COMMANDS = (
     (["query", "#1(a b)"], b""),
     (["query", "a #prior(home)"], b""),
     (["explain", "--mu", "1", "1", "a"], b""),
-    (["add"], b"<DOC><DOCNO>d5</DOCNO>a c</DOC>" + D1),
+    (["add"], b"<DOC><DOCNO>d5</DOCNO>a c</DOC>" + FIRST),
     (["delete"], b"d1\nAP880212-0001\n"),
     (["merge"], b""),
     (["prior", "home"], b"d1 1/3\n"),
@@ -278,15 +278,15 @@ def dumps_of_formats():
 
 def worked_folders(tried):
     """The folders whose files are taken one after the other, by what is shown of them."""
-    two = tried.make((["add"], D1 + D2))
+    two = tried.make((["add"], FIRST + SECOND))
     return {
         "empty": tried.make(),
         "two": two,
-        "prior without rows": tried.make((["add"], D1 + D2), (["prior", "home"], b"* 1/2\n")),
-        "prior": tried.make((["add"], D1 + D2), (["prior", "home"], b"d1 1/2\n* 1/4\n")),
-        "twice": tried.make((["add"], D3)),
+        "prior without rows": tried.make((["add"], FIRST + SECOND), (["prior", "home"], b"* 1/2\n")),
+        "prior": tried.make((["add"], FIRST + SECOND), (["prior", "home"], b"d1 1/2\n* 1/4\n")),
+        "twice": tried.make((["add"], THIRD)),
         "usual": tried.make((["add"], USUAL)),
-        "dead": tried.make((["add"], D1 + D2), (["add"], D3), (["delete"], b"d2\n")),
+        "dead": tried.make((["add"], FIRST + SECOND), (["add"], THIRD), (["delete"], b"d2\n")),
     }
 
 
@@ -333,12 +333,12 @@ MARKED = b"""<DOC id="7" lang=en>
  <doc/><docno/>x2</docno/><!-- a <b>comment</b> --><a>p <a>q</a><br/> r<?page 2?>s<!x>t &amp u < v</DOC>
 <DOC><DOCNO>d.3</DOCNO></DOC><DOC><DOCNO>x2</DOCNO><!-->a-->b<!--c</DOC>
 """
-TEXTS = (D1 + D2, MARKED, D1 + b"\n" + D2 + b"x", b"<DOC><HEAD>a</HEAD><DOCNO>d1</DOCNO></DOC>", b"<DOC><DOCNO> d 1</DOCNO>a</DOC>")
+TEXTS = (FIRST + SECOND, MARKED, FIRST + b"\n" + SECOND + b"x", b"<DOC><HEAD>a</HEAD><DOCNO>d1</DOCNO></DOC>", b"<DOC><DOCNO> d 1</DOCNO>a</DOC>")
 CUT_SCRIPTS = (
-    b"add 31\r\n" + D1 + b"\nflush\ndelete d1\nadd 29\n<DOC><DOCNO>d1</DOCNO>c</DOC>\nopen q 5 a c\nstep q 1\nshow q\nend\nadd 1\n",
-    b"add 60\n" + D1 + D2 + b"\nmerge\nturn 1\ndelete d1\nadd 29\n<DOC><DOCNO>d1</DOCNO>a</DOC>\nmerge\nturn 1\nturn 2\n"
+    b"add 31\r\n" + FIRST + b"\nflush\ndelete d1\nadd 29\n<DOC><DOCNO>d1</DOCNO>c</DOC>\nopen q 5 a c\nstep q 1\nshow q\nend\nadd 1\n",
+    b"add 60\n" + FIRST + SECOND + b"\nmerge\nturn 1\ndelete d1\nadd 29\n<DOC><DOCNO>d1</DOCNO>a</DOC>\nmerge\nturn 1\nturn 2\n"
     b"open Q 5 #1(a b)\nopen q 12 a\nstep q 20\nexplain q 10\nshow q\nscan #1(a b)\n\nscan  a\nclose q\nclose q\nend\n",
-    b"delete x\nadd 62\n" + D1 + D1 + b"\nopen q 5 a\nopen q 5 a\nstep z 1\nturn 1\nsing\nadd 33\n" + D2 + b" x  add 2\nadd 9\n<DOC><DO",
+    b"delete x\nadd 62\n" + FIRST + FIRST + b"\nopen q 5 a\nopen q 5 a\nstep z 1\nturn 1\nsing\nadd 33\n" + SECOND + b" x  add 2\nadd 9\n<DOC><DO",
 )
 CUT_DOCNOS = b"d1\n\n  d3 \r\nd1 d2\nd1\n\td2\nD2"
 CUT_ROWS = b"d1 1/2\r\n\nd1 0.5\n  d2 003/4 \nd2 1/4\n* 1/3\nd3 3/2\n* 1/2\nd3 123456789012345678/999999999999999999"
@@ -346,9 +346,9 @@ CUT_ROWS = b"d1 1/2\r\n\nd1 0.5\n  d2 003/4 \nd2 1/4\n* 1/3\nd3 3/2\n* 1/2\nd3 1
 
 def try_cut(tried, chosen):
     empty = tried.make()
-    three = tried.make((["add"], D1 + D2 + D3))
+    three = tried.make((["add"], FIRST + SECOND + THIRD))
     whole = [(files, ["scan", text], data) for files, text in ((empty, "a"), (empty, "#any:text")) for data in TEXTS]
-    whole += [(empty, ["add"], data) for data in TEXTS] + [(three, ["add"], D1 + D2 + MARKED)]
+    whole += [(empty, ["add"], data) for data in TEXTS] + [(three, ["add"], FIRST + SECOND + MARKED)]
     whole += [(files, ["session", "--mu", "1"], script) for files in (empty, three) for script in CUT_SCRIPTS]
     whole += [(three, ["delete"], CUT_DOCNOS), (three, ["prior", "home"], CUT_ROWS)]
     for files, words, data in whole:

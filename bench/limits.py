@@ -20,7 +20,7 @@ from dataclasses import dataclass
 from pathlib import Path
 
 import stored
-from runs import D1, D2, PROGRAM, Runner, stop_unless_built
+from runs import FIRST, SECOND, PROGRAM, Runner, stop_unless_built
 
 USAGE = "usage: indri DIR scan|create|add|delete|merge|prior|query|explain|session|gen"
 MEGA = 1 << 20
@@ -49,7 +49,7 @@ class Row:
     tries: tuple
 
 
-TWO = ((["add"], D1 + D2),)
+TWO = ((["add"], FIRST + SECOND),)
 A_LINES = ["1 - -0.263034 d2 0 1", "2 > -0.847996 d1 0 2"]
 
 
@@ -108,23 +108,20 @@ def query_rows():
         (query(words(1000), lambda found: len(found) == 2), query(words(1001), ["refused Query TooManyNodes 2000"], 2)),
     )
     for name in ("#", "#od", "#uw"):
-        found = ["1 - -1.584962 d1 0 2"] if name != "#uw" else None
-        text = f"{name}1048576(a b)"
         yield Row(
             f"{name}1048576(..)",
             TWO,
             (
-                query(text, lambda lines: [line.split()[3] for line in lines] == ["d1"]),
+                query(f"{name}1048576(a b)", lambda found: [line.split()[3] for line in found] == ["d1"]),
                 query(f"{name}1048577(a b)", [f"refused Query BadNumber {len(name)}"], 2),
                 query(f"{name}0(a b)", [f"refused Query BadNumber {len(name)}"], 2),
             ),
         )
-    whole = ["1 - -0.263034 d2 0 1", "2 > -0.847996 d1 0 2"]
     yield Row(
         "numbers of passages",
         TWO,
         (
-            query(passages("1048576:1048576"), whole),
+            query(passages("1048576:1048576"), A_LINES),
             query(passages("1048577:1"), ["refused Query BadNumber 16"], 2),
             query(passages("1:1048577"), ["refused Query BadNumber 18"], 2),
             query(passages("0:1"), ["refused Query BadNumber 16"], 2),
@@ -258,8 +255,8 @@ def document_rows():
         "16,777,216 bytes of a document",
         (),
         (
-            Try(["add"], document("d1", b" " * size) + D2, ["added d1 0", "added d2 1", "flushed 2"], 0),
-            Try(["add"], document("d3", b" " * (size + 1)) + D2, ["refused DocTooLarge 0", "flushed 2"], 3),
+            Try(["add"], document("d1", b" " * size) + SECOND, ["added d1 0", "added d2 1", "flushed 2"], 0),
+            Try(["add"], document("d3", b" " * (size + 1)) + SECOND, ["refused DocTooLarge 0", "flushed 2"], 3),
         ),
     )
     text = document("d1", b"a %s b %s c" % (b"x" * 128, b"y" * 129))
@@ -441,13 +438,12 @@ def with_priors(count, name):
 
 def file_rows():
     segment = stored.segment_name(1)
-    term = "d1 0 1"
-    place = 64 + 2 + 1 + 6
+    dictionary = stored.HEADER + len(b"\x02d1") + 6
     yield Filed(
         "128 bytes of a term",
         (
             (segment_of(Plain("d1", ["a" * 128], [])), [], 0),
-            (segment_of(Plain("d1", ["a" * 129], [])), [f"malformed {segment} Dictionary {place}"], 7),
+            (segment_of(Plain("d1", ["a" * 129], [])), [f"malformed {segment} Dictionary {dictionary}"], 7),
         ),
     )
     yield Filed(
@@ -457,13 +453,13 @@ def file_rows():
             (segment_of(Plain("d1", ["b"], [("f" * 33, 0, 1)])), [f"malformed {segment} Documents 64"], 7),
         ),
     )
-    tokens = bytearray(stored.segment_bytes([Plain("d1", [], [])]))
-    over, within = bytes(tokens[:16]) + (1 + (1 << 26)).to_bytes(8, "little"), bytes(tokens[:16]) + (1 << 26).to_bytes(8, "little")
+    bare = stored.segment_bytes([Plain("d1", [], [])])
+    within, over = (with_segment(bare[:16] + tokens.to_bytes(8, "little") + bare[24:], 1) for tokens in (1 << 26, 1 + (1 << 26)))
     yield Filed(
         "67,108,864 tokens in a header",
         (
-            (with_segment(within + bytes(tokens[24:]), 1), [f"malformed {segment} Documents {len(tokens)}"], 7),
-            (with_segment(over + bytes(tokens[24:]), 1), [f"malformed {segment} Header 16"], 7),
+            (within, [f"malformed {segment} Documents {len(bare)}"], 7),
+            (over, [f"malformed {segment} Header 16"], 7),
         ),
     )
     yield Filed(

@@ -27,7 +27,7 @@ from pathlib import Path
 
 import answers
 import stored
-from runs import D1, D2, PROGRAM, SECONDS, Runner, stop_unless_built
+from runs import FIRST, SECOND, PROGRAM, SECONDS, Runner, stop_unless_built
 
 MEMORY = 9
 LIBRARY = r"""
@@ -90,15 +90,15 @@ void *realloc(void *old, size_t size) {
 
 # Rows.
 
-FLUSHED = b"add 31\n" + D1 + b"\nflush\ndelete d1\nadd 29\n<DOC><DOCNO>d1</DOCNO>c</DOC>\nopen q 5 a c\nstep q 1\nshow q\nend\n"
+FLUSHED = b"add 31\n" + FIRST + b"\nflush\ndelete d1\nadd 29\n<DOC><DOCNO>d1</DOCNO>c</DOC>\nopen q 5 a c\nstep q 1\nshow q\nend\n"
 MERGED = (
-    b"add 60\n" + D1 + D2 + b"\nmerge\nturn 1\ndelete d1\nadd 29\n<DOC><DOCNO>d1</DOCNO>a</DOC>\nturn 1\nopen q 5 a\nstep q 2\nshow q\nend\n"
+    b"add 60\n" + FIRST + SECOND + b"\nmerge\nturn 1\ndelete d1\nadd 29\n<DOC><DOCNO>d1</DOCNO>a</DOC>\nturn 1\nopen q 5 a\nstep q 2\nshow q\nend\n"
 )
 MANY = (
-    b"delete x\nadd 62\n" + D1 + D1 + b"\nopen q 5 a #prior(length)\nopen q 5 a\nstep z 1\nturn 1\nsing\nadd 29\n" + D2
+    b"delete x\nadd 62\n" + FIRST + FIRST + b"\nopen q 5 a #prior(length)\nopen q 5 a\nstep z 1\nturn 1\nsing\nadd 29\n" + SECOND
     + b"\nflush\nopen p 3 #1(a b) a\nmerge\nstep q 9\ndelete d2\nturn 1\nshow q\nexplain q 1\nturn 5\nscan a\nstep p 2\nshow p\nclose p\n"
 )
-HELD = ((["add"], D1), (["add"], D2 + b"<DOC><DOCNO>d3</DOCNO>b <f>a c</f></DOC>"), (["prior", "home"], b"d1 1/2\n* 1/3\n"))
+HELD = ((["add"], FIRST), (["add"], SECOND + b"<DOC><DOCNO>d3</DOCNO>b <f>a c</f></DOC>"), (["prior", "home"], b"d1 1/2\n* 1/3\n"))
 
 
 @dataclass
@@ -118,13 +118,13 @@ ROWS = (
     Row("session with refusals", (), ["session", "--mu", "1"], MANY),
     Row("gen", None, ["gen", "3"]),
     Row("create", None, ["create"]),
-    Row("add", HELD, ["add"], D1 + b"<DOC><DOCNO>d4</DOCNO><f>a</f> b c</DOC>\n"),
+    Row("add", HELD, ["add"], FIRST + b"<DOC><DOCNO>d4</DOCNO><f>a</f> b c</DOC>\n"),
     Row("delete", HELD, ["delete"], b"d1\nd7\n d3\n"),
     Row("merge", (*HELD, (["delete"], b"d2\n")), ["merge"]),
     Row("prior", HELD, ["prior", "home"], b"d3 2/3\nd1 1/1\nd1 1/2\n"),
     Row("query", HELD, ["query", "--mu", "1", "#weight(2 a 1 #1(a c)) #prior(home) b.(f)"]),
     Row("explain", HELD, ["explain", "--mu", "1", "2", "a #prior(home)"]),
-    Row("scan", None, ["scan", "#uw2(a b)"], D1 + D2),
+    Row("scan", None, ["scan", "#uw2(a b)"], FIRST + SECOND),
 )
 GENERATED = ["gen 3 live 2 tokens 6", "1 - -2.585251 g0 0 2", "2 > -2.586403 g2 0 4"]
 

@@ -11,8 +11,8 @@ import stored
 PROGRAM = Path(__file__).resolve().parent.parent / "crates/indri/out/indri"
 SECONDS = 20
 
-D1 = b"<DOC><DOCNO>d1</DOCNO>a b</DOC>"
-D2 = b"<DOC><DOCNO>d2</DOCNO>a</DOC>"
+FIRST = b"<DOC><DOCNO>d1</DOCNO>a b</DOC>"
+SECOND = b"<DOC><DOCNO>d2</DOCNO>a</DOC>"
 
 
 @dataclass

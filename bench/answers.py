@@ -435,6 +435,7 @@ class Desk:
     merge: tuple | None = None
     answers: list = field(default_factory=list)
     flushed: list = field(default_factory=list)
+    flushes: list = field(default_factory=list)
     risks: list = field(default_factory=list)
 
     def __post_init__(self):
@@ -450,6 +451,7 @@ class Desk:
     def answer(self, lines, is_flush=False):
         self.answers.append(lines)
         self.flushed.append(self.told() if is_flush else self.flushed[-1])
+        self.flushes += [self.told()] if is_flush else []
 
     def add(self, text):
         taken, lines = documents_added(self.live, text)

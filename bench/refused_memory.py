@@ -18,6 +18,7 @@ skipped where the program has no such command.
 """
 import argparse
 import os
+import re
 import subprocess
 import sys
 import tempfile
@@ -127,41 +128,57 @@ ROWS = (
     Row("scan", None, ["scan", "#uw2(a b)"], FIRST + SECOND),
 )
 GENERATED = ["gen 3 live 2 tokens 6", "1 - -2.585251 g0 0 2", "2 > -2.586403 g2 0 4"]
-
-
-def generated(files):
-    """What `gen 3` does: the documents stand in the files of it, and the last of three is deleted before a merge."""
-    documents = [("g0", 2), ("g1", 3), ("g2", 4)]
-    return Whole(GENERATED, 0, [None, [], documents, [documents[0], documents[2]]])
+FLUSH_LINE = re.compile(r"(created|flushed|merged|prior|ended|gen)\b")
 
 
 @dataclass
 class Whole:
-    """How a row ends with memory, and the live documents of its files at the moments at which that may change; none is no collection."""
+    """How a row ends with memory, and what its files stand for before it and behind each of its lines that tell of the disk.
+
+    Each of these is the docnos and the lengths of the live documents, and the rows of the priors; none is no collection. Where `gen`
+    writes to the disk is told by no line, so each of its moments may be left until its line is written.
+    """
 
     lines: list
     status: int
-    live: list
+    moments: list
+    is_told: bool = True
+
+    def may_be_left(self, lines):
+        told = sum(bool(FLUSH_LINE.match(line)) for line in lines)
+        if not self.is_told:
+            return self.moments[-1:] if told else self.moments
+        return self.moments[told : told + 2]
 
 
-def told(files):
-    """The docnos and lengths of the live documents of some files, none where there is no manifest."""
+def moment(files):
+    """What files stand for. They must be in the grammar."""
     if stored.MANIFEST not in files:
         return None
-    found = stored.Stored(files)
-    return [(segment.documents[identity].docno.decode(), segment.documents[identity].length) for segment, identity in found.live()]
+    opened = answers.Opened(files)
+    live = [(held.document.docno, len(held.document.tokens)) for held in opened.live]
+    return live, opened.tables()
+
+
+def generated():
+    """What `gen 3` does: of three documents the second is deleted, and the others are merged."""
+    documents = [("g0", 2), ("g1", 3), ("g2", 4)]
+    lists = ([], documents, [documents[0], documents[2]])
+    return Whole(GENERATED, 0, [None, *((live, {}) for live in lists)], is_told=False)
 
 
 def whole_of(row, files):
     if row.words[0] == "gen":
-        return generated(files)
+        return generated()
     if row.words[0] == "session":
-        desk = answers.Desk(answers.Opened(files), answers.Opened(files).tables(), int(row.words[-1]))
+        opened = answers.Opened(files)
+        desk = answers.Desk(opened, opened.tables(), int(row.words[-1]))
         answers.run_script(desk, row.text)
         lines = [line for answer in desk.answers for line in answer]
-        return Whole(lines, answers.status_of(lines), desk.flushed)
+        moments = [(live, opened.tables()) for live in [desk.flushed[0], *desk.flushes]]
+        return Whole(lines, answers.status_of(lines), moments)
     [outcome] = answers.outcomes(files, row.words, row.text)
-    return Whole(outcome.lines, outcome.status, [told(files), told(outcome.files)])
+    return Whole(outcome.lines, outcome.status, [moment(files), moment(outcome.files)])
 
 
 # Runs.
@@ -212,13 +229,11 @@ def fault_of(runner, folder, row, whole, lines, status):
         return f"status {status} behind {lines}"
     files = stored.files_of(folder)
     try:
-        live = told(files)
+        found = moment(files)
     except stored.Fault as fault:
         return f"status {status}, and the folder is left with {fault.line()}"
-    if live not in whole.live:
-        return f"status {status}, and the folder is left with {live}"
-    if status != MEMORY and live != whole.live[-1]:
-        return f"status {status}, and the folder is as before"
+    if found not in whole.may_be_left(lines):
+        return f"status {status} behind {lines}, and the folder is left with {found}"
     asked = ["query", "--mu", "1", "a b"]
     [wanted] = answers.outcomes(files, asked)
     found = runner.run(folder, asked)

@@ -95,6 +95,7 @@ FLUSHED = b"add 31\n" + FIRST + b"\nflush\ndelete d1\nadd 29\n<DOC><DOCNO>d1</DO
 MERGED = (
     b"add 60\n" + FIRST + SECOND + b"\nmerge\nturn 1\ndelete d1\nadd 29\n<DOC><DOCNO>d1</DOCNO>a</DOC>\nturn 1\nopen q 5 a\nstep q 2\nshow q\nend\n"
 )
+OVER_FILES = MERGED.replace(b"d1", b"e1").replace(b"d2", b"e2").replace(b"turn 1\nopen", b"turn 9\nopen")
 MANY = (
     b"delete x\nadd 62\n" + FIRST + FIRST + b"\nopen q 5 a #prior(length)\nopen q 5 a\nstep z 1\nturn 1\nsing\nadd 29\n" + SECOND
     + b"\nflush\nopen p 3 #1(a b) a\nmerge\nstep q 9\ndelete d2\nturn 1\nshow q\nexplain q 1\nturn 5\nscan a\nstep p 2\nshow p\nclose p\n"
@@ -115,7 +116,7 @@ class Row:
 ROWS = (
     Row("session that flushes", (), ["session", "--mu", "1"], FLUSHED),
     Row("session that merges", (), ["session", "--mu", "1"], MERGED),
-    Row("session that merges over files", HELD, ["session", "--mu", "1"], MERGED.replace(b"d1", b"e1").replace(b"d2", b"e2")),
+    Row("session that merges over files", HELD, ["session", "--mu", "1"], OVER_FILES),
     Row("session with refusals", (), ["session", "--mu", "1"], MANY),
     Row("gen", None, ["gen", "3"]),
     Row("create", None, ["create"]),
@@ -128,7 +129,7 @@ ROWS = (
     Row("scan", None, ["scan", "#uw2(a b)"], FIRST + SECOND),
 )
 GENERATED = ["gen 3 live 2 tokens 6", "1 - -2.585251 g0 0 2", "2 > -2.586403 g2 0 4"]
-FLUSH_LINE = re.compile(r"(created|flushed|merged|prior|ended|gen)\b")
+FLUSH_LINE = re.compile(r"created|(flushed|merged|ended|prior [a-z0-9]+) \d+|gen .*")
 
 
 @dataclass
@@ -145,7 +146,7 @@ class Whole:
     is_told: bool = True
 
     def may_be_left(self, lines):
-        told = sum(bool(FLUSH_LINE.match(line)) for line in lines)
+        told = sum(bool(FLUSH_LINE.fullmatch(line)) for line in lines)
         if not self.is_told:
             return self.moments[-1:] if told else self.moments
         return self.moments[told : told + 2]

@@ -1,4 +1,5 @@
 pub mod AheadLemmas
+pub mod BareLemmas
 pub mod HeldLemmas
 pub mod PassedLemmas
 pub mod PlaceLemmas

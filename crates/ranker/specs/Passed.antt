@@ -30,6 +30,18 @@ pub record IsPassed (marks : List Bool) (id most : ℕ) (to : Passed) : Type 0 w
 pub record IsAhead (filters : List FilterTree) (leaves : List LeafTree) (docs : List Document) (id : ℕ) (ahead : Ahead) : Type 0 where
   pub none : (i : ℕ) → id ≤ i → i < ahead.end → bit_at ahead.mask (i % 64) ≡ 0 → query_may filters leaves (document_at docs i) ≡ false
 
+-- a live document of a part before the end of what is known, whose bit isn't set
+pub record IsBare (m : Marked) (ahead : Ahead) (id : ℕ) : Type 0 where
+  pub whole : length m.marks ≡ size m.source
+  pub inside : id < size m.source
+  pub live : slice_index_or m.marks id false ≡ false
+  pub known : id < ahead.end
+  pub clear : bit_at ahead.mask (id % 64) ≡ 0
+
+-- so many documents from an id on are such
+abbrev pub AreBare : Marked → Ahead → ℕ → ℕ → Type 0
+AreBare m ahead id count = (i : ℕ) → id ≤ i → i < id + count → IsBare m ahead i
+
 abbrev pub nothing_known : Ahead
 nothing_known = record { end = 0; mask = 0 }
 

@@ -30,6 +30,7 @@ use store_ends::Store;
 
 /// Passes so many live documents of the parts, which have so many, or all that are left where these are fewer. Where none is left the
 /// first of the candidates become the results.
+#[inline(never)]
 pub fn advance<T: Store, F: Fn(u32, u32, u64, u64) -> Fraction>(
     alloc: Global,
     docs: u64,

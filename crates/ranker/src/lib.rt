@@ -3,6 +3,7 @@
 
 mod advance;
 mod ahead;
+mod bare;
 mod documents;
 mod held;
 mod hits;

@@ -5,10 +5,11 @@ ghost use Rattle.store_ends.specs.Files.{Files};
 ghost use Rattle.belief_nodes.specs.Network.{network_tree};
 ghost use Rattle.disk_index.specs.Snapshots.{live};
 ghost use Rattle.ranker.specs.Held.{is_open};
-ghost use Rattle.ranker.specs.Passed.{IsPlace};
+ghost use Rattle.ranker.specs.Passed.{AreBare, IsPlace, part_at};
 ghost use Rattle.ranker.specs.Windows.{HasWindows};
 
 use crate::advance::{advance, first_held};
+use crate::bare::bare_at;
 use crate::held::Held;
 use crate::place::{Ahead, Place};
 use belief_nodes::{BeliefNode, Network};
@@ -20,24 +21,28 @@ use std::alloc::Global;
 use store_ends::Store;
 
 /// A search for the first candidates of the documents of a snapshot. It advances by so many documents as it is asked for. Its credit
-/// is how many live documents it has passed.
+/// is how many live documents it has passed, of so many that there are. It knows of some that come next that they have nothing to show.
 #[derive(Drop)]
 pub struct Search {
     snapshot: Snapshot,
     checked: Checked,
     network: Network,
     most: usize,
+    live_count: u64,
     at: Place,
+    bare: u32,
     held: Held,
     usable: bool,
     ghost shown: { is_range (network_tree network).range ≡ true },
+    ghost count: { (told : Option Files) → live_count ≡ length (live told snapshot) },
     ghost place: { IsPlace snapshot at },
+    ghost next: { AreBare (part_at snapshot at.part) at.ahead at.id bare },
     ghost open: { usable ≡ true → (told : Option Files) → is_open held ≡ nat_lt at.credit (length (live told snapshot)) },
     ghost windows: { usable ≡ true → (told : Option Files) → ∥ HasWindows (live told snapshot) (length (network_tree network).leaves) most held ∥₁ },
 }
 
 impl Search {
-    ghost use Rattle.std.specs.Prelude.{◌≤◌, ◌+◌, ◌==◌, map, min, is_ok, is_some, All, Err, IfErr, IfOk, IfSome, OnOk, ℕ, List};
+    ghost use Rattle.std.specs.Prelude.{◌<◌, ◌≤◌, ◌+◌, ◌==◌, map, min, is_ok, is_some, All, Err, IfErr, IfOk, IfSome, OnOk, ℕ, List};
     ghost use Rattle.ri_base.specs.Faults.{IsOutside};
     ghost use Rattle.ri_base.specs.Keeps.{Rose};
     ghost use Rattle.store_ends.specs.Files.{IsQuiet};
@@ -71,21 +76,32 @@ impl Search {
         ensures taken { IfOk result (λ s. (kind : RuleKind) (priors : List Prior) (told : Option Files) → IsTaken kind priors told s) }
     {
         let network = Network::new(alloc, &checked, stats)?;
-        let held = first_held(alloc, most as usize, snapshot.live_count());
+        let live_count = snapshot.live_count();
+        let held = first_held(alloc, most as usize, live_count);
         Ok(Search {
             snapshot,
             checked,
             network,
             most: most as usize,
+            live_count: u64::from(live_count),
             at: Place {
                 part: 0,
                 id: 0,
                 credit: 0,
                 ahead: Ahead::nothing(),
             },
+            bare: 0,
             held,
             usable: true,
         })
+    }
+
+    /// Whether the next so many live documents have nothing to show, and some are left behind them.
+    fn passes_bare(&self, docs: u64) -> bool
+        ensures few { result ≡ true → docs ≤ self.now.bare }
+        ensures left { result ≡ true → self.now.at.credit + docs < self.now.live_count }
+    {
+        docs <= u64::from(self.bare) && docs < self.live_count - self.at.credit
     }
 
     /// Passes so many live documents, or all that are left where these are fewer, and answers whether all are passed. After an `Err`
@@ -116,12 +132,18 @@ impl Search {
         ensures later { T.faults store.old ≤ T.faults store.new }
         ensures store { result ≡ Err SegFault.Store → Rose (T.faults store.old) (T.faults store.new) }
     {
+        if self.passes_bare(docs) {
+            self.at.id += docs as u32;
+            self.at.credit += docs;
+            self.bare -= docs as u32;
+            return Ok(false);
+        }
         self.usable = false;
-        let live = u64::from(self.snapshot.live_count());
+        self.bare = 0;
         advance(
             alloc,
             docs,
-            live,
+            self.live_count,
             &self.checked.filters,
             &self.network,
             rule,
@@ -132,8 +154,9 @@ impl Search {
             &mut self.at,
             &mut self.held,
         )?;
+        self.bare = bare_at(self.snapshot.parts(), &self.at);
         self.usable = true;
-        Ok(self.at.credit == live)
+        Ok(self.at.credit == self.live_count)
     }
 
     /// The first candidates of all documents in their order, once all are passed.

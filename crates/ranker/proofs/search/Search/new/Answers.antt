@@ -14,7 +14,9 @@ returns-clause-taken c = λ kind priors told. record {
 pub invariant_of-result : goal.invariant_of-result
 invariant_of-result c = record {
   shown = ap (λ (n : NetworkTree). is_range n.range) c.in_ok-network.ensures ∙ c.args.checked.kept.within.sound_range;
+  count = λ told. c.from.ensures ∙ c.live_count-live_count.ensures told;
   place = record { part = omega arith; id = omega arith; credit = λ told. refl };
-  «open» = λ usable told. c.first_held-held.ensures.open ∙ ap (nat_lt 0) (c.live_count.ensures told);
+  next = λ i low high. absurd (omega (arith, low, high));
+  «open» = λ usable told. c.first_held-held.ensures.open ∙ ap (nat_lt 0) (c.live_count-live_count.ensures told);
   windows = λ usable told. ∣ c.first_held-held.ensures.windows _ _ ∣₁;
 }

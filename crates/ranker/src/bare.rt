@@ -1,0 +1,65 @@
+// Live documents that come next and have nothing to show.
+ghost use Rattle.std.specs.Prelude.{◌≡◌, ◌<◌, ◌≤◌, ◌+◌, ◌%◌, ℕ, false, length, slice_index_or};
+ghost use Rattle.std.specs.Int.{bit_at};
+ghost use Rattle.ranker.specs.Passed.{AreBare, part_at};
+
+use crate::place::{Ahead, Place};
+use deletion_list::DelList;
+use disk_index::MarkedPart;
+
+/// So many marks are looked at, at most.
+const MOST: u32 = 64;
+
+/// How many ids from one on have no bit in the mask, one behind the other: any number where none is set, and else no more than are left
+/// of its range.
+fn clear_run(mask: u64, id: u32) -> u32
+    ensures { (i : ℕ) → id ≤ i → i < id + result → bit_at mask (i % 64) ≡ 0 }
+{
+    if mask == 0 {
+        return u32::MAX;
+    }
+    let place = id % 64;
+    (mask >> place).trailing_zeros().min(64 - place)
+}
+
+/// How many of so many ids from one on aren't marked, one behind the other: all, without a look at each, where no id is marked, and
+/// else no more than are looked at.
+fn live_run(marks: &DelList, id: u32, count: u32) -> u32
+    requires { id + count ≤ length marks.now }
+    ensures few { result ≤ count }
+    ensures live { (i : ℕ) → id ≤ i → i < id + result → slice_index_or marks.now i false ≡ false }
+{
+    if marks.live_count() == marks.len() {
+        return count;
+    }
+    let end = id + count.min(MOST);
+    let mut at = id;
+    while at < end && !marks.is_marked(at) {
+        at += 1;
+    }
+    at - id
+}
+
+/// How many ids of a part from one on are live and have nothing to show, one behind the other, as far as is known.
+fn bare_from(marked: &MarkedPart, ahead: Ahead, id: u32) -> u32
+    ensures { AreBare marked.now ahead id result }
+{
+    let end = ahead.end.min(marked.part().docs());
+    if end <= id {
+        return 0;
+    }
+    let clear = clear_run(ahead.mask, id).min(end - id);
+    live_run(marked.marks(), id, clear)
+}
+
+/// How many of the documents that come next at a place are live and have nothing to show.
+#[inline(never)]
+pub fn bare_at(parts: &[MarkedPart], at: &Place) -> u32
+    ensures { AreBare (part_at parts.now at.now.part) at.now.ahead at.now.id result }
+{
+    if at.part < parts.len() {
+        bare_from(&parts[at.part], at.ahead, at.id)
+    } else {
+        0
+    }
+}

@@ -28,8 +28,8 @@ returns c = λ kind priors told taken summed.
     (λ text is. result_text kind priors [] s.most (told_labels c.args.labels.now) q docs found.0 c.results_of.result.now text.items s.checked.kept.whole found.1 order found.2
     (is ∙ ap (λ (k : Checked). shown_text (told_labels c.args.labels.now) (lines_of k.scale c.results_of.result.now)) c.checked.ensures)) c.result_lines.ensures
 
-pub result_lines-requires-clause : goal.result_lines-requires-clause
-result_lines-requires-clause c =
+pub result_lines-requires : goal.result_lines-requires
+result_lines-requires c =
     let s = c.args.search.now in
     search-form s.checked c.checked.result.now.scale (length (network_tree s.network).leaves) s.most (searched None s) c.results_of.result.now
     (ap (λ (k : Checked). k.scale) c.checked.ensures) c.requires.most (c.results_of.ensures.windows None)

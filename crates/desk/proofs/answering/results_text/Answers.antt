@@ -1,4 +1,4 @@
-use Rattle.std.proofs.Common.{◌<◌, ◌≡◌, [], None, Some, arith, ap, ◌∙◌}
+use Rattle.std.proofs.Common.{◌<◌, ◌≡◌, [], None, Some, arith, ap, length, ◌∙◌}
 use Rattle.std.proofs.lemmas.Result.{IfOk-weaker}
 use Rattle.command_words.specs.Asked.{told_labels}
 use Rattle.query_check.specs.Answers.{whole_checked}

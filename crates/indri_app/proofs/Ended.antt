@@ -130,6 +130,12 @@ not_closed t none why s mid now b z ends e = elim (closed-status why s mid now b
 pub usage-not_closed : (why : CommandFault) (s : Status) (mid now : Option (List ℕ)) (b z : ℕ) → IsClosed why s mid now b z → s ≡ status.Usage → ⊥
 usage-not_closed = not_closed status.Usage refl
 
+pub done-not_closed : (why : CommandFault) (s : Status) (mid now : Option (List ℕ)) (b z : ℕ) → IsClosed why s mid now b z → s ≡ status.Done → ⊥
+done-not_closed = not_closed status.Done refl
+
+pub some-not_closed : (why : CommandFault) (s : Status) (mid now : Option (List ℕ)) (b z : ℕ) → IsClosed why s mid now b z → s ≡ status.SomeRefused → ⊥
+some-not_closed = not_closed status.SomeRefused refl
+
 pub refused-not_closed : (why : CommandFault) (s : Status) (mid now : Option (List ℕ)) (b z : ℕ) → IsClosed why s mid now b z → s ≡ status.QueryRefused → ⊥
 refused-not_closed = not_closed status.QueryRefused refl
 

@@ -31,5 +31,6 @@ pub use priors::length_plug;
 pub use query::{MAX_QUERIES, OpenQuery};
 pub use refusal_lines::refusal_text;
 pub use reply::{CheckKind, Refusal, Reply, Scanned};
+pub use results::result_lines;
 pub use shown::Shown;
 pub use text::{piece_of, reply_text};

@@ -31,7 +31,7 @@ fn shown_line(
 }
 
 /// The line of each result, as results or a run show it.
-pub(crate) fn result_lines(
+pub fn result_lines(
     alloc: Global,
     labels: &Option<(String, String)>,
     scale: u64,

@@ -1,9 +1,9 @@
 // The texts of replies.
 ghost use Rattle.desk.specs.Replied.{IsReply};
 
+use desk::{CheckKind, Refusal, Reply, Scanned, reply_text};
 use query_reader::QueryKind;
 use ri_base::{Docno, Extent, Fractions, Hit, Hits, Name};
-use desk::{CheckKind, Refusal, Reply, Scanned, reply_text};
 use std::alloc::Global;
 use std::test::Fail;
 

@@ -500,6 +500,8 @@ class Desk:
             return self.answer([f"refused DeskFull {name}"])
         found = asked(text, self.opened.bad, self.ranges(self.live))
         self.questions[name] = Question(text, most, list(self.live), 0, len(self.answers), found)
+        if found.may:
+            self.risks.append(Risk(len(self.answers), len(self.answers), found.may, False))
         return self.answer([f"opened {name} {len(self.live)}"])
 
     def known(self, name):

@@ -288,7 +288,7 @@ def opened(count):
 
 def long_line(size):
     """Lines of a script of which the second has so many bytes."""
-    return b"flush\nscan " + b"z" * (size - 5) + b"\nflush\n"
+    return b"flush\nscan #syn(zz" + b" " * (size - 15) + b"zz)\nflush\n"
 
 
 def script_rows():
@@ -308,7 +308,7 @@ def script_rows():
         TWO,
         (
             Try(["session"], long_line(65536), ["flushed 2", "scanned 0", "flushed 2", "ended 2"], 0),
-            Try(["session"], long_line(65536).replace(b"z\n", b"z\r\n"), ["flushed 2", "scanned 0", "flushed 2", "ended 2"], 0),
+            Try(["session"], long_line(65536).replace(b"zz)\n", b"zz)\r\n"), ["flushed 2", "scanned 0", "flushed 2", "ended 2"], 0),
             Try(["session"], long_line(65537), ["flushed 2", "refused LineTooLong 6", "flushed 2", "ended 2"], 3),
             Try(["delete"], b" " * 65534 + b"dx\nd9\n", ["refused NoSuchDoc dx", "refused NoSuchDoc d9", "flushed 2"], 3),
             Try(["delete"], b" " * 65535 + b"dx\nd9\n", ["refused LineTooLong 0", "refused NoSuchDoc d9", "flushed 2"], 3),
@@ -349,7 +349,7 @@ def script_rows():
             Try(
                 ["session"],
                 b"open q 1000 a\nstep q 1001\nshow q\nexplain q 1000\n",
-                lambda found: found[2] == "results q 1000" and "result 1000 d998 0 1" in found and len(found) == 1008,
+                lambda found: found[2] == "results q 1000" and "result 1000 d998 0 1" in found and len(found) == 1009,
                 0,
             ),
         ),

@@ -8,7 +8,8 @@ For N = 1, 2, 3 .. the N-th call by which the program asks for memory has no ans
 run asks less often. A small library that is compiled here stands before malloc and realloc for this; what the C library asks for
 itself isn't refused.
 
-A run must end with status 9, and its lines must be a front of those of the row, or as the row does where it can do without. The files
+A run must end with status 9, and its lines must be a front of those of the row, or as the row does where it can do without; or with
+status 6 and `fault store` behind such a front, where the store in the folder was refused memory: to its caller that is a call that fails. The files
 must then stand for the documents and the priors of the last flush that is told or of the one under way, and a query over the folder,
 with memory, must have the answer that bench/answers.py works out for these files.
 
@@ -31,6 +32,7 @@ import stored
 from runs import FIRST, SECOND, PROGRAM, SECONDS, Runner, stop_unless_built
 
 MEMORY = 9
+STORE_FAULT = 6
 LIBRARY = r"""
 #define _GNU_SOURCE
 #include <dlfcn.h>
@@ -226,6 +228,10 @@ def fault_of(runner, folder, row, whole, lines, status):
     if status == MEMORY:
         if not is_front(lines, whole.lines):
             return f"status 9 behind {lines}"
+    elif status == STORE_FAULT and lines[-1:] == ["fault store"]:
+        if not is_front(lines[:-1], whole.lines):
+            return f"status 6 behind {lines}"
+        lines = lines[:-1]
     elif (lines, status) != (whole.lines, whole.status):
         return f"status {status} behind {lines}"
     files = stored.files_of(folder)

@@ -1,4 +1,5 @@
 // Commands over a store in memory, where each read of their input fails, and each write.
+use crate::gen_tests::{ASKED, KEPT};
 use crate::run_words;
 use crate::store_tests::{ADD_TWO, CREATE, Step, TWO, first_wrong, is_ended, words_of};
 use indri_app::Status;
@@ -25,7 +26,7 @@ const BOTH_LINES: &str = "1 - -0.263034 d2 0 1\n2 > -0.847996 d1 0 2\n";
 
 const BOTH: (Status, &str) = (Status::Done, BOTH_LINES);
 
-static CASES: [Case; 9] = [
+static CASES: [Case; 10] = [
     Case {
         before: &[],
         texts: &["create"],
@@ -37,6 +38,18 @@ static CASES: [Case; 9] = [
         query: &["query", "a"],
         old: (Status::NoRepository, "norepository\n"),
         new: (Status::Done, ""),
+    },
+    Case {
+        before: &[],
+        texts: &["gen", "3"],
+        input: "",
+        reads: 0,
+        writes: 1,
+        status: Status::Done,
+        text: "gen 3 live 2 tokens 6\n1 - -2.585251 g0 0 2\n2 > -2.586403 g2 0 4\n",
+        query: ASKED,
+        old: (Status::NoRepository, "norepository\n"),
+        new: (Status::Done, KEPT),
     },
     Case {
         before: &[CREATE, ADD_TWO],

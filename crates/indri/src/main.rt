@@ -7,6 +7,8 @@ ghost use Rattle.belief_nodes.specs.Priors.{no_prior};
 #[cfg(test)]
 mod failing;
 #[cfg(test)]
+mod gen_tests;
+#[cfg(test)]
 mod merge_tests;
 #[cfg(test)]
 mod session_tests;
@@ -16,6 +18,7 @@ mod store_tests;
 mod tests;
 
 use belief_nodes::{BeliefNode, TablePlug};
+use command_words::{Words, read_words};
 use desk::length_plug;
 use indri_app::{Status, run};
 use ri_base::{ArgList, NoMemory};
@@ -80,9 +83,17 @@ fn folder_of(words: &ArgList) -> &str {
     }
 }
 
-/// Makes the folder of a `create` where it isn't there. Where that fails, the store tells of it.
+/// Whether the words ask for a command that makes a collection.
+fn makes_collection(alloc: Global, words: &ArgList) -> bool {
+    match read_words(alloc, words) {
+        Ok(Some(Words::Create | Words::Gen(_))) => true,
+        Ok(_) | Err(_) => false,
+    }
+}
+
+/// Makes the folder of such a command where it isn't there. Where that fails, the store tells of it.
 fn make_folder(rt: &HostRuntime, words: &ArgList) {
-    if words.get(1) == Some("create") && words.get(2).is_none() {
+    if makes_collection(rt.alloc(), words) {
         let _ = fs::create_dir(rt, folder_of(words));
     }
 }

@@ -418,19 +418,25 @@ static ANSWERS: [&str; 3] = [
     "1 - -0.263034 d2 0 1\n2 > -0.847996 d1 0 2\n",
 ];
 
-/// Whether a query for `a` answers as a collection of before or behind one of the runs does, or there is none yet.
-fn stands(alloc: Global, store: &mut MemStore) -> bool {
-    let texts = ["query", "--mu", "1", "a"];
-    if is_run(alloc, store, &texts, "", Status::NoRepository) {
+/// Whether a query has one of these answers, or there is no collection yet.
+pub fn stands(
+    alloc: Global,
+    store: &mut MemStore,
+    texts: &[&str],
+    answers: &[&'static str],
+) -> bool {
+    if is_run(alloc, store, texts, "", Status::NoRepository) {
         return true;
     }
-    for answer in &ANSWERS {
-        if writes(alloc, store, &texts, answer) {
+    for answer in answers {
+        if writes(alloc, store, texts, answer) {
             return true;
         }
     }
     false
 }
+
+const ASKED: &[&str] = &["query", "--mu", "1", "a"];
 
 /// Whether a store whose call of that number fails, and leaves the file so, stands for one of these collections: behind `create`, `add` of
 /// one document and then of another, `delete` of that, `merge`, and a session that does all of these.
@@ -462,11 +468,11 @@ fn stands_behind(alloc: Global, call: u64, left: Left) -> bool {
         match run_words(alloc, &words, &mut source, &mut sink, &mut store) {
             Ok(Status::Done | Status::NoRepository) => {}
             Ok(Status::StoreFault) => return sink.bytes().ends_with(b"fault store\n")
-                && stands(alloc, &mut store),
+                && stands(alloc, &mut store, ASKED, &ANSWERS),
             _ => return false,
         }
     }
-    stands(alloc, &mut store)
+    stands(alloc, &mut store, ASKED, &ANSWERS)
 }
 
 #[test]

@@ -17,7 +17,7 @@ use Rattle.repository.specs.Stands.{Collection}
 use Rattle.desk.specs.Priors.{names_with}
 use Rattle.desk.specs.Shown.{Shown, explanation, shown_for}
 use Rattle.indri_app.specs.Asked.{IsAsked, IsBrokenOver, IsIntact, IsIntactWithPriors}
-use Rattle.indri_app.specs.Command.{AreAnswer, ArePieces, IsAskedBy, NeedsRepository, ShowsInOrder, query_refusal, text_refusal}
+use Rattle.indri_app.specs.Command.{AreAnswer, ArePieces, IsAskedBy, MakesRepository, NeedsRepository, ShowsInOrder, query_refusal, text_refusal}
 use Rattle.indri_app.specs.LastLines.{IsClosed}
 use Rattle.indri_app.specs.Opened.{IsAbsentFault, IsWant}
 use Rattle.indri_app.specs.Runs.{RunsTo, Tells, TellsDamage, TellsDamageOf, WritesBy}
@@ -28,8 +28,17 @@ use Rattle.indri_app.proofs.PlainRuns.{plain-runs, tells-runs}
 
 -- ---- which words ask so
 
-pub asked-not_create : (asks : Asks) (text : List ℕ) (mu : ℕ) (shown : Shown) → IsAskedBy asks text mu shown → asks ≡ create → ⊥
-asked-not_create asks text mu shown by' e = subst (λ x. IsAskedBy x text mu shown) e by'
+pub asked-not_making : (asks : Asks) (text : List ℕ) (mu : ℕ) (shown : Shown) → IsAskedBy asks text mu shown → MakesRepository asks → ⊥
+asked-not_making (scan t) text mu shown by' makes = makes
+asked-not_making create text mu shown by' makes = by'
+asked-not_making add text mu shown by' makes = makes
+asked-not_making delete text mu shown by' makes = makes
+asked-not_making merge text mu shown by' makes = makes
+asked-not_making (prior name) text mu shown by' makes = makes
+asked-not_making (session m) text mu shown by' makes = makes
+asked-not_making (gen count) text mu shown by' makes = by'
+asked-not_making (query question) text mu shown by' makes = makes
+asked-not_making (explain rank question) text mu shown by' makes = makes
 
 pub asked-not_scan : (asks : Asks) (text : List ℕ) (mu : ℕ) (shown : Shown) (other : List ℕ) → IsAskedBy asks text mu shown → asks ≡ scan other → ⊥
 asked-not_scan asks text mu shown other by' e = subst (λ x. IsAskedBy x text mu shown) e by'

@@ -9,9 +9,9 @@ use Rattle.command_pieces.specs.declared.command_fault.CommandFault.TheVariants 
 use Rattle.repository.specs.RealLimits.{StandsFor}
 use Rattle.repository.specs.Stands.{Collection}
 use Rattle.collection_commands.specs.Merging.{IsMergeFault}
-use Rattle.command_words.specs.Table.{create, scan}
+use Rattle.command_words.specs.Table.{scan}
 use Rattle.indri_app.specs.Changes.{IsFoundFirst, IsOverFault, IsWorkFault, told_change}
-use Rattle.indri_app.specs.Command.{NeedsRepository, ReadsPriors, ShowsInOrder}
+use Rattle.indri_app.specs.Command.{MakesRepository, NeedsRepository, ReadsPriors, ShowsInOrder}
 use Rattle.indri_app.specs.Runs.{TellsDamage, TellsDamageOf}
 use Rattle.indri_app.specs.declared.changing.Change.{Change}
 use Rattle.indri_app.specs.declared.changing.Change.TheVariants.{Add, Delete, Merge, Prior}
@@ -156,11 +156,11 @@ module _ {S : Type 0} (files : S → Option Files) (layers : S → Option (List 
 
 -- ---- what the words of such a command ask for
 
-pub change-not_create : (what : Change) → told_change what ≡ create → ⊥
-change-not_create Add e = cc
-change-not_create Delete e = cc
-change-not_create Merge e = cc
-change-not_create (Prior name) e = cc
+pub change-not_making : (what : Change) → MakesRepository (told_change what) → ⊥
+change-not_making Add makes = makes
+change-not_making Delete makes = makes
+change-not_making Merge makes = makes
+change-not_making (Prior name) makes = makes
 
 pub change-not_scan : (what : Change) (text : List ℕ) → told_change what ≡ scan text → ⊥
 change-not_scan Add text e = cc

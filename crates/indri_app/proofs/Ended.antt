@@ -11,7 +11,7 @@ use Rattle.command_pieces.specs.declared.command_fault.CommandFault.TheVariants 
 use Rattle.indri_app.specs.Changes.{IsFoundFirst, IsOverFault}
 use Rattle.indri_app.specs.LastLines.{EndsWith, IsClosed, absent_line, exists_line, last_line, malformed_line, missing_line, status_of}
 use Rattle.indri_app.specs.Opened.{IsAbsentFault}
-use Rattle.indri_app.specs.Runs.{HasDone, IsAbsentStatus, IsEnded, IsUntouched, TellsDamage}
+use Rattle.indri_app.specs.Runs.{HasDone, IsAbsentStatus, IsAllDone, IsEnded, IsUntouched, TellsDamage}
 use Rattle.indri_app.specs.declared.status.Status.{Status}
 use Rattle.indri_app.specs.declared.status.Status.TheVariants as status
 
@@ -148,6 +148,12 @@ pub refused-not_ended : (answer : Result Bool CommandFault) (s : Status) (mid no
 refused-not_ended (Ok false) s mid now b z (w, same) e = absurd cc
 refused-not_ended (Ok true) s mid now b z (w, same) e = absurd cc
 refused-not_ended (Err why) s mid now b z ends e = refused-not_closed why s mid now b z ends e
+
+pub all-not_closed : (why : CommandFault) (s : Status) (mid now : Option (List ℕ)) (b z : ℕ) → IsClosed why s mid now b z → IsAllDone s → ⊥
+all-not_closed why s mid now b z ends all = elim all [
+  | inl e ↦ done-not_closed why s mid now b z ends e
+  | inr e ↦ some-not_closed why s mid now b z ends e
+]
 
 pub done-not_closed-any : (why : CommandFault) (s : Status) (mid now : Option (List ℕ)) (b z : ℕ) → IsClosed why s mid now b z → HasDone s → ⊥
 done-not_closed-any why s mid now b z ends has = elim has [

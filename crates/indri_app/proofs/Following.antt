@@ -1,5 +1,5 @@
 -- Items that are done one behind the other.
-use Rattle.std.proofs.Common.{◌≡◌, ℕ, Bool, true, false, ◌||◌, List, [], ◌∷◌, ◌++◌, refl, ap, sym, ◌∙◌, subst, Option, Some, None, append_assoc, append-nil}
+use Rattle.std.proofs.Common.{◌≡◌, ◌⊎◌, inl, inr, ℕ, Bool, true, false, ◌||◌, List, [], ◌∷◌, ◌++◌, refl, ap, sym, ◌∙◌, subst, Option, Some, None, append_assoc, append-nil}
 use Rattle.std.specs.Option.{option_map, IfSome}
 use Rattle.store_ends.specs.Files.{Files, Leaves}
 use Rattle.store_ends.proofs.Files.{Leaves-same}
@@ -128,6 +128,13 @@ module _ (start here : State) (done : List Item) (i : Item) (is : here ≡ state
   Along-next past mid since kept a b =
       subst (λ ps. Leaves past since (StandsAlong StandsFor kept ps)) pieces-next (Along-then past mid since StandsFor kept (pieces_of start done) (item_piece here i ∷ []) a b)
 
+  -- as the files stand within it
+  pub along-next : (kept : Collection) (f : Option Files) → StandsFor (kept_behind kept (pieces_of start done)) f ⊎ StandsFor (kept_by (kept_behind kept (pieces_of start done)) here i) f → StandsAlong StandsFor kept (pieces_of start (done ++ i ∷ [])) f
+  along-next kept f either = elim either [
+    | inl old ↦ record { done = pieces_of start done; left = item_piece here i ∷ []; are = sym pieces-next; files_stand = old }
+    | inr new ↦ record { done = pieces_of start (done ++ i ∷ []); left = []; are = sym (append-nil (pieces_of start (done ++ i ∷ []))); files_stand = subst (λ k. StandsFor k f) (kept-next kept) new }
+  ]
+
   -- it is broken off, and further ones would have followed
   pub broken-next : (e : CommandFault) (kept : Collection) (rest : List Item) (before mid now : Option (List ℕ)) (f g : Option Files) → Finished StandsFor kept (pieces_of start done) before mid f
       → IsBrokenBy e StandsFor (kept_behind kept (pieces_of start done)) (item_piece here i ∷ []) mid now g → IsBrokenBy e StandsFor kept (pieces_of start ((done ++ i ∷ []) ++ rest)) before now g
@@ -147,6 +154,17 @@ stopped-here kept s done rest before now f a = subst (λ ps. StoppedBetween Stan
 
 pub Along-here : (past since : ℕ → Files → Type 0) (kept : Collection) (s : State) (done rest : List Item) → Leaves past since (StandsAlong StandsFor kept (pieces_of s done)) → Leaves past since (StandsAlong StandsFor kept (pieces_of s (done ++ rest)))
 Along-here past since kept s done rest l = subst (λ ps. Leaves past since (StandsAlong StandsFor kept ps)) (sym (pieces-append s done rest)) (Along-more past since StandsFor kept (pieces_of s done) _ l)
+
+pub along-here : (kept : Collection) (s : State) (done rest : List Item) (f : Option Files) → StandsAlong StandsFor kept (pieces_of s done) f → StandsAlong StandsFor kept (pieces_of s (done ++ rest)) f
+along-here kept s done rest f a =
+    let more = pieces_of (state_behind_all s done) rest in
+    record { done = a.done; left = a.left ++ more; are = pieces-append s done rest ∙ ap (λ ps. ps ++ more) a.are ∙ append_assoc a.done a.left more; files_stand = a.files_stand }
+
+pub along-none : (kept : Collection) (ps : List (Piece Collection)) (f : Option Files) → StandsFor kept f → StandsAlong StandsFor kept ps f
+along-none kept ps f stands = record { done = []; left = ps; are = refl; files_stand = subst (λ k. StandsFor k f) (sym (kept-none kept)) stands }
+
+pub along-all : (kept : Collection) (ps : List (Piece Collection)) (f : Option Files) → StandsFor (kept_behind kept ps) f → StandsAlong StandsFor kept ps f
+along-all kept ps f stands = record { done = ps; left = []; are = sym (append-nil ps); files_stand = stands }
 
 -- ---- true orders
 

@@ -2,17 +2,16 @@
 use Rattle.std.proofs.Common.{◌≡◌, ◌∙◌, inl, inr, ℕ, List, [], Option, None, Some, refl, subst}
 use Rattle.std.specs.Option.{IfSome}
 use Rattle.store_ends.specs.Files.{Files}
-use Rattle.store_ends.proofs.Files.{Leaves-same}
 use Rattle.command_words.specs.Table.{Asks, scan}
 use Rattle.command_pieces.proofs.Joining.{StoppedBetween-none}
 use Rattle.repository.specs.RealLimits.{StandsFor}
 use Rattle.repository.specs.Stands.{Collection}
-use Rattle.collection_commands.specs.Creation.{IsMade, create_pieces}
 use Rattle.indri_app.specs.HasRun.{HasRun}
 use Rattle.indri_app.specs.Runs.{HasDone, IsPlainStatus, RunsTo, ScansTo}
 use Rattle.indri_app.specs.declared.status.Status.{Status}
 use Rattle.indri_app.specs.declared.status.Status.TheVariants as status
 use Rattle.indri_app.proofs.Closing.{stops-none}
+use Rattle.indri_app.proofs.Created.{memory-makes, none-makes}
 use Rattle.indri_app.proofs.PlainRuns.{scan-runs, scans-memory}
 
 memory-runs : (told : Option Files) (asks : Asks) (c : Collection) (left before : Option (List ℕ)) (a z : ℕ) → StandsFor c told → IfSome left (λ bytes. RunsTo status.Memory told asks c bytes before before told a z)
@@ -27,8 +26,9 @@ memory-has_run asks left told past before a z = record {
   runs = λ c stands. memory-runs told asks c left before a z stands;
   stops = λ c stands. stops-none told asks c left past past (λ t f h. h);
   order = λ c stands all. absurd (elim all [ inl e ↦ cc | inr e ↦ cc ]);
-  made = λ is f same none. StoppedBetween-none (IsMade (Some f)) None create_pieces before before told refl same;
-  made_stops = λ is f same none. Leaves-same past _;
+  made = λ makes f same none. memory-makes asks f makes told before a z same;
+  made_stops = λ makes f same none. none-makes asks f makes past;
+  made_order = λ makes f same none all. absurd (elim all [ inl e ↦ cc | inr e ↦ cc ]);
   scans = λ text is. scans-memory text left before a z;
   sound = λ e c stands. absurd cc;
   there = λ f same e. absurd cc;
@@ -56,8 +56,9 @@ scan-has_run text s left told past before now a z plain scans' = record {
   runs = λ c stands. scan-runs told text c left before now a z s stands scans';
   stops = λ c stands. stops-none told (scan text) c left past past (λ t f h. h);
   order = λ c stands all. tt;
-  made = λ is f same none. absurd cc;
-  made_stops = λ is f same none. absurd cc;
+  made = λ makes f same none. absurd makes;
+  made_stops = λ makes f same none. absurd makes;
+  made_order = λ makes f same none all. absurd makes;
   scans = λ other is. let one : text ≡ other = cc in subst (λ t. IfSome left (λ bytes. ScansTo s t bytes before now a z)) one scans';
   sound = λ e c stands. not-plain s status.Malformed plain e (λ h. h);
   there = λ f same e. absurd (not-plain s status.Malformed plain e (λ h. h));
@@ -67,7 +68,7 @@ scan-has_run text s left told past before now a z plain scans' = record {
   absent = λ f same e. absurd (not-plain s status.NoRepository plain e (λ h. h));
   without = λ f same none needs. absurd needs;
   absent_line_is = λ e. absurd (not-plain s status.NoRepository plain e (λ h. h));
-  exists = λ f same is there. absurd cc;
+  exists = λ f same makes there. absurd makes;
   exists_there = λ f same e. absurd (not-plain s status.Exists plain e (λ h. h));
   exists_line_is = λ e. absurd (not-plain s status.Exists plain e (λ h. h));
   command = λ e. not-plain s status.Usage plain e (λ h. h);

@@ -23,7 +23,7 @@ use Rattle.indri_app.specs.Changes.{IsFoundFirst, IsOverFault}
 use Rattle.indri_app.specs.Command.{ShowsInOrder}
 use Rattle.indri_app.specs.Runs.{IsAllDone, IsEnded, IsUntouched, TellsDamage}
 use Rattle.indri_app.specs.declared.status.Status.{Status}
-use Rattle.indri_app.proofs.Ended.{absent-ended, damage-first, done-not_closed, exists-not_ended, refused-not_ended, some-not_closed, usage-not_ended}
+use Rattle.indri_app.proofs.Ended.{absent-ended, all-not_closed, damage-first, exists-not_ended, refused-not_ended, usage-not_ended}
 
 session-over_one : (why : CommandFault) → IsSessionFault why → IsOverFault why
 session-over_one fault.Read is = tt
@@ -57,7 +57,7 @@ undamaged-late (Err fault.Memory) is never = λ first. first
 -- its status says that all was done
 pub all-ended : (P : Type 0) (answer : Result Bool CommandFault) (s : Status) (mid now : Option (List ℕ)) (b z : ℕ) → OnOk answer P → IsEnded answer s mid now b z → IsAllDone s → P
 all-ended P (Ok refused) s mid now b z p ends all = p
-all-ended P (Err why) s mid now b z p ends all = absurd (elim all [ inl e ↦ done-not_closed why s mid now b z ends e | inr e ↦ some-not_closed why s mid now b z ends e ])
+all-ended P (Err why) s mid now b z p ends all = absurd (all-not_closed why s mid now b z ends all)
 
 -- nothing was done where there was no manifest
 pub session-untouched : (Q : Type 0) (answer : Result Bool CommandFault) (s : Status) (mid now : Option (List ℕ)) (b z : ℕ) → (answer ≡ Err fault.NoRepository → Q) → IfErr answer IsOverFault → IsEnded answer s mid now b z → IsUntouched s → Q

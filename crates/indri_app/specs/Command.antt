@@ -1,6 +1,6 @@
 -- What the words of the command line ask for, and the pieces of that command on a collection.
-use Rattle.std.specs.Prelude.{◌≡◌, ◌⊎◌, ℕ, List, [], ◌∷◌, codes, Option, None, Some, Result, Ok, Err, IfSome, option_and_then}
-use Rattle.command_words.specs.Table.{Asks, Question, add, asks_of, create, delete, explain, gen, merge, prior, query, scan, session}
+use Rattle.std.specs.Prelude.{◌≡◌, ◌⊎◌, ℕ, List, [], ◌∷◌, codes, Option, None, Some, Result, Ok, Err, IfSome}
+use Rattle.command_words.specs.Table.{Asks, Question, add, create, delete, explain, gen, merge, prior, query, scan, session}
 use Rattle.ri_base.specs.Expression.{ExprTree}
 use Rattle.ri_base.specs.Query.{QueryTree}
 use Rattle.smoothing.specs.declared.rule.RuleKind.TheVariants.{Dirichlet}
@@ -21,26 +21,17 @@ use Rattle.document_handlers.specs.Work.{Work, adding, behind_all, input_pieces,
 use Rattle.holdings.specs.declared.limits.Limits.{Limits}
 use Rattle.repository.specs.RealLimits.{AreReal}
 use Rattle.repository.specs.Stands.{Collection}
+use Rattle.collection_commands.specs.Creation.{create_pieces}
 use Rattle.collection_commands.specs.Flushing.{delete_pieces, then_flushed}
 use Rattle.collection_commands.specs.Merging.{merge_pieces}
 use Rattle.collection_commands.specs.PriorSetting.{ArePriorPieces, name_refusal}
 use Rattle.script_reader.specs.Items.{items}
+use Rattle.indri_app.specs.Generated.{AreGenPieces, IsInOrder, MakingPiece}
 use Rattle.indri_app.specs.Orders.{AreTrue}
 use Rattle.indri_app.specs.Sessions.{begun, session_pieces}
 use Rattle.desk.specs.Answer.{IsAnswerText}
 use Rattle.desk.specs.Priors.{names_with, priors_with}
 use Rattle.desk.specs.Shown.{Shown, explanation, shown_for}
-
--- ---- words
-
--- `gen` is no command yet
-abbrev pub built : Asks → Option Asks
-built (gen count) = None
-built asks = Some asks
-
--- what the words ask for, where they are a command
-abbrev pub command_of : List (List ℕ) → Option Asks
-command_of words = option_and_then built (asks_of words)
 
 -- ---- texts
 
@@ -98,8 +89,8 @@ AreAnswer c question shown pieces =
     (q : CheckedTree) × IsQuery (names_with c.priors) question.text q × ((answer : Option (List ℕ))
     × IsAnswerText (Dirichlet question.mu) (priors_with c.priors) (names_with c.priors) shown q c.live answer × (pieces ≡ unflushed (answer_piece answer ∷ [])))
 
--- These are all pieces of a command on a collection, for which the files stand, with this input. There is none of `create`, which
--- isn't done where there is a manifest.
+-- These are all pieces of a command on a collection, for which the files stand, with this input. There is none of `create` and `gen`,
+-- which aren't done where there is a manifest.
 abbrev pub ArePieces : Option Files → Asks → Collection → List ℕ → List (Piece Collection) → Type 0
 ArePieces told (scan text) c bytes pieces = (x : ExprTree) × (expr_text text ≡ Ok x) × (pieces ≡ unflushed (input_pieces (scanning x) (read bytes)))
 ArePieces told create c bytes pieces = ⊥
@@ -125,7 +116,25 @@ ShowsInOrder (gen count) c left = Unit {0}
 ShowsInOrder (query question) c left = Unit {0}
 ShowsInOrder (explain rank question) c left = Unit {0}
 
--- These are they, or none where they can't be told yet.
+-- These are all pieces of a command that makes a repository, where there is none.
+abbrev pub AreMakingPieces : Asks → List MakingPiece → Type 0
+AreMakingPieces (scan text) pieces = ⊥
+AreMakingPieces create pieces = pieces ≡ create_pieces
+AreMakingPieces add pieces = ⊥
+AreMakingPieces delete pieces = ⊥
+AreMakingPieces merge pieces = ⊥
+AreMakingPieces (prior name) pieces = ⊥
+AreMakingPieces (session mu) pieces = ⊥
+AreMakingPieces (gen count) pieces = AreGenPieces count pieces
+AreMakingPieces (query question) pieces = ⊥
+AreMakingPieces (explain rank question) pieces = ⊥
+
+-- What it shows stands in an order that is true of the beliefs behind it.
+abbrev pub MakesInOrder : Asks → Type 0
+MakesInOrder (gen count) = IsInOrder count
+MakesInOrder asks = Unit {0}
+
+-- These are the pieces of a command on a collection, or none where they can't be told yet.
 abbrev pub AreBegun : Option Files → Asks → Collection → List ℕ → List (Piece Collection) → Type 0
 AreBegun told asks c bytes pieces = (pieces ≡ []) ⊎ ArePieces told asks c bytes pieces
 
@@ -148,6 +157,19 @@ NeedsRepository (session mu) = Unit {0}
 NeedsRepository (gen count) = ⊥
 NeedsRepository (query question) = Unit {0}
 NeedsRepository (explain rank question) = Unit {0}
+
+-- it makes a repository where there is none
+abbrev pub MakesRepository : Asks → Type 0
+MakesRepository (scan text) = ⊥
+MakesRepository create = Unit {0}
+MakesRepository add = ⊥
+MakesRepository delete = ⊥
+MakesRepository merge = ⊥
+MakesRepository (prior name) = ⊥
+MakesRepository (session mu) = ⊥
+MakesRepository (gen count) = Unit {0}
+MakesRepository (query question) = ⊥
+MakesRepository (explain rank question) = ⊥
 
 -- it reads the files of the priors
 abbrev pub ReadsPriors : Asks → Type 0

@@ -1,4 +1,4 @@
--- Why a session is broken off.
+-- Why a session is broken off, and `gen`.
 use Rattle.command_pieces.specs.declared.command_fault.CommandFault.{CommandFault}
 use Rattle.command_pieces.specs.declared.command_fault.CommandFault.TheVariants.{Exists, Malformed, Memory, Missing, NoRepository, Read, Store, Write}
 
@@ -23,3 +23,25 @@ IsItemFault (Missing file) = Unit {0}
 IsItemFault NoRepository = ⊥
 IsItemFault Exists = ⊥
 IsItemFault Memory = Unit {0}
+
+-- `gen` reads no source and needs no repository.
+abbrev pub IsGenFault : CommandFault → Type 0
+IsGenFault Read = ⊥
+IsGenFault Write = Unit {0}
+IsGenFault Store = Unit {0}
+IsGenFault (Malformed file part place) = Unit {0}
+IsGenFault (Missing file) = Unit {0}
+IsGenFault NoRepository = ⊥
+IsGenFault Exists = Unit {0}
+IsGenFault Memory = Unit {0}
+
+-- And so it is broken off before it writes.
+abbrev pub IsSilentFault : CommandFault → Type 0
+IsSilentFault Read = ⊥
+IsSilentFault Write = ⊥
+IsSilentFault Store = Unit {0}
+IsSilentFault (Malformed file part place) = Unit {0}
+IsSilentFault (Missing file) = Unit {0}
+IsSilentFault NoRepository = ⊥
+IsSilentFault Exists = Unit {0}
+IsSilentFault Memory = Unit {0}

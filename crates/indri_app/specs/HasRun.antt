@@ -1,17 +1,15 @@
 -- What a run of a command has done, by what its words ask for.
 use Rattle.std.specs.Prelude.{ℕ, ◌≡◌, List, Option, None, Some, IfSome, IsTrue, is_some}
-use Rattle.store_ends.specs.Files.{Files, Leaves}
-use Rattle.command_words.specs.Table.{Asks, create, scan}
+use Rattle.store_ends.specs.Files.{Files}
+use Rattle.command_words.specs.Table.{Asks, scan}
 use Rattle.command_pieces.specs.Lines.{WritesLine}
-use Rattle.command_pieces.specs.Pieces.{StandsAlong}
 use Rattle.repository.specs.Names.{manifest_name}
 use Rattle.repository.specs.RealLimits.{StandsFor}
 use Rattle.repository.specs.Stands.{Collection}
-use Rattle.collection_commands.specs.Creation.{IsMade, create_pieces}
 use Rattle.indri_app.specs.Asked.{IsIntact, IsIntactWithPriors}
-use Rattle.indri_app.specs.Command.{NeedsRepository, ReadsPriors, ShowsInOrder}
+use Rattle.indri_app.specs.Command.{MakesInOrder, MakesRepository, NeedsRepository, ReadsPriors, ShowsInOrder}
 use Rattle.indri_app.specs.LastLines.{absent_line, exists_line}
-use Rattle.indri_app.specs.Runs.{HasDone, IsAbsentStatus, IsAllDone, IsExistsStatus, MakesTo, RunsTo, ScansTo, StopsAlong, TellsDamageOf}
+use Rattle.indri_app.specs.Runs.{HasDone, IsAbsentStatus, IsAllDone, IsExistsStatus, MakesAlong, MakesTo, RunsTo, ScansTo, StopsAlong, TellsDamageOf}
 use Rattle.indri_app.specs.declared.status.Status.{Status}
 use Rattle.indri_app.specs.declared.status.Status.TheVariants.{Exists, Malformed, NoRepository, Usage}
 
@@ -23,9 +21,10 @@ pub record HasRun (asks : Asks) (status : Status) (left : Option (List ℕ)) (to
   pub stops : (c : Collection) → StandsFor c told → IfSome left (λ bytes. StopsAlong told asks c bytes past since)
   -- what a session shows stands in a true order
   pub order : (c : Collection) → StandsFor c told → IsAllDone status → ShowsInOrder asks c left
-  -- `create` where there is no manifest
-  pub made : asks ≡ create → (f : Files) → told ≡ Some f → f manifest_name ≡ None → MakesTo status (Some f) before now files count_before count_now
-  pub made_stops : asks ≡ create → (f : Files) → told ≡ Some f → f manifest_name ≡ None → Leaves past since (StandsAlong (IsMade (Some f)) None create_pieces)
+  -- `create` and `gen` where there is no manifest
+  pub made : MakesRepository asks → (f : Files) → told ≡ Some f → f manifest_name ≡ None → MakesTo status asks (Some f) before now files count_before count_now
+  pub made_stops : MakesRepository asks → (f : Files) → told ≡ Some f → f manifest_name ≡ None → MakesAlong asks (Some f) past since
+  pub made_order : MakesRepository asks → (f : Files) → told ≡ Some f → f manifest_name ≡ None → IsAllDone status → MakesInOrder asks
   -- a scan, over any files
   pub scans : (text : List ℕ) → asks ≡ scan text → IfSome left (λ bytes. ScansTo status text bytes before now count_before count_now)
   -- damage: never where the files stand for a collection, or where there is no manifest; and it isn't passed over
@@ -38,9 +37,9 @@ pub record HasRun (asks : Asks) (status : Status) (left : Option (List ℕ)) (to
   pub absent : (f : Files) → told ≡ Some f → status ≡ NoRepository → NeedsRepository asks × (f manifest_name ≡ None)
   pub without : (f : Files) → told ≡ Some f → f manifest_name ≡ None → NeedsRepository asks → IsAbsentStatus status
   pub absent_line_is : status ≡ NoRepository → WritesLine before now absent_line count_before count_now
-  -- there is one where `create` needs none
-  pub exists : (f : Files) → told ≡ Some f → asks ≡ create → IsTrue (is_some (f manifest_name)) → IsExistsStatus status
-  pub exists_there : (f : Files) → told ≡ Some f → status ≡ Exists → (asks ≡ create) × IsTrue (is_some (f manifest_name))
+  -- there is one where `create` and `gen` need none
+  pub exists : (f : Files) → told ≡ Some f → MakesRepository asks → IsTrue (is_some (f manifest_name)) → IsExistsStatus status
+  pub exists_there : (f : Files) → told ≡ Some f → status ≡ Exists → MakesRepository asks × IsTrue (is_some (f manifest_name))
   pub exists_line_is : status ≡ Exists → WritesLine before now exists_line count_before count_now
   -- it is a command
   pub command : status ≡ Usage → ⊥

@@ -3,6 +3,9 @@ pub mod Changes
 pub mod Command
 pub mod Explanations
 pub mod Faults
+pub mod Generated
+pub mod GeneratedTexts
+pub mod Generation
 pub mod HasRun
 pub mod Items
 pub mod LastLines

@@ -18,10 +18,11 @@ use Rattle.query_refusals.specs.declared.refusal.QueryRefusal.{QueryRefusal}
 use Rattle.query_refusals.specs.declared.refusal.QueryRefusal.TheVariants.{Text}
 use Rattle.repository.specs.RealLimits.{StandsFor}
 use Rattle.repository.specs.Stands.{Collection}
-use Rattle.collection_commands.specs.Creation.{IsMade, create_pieces}
+use Rattle.collection_commands.specs.Creation.{IsMade}
 use Rattle.desk.specs.Priors.{names_with}
 use Rattle.indri_app.specs.Sessions.{Grows}
-use Rattle.indri_app.specs.Command.{AreBegun, AreBegunBy, ArePieces, text_refusal}
+use Rattle.indri_app.specs.Command.{AreBegun, AreBegunBy, AreMakingPieces, ArePieces, MakesRepository, text_refusal}
+use Rattle.indri_app.specs.Generated.{MakingPiece}
 use Rattle.indri_app.specs.LastLines.{IsClosed, exists_line, last_line, read_line, store_line}
 use Rattle.indri_app.specs.declared.status.Status.{Status}
 use Rattle.indri_app.specs.declared.status.Status.TheVariants.{Done, Exists, Malformed, Memory, NoRepository, QueryRefused, ReadFault, SomeRefused, StoreFault, Usage, WriteFault}
@@ -59,24 +60,29 @@ RunsTo WriteFault told asks c bytes before now files count_before count_now =
 RunsTo Memory told asks c bytes before now files count_before count_now =
     (pieces : List (Piece Collection)) × AreBegun told asks c bytes pieces × StoppedBetween StandsFor c pieces before now files
 RunsTo QueryRefused told asks c bytes before now files count_before count_now = IsTextRefused told asks c before now files
-RunsTo Exists told asks c bytes before now files count_before count_now = (asks ≡ create) × WritesLine before now exists_line count_before count_now × (files ≡ told)
+RunsTo Exists told asks c bytes before now files count_before count_now = MakesRepository asks × WritesLine before now exists_line count_before count_now × (files ≡ told)
 RunsTo Usage told asks c bytes before now files count_before count_now = ⊥
 RunsTo Malformed told asks c bytes before now files count_before count_now = ⊥
 RunsTo NoRepository told asks c bytes before now files count_before count_now = ⊥
 
--- What `create` has done where there is no manifest.
-abbrev pub MakesTo : Status → Option Files → Option (List ℕ) → Option (List ℕ) → Option Files → ℕ → ℕ → Type 0
-MakesTo Done told before now files count_before count_now = Finished (IsMade told) None create_pieces before now files
-MakesTo StoreFault told before now files count_before count_now = EndsIn store_line (IsMade told) None create_pieces before now files count_before count_now
-MakesTo WriteFault told before now files count_before count_now = BrokenOff (IsMade told) None create_pieces before now files
-MakesTo Memory told before now files count_before count_now = StoppedBetween (IsMade told) None create_pieces before now files
-MakesTo SomeRefused told before now files count_before count_now = ⊥
-MakesTo ReadFault told before now files count_before count_now = ⊥
-MakesTo QueryRefused told before now files count_before count_now = ⊥
-MakesTo Exists told before now files count_before count_now = ⊥
-MakesTo Usage told before now files count_before count_now = ⊥
-MakesTo Malformed told before now files count_before count_now = ⊥
-MakesTo NoRepository told before now files count_before count_now = ⊥
+-- What a command that makes a repository has done where there is no manifest.
+abbrev pub MakesTo : Status → Asks → Option Files → Option (List ℕ) → Option (List ℕ) → Option Files → ℕ → ℕ → Type 0
+MakesTo Done asks told before now files count_before count_now = (pieces : List MakingPiece) × AreMakingPieces asks pieces × Finished (IsMade told) None pieces before now files
+MakesTo StoreFault asks told before now files count_before count_now =
+    (pieces : List MakingPiece) × AreMakingPieces asks pieces × EndsIn store_line (IsMade told) None pieces before now files count_before count_now
+MakesTo WriteFault asks told before now files count_before count_now = (pieces : List MakingPiece) × AreMakingPieces asks pieces × BrokenOff (IsMade told) None pieces before now files
+MakesTo Memory asks told before now files count_before count_now = (pieces : List MakingPiece) × AreMakingPieces asks pieces × StoppedBetween (IsMade told) None pieces before now files
+MakesTo SomeRefused asks told before now files count_before count_now = ⊥
+MakesTo ReadFault asks told before now files count_before count_now = ⊥
+MakesTo QueryRefused asks told before now files count_before count_now = ⊥
+MakesTo Exists asks told before now files count_before count_now = ⊥
+MakesTo Usage asks told before now files count_before count_now = ⊥
+MakesTo Malformed asks told before now files count_before count_now = ⊥
+MakesTo NoRepository asks told before now files count_before count_now = ⊥
+
+-- What a stop may leave of it: there is no manifest yet, or the files stand for a collection.
+abbrev pub MakesAlong : Asks → Option Files → (ℕ → Files → Type 0) → (ℕ → Files → Type 0) → Type 0
+MakesAlong asks told past since = (pieces : List MakingPiece) × AreMakingPieces asks pieces × Leaves past since (StandsAlong (IsMade told) None pieces)
 
 -- What a stop may leave of the files that stood for a collection.
 abbrev pub StopsAlong : Option Files → Asks → Collection → List ℕ → (ℕ → Files → Type 0) → (ℕ → Files → Type 0) → Type 0
@@ -103,7 +109,7 @@ items_answer (Err why) = Err (of_items why)
 abbrev pub IsAbsentStatus : Status → Type 0
 IsAbsentStatus status = (status ≡ NoRepository) ⊎ (status ≡ StoreFault) ⊎ (status ≡ Memory)
 
--- how `create` ends where there is a manifest
+-- how a command that makes one ends where there is a manifest
 abbrev pub IsExistsStatus : Status → Type 0
 IsExistsStatus status = (status ≡ Exists) ⊎ (status ≡ StoreFault) ⊎ (status ≡ Memory)
 

@@ -3,7 +3,11 @@
 
 mod addition;
 mod changing;
+mod creation;
 mod ending;
+mod filling;
+mod generated_text;
+mod generation;
 mod items;
 mod opening;
 mod program;

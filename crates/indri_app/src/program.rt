@@ -3,7 +3,8 @@ ghost use Rattle.std.specs.Prelude.{◌≡◌, ◌≢◌, ◌≤◌, List, None,
 ghost use Rattle.ri_ends.specs.Causes.{Rose};
 ghost use Rattle.command_words.specs.Asked.{AreInRange, told_words};
 ghost use Rattle.command_words.specs.Table as asks;
-ghost use Rattle.command_words.specs.Table.{Asks, create};
+ghost use Rattle.command_words.specs.Table.{Asks, asks_of, create};
+ghost use Rattle.generated_events.specs.declared.generator.TheConstants.{MAX_GENERATED};
 ghost use Rattle.query_refusals.specs.Lines.{line_of};
 ghost use Rattle.smoothing.specs.Fractions.{IsMu};
 ghost use Rattle.smoothing.specs.declared.rule.RuleKind.TheVariants.{Dirichlet};
@@ -13,13 +14,14 @@ ghost use Rattle.desk.specs.Priors.{run_priors};
 ghost use Rattle.desk.specs.Searching.{IsShowable};
 ghost use Rattle.desk.specs.Shown.{told_shown};
 ghost use Rattle.indri_app.specs.Changes.{told_change};
-ghost use Rattle.indri_app.specs.Command.{IsAskedBy, built, command_of, usage_line};
+ghost use Rattle.indri_app.specs.Command.{IsAskedBy, usage_line};
 ghost use Rattle.indri_app.specs.HasRun.{HasRun};
 ghost use Rattle.indri_app.specs.Runs.{IsPlainStatus, IsUntouched, ScansTo, Tells};
 
 use crate::Status;
 use crate::changing::{Change, change_files};
 use crate::ending::{close, finish, finish_items, tell, write_reply};
+use crate::generation::generate;
 use crate::question::{AskFault, ask};
 use crate::scan::scan;
 use crate::session::session_files;
@@ -168,8 +170,33 @@ fn run_session<S: Source, K: Sink, T: Store>(
     finish(alloc, answer, sink)
 }
 
-/// Does the command of the words. `gen` is none yet.
-#[tactic(auto, unfolding(crate::specs::Command::usage_line))]
+/// Makes a generated collection in a repository that it makes, and asks it.
+fn run_gen<K: Sink, T: Store>(
+    alloc: Global,
+    count: u32,
+    sink: &mut K,
+    store: &mut T,
+    plugs: &mut [Box<dyn BeliefNode>],
+) -> Status
+    requires some { 1 ≤ count }
+    requires few { count ≤ MAX_GENERATED }
+    requires plugs { map (λ plug. meaning plug) plugs.old ≡ run_priors }
+    ensures has_run { (left : Option (List ℕ)) → HasRun (asks.gen count) result left (T.files store.old) (T.files store.new) (T.since store.old) (T.since store.new) (K.taken sink.old) (K.taken sink.new) (K.faults sink.old) (K.faults sink.new) }
+    ensures untouched { IsUntouched result → IsQuiet T.files T.layers T.clock T.since T.longest T.held store.old store.new }
+    ensures goes_on { GoesOn T.layers T.clock T.longest T.held store.old store.new }
+    ensures no_read { result ≢ Status.ReadFault }
+    ensures write { result ≡ Status.WriteFault → Rose (K.faults sink.old) (K.faults sink.new) }
+    ensures write_later { K.faults sink.old ≤ K.faults sink.new }
+    ensures store { result ≡ Status.StoreFault → Rose (T.faults store.old) (T.faults store.new) }
+    ensures store_later { T.faults store.old ≤ T.faults store.new }
+{
+    match generate(alloc, count, sink, store, plugs) {
+        Ok(()) => Status::Done,
+        Err(fault) => close(alloc, fault, sink),
+    }
+}
+
+/// Does the command of the words.
 fn run_words<S: Source, K: Sink, T: Store>(
     alloc: Global,
     words: Words,
@@ -180,9 +207,7 @@ fn run_words<S: Source, K: Sink, T: Store>(
 ) -> Status
     requires ranges { AreInRange words }
     requires plugs { map (λ plug. meaning plug) plugs.old ≡ run_priors }
-    ensures has_run { IfSome (built (told_words words)) (λ asks. HasRun asks result (S.left source.old) (T.files store.old) (T.files store.new) (T.since store.old) (T.since store.new) (K.taken sink.old) (K.taken sink.new) (K.faults sink.old) (K.faults sink.new)) }
-    ensures usage { result ≡ Status.Usage → built (told_words words) ≡ None }
-    ensures no_command { built (told_words words) ≡ None → Tells Status.Usage usage_line result (K.taken sink.old) (K.taken sink.new) × IsQuiet T.files T.layers T.clock T.since T.longest T.held store.old store.new × (source.new ≡ source.old) }
+    ensures has_run { HasRun (told_words words) result (S.left source.old) (T.files store.old) (T.files store.new) (T.since store.old) (T.since store.new) (K.taken sink.old) (K.taken sink.new) (K.faults sink.old) (K.faults sink.new) }
     ensures untouched { IsUntouched result → IsQuiet T.files T.layers T.clock T.since T.longest T.held store.old store.new × (source.new ≡ source.old) }
     ensures goes_on { GoesOn T.layers T.clock T.longest T.held store.old store.new }
     ensures layers { S.layers source.new ≡ S.layers source.old }
@@ -214,7 +239,7 @@ fn run_words<S: Source, K: Sink, T: Store>(
             run_question(alloc, &asked.text, asked.mu, &shown, plugs, sink, store)
         }
         Words::Session(mu) => run_session(alloc, mu, source, sink, store, plugs),
-        Words::Gen(_) => tell(sink, USAGE, Status::Usage),
+        Words::Gen(count) => run_gen(alloc, count, sink, store, plugs),
     }
 }
 
@@ -232,11 +257,11 @@ pub fn run<S: Source, K: Sink, T: Store>(
     requires plugs { map (λ plug. meaning plug) plugs.old ≡ run_priors }
 
     // What the command has done, and what a stop may leave.
-    ensures has_run { IfSome (command_of words.now) (λ asks. HasRun asks result (S.left source.old) (T.files store.old) (T.files store.new) (T.since store.old) (T.since store.new) (K.taken sink.old) (K.taken sink.new) (K.faults sink.old) (K.faults sink.new)) }
+    ensures has_run { IfSome (asks_of words.now) (λ asks. HasRun asks result (S.left source.old) (T.files store.old) (T.files store.new) (T.since store.old) (T.since store.new) (K.taken sink.old) (K.taken sink.new) (K.faults sink.old) (K.faults sink.new)) }
 
     // Words that are no command, and nothing else.
-    ensures usage { result ≡ Status.Usage → command_of words.now ≡ None }
-    ensures no_command { command_of words.now ≡ None → Tells Status.Usage usage_line result (K.taken sink.old) (K.taken sink.new) × IsQuiet T.files T.layers T.clock T.since T.longest T.held store.old store.new × (source.new ≡ source.old) }
+    ensures usage { result ≡ Status.Usage → asks_of words.now ≡ None }
+    ensures no_command { asks_of words.now ≡ None → Tells Status.Usage usage_line result (K.taken sink.old) (K.taken sink.new) × IsQuiet T.files T.layers T.clock T.since T.longest T.held store.old store.new × (source.new ≡ source.old) }
 
     // With these nothing is done with the files and the input.
     ensures untouched { IsUntouched result → IsQuiet T.files T.layers T.clock T.since T.longest T.held store.old store.new × (source.new ≡ source.old) }

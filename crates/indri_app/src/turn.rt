@@ -76,7 +76,7 @@ fn tell_reply(alloc: Global, reply: &Reply) -> Result<Piece, SegFault>
 }
 
 /// Does what an event asks for. The answer is the piece of its reply.
-fn do_event<F: Fn(u32, u32, u64, u64) -> Fraction, T: Store>(
+pub(crate) fn do_event<F: Fn(u32, u32, u64, u64) -> Fraction, T: Store>(
     alloc: Global,
     desk: &mut Desk<F>,
     event: Event,

@@ -1,6 +1,6 @@
 use Rattle.repository.specs.Names.{manifest_name}
 use Rattle.indri_app.specs.LastLines.{absent_line}
-use Rattle.indri_app.proofs.ChangingLemmas.{change-in_order, change-needs, change-not_create, change-not_scan, change-reads, change-tells}
+use Rattle.indri_app.proofs.ChangingLemmas.{change-in_order, change-needs, change-not_making, change-not_scan, change-reads, change-tells}
 use Rattle.indri_app.specs.Changes.{told_change}
 use Rattle.indri_app.proofs.Closing.{ended-runs}
 use Rattle.indri_app.proofs.Ended.{absent-ended, absent-first, absent-line-ended, damage-ended, damage-first, done-ended, exists-not_ended, first-ended, line-first, read-ended, rose-later, store-ended, there-ended, untouched-ended, usage-not_ended, without-ended, write-ended}
@@ -16,8 +16,9 @@ returns-clause-has_run g c =
       runs = λ k stands. ended-runs _ (told_change what) k _ _ _ _ _ answer _ _ _ _ did.write_later (did.done k stands) (did.broken k stands) ended;
       stops = did.stops;
       order = λ k stands all. change-in_order what k _;
-      made = λ is f told none. absurd (change-not_create what is);
-      made_stops = λ is f told none. absurd (change-not_create what is);
+      made = λ makes f told none. absurd (change-not_making what makes);
+      made_stops = λ makes f told none. absurd (change-not_making what makes);
+      made_order = λ makes f told none all. absurd (change-not_making what makes);
       scans = λ text is. absurd (change-not_scan what text is);
       sound = λ is k stands. first-ended ⊥ answer _ _ _ _ _ (did.honest k stands) ended is;
       there = λ f told is. there-ended (f manifest_name) answer _ _ _ _ _ (λ none. did.without f told none) ended is;
@@ -27,7 +28,7 @@ returns-clause-has_run g c =
       absent = λ f told is. (change-needs what, did.absent f told (absent-ended answer _ _ _ _ _ ended is));
       without = λ f told none needs. without-ended answer _ _ _ _ _ (did.without f told none) ended;
       absent_line_is = λ is. line-first absent_line _ _ _ _ _ _ (absent-first _ answer did.first (absent-ended answer _ _ _ _ _ ended is)).2 did.write_later (absent-line-ended answer _ _ _ _ _ ended is);
-      exists = λ f told is there. absurd (change-not_create what is);
+      exists = λ f told makes there. absurd (change-not_making what makes);
       exists_there = λ f told is. absurd (exists-not_ended answer _ _ _ _ _ did.only ended is);
       exists_line_is = λ is. absurd (exists-not_ended answer _ _ _ _ _ did.only ended is);
       command = λ is. usage-not_ended answer _ _ _ _ _ ended is;

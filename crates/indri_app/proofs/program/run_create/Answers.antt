@@ -1,6 +1,7 @@
 use Rattle.std.proofs.Common.{Err, ap, inl, inr, refl, subst}
 use Rattle.command_words.specs.Table.{create}
 use Rattle.command_pieces.specs.CommandFaults.{IsCreateFault}
+use Rattle.collection_commands.specs.Creation.{create_pieces}
 use Rattle.indri_app.specs.LastLines.{exists_line}
 use Rattle.indri_app.proofs.Closing.{stops-none}
 use Rattle.indri_app.proofs.Created.{create-not_damage, exists-closed-status, exists-runs, made-closed, stands-there}
@@ -14,8 +15,9 @@ returns-in-Ok-clause-has_run g c = λ left.
       runs = λ k stands. let has = stands-there k _ stands in absurd (did.exists has.0 has.1 has.2).1;
       stops = λ k stands. let has = stands-there k _ stands in absurd (did.exists has.0 has.1 has.2).1;
       order = λ k stands all. tt;
-      made = λ is f told none. did.finished f told none;
-      made_stops = λ is f told none. c.create_repository.ensures.stops f told none;
+      made = λ makes f told none. (create_pieces, refl, did.finished f told none);
+      made_stops = λ makes f told none. (create_pieces, refl, c.create_repository.ensures.stops f told none);
+      made_order = λ makes f told none all. tt;
       scans = λ text is. absurd cc;
       sound = λ is k stands. absurd cc;
       there = λ f told is. absurd cc;
@@ -25,7 +27,7 @@ returns-in-Ok-clause-has_run g c = λ left.
       absent = λ f told is. absurd cc;
       without = λ f told none needs. absurd needs;
       absent_line_is = λ is. absurd cc;
-      exists = λ f told is there. absurd (did.exists f told there).1;
+      exists = λ f told makes there. absurd (did.exists f told there).1;
       exists_there = λ f told is. absurd cc;
       exists_line_is = λ is. absurd cc;
       command = λ is. cc;
@@ -40,13 +42,14 @@ returns-in-Err-clause-has_run g c = λ left.
       runs = λ k stands.
           let has = stands-there k _ stands in
           let e = did.exists has.0 has.1 has.2 in
-          exists-runs why _ k left _ _ _ _ _ _ _ _ e.0 ends e.3 did.write_later e.2.same_files stands;
+          exists-runs create tt why _ k left _ _ _ _ _ _ _ _ e.0 ends e.3 did.write_later e.2.same_files stands;
       stops = λ k stands.
           let has = stands-there k _ stands in
           stops-none (g.T.Store.files c.args.store.now) create k left _ _ (did.exists has.0 has.1 has.2).2.no_more;
       order = λ k stands all. tt;
-      made = λ is f told none. made-closed f _ _ _ _ why _ _ _ _ did.write_later did.only (did.broken f told none) ends;
-      made_stops = λ is f told none. c.create_repository.ensures.stops f told none;
+      made = λ makes f told none. made-closed create f create_pieces refl _ _ _ _ why _ _ _ _ did.write_later (λ e. subst IsCreateFault e did.only) (did.broken f told none) ends;
+      made_stops = λ makes f told none. (create_pieces, refl, c.create_repository.ensures.stops f told none);
+      made_order = λ makes f told none all. tt;
       scans = λ text is. absurd cc;
       sound = λ is k stands. create-not_damage why did.only (malformed-closed why _ _ _ _ _ ends is);
       there = λ f told is. absurd (create-not_damage why did.only (malformed-closed why _ _ _ _ _ ends is));
@@ -56,8 +59,8 @@ returns-in-Err-clause-has_run g c = λ left.
       absent = λ f told is. absurd (subst IsCreateFault (absent-closed why _ _ _ _ _ ends is) did.only);
       without = λ f told none needs. absurd needs;
       absent_line_is = λ is. absurd (subst IsCreateFault (absent-closed why _ _ _ _ _ ends is) did.only);
-      exists = λ f told is there. exists-closed-status why _ _ _ _ _ (did.exists f told there).0 ends;
-      exists_there = λ f told is. (refl, did.there f told (ap Err (exists-closed why _ _ _ _ _ ends is)));
+      exists = λ f told makes there. exists-closed-status why _ _ _ _ _ (did.exists f told there).0 ends;
+      exists_there = λ f told is. (tt, did.there f told (ap Err (exists-closed why _ _ _ _ _ ends is)));
       exists_line_is = λ is. line-first exists_line _ _ _ _ _ _ (did.same (ap Err (exists-closed why _ _ _ _ _ ends is))).1 did.write_later (exists-line-closed why _ _ _ _ _ ends is);
       command = λ is. usage-not_closed why _ _ _ _ _ ends is;
     }

@@ -5,7 +5,7 @@ use Rattle.indri_app.specs.Opened.{IsOpenFault}
 use Rattle.indri_app.specs.Runs.{IsReplyStatus}
 use Rattle.indri_app.specs.Asked.{IsBrokenOver}
 use Rattle.indri_app.specs.declared.status.Status.TheVariants as status
-use Rattle.indri_app.proofs.AskedRuns.{asked-in_order, asked-needs, asked-not_create, asked-not_scan, asked-runs, asked-tells, damage-not_want, damage-over, intact-of, over-absent, refused-runs, some-of, tells-not, want-runs}
+use Rattle.indri_app.proofs.AskedRuns.{asked-in_order, asked-needs, asked-not_making, asked-not_scan, asked-runs, asked-tells, damage-not_want, damage-over, intact-of, over-absent, refused-runs, some-of, tells-not, want-runs}
 use Rattle.indri_app.proofs.Closing.{stops-none}
 use Rattle.indri_app.proofs.Ended.{absent-closed, absent-closed-status, absent-line-closed, damage-closed, done-not_closed-any, exists-closed, exists-line-closed, malformed-closed, read-closed, store-closed, usage-not_closed, write-closed}
 use Rattle.indri_app.proofs.program.run_question.Goals as goal
@@ -24,8 +24,9 @@ returns-in-Ok-clause-has_run g c = λ asks left by'.
       runs = λ k stands. asked-runs _ _ asks k left _ _ _ _ text mu shown c.in-Ok.reply _ by' same stands (did.asked k stands) c.write_reply.ensures.written;
       stops = λ k stands. stops-none _ asks k left _ _ c.ask.ensures.quiet.no_more;
       order = λ k stands all. asked-in_order asks k left text mu shown by';
-      made = λ is f told none. absurd (asked-not_create asks text mu shown by' is);
-      made_stops = λ is f told none. absurd (asked-not_create asks text mu shown by' is);
+      made = λ makes f told none. absurd (asked-not_making asks text mu shown by' makes);
+      made_stops = λ makes f told none. absurd (asked-not_making asks text mu shown by' makes);
+      made_order = λ makes f told none all. absurd (asked-not_making asks text mu shown by' makes);
       scans = λ other is. absurd (asked-not_scan asks text mu shown other by' is);
       sound = λ is k stands. subst IsReplyStatus is only;
       there = λ f told is. absurd (subst IsReplyStatus is only);
@@ -35,7 +36,7 @@ returns-in-Ok-clause-has_run g c = λ asks left by'.
       absent = λ f told is. absurd (subst IsReplyStatus is only);
       without = λ f told none needs. absurd (did.manifest f told none);
       absent_line_is = λ is. absurd (subst IsReplyStatus is only);
-      exists = λ f told is there. absurd (asked-not_create asks text mu shown by' is);
+      exists = λ f told makes there. absurd (asked-not_making asks text mu shown by' makes);
       exists_there = λ f told is. absurd (subst IsReplyStatus is only);
       exists_line_is = λ is. absurd (subst IsReplyStatus is only);
       command = λ is. subst IsReplyStatus is only;
@@ -61,8 +62,9 @@ returns-in-Err-Refused-clause-has_run g c = λ asks left by'.
       runs = λ k stands. refused-runs _ _ asks k left _ _ _ _ text mu shown c.in-Err-Refused.refusal _ by' same stands (did.refused k stands) tells;
       stops = λ k stands. stops-none _ asks k left _ _ c.ask.ensures.quiet.no_more;
       order = λ k stands all. asked-in_order asks k left text mu shown by';
-      made = λ is f told none. absurd (asked-not_create asks text mu shown by' is);
-      made_stops = λ is f told none. absurd (asked-not_create asks text mu shown by' is);
+      made = λ makes f told none. absurd (asked-not_making asks text mu shown by' makes);
+      made_stops = λ makes f told none. absurd (asked-not_making asks text mu shown by' makes);
+      made_order = λ makes f told none all. absurd (asked-not_making asks text mu shown by' makes);
       scans = λ other is. absurd (asked-not_scan asks text mu shown other by' is);
       sound = λ is k stands. tells-not _ _ status.Malformed _ _ tells is (λ e. cc) (λ e. cc) (λ e. cc);
       there = λ f told is. absurd (tells-not _ _ status.Malformed _ _ tells is (λ e. cc) (λ e. cc) (λ e. cc));
@@ -72,7 +74,7 @@ returns-in-Err-Refused-clause-has_run g c = λ asks left by'.
       absent = λ f told is. absurd (tells-not _ _ status.NoRepository _ _ tells is (λ e. cc) (λ e. cc) (λ e. cc));
       without = λ f told none needs. absurd (did.there f told none);
       absent_line_is = λ is. absurd (tells-not _ _ status.NoRepository _ _ tells is (λ e. cc) (λ e. cc) (λ e. cc));
-      exists = λ f told is there. absurd (asked-not_create asks text mu shown by' is);
+      exists = λ f told makes there. absurd (asked-not_making asks text mu shown by' makes);
       exists_there = λ f told is. absurd (tells-not _ _ status.Exists _ _ tells is (λ e. cc) (λ e. cc) (λ e. cc));
       exists_line_is = λ is. absurd (tells-not _ _ status.Exists _ _ tells is (λ e. cc) (λ e. cc) (λ e. cc));
       command = λ is. tells-not _ _ status.Usage _ _ tells is (λ e. cc) (λ e. cc) (λ e. cc);
@@ -99,8 +101,9 @@ returns-in-Err-Broken-clause-has_run g c = λ asks left by'.
       runs = λ k stands. want-runs _ _ asks k left _ _ _ _ why _ (omega arith) same stands (did.refused k stands) ends;
       stops = λ k stands. stops-none _ asks k left _ _ c.ask.ensures.quiet.no_more;
       order = λ k stands all. asked-in_order asks k left text mu shown by';
-      made = λ is f told none. absurd (asked-not_create asks text mu shown by' is);
-      made_stops = λ is f told none. absurd (asked-not_create asks text mu shown by' is);
+      made = λ makes f told none. absurd (asked-not_making asks text mu shown by' makes);
+      made_stops = λ makes f told none. absurd (asked-not_making asks text mu shown by' makes);
+      made_order = λ makes f told none all. absurd (asked-not_making asks text mu shown by' makes);
       scans = λ other is. absurd (asked-not_scan asks text mu shown other by' is);
       sound = λ is k stands. damage-not_want why (malformed-closed why _ _ _ _ _ ends is) (did.refused k stands);
       there = λ f told is. some-of (f manifest_name) (damage-over f why (malformed-closed why _ _ _ _ _ ends is) (did.there f told));
@@ -110,7 +113,7 @@ returns-in-Err-Broken-clause-has_run g c = λ asks left by'.
       absent = λ f told is. (asked-needs asks text mu shown by', subst (IsBrokenOver f) (absent-closed why _ _ _ _ _ ends is) (did.there f told));
       without = λ f told none needs. absent-closed-status why _ _ _ _ _ (over-absent f why (did.there f told) none) ends;
       absent_line_is = λ is. absent-line-closed why _ _ _ _ _ ends is;
-      exists = λ f told is there. absurd (asked-not_create asks text mu shown by' is);
+      exists = λ f told makes there. absurd (asked-not_making asks text mu shown by' makes);
       exists_there = λ f told is. absurd (subst (IsBrokenOver f) (exists-closed why _ _ _ _ _ ends is) (did.there f told));
       exists_line_is = λ is. exists-line-closed why _ _ _ _ _ ends is;
       command = λ is. usage-not_closed why _ _ _ _ _ ends is;

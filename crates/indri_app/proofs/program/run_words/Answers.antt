@@ -1,8 +1,7 @@
-use Rattle.std.proofs.Common.{None, refl, sym}
+use Rattle.std.proofs.Common.{refl, sym}
 use Rattle.command_words.specs.Table.{explain, query}
 use Rattle.command_words.specs.Asked.{told_asked}
-use Rattle.indri_app.specs.declared.status.Status.TheVariants.{Usage}
-use Rattle.indri_app.proofs.RunsOver.{not-plain, scan-has_run}
+use Rattle.indri_app.proofs.RunsOver.{scan-has_run}
 use Rattle.indri_app.proofs.program.run_words.Goals as goal
 
 pub returns-in-Scan-clause-has_run : goal.returns-in-Scan-clause-has_run
@@ -35,35 +34,14 @@ run_question-requires-in-Explain g c = let ranges = rw c.in-Explain.is at c.requ
 pub returns-in-Explain-clause-has_run : goal.returns-in-Explain-clause-has_run
 returns-in-Explain-clause-has_run g c = rw c.in-Explain.is (c.run_question-in-Explain.ensures.has_run (explain c.in-Explain.rank (told_asked c.in-Explain.asked)) _ (sym c.deref-in-Explain.ensures, refl, refl))
 
-pub returns-in-Scan-clause-usage : goal.returns-in-Scan-clause-usage
-returns-in-Scan-clause-usage g c = λ is. absurd (not-plain _ Usage c.run_scan.ensures.only is (λ h. h))
-
-pub returns-in-Create-clause-usage : goal.returns-in-Create-clause-usage
-returns-in-Create-clause-usage g c = λ is. absurd ((c.run_create.ensures.has_run None).command is)
-
-pub returns-in-Add-clause-usage : goal.returns-in-Add-clause-usage
-returns-in-Add-clause-usage g c = λ is. absurd (c.run_change.ensures.has_run.command is)
-
-pub returns-in-Delete-clause-usage : goal.returns-in-Delete-clause-usage
-returns-in-Delete-clause-usage g c = λ is. absurd (c.run_change-in-Delete.ensures.has_run.command is)
-
-pub returns-in-Merge-clause-usage : goal.returns-in-Merge-clause-usage
-returns-in-Merge-clause-usage g c = λ is. absurd (c.run_change-in-Merge.ensures.has_run.command is)
-
-pub returns-in-Prior-clause-usage : goal.returns-in-Prior-clause-usage
-returns-in-Prior-clause-usage g c = λ is. absurd (c.run_change-in-Prior.ensures.has_run.command is)
-
-pub returns-in-Query-clause-usage : goal.returns-in-Query-clause-usage
-returns-in-Query-clause-usage g c = λ is. absurd ((c.run_question.ensures.has_run (query (told_asked c.in-Query.asked)) None (sym c.deref-in-Query.ensures, refl, refl)).command is)
-
-pub returns-in-Explain-clause-usage : goal.returns-in-Explain-clause-usage
-returns-in-Explain-clause-usage g c = λ is. absurd ((c.run_question-in-Explain.ensures.has_run (explain c.in-Explain.rank (told_asked c.in-Explain.asked)) None (sym c.deref-in-Explain.ensures, refl, refl)).command is)
-
 pub run_session-requires : goal.run_session-requires
 run_session-requires g c = let mu = rw c.in-Session.is at c.requires.ranges in record { mu = mu; plugs = c.requires.plugs }
 
 pub returns-in-Session-clause-has_run : goal.returns-in-Session-clause-has_run
 returns-in-Session-clause-has_run g c = rw c.in-Session.is c.run_session.ensures.has_run
 
-pub returns-in-Session-clause-usage : goal.returns-in-Session-clause-usage
-returns-in-Session-clause-usage g c = λ is. absurd (c.run_session.ensures.has_run.command is)
+pub run_gen-requires : goal.run_gen-requires
+run_gen-requires g c = let range = rw c.in-Gen.is at c.requires.ranges in record { some = range.0; few = range.1; plugs = c.requires.plugs }
+
+pub returns-in-Gen-clause-has_run : goal.returns-in-Gen-clause-has_run
+returns-in-Gen-clause-has_run g c = rw c.in-Gen.is (c.run_gen.ensures.has_run _)

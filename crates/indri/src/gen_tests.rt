@@ -46,6 +46,14 @@ static SEVEN: [Step; 1] = [(
     "gen 7 live 5 tokens 14\n1 - -2.513817 g5 0 4\n2 > -2.514010 g6 0 2\n3 > -2.514682 g0 0 2\n4 > -2.515834 g2 0 4\n",
 )];
 
+/// The greatest collection: the first of its results but one have the same words.
+static LARGEST: [Step; 1] = [(
+    &["gen", "100000"],
+    "",
+    Status::Done,
+    "gen 100000 live 66667 tokens 200000\n1 - -2.613113 g10004 0 4\n2 = -2.613113 g10010 0 4\n3 = -2.613113 g10019 0 4\n4 = -2.613113 g10025 0 4\n5 = -2.613113 g10034 0 4\n6 = -2.613113 g1004 0 4\n7 = -2.613113 g10040 0 4\n8 = -2.613113 g10049 0 4\n9 = -2.613113 g10055 0 4\n10 = -2.613113 g10064 0 4\n",
+)];
+
 /// There is a repository already, and words that are no command.
 static NONE: [Step; 6] = [
     (&["gen"], "", Status::Usage, USAGE),
@@ -61,6 +69,7 @@ fn generated(rt: HostRuntime) {
     assert!(rt; are_ended(rt.alloc(), &MADE));
     assert!(rt; are_ended(rt.alloc(), &ONE));
     assert!(rt; are_ended(rt.alloc(), &SEVEN));
+    assert!(rt; are_ended(rt.alloc(), &LARGEST));
     assert!(rt; are_ended(rt.alloc(), &NONE));
 }
 

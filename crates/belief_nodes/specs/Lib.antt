@@ -5,6 +5,7 @@ pub mod Keys
 pub mod Leaves
 pub mod Network
 pub mod Order
+pub mod PlugLaws
 pub mod Plugs
 pub mod Priors
 pub mod Products

@@ -2,6 +2,7 @@
 ghost use Rattle.std.specs.Prelude.{◌≡◌, [], map, false};
 ghost use Rattle.std.specs.List.Sorted.{IsStrictlyIncreasing};
 ghost use Rattle.ri_base.specs.Ratio.{ratio_of};
+ghost use Rattle.belief_nodes.specs.PlugLaws.{all_are_beliefs};
 ghost use Rattle.belief_nodes.specs.Plugs.{told_of};
 
 use crate::greater::greater;
@@ -58,4 +59,6 @@ impl BeliefNode for LengthPlug {
         }
         greatest
     }
+
+    ghost beliefs = { λ plug. all_are_beliefs plug.rest [] plug.steps.items };
 }

@@ -1,7 +1,7 @@
 // What a prior can be asked.
 ghost use Rattle.std.specs.Prelude.{◌≡◌, ◌↔◌, true, false, Err, OnErr, OnOk};
 ghost use Rattle.ri_base.specs.Ratio.{ratio_of};
-ghost use Rattle.belief_nodes.specs.Priors.{Prior, IsGreatestOf, has_row, prior_fraction, prior_fractions, with_rest, with_row};
+ghost use Rattle.belief_nodes.specs.Priors.{IsGreatestOf, IsPrior, Prior, has_row, prior_fraction, prior_fractions, with_rest, with_row};
 
 use ri_base::{Docno, Fraction};
 use std::alloc::{AllocError, Global};
@@ -60,4 +60,7 @@ pub trait BeliefNode: Drop {
     /// The greatest fraction of any document. It takes no memory.
     fn greatest(&self) -> Fraction
         ensures { IsGreatestOf (prior_fractions (meaning self.now)) (ratio_of result) };
+
+    // law
+    ghost beliefs: { (node : Self) → IsPrior (meaning node) };
 }

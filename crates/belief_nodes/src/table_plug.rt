@@ -2,6 +2,7 @@
 ghost use Rattle.std.specs.Prelude.{◌≡◌, IfOk, [], true};
 ghost use Rattle.std.specs.Option.{option_map};
 ghost use Rattle.ri_base.specs.Ratio.{ratio_of};
+ghost use Rattle.belief_nodes.specs.PlugLaws.{all_are_beliefs};
 ghost use Rattle.belief_nodes.specs.Plugs.{greatest_row, told_of};
 ghost use Rattle.belief_nodes.specs.Priors.{no_prior};
 
@@ -72,4 +73,6 @@ impl BeliefNode for TablePlug {
             None => self.rest,
         }
     }
+
+    ghost beliefs = { λ plug. all_are_beliefs plug.rest plug.rows.entries [] };
 }

@@ -19,7 +19,7 @@ use Rattle.document_scoring.specs.declared.scoring.Row.{Row}
 use Rattle.first_few.specs.First.{Few}
 use Rattle.ranker.specs.First.{Advances}
 use Rattle.ranker.specs.Held.{IsHeld, is_open}
-use Rattle.ranker.specs.Passed.{AreBare, IsAheadAt, IsBare, IsPassed, IsPlace, behind, live_ids, nothing_known, part_at, passed}
+use Rattle.ranker.specs.Passed.{AreBare, IsAheadAt, IsBare, IsBareTo, IsPassed, IsPlace, behind, live_ids, nothing_known, part_at, passed}
 use Rattle.ranker.specs.declared.held.Held.{Held}
 use Rattle.ranker.specs.declared.held.Held.TheVariants.{Open, Ended}
 use Rattle.ranker.specs.declared.place.Passed.{Passed}
@@ -92,9 +92,6 @@ module _ (parts : List Marked) (at : Place) (count : ℕ) (bare : AreBare (part_
       by true e = absurd (grind (arith, nat_tests))
       by false e = refl
 
-  pub AreBare-on : (docs : ℕ) → AreBare own at.ahead (at.id + docs) (count - docs)
-  AreBare-on docs i low high = bare i (omega (arith, low)) (omega (arith, low, high))
-
   module _ (docs : ℕ) (some : 0 < count) (few : docs ≤ count) where
     first : IsBare own at.ahead at.id
     first = bare at.id (omega arith) (omega (arith, some))
@@ -154,3 +151,19 @@ module _ (parts : List Marked) (at : Place) (count : ℕ) (bare : AreBare (part_
         → IsHeld kind priors filters network (passed told parts (place_on at docs)) most held
     IsHeld-few zero most held few is h = subst (λ (p : Place). IsHeld kind priors filters network (passed told parts p) most held) (sym place_on-none) h
     IsHeld-few (suc docs) most held few is h = IsHeld-bare (suc docs) (omega (arith, few)) few kind priors filters network told ahead most held is h
+
+-- ---- up to a credit
+
+pub IsBareTo-at : (parts : List Marked) (at : Place) (count all to : ℕ) → AreBare (part_at parts at.part) at.ahead at.id count → at.credit ≤ all → to ≡ min (at.credit + count + 1) all → IsBareTo parts at all to
+IsBareTo-at parts at count all to bare few is = record {
+  from = omega (arith, few, is);
+  left = omega (arith, is);
+  bare = λ docs lt i low high. bare i low (omega (arith, high, lt, is));
+}
+
+pub IsBareTo-on : (parts : List Marked) (at : Place) (all to docs : ℕ) → at.credit + docs < to → IsBareTo parts at all to → IsBareTo parts (place_on at docs) all to
+IsBareTo-on parts at all to docs lt h = record {
+  from = omega (arith, lt);
+  left = h.left;
+  bare = λ more less i low high. h.bare (docs + more) (omega (arith, less)) i (omega (arith, low)) (omega (arith, high));
+}

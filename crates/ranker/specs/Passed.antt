@@ -70,3 +70,9 @@ pub record IsPlace (parts : List Marked) (at : Place) : Type 0 where
 -- the place behind documents of its part: the next part begins where they are fewer than were asked for
 abbrev pub behind : Place → Passed → ℕ → Place
 behind at to most = if nat_lt to.docs most then record { part = at.part + 1; id = 0; credit = at.credit + to.docs; ahead = nothing_known } else record { part = at.part; id = to.id; credit = at.credit + to.docs; ahead = to.ahead }
+
+-- While the credit stays below a number, no less than now and no more than so many, the documents that come next have nothing to show.
+pub record IsBareTo (parts : List Marked) (at : Place) (count to : ℕ) : Type 0 where
+  pub from : at.credit ≤ to
+  pub left : to ≤ count
+  pub bare : (docs : ℕ) → at.credit + docs < to → AreBare (part_at parts at.part) at.ahead at.id docs

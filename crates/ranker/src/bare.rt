@@ -1,7 +1,9 @@
 // Live documents that come next and have nothing to show.
-ghost use Rattle.std.specs.Prelude.{◌≡◌, ◌<◌, ◌≤◌, ◌+◌, ◌%◌, ℕ, false, length, slice_index_or};
+ghost use Rattle.std.specs.Prelude.{◌≡◌, ◌<◌, ◌≤◌, ◌+◌, ◌%◌, ℕ, Option, false, length, slice_index_or};
 ghost use Rattle.std.specs.Int.{bit_at};
-ghost use Rattle.ranker.specs.Passed.{AreBare, part_at};
+ghost use Rattle.store_ends.specs.Files.{Files};
+ghost use Rattle.disk_index.specs.Snapshots.{IsSnapshot, live};
+ghost use Rattle.ranker.specs.Passed.{AreBare, IsBareTo, IsPlace, part_at};
 
 use crate::place::{Ahead, Place};
 use deletion_list::DelList;
@@ -53,8 +55,7 @@ fn bare_from(marked: &MarkedPart, ahead: Ahead, id: u32) -> u32
 }
 
 /// How many of the documents that come next at a place are live and have nothing to show.
-#[inline(never)]
-pub fn bare_at(parts: &[MarkedPart], at: &Place) -> u32
+fn bare_at(parts: &[MarkedPart], at: &Place) -> u32
     ensures { AreBare (part_at parts.now at.now.part) at.now.ahead at.now.id result }
 {
     if at.part < parts.len() {
@@ -62,4 +63,17 @@ pub fn bare_at(parts: &[MarkedPart], at: &Place) -> u32
     } else {
         0
     }
+}
+
+/// Up to which credit the documents that come next at a place have nothing to show, where some of so many live ones are left behind
+/// them.
+#[inline(never)]
+pub fn bare_to(parts: &[MarkedPart], at: &Place, live_count: u64) -> u64
+    requires few { IsSnapshot parts.now }
+    requires place { IsPlace parts.now at.now }
+    requires count { (told : Option Files) → live_count ≡ length (live told parts.now) }
+    ensures { IsBareTo parts.now at.now live_count result }
+{
+    let count = bare_at(parts, at);
+    (at.credit + u64::from(count) + 1).min(live_count)
 }

@@ -5,11 +5,11 @@ ghost use Rattle.store_ends.specs.Files.{Files};
 ghost use Rattle.belief_nodes.specs.Network.{network_tree};
 ghost use Rattle.disk_index.specs.Snapshots.{live};
 ghost use Rattle.ranker.specs.Held.{is_open};
-ghost use Rattle.ranker.specs.Passed.{AreBare, IsPlace, part_at};
+ghost use Rattle.ranker.specs.Passed.{IsBareTo, IsPlace};
 ghost use Rattle.ranker.specs.Windows.{HasWindows};
 
 use crate::advance::{advance, first_held};
-use crate::bare::bare_at;
+use crate::bare::bare_to;
 use crate::held::Held;
 use crate::place::{Ahead, Place};
 use belief_nodes::{BeliefNode, Network};
@@ -21,7 +21,8 @@ use std::alloc::Global;
 use store_ends::Store;
 
 /// A search for the first candidates of the documents of a snapshot. It advances by so many documents as it is asked for. Its credit
-/// is how many live documents it has passed, of so many that there are. It knows of some that come next that they have nothing to show.
+/// is how many live documents it has passed, of so many that there are. It knows up to which credit those that come next have nothing
+/// to show.
 #[derive(Drop)]
 pub struct Search {
     snapshot: Snapshot,
@@ -30,13 +31,13 @@ pub struct Search {
     most: usize,
     live_count: u64,
     at: Place,
-    bare: u32,
+    bare_to: u64,
     held: Held,
     usable: bool,
     ghost shown: { is_range (network_tree network).range ≡ true },
     ghost count: { (told : Option Files) → live_count ≡ length (live told snapshot) },
     ghost place: { IsPlace snapshot at },
-    ghost next: { AreBare (part_at snapshot at.part) at.ahead at.id bare },
+    ghost next: { usable ≡ true → IsBareTo snapshot at live_count bare_to },
     ghost open: { usable ≡ true → (told : Option Files) → is_open held ≡ nat_lt at.credit (length (live told snapshot)) },
     ghost windows: { usable ≡ true → (told : Option Files) → ∥ HasWindows (live told snapshot) (length (network_tree network).leaves) most held ∥₁ },
 }
@@ -90,22 +91,72 @@ impl Search {
                 credit: 0,
                 ahead: Ahead::nothing(),
             },
-            bare: 0,
+            bare_to: 0,
             held,
             usable: true,
         })
     }
 
     /// Whether the next so many live documents have nothing to show, and some are left behind them.
+    #[inline]
     fn passes_bare(&self, docs: u64) -> bool
-        ensures few { result ≡ true → docs ≤ self.now.bare }
-        ensures left { result ≡ true → self.now.at.credit + docs < self.now.live_count }
+        requires usable { self.now.usable ≡ true }
+        ensures { result ≡ true → self.now.at.credit + docs < self.now.bare_to }
     {
-        docs <= u64::from(self.bare) && docs < self.live_count - self.at.credit
+        docs < self.bare_to - self.at.credit
+    }
+
+    /// Passes so many live documents, or all that are left where these are fewer: a step with a look at them.
+    #[inline(never)]
+    fn look_on<T: Store, F: Fn(u32, u32, u64, u64) -> Fraction>(
+        &mut self,
+        alloc: Global,
+        docs: u64,
+        rule: &Rule<F>,
+        plugs: &mut [Box<dyn BeliefNode>],
+        store: &mut T,
+        cache: &mut BlockCache,
+    ) -> Result<bool, SegFault>
+        requires usable { self.old.usable ≡ true }
+        requires rule { Computes F.pre F.post rule.now.kind rule.now.f }
+        requires plugs { All (HasPrior (length plugs.old)) (network_tree self.old.network).leaves }
+        ensures taken { AreBacked (T.files store.old) self.old.snapshot → IsCacheBacked (T.files store.old) cache.old → OnOk result
+            (IsTaken rule.now.kind (map (λ plug. meaning plug) plugs.old) (T.files store.old) self.old
+            → IsTaken rule.now.kind (map (λ plug. meaning plug) plugs.old) (T.files store.old) self.new) }
+        ensures credit { OnOk result ((told : Option Files) → self.new.at.credit ≡ min (self.old.at.credit + docs) (length (searched told self.old))) }
+        ensures done { IfOk result (λ done. (told : Option Files) → done ≡ (self.new.at.credit == length (searched told self.old))) }
+        ensures same { IsSameSearch self.old self.new }
+        ensures usable { self.new.usable ≡ is_ok result }
+        ensures stay { map (λ plug. meaning plug) plugs.new ≡ map (λ plug. meaning plug) plugs.old }
+        ensures honest { AreBacked (T.files store.old) self.old.snapshot → IsCacheBacked (T.files store.old) cache.old → IfErr result IsOutside }
+        ensures cache { CacheKeeps (T.files store.old) (IsFileAmong self.old.snapshot) cache.old cache.new }
+        ensures quiet { IsQuiet T.files T.layers T.clock T.since T.longest T.held store.old store.new }
+        ensures later { T.faults store.old ≤ T.faults store.new }
+        ensures store { result ≡ Err SegFault.Store → Rose (T.faults store.old) (T.faults store.new) }
+    {
+        self.usable = false;
+        advance(
+            alloc,
+            docs,
+            self.live_count,
+            &self.checked.filters,
+            &self.network,
+            rule,
+            plugs,
+            self.snapshot.parts(),
+            store,
+            cache,
+            &mut self.at,
+            &mut self.held,
+        )?;
+        self.bare_to = bare_to(self.snapshot.parts(), &self.at, self.live_count);
+        self.usable = true;
+        Ok(self.at.credit == self.live_count)
     }
 
     /// Passes so many live documents, or all that are left where these are fewer, and answers whether all are passed. After an `Err`
     /// the search isn't usable.
+    #[inline]
     pub fn step<T: Store, F: Fn(u32, u32, u64, u64) -> Fraction>(
         &mut self,
         alloc: Global,
@@ -135,28 +186,9 @@ impl Search {
         if self.passes_bare(docs) {
             self.at.id += docs as u32;
             self.at.credit += docs;
-            self.bare -= docs as u32;
             return Ok(false);
         }
-        self.usable = false;
-        self.bare = 0;
-        advance(
-            alloc,
-            docs,
-            self.live_count,
-            &self.checked.filters,
-            &self.network,
-            rule,
-            plugs,
-            self.snapshot.parts(),
-            store,
-            cache,
-            &mut self.at,
-            &mut self.held,
-        )?;
-        self.bare = bare_at(self.snapshot.parts(), &self.at);
-        self.usable = true;
-        Ok(self.at.credit == self.live_count)
+        self.look_on(alloc, docs, rule, plugs, store, cache)
     }
 
     /// The first candidates of all documents in their order, once all are passed.

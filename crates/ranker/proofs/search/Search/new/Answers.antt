@@ -16,7 +16,7 @@ invariant_of-result c = record {
   shown = ap (λ (n : NetworkTree). is_range n.range) c.in_ok-network.ensures ∙ c.args.checked.kept.within.sound_range;
   count = λ told. c.from.ensures ∙ c.live_count-live_count.ensures told;
   place = record { part = omega arith; id = omega arith; credit = λ told. refl };
-  next = λ i low high. absurd (omega (arith, low, high));
+  next = λ usable. record { from = omega arith; left = omega arith; bare = λ docs lt. absurd (omega (arith, lt)) };
   «open» = λ usable told. c.first_held-held.ensures.open ∙ ap (nat_lt 0) (c.live_count-live_count.ensures told);
   windows = λ usable told. ∣ c.first_held-held.ensures.windows _ _ ∣₁;
 }

@@ -1,9 +1,9 @@
-use Rattle.std.proofs.Common.{None, arith}
-use Rattle.ranker.proofs.PlaceLemmas.{credit-le}
+use Rattle.std.proofs.Common.{arith}
+use Rattle.std.proofs.lemmas.Bool.Decides.{nat_tests}
 use Rattle.ranker.proofs.search.Search.passes_bare.Goals as goal
 
 pub overflow_sub-result : goal.overflow_sub-result
-overflow_sub-result c =
-    let s = c.args.self.now in
-    let low = credit-le None s.snapshot s.at s.place in
-    omega (arith, low, s.count None)
+overflow_sub-result c = let from = (c.args.self.now.next c.requires.usable).from in omega (arith, from)
+
+pub returns : goal.returns
+returns c = λ yes. let from = (c.args.self.now.next c.requires.usable).from in grind (arith, nat_tests)

@@ -1,0 +1,28 @@
+use Rattle.std.proofs.Common.{refl, ap, sym, ◌∙◌, None, nat_lt}
+use Rattle.std.proofs.Math.Logic.{∥∥₁_map}
+use Rattle.ranker.proofs.search.Search.look_on.Goals as goal
+
+pub advance-requires-clause-open : goal.advance-requires-clause-open
+advance-requires-clause-open g c = c.args.self.now.open c.requires.usable None ∙ ap (nat_lt c.args.self.now.at.credit) (sym (c.args.self.now.count None))
+
+pub returns-in_err-advance-clause-same : goal.returns-in_err-advance-clause-same
+returns-in_err-advance-clause-same g c = record { snapshot = refl; checked = refl; network = refl; most = refl }
+
+pub returns-clause-same : goal.returns-clause-same
+returns-clause-same g c = record { snapshot = refl; checked = refl; network = refl; most = refl }
+
+pub returns-clause-taken : goal.returns-clause-taken
+returns-clause-taken g c = λ backed cached h. record {
+  held = (rw c.deref.ensures.value at (rw c.parts.ensures.parts at c.in_ok-advance.ensures.taken)) backed cached h.ahead c.args.self.now.most h.held;
+  ahead = (rw c.deref.ensures.value at (rw c.parts.ensures.parts at c.in_ok-advance.ensures.ahead)) backed cached h.ahead;
+}
+
+pub invariant_of-self-3 : goal.invariant_of-self-3
+invariant_of-self-3 g c = record {
+  shown = c.args.self.now.shown;
+  count = c.args.self.now.count;
+  place = rw c.parts.ensures.parts at c.in_ok-advance.ensures.place;
+  next = λ usable. rw c.parts-2.ensures.parts at c.bare_to-self.ensures;
+  «open» = λ usable told. c.in_ok-advance.ensures.open ∙ ap (nat_lt c.advance.new.at.credit) (c.args.self.now.count told);
+  windows = λ usable told. ∥∥₁_map (c.args.self.now.windows c.requires.usable told) (λ h. (rw c.parts.ensures.parts at c.in_ok-advance.ensures.windows) told c.args.self.now.most h);
+}

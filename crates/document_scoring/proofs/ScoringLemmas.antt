@@ -3,20 +3,15 @@ use Rattle.std.proofs.Common.{◌≡◌, ◌<◌, ◌≤◌, ℕ, Bool, true, fa
 use Rattle.std.specs.Bool.{nat_lt}
 use Rattle.std.specs.List.{All, list_all, list_any}
 use Rattle.std.proofs.lemmas.List.{length-map, map-append}
-use Rattle.std.proofs.lemmas.List.Elements.{All-append, All-cons, All-filter, All-head, All-map, All-nil, All-tail, filter-append, filter_agree}
-use Rattle.log_chain.specs.Chain.{chain}
-use Rattle.log_chain.specs.declared.chain.TheConstants.{LAST}
+use Rattle.std.proofs.lemmas.List.Elements.{All-cons, All-filter, All-head, All-map, All-nil, All-tail, filter-append, filter_agree}
 use Rattle.ri_base.specs.Collection.{document_at}
 use Rattle.ri_base.specs.Documents.{AreFields, Document, Field}
 use Rattle.ri_base.specs.Pair.{Pair}
 use Rattle.ri_base.specs.Query.{FilterTree, is_range}
-use Rattle.ri_base.specs.Ratio.{Ratio, ratio_of}
-use Rattle.ri_base.specs.declared.fraction.Fraction.{Fraction}
 use Rattle.ri_base.specs.declared.hit.LeafStats.{LeafStats}
 use Rattle.smoothing.specs.declared.rule.RuleKind.{RuleKind}
 use Rattle.query_check.specs.Leaves.{LeafTree}
 use Rattle.belief_nodes.specs.Fractions.{leaf_fraction, leaf_fractions}
-use Rattle.belief_nodes.specs.Keys.{digits_at}
 use Rattle.belief_nodes.specs.Network.{NetworkTree}
 use Rattle.belief_nodes.specs.Priors.{Prior}
 use Rattle.belief_nodes.specs.declared.leaf_count.LeafCount.{LeafCount}
@@ -26,7 +21,7 @@ use Rattle.document_scoring.specs.Candidates.{Candidate, IsWindowOf, beliefs, ca
 use Rattle.document_scoring.specs.Counters.{found_count}
 use Rattle.document_scoring.specs.Counts.{count_in}
 use Rattle.document_scoring.specs.declared.found.LeafExtents.{LeafExtents}
-use Rattle.document_scoring.specs.Rows.{Adds, AddsRows, AddsWindows, IsKeyed, row_candidate, window_candidate}
+use Rattle.document_scoring.specs.Rows.{Adds, AddsRows, AddsWindows, row_candidate, window_candidate}
 use Rattle.document_scoring.specs.declared.scoring.Row.{Row}
 
 -- ---- as many fractions as leaves
@@ -39,13 +34,6 @@ fractions_length kind priors docno tokens (l ∷ ls) [] stats h h' = absurd (ome
 fractions_length kind priors docno tokens (l ∷ ls) (n ∷ ns) [] h h' = absurd (omega (arith, h'))
 fractions_length kind priors docno tokens (l ∷ ls) (n ∷ ns) (s ∷ ss) h h' =
     let rest = fractions_length kind priors docno tokens ls ns ss (omega (arith, h)) (omega (arith, h')) in omega (arith, rest)
-
-pub digits_length : (kind : RuleKind) (priors : List Prior) (docno : List ℕ) (tokens : ℕ) (leaves : List LeafTree) (counts : List LeafCount) (stats : List LeafStats) (fractions : List Fraction) (digits : List ℕ)
-    → length stats ≡ length leaves → length counts ≡ length leaves → map ratio_of fractions ≡ leaf_fractions kind priors docno tokens leaves counts stats
-    → digits ≡ digits_at LAST (map ratio_of fractions) → length digits ≡ length leaves
-digits_length kind priors docno tokens leaves counts stats fractions digits summed counted is digits_are =
-    ap length digits_are ∙ length-map (map ratio_of fractions) (λ (r : Ratio). (chain r.p r.q LAST).digits) ∙ ap length is
-    ∙ fractions_length kind priors docno tokens leaves counts stats counted summed
 
 -- ---- beliefs
 
@@ -88,23 +76,21 @@ list_any-map p f (x ∷ xs) = ap (λ b. p (f x) || b) (list_any-map p f xs)
 
 module _ (kind : RuleKind) (priors : List Prior) (network : NetworkTree) (docno : List ℕ) (tokens : ℕ) where
   pub no_window : (counts : Pair → List LeafCount) (rows : List Row) → AddsWindows kind priors network docno tokens counts [] rows rows
-  no_window counts rows = record { more = []; behind = sym (append-nil rows); candidates = refl; keyed = All-nil (IsKeyed network.tree) }
+  no_window counts rows = record { more = []; behind = sym (append-nil rows); candidates = refl }
 
   pub window_left_out : (counts : Pair → List LeafCount) (w : Pair) (rows : List Row) → some_occurs (counts w) ≡ false → AddsWindows kind priors network docno tokens counts (w ∷ []) rows rows
   window_left_out counts w rows none = record {
     more = [];
     behind = sym (append-nil rows);
     candidates = rw none refl;
-    keyed = All-nil (IsKeyed network.tree);
   }
 
   pub window_added : (counts : Pair → List LeafCount) (w : Pair) (rows next : List Row) (row : Row) → some_occurs (counts w) ≡ true → row_candidate row ≡ window_candidate kind priors network docno tokens (counts w) w
-      → IsKeyed network.tree row → next ≡ rows ++ row ∷ [] → AddsWindows kind priors network docno tokens counts (w ∷ []) rows next
-  window_added counts w rows next row some is keyed pushed = record {
+      → next ≡ rows ++ row ∷ [] → AddsWindows kind priors network docno tokens counts (w ∷ []) rows next
+  window_added counts w rows next row some is pushed = record {
     more = row ∷ [];
     behind = pushed;
     candidates = rw some (ap (λ (c : Candidate). c ∷ []) is);
-    keyed = All-cons (IsKeyed network.tree) row [] keyed (All-nil (IsKeyed network.tree));
   }
 
   -- the rows of windows, and then those of others
@@ -120,7 +106,6 @@ module _ (kind : RuleKind) (priors : List Prior) (network : NetworkTree) (docno 
         more = h.more ++ k.more;
         behind = k.behind ∙ ap (λ (rs : List Row). rs ++ k.more) h.behind ∙ append_assoc before h.more k.more;
         candidates = parts ∙ sym all;
-        keyed = All-append (IsKeyed network.tree) h.more k.more h.keyed k.keyed;
       }
 
   -- by counts that are the same in each window
@@ -131,7 +116,6 @@ module _ (kind : RuleKind) (priors : List Prior) (network : NetworkTree) (docno 
     candidates = h.candidates
         ∙ ap (map (λ w. window_candidate kind priors network docno tokens (f w) w)) (filter_agree (λ w. some_occurs (f w)) (λ w. some_occurs (g w)) (λ w. ap some_occurs (agree w)) ws)
         ∙ map_agree (λ w. window_candidate kind priors network docno tokens (f w) w) (λ w. window_candidate kind priors network docno tokens (g w) w) (λ w. ap (λ (ns : List LeafCount). window_candidate kind priors network docno tokens ns w) (agree w)) (filter (λ w. some_occurs (g w)) ws);
-    keyed = h.keyed;
   }
 
 -- ---- the rows of a document
@@ -142,7 +126,6 @@ not_passed kind priors filters network d passed rows is not_so = record {
   more = [];
   behind = sym (append-nil rows);
   candidates = sym (one_dropped (document_candidates kind priors network) (λ e. list_all (passes e) filters) d (sym is ∙ not_so));
-  keyed = All-nil (IsKeyed network.tree);
 }
 
 -- the windows of a document that passes, by the counts of the definition, are its candidates
@@ -167,7 +150,6 @@ adds_document kind priors filters network d docno tokens fields counts rows next
       more = h.more;
       behind = h.behind;
       candidates = all ∙ sym (one_kept (document_candidates kind priors network) (λ e. list_all (passes e) filters) d passed);
-      keyed = h.keyed;
     }
 
 -- what is found in a document counts as the definition says, by the fields that the part lends of it later

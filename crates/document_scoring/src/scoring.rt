@@ -6,62 +6,33 @@ ghost use Rattle.ri_base.specs.Faults.{IsOutside};
 ghost use Rattle.ri_base.specs.Keeps.{Keeps, Rose};
 ghost use Rattle.ri_base.specs.Pair.{Pair};
 ghost use Rattle.ri_base.specs.Query.{filter_tree, is_range};
-ghost use Rattle.ri_base.specs.Ratio.{ratio_of};
 ghost use Rattle.ri_base.specs.declared.limits.TheConstants.{MAX_DOC_TOKENS};
 ghost use Rattle.smoothing.specs.Fractions.{Computes};
 ghost use Rattle.belief_nodes.specs.Leaves.{HasPrior, IsLeafCount};
 ghost use Rattle.belief_nodes.specs.Network.{network_tree};
 ghost use Rattle.windows.specs.Windows.{windows};
 ghost use Rattle.document_scoring.specs.Counters.{IsFound, IsReady, counter_count, found_count};
-ghost use Rattle.document_scoring.specs.Rows.{Adds, AddsRows, AddsWindows, IsKeyed, row_candidate, window_candidate};
+ghost use Rattle.document_scoring.specs.Rows.{Adds, AddsRows, AddsWindows, row_candidate, window_candidate};
 
 use crate::counters::{Counter, count_all, counters_of};
 use crate::counts::some_occurs;
-use crate::digits::digits_of;
 use crate::filters::all_pass;
 use crate::found::{LeafExtents, all_found};
 use belief_nodes::{BeliefNode, LeafCount, Network};
 use ri_base::{
-    Docno, Extent, FieldSpan, Filter, Fraction, Fractions, Hit, NoMemory, Postings, SegFault,
+    Docno, Extent, FieldSpan, Filter, Fraction, Fractions, NoMemory, Postings, SegFault,
 };
 use smoothing::Rule;
 use std::alloc::Global;
 use windows::Contexts;
 
-/// A candidate with its key, compared by its place in a ranking: by key, then by docno, begin and end.
+/// A candidate: a window of a document, with the beliefs of the query's leaves in it.
 #[derive(Debug, Drop)]
-#[derive_where(PartialEq, Eq, PartialOrd, Ord)]
 pub struct Row {
-    pub key: u128,
     pub docno: Docno,
     pub begin: u32,
     pub end: u32,
-    #[derive_where(skip(EqHashOrd))]
     pub fractions: Fractions,
-}
-
-impl Row {
-    ghost use Rattle.document_scoring.specs.Rows.{row_hit};
-
-    /// The hit that the row stands for.
-    pub fn into_hit(self) -> Hit
-        ensures { result ≡ row_hit self }
-    {
-        let Row {
-            key,
-            docno,
-            begin,
-            end,
-            fractions,
-        } = self;
-        Hit {
-            docno,
-            begin,
-            end,
-            key,
-            fractions,
-        }
-    }
 }
 
 /// A window with the beliefs of these counts, in a document of this docno and so many tokens.
@@ -81,14 +52,11 @@ fn scored<F: Fn(u32, u32, u64, u64) -> Fraction>(
     requires counts { All (λ n. IsLeafCount n) counts.now }
     ensures row { IfOk result (λ row. row_candidate row
         ≡ window_candidate rule.now.kind (map (λ plug. meaning plug) plugs.old) (network_tree network.now) docno.now tokens counts.now window) }
-    ensures key { IfOk result (IsKeyed (network_tree network.now).tree) }
     ensures stay { map (λ plug. meaning plug) plugs.new ≡ map (λ plug. meaning plug) plugs.old }
 {
     let docno = docno.clone_in(alloc)?;
     let fractions = network.fractions(alloc, rule, counts, &docno, tokens, plugs)?;
-    let digits = digits_of(alloc, fractions.as_slice())?;
     Ok(Row {
-        key: network.key(&digits),
         docno,
         begin: window.begin(),
         end: window.end(),
@@ -161,7 +129,7 @@ fn score_found<F: Fn(u32, u32, u64, u64) -> Fraction>(
     Ok(())
 }
 
-/// Adds the candidates of a document, with their beliefs and keys: each window of the query's range in which some leaf
+/// Adds the candidates of a document, with their beliefs: each window of the query's range in which some leaf
 /// occurs, where the document passes all filters; a prior doesn't occur. Of a document that doesn't pass nothing is counted.
 /// The extents of each leaf are looked up once, and the windows are counted one behind the other. `plugs` settle the
 /// priors by their numbers.

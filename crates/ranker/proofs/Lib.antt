@@ -1,6 +1,9 @@
 pub mod AheadLemmas
 pub mod BareLemmas
+pub mod DocumentLemmas
+pub mod Fractions
 pub mod HeldLemmas
+pub mod Lists
 pub mod PassedLemmas
 pub mod PlaceLemmas
 pub mod RankingLemmas

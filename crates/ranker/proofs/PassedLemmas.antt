@@ -10,9 +10,7 @@ use Rattle.belief_nodes.specs.Priors.{Prior}
 use Rattle.deletion_list.specs.Marks.{marked_count}
 use Rattle.disk_index.specs.Snapshots.{unmarked}
 use Rattle.range_masks.specs.May.{query_may}
-use Rattle.document_scoring.specs.declared.scoring.Row.{Row}
-use Rattle.first_few.specs.First.{Few}
-use Rattle.ranker.specs.First.{Advances, HoldsFirst}
+use Rattle.ranker.specs.First.{Advances, HoldsFirst, KeptEntries}
 use Rattle.ranker.specs.Passed.{live_ids}
 use Rattle.ranker.proofs.SkippingLemmas.{HoldsFirst-skipped}
 
@@ -71,14 +69,14 @@ unmarked-ids (x ∷ xs) (false ∷ marks) (suc i) h = ap suc (unmarked-ids xs ma
 module _ (kind : RuleKind) (priors : List Prior) (filters : List FilterTree) (network : NetworkTree) where
   -- ---- documents behind others
 
-  pub Advances-same : (old : List Document) (few : Few Row) → Advances kind priors filters network old old few few
+  pub Advances-same : (old : List Document) (few : KeptEntries) → Advances kind priors filters network old old few few
   Advances-same old few = record { step = λ before most h. h }
 
-  pub Advances-then : (old mid new : List Document) (few then next : Few Row) → Advances kind priors filters network old mid few then → Advances kind priors filters network mid new then next
+  pub Advances-then : (old mid new : List Document) (few then next : KeptEntries) → Advances kind priors filters network old mid few then → Advances kind priors filters network mid new then next
       → Advances kind priors filters network old new few next
   Advances-then old mid new few held next first second = record { step = λ before most h. second.step before most (first.step before most h) }
 
-  module _ (docs : List Document) (marks : List Bool) (i : ℕ) (few : Few Row) where
+  module _ (docs : List Document) (marks : List Bool) (i : ℕ) (few : KeptEntries) where
     -- a dead document
     pub Advances-dead : i < length docs → length marks ≡ length docs → get_or marks i false ≡ true
         → Advances kind priors filters network (unmarked (take i docs) marks) (unmarked (take (i + 1) docs) marks) few few
@@ -88,7 +86,7 @@ module _ (kind : RuleKind) (priors : List Prior) (filters : List FilterTree) (ne
         record { step = λ before most h. subst (λ (ds : List Document). HoldsFirst kind priors filters network (before ++ ds) most few) (sym same) h }
 
     -- a live document whose candidates are held with those of any documents before it
-    pub Advances-live : (next : Few Row) → i < length docs → length marks ≡ length docs → get_or marks i false ≡ false
+    pub Advances-live : (next : KeptEntries) → i < length docs → length marks ≡ length docs → get_or marks i false ≡ false
         → ((before : List Document) (most : ℕ) → HoldsFirst kind priors filters network before most few → HoldsFirst kind priors filters network (before ++ document_at docs i ∷ []) most next)
         → Advances kind priors filters network (unmarked (take i docs) marks) (unmarked (take (i + 1) docs) marks) few next
     Advances-live next lt whole live one =
@@ -108,7 +106,7 @@ module _ (kind : RuleKind) (priors : List Prior) (filters : List FilterTree) (ne
         Advances-live few lt whole live (λ before most h. HoldsFirst-skipped kind priors filters network before (document_at docs i) most few none h)
 
   -- documents behind others that have nothing to show
-  unseen : (docs : List Document) (marks : List Bool) (few : Few Row) (n i j : ℕ) → j ≡ i + n → j ≤ length docs → length marks ≡ length docs
+  unseen : (docs : List Document) (marks : List Bool) (few : KeptEntries) (n i j : ℕ) → j ≡ i + n → j ≤ length docs → length marks ≡ length docs
       → ((id : ℕ) → i ≤ id → id < j → query_may filters network.leaves (document_at docs id) ≡ false)
       → Advances kind priors filters network (unmarked (take i docs) marks) (unmarked (take j docs) marks) few few
   unseen docs marks few zero i j far le whole none =
@@ -122,7 +120,7 @@ module _ (kind : RuleKind) (priors : List Prior) (filters : List FilterTree) (ne
       one true dead = Advances-dead docs marks i few (omega (arith, far, le)) whole dead
       one false live = Advances-unseen docs marks i few (omega (arith, far, le)) whole live (none i (omega arith) (omega (arith, far)))
 
-  pub Advances-bare : (docs : List Document) (marks : List Bool) (few : Few Row) (i j : ℕ) → i ≤ j → j ≤ length docs → length marks ≡ length docs
+  pub Advances-bare : (docs : List Document) (marks : List Bool) (few : KeptEntries) (i j : ℕ) → i ≤ j → j ≤ length docs → length marks ≡ length docs
       → ((id : ℕ) → i ≤ id → id < j → query_may filters network.leaves (document_at docs id) ≡ false)
       → Advances kind priors filters network (unmarked (take i docs) marks) (unmarked (take j docs) marks) few few
   Advances-bare docs marks few i j up le whole none = unseen docs marks few (j - i) i j (omega (arith, up)) le whole none
@@ -141,7 +139,7 @@ ids-all (true ∷ marks) = let rest = ids-all marks in omega (arith, rest)
 ids-all (false ∷ marks) = let rest = ids-all marks in omega (arith, rest)
 
 -- by what was read, and what the priors told, before
-pub Advances-read : (kind : RuleKind) (told priors : List Prior) (filters : List FilterTree) (network : NetworkTree) (read docs : List Document) (marks : List Bool) (i j : ℕ) (few next : Few Row) → told ≡ priors → read ≡ docs
+pub Advances-read : (kind : RuleKind) (told priors : List Prior) (filters : List FilterTree) (network : NetworkTree) (read docs : List Document) (marks : List Bool) (i j : ℕ) (few next : KeptEntries) → told ≡ priors → read ≡ docs
     → Advances kind told filters network (unmarked (take i read) marks) (unmarked (take j read) marks) few next → Advances kind priors filters network (unmarked (take i docs) marks) (unmarked (take j docs) marks) few next
 Advances-read kind told priors filters network read docs marks i j few next stay same h =
     subst (λ (ds : List Document). Advances kind priors filters network (unmarked (take i ds) marks) (unmarked (take j ds) marks) few next) same

@@ -21,10 +21,8 @@ use Rattle.range_masks.specs.May.{filter_may, filters_may, leaf_may, may, query_
 use Rattle.range_masks.proofs.MayLemmas.{both, may-Ext}
 use Rattle.document_scoring.specs.Candidates.{candidate, candidates, document_candidates, found_windows, has_some, occurs, passes}
 use Rattle.document_scoring.specs.Counts.{count_in}
-use Rattle.document_scoring.specs.Rows.{Adds, IsKeyed}
-use Rattle.document_scoring.specs.declared.scoring.Row.{Row}
-use Rattle.first_few.specs.First.{Few}
-use Rattle.ranker.specs.First.{HoldsFirst}
+use Rattle.document_scoring.specs.Rows.{Adds}
+use Rattle.ranker.specs.First.{HoldsFirst, KeptEntries}
 use Rattle.ranker.proofs.RankingLemmas.{HoldsFirst-more}
 
 -- ---- a document without the terms
@@ -95,9 +93,9 @@ module _ (kind : RuleKind) (priors : List Prior) (filters : List FilterTree) (ne
           ap (λ ws. map (candidate kind priors network d) ws ++ []) found
 
   pub Adds-none : (d : Document) → query_may filters network.leaves d ≡ false → Adds kind priors filters network d [] []
-  Adds-none d none = record { more = []; behind = refl; candidates = sym (no_candidates d none); keyed = All-nil (IsKeyed network.tree) }
+  Adds-none d none = record { more = []; behind = refl; candidates = sym (no_candidates d none) }
 
   -- one more document that has nothing to show
-  pub HoldsFirst-skipped : (docs : List Document) (d : Document) (most : ℕ) (few : Few Row) → query_may filters network.leaves d ≡ false
+  pub HoldsFirst-skipped : (docs : List Document) (d : Document) (most : ℕ) (few : KeptEntries) → query_may filters network.leaves d ≡ false
       → HoldsFirst kind priors filters network docs most few → HoldsFirst kind priors filters network (docs ++ d ∷ []) most few
-  HoldsFirst-skipped docs d most few none h = HoldsFirst-more kind priors filters network docs d most few few [] (Adds-none d none) refl (λ all first. first) h
+  HoldsFirst-skipped docs d most few none h = HoldsFirst-more kind priors filters network docs d most few few [] (Adds-none d none) (All-nil (λ row. length row.fractions ≡ length network.leaves)) refl (λ all first. first) h

@@ -1,170 +1,158 @@
 -- What is held stays windows of documents, whatever the files tell.
-use Rattle.std.proofs.Common.{◌≡◌, ◌<◌, ℕ, zero, suc, Bool, true, false, List, [], ◌∷◌, ◌++◌, Option, Contains, length, map, take, get_or, refl, sym, ap, subst, ◌∙◌, arith}
+use Rattle.std.proofs.Common.{◌≡◌, ◌<◌, ◌≤◌, ℕ, ◌+◌, Bool, false, List, [], ◌∷◌, ◌++◌, Option, Contains, length, map, get_or, sym, ap, subst, ◌∙◌, arith}
 use Rattle.std.specs.List.{All}
-use Rattle.std.proofs.Math.ListN.{get_or-map}
-use Rattle.std.proofs.lemmas.Bool.{false≢true}
-use Rattle.std.proofs.lemmas.List.{length-map, length-take, map-append}
-use Rattle.std.proofs.lemmas.List.Elements.{All-append, All-cons, All-contains, All-contains_itself, All-head, All-map, All-nil, All-same, All-take, All-weaker, Contains-append_left, Contains-append_right, Contains-get_or}
-use Rattle.std.proofs.lemmas.List.Sorted.{All-permutation}
+use Rattle.std.proofs.lemmas.List.{length-append, length-map, nil_from_length}
+use Rattle.std.proofs.lemmas.List.Elements.{All-append, All-cons, All-contains, All-contains_itself, All-head, All-map, All-nil, All-same, All-weaker}
+use Rattle.std.proofs.lemmas.List.Sorted.{length_permutation}
 use Rattle.ri_base.specs.Collection.{document_at}
 use Rattle.ri_base.specs.Documents.{Document}
+use Rattle.ri_base.specs.Ratio.{Ratio, ratio_of}
 use Rattle.ri_base.specs.declared.hit.Hit.{Hit}
 use Rattle.store_ends.specs.Files.{Files}
 use Rattle.seg_codec.specs.Segment.{entry_of}
-use Rattle.seg_codec.specs.declared.documents.Entry.{Entry}
-use Rattle.disk_index.specs.Parts.{outlines_of, reads}
-use Rattle.disk_index.specs.Snapshots.{Marked, live, live_in, unmarked}
-use Rattle.disk_index.proofs.AlikeLemmas.{map-unmarked, outlines-reads}
+use Rattle.disk_index.specs.Snapshots.{Marked, live, unmarked}
+use Rattle.belief_nodes.specs.Network.{NetworkTree}
 use Rattle.document_scoring.specs.Candidates.{Candidate, IsWindowOf}
-use Rattle.document_scoring.specs.Rows.{AddsRows, row_candidate, row_hit}
+use Rattle.document_scoring.specs.Rows.{AddsRows, row_candidate}
 use Rattle.document_scoring.specs.declared.scoring.Row.{Row}
-use Rattle.first_few.specs.First.{AreFirst, Few, IsFront}
-use Rattle.ranker.specs.First.{row_order}
+use Rattle.bounded_keys.specs.Entries.{IsEarly, WereOffered, settled}
+use Rattle.bounded_keys.specs.Kept.{AreAmong}
+use Rattle.bounded_keys.specs.declared.entry.Entry.{Entry}
+use Rattle.bounded_keys.specs.declared.entry.Settled.{Settled}
+use Rattle.bounded_keys.proofs.Among.{all_among}
+use Rattle.bounded_keys.proofs.Levels.{early_beliefs}
+use Rattle.ranker.specs.First.{AreEntries, KeptEntries, early_of, entry_candidate, key_by, scale_of, settled_candidate}
 use Rattle.ranker.specs.Ranking.{candidate_of}
 use Rattle.ranker.specs.Windows.{AreWindows, HasWindows, HoldsWindows, IsWindowIn, KeepsWindows}
 use Rattle.ranker.specs.declared.held.Held.{Held}
 use Rattle.ranker.specs.declared.held.Held.TheVariants.{Open, Ended}
+use Rattle.ranker.specs.declared.window.Window.{Window}
+use Rattle.ranker.proofs.DocumentLemmas.{IsWindowIn-read, live-at, live-entries}
+use Rattle.ranker.proofs.Lists.{All-unmap}
+use Rattle.ranker.proofs.RankingLemmas.{late_beliefs, rows_early}
 
--- ---- documents among others
+-- ---- before the first document
 
--- a live document stands among the live ones
-live-at : (docs : List Document) (marks : List Bool) (i : ℕ) → i < length docs → length marks ≡ length docs → get_or marks i false ≡ false → Contains (unmarked docs marks) (document_at docs i)
-live-at [] marks i lt whole live = absurd (omega (arith, lt))
-live-at (d ∷ docs) [] i lt whole live = absurd (omega (arith, whole))
-live-at (d ∷ docs) (true ∷ marks) zero lt whole live = absurd (false≢true (sym live))
-live-at (d ∷ docs) (false ∷ marks) zero lt whole live = Contains-get_or (d ∷ unmarked docs marks) 0 d (omega arith)
-live-at (d ∷ docs) (true ∷ marks) (suc i) lt whole live = live-at docs marks i (omega (arith, lt)) (omega (arith, whole)) live
-live-at (d ∷ docs) (false ∷ marks) (suc i) lt whole live =
-    Contains-append_right (d ∷ []) (unmarked docs marks) (document_at docs i) (live-at docs marks i (omega (arith, lt)) (omega (arith, whole)) live)
+-- where nothing was offered, nothing is held or kept
+none_kept : (kept : KeptEntries) → WereOffered [] kept → kept.held ++ kept.near ≡ []
+none_kept kept offered =
+    let gone : List (Entry Window) = offered.gone in
+    let whole : length (kept.held ++ (kept.near ++ gone)) ≡ 0 = length_permutation [] (kept.held ++ (kept.near ++ gone)) offered.apart.split in
+    let outer : length (kept.held ++ (kept.near ++ gone)) ≡ length kept.held + length (kept.near ++ gone) = length-append kept.held (kept.near ++ gone) in
+    let inner : length (kept.near ++ gone) ≡ length kept.near + length gone = length-append kept.near gone in
+    let both : length (kept.held ++ kept.near) ≡ length kept.held + length kept.near = length-append kept.held kept.near in
+    nil_from_length (kept.held ++ kept.near) (omega (arith, whole, outer, inner, both))
 
--- those of a part stand among those of all parts
-pub live-among : (told : Option Files) (parts : List Marked) (i : ℕ) (m : Marked) → i < length parts → m ≡ get_or parts i m → All (Contains (live told parts)) (live_in told m)
-live-among told [] i m lt is = absurd (omega (arith, lt))
-live-among told (p ∷ parts) zero m lt is =
-    subst (λ (q : Marked). All (Contains (live told (p ∷ parts))) (live_in told q)) (sym is)
-    (All-weaker (Contains (live_in told p)) (Contains (live_in told p ++ live told parts)) (λ d there. Contains-append_left (live_in told p) (live told parts) d there) (live_in told p) (All-contains_itself (live_in told p)))
-live-among told (p ∷ parts) (suc i) m lt is =
-    All-weaker (Contains (live told parts)) (Contains (live_in told p ++ live told parts)) (λ d there. Contains-append_right (live_in told p) (live told parts) d there) (live_in told m) (live-among told parts i m (omega (arith, lt)) is)
-
--- docnos, lengths and fields of live documents are the same by all files
-live_in-entries : (told : Option Files) (m : Marked) → map entry_of (live_in told m) ≡ unmarked (outlines_of m.source) m.marks
-live_in-entries told m = map-unmarked entry_of (reads told m.source) m.marks ∙ ap (λ (es : List Entry). unmarked es m.marks) (outlines-reads told m.source)
-
-live-entries : (told here : Option Files) (parts : List Marked) → map entry_of (live told parts) ≡ map entry_of (live here parts)
-live-entries told here [] = refl
-live-entries told here (m ∷ parts) =
-    map-append entry_of (live_in told m) (live told parts)
-    ∙ ap (λ (es : List Entry). es ++ map entry_of (live told parts)) (live_in-entries told m ∙ sym (live_in-entries here m))
-    ∙ ap (λ (es : List Entry). map entry_of (live_in here m) ++ es) (live-entries told here parts)
-    ∙ sym (map-append entry_of (live_in here m) (live here parts))
+pub AreEntries-none : (network : NetworkTree) (kept : KeptEntries) → kept.scale ≡ scale_of network → WereOffered [] kept → AreEntries network kept
+AreEntries-none network kept scaled offered = record {
+  scaled = scaled;
+  each = subst (λ (xs : List (Entry Window)). All (IsEarly (key_by network) (length network.leaves)) xs) (sym (none_kept kept offered)) (All-nil (IsEarly (key_by network) (length network.leaves)));
+}
 
 -- ---- windows that are held stay held
 
-module _ (leaves : ℕ) where
-  pub KeepsWindows-same : (own : List Document) (few : Few Row) → KeepsWindows leaves own few few
-  KeepsWindows-same own few = record { step = λ docs most among h. h }
+candidate_early : (network : NetworkTree) (r : Row) → entry_candidate (early_of network r) ≡ row_candidate r
+candidate_early network r = ap (λ (bs : List Ratio). record { docno = r.docno; begin = r.begin; end = r.end; beliefs = bs }) (early_beliefs r.fractions)
 
-  pub KeepsWindows-then : (own : List Document) (few then next : Few Row) → KeepsWindows leaves own few then → KeepsWindows leaves own then next → KeepsWindows leaves own few next
-  KeepsWindows-then own few held next first second = record { step = λ docs most among h. second.step docs most among (first.step docs most among h) }
+candidate_late : (network : NetworkTree) (x : Entry Window) → settled_candidate (settled (key_by network) x) ≡ entry_candidate x
+candidate_late network x = ap (λ (bs : List Ratio). record { docno = x.window.docno; begin = x.window.begin; end = x.window.end; beliefs = bs }) (late_beliefs x.leaves)
+
+-- the rows of a document have a belief of each leaf
+pub rows_each : (d : Document) (leaves : ℕ) (rows : List Row) → AddsRows d leaves [] rows → All (λ row. length row.fractions ≡ leaves) rows
+rows_each d leaves rows adds =
+    All-same (λ row. length row.fractions ≡ leaves) rows adds.more adds.behind
+    (All-weaker (λ row. IsWindowOf d leaves (row_candidate row)) (λ row. length row.fractions ≡ leaves) (λ row is. sym (length-map row.fractions ratio_of) ∙ is.each) adds.more adds.each)
+
+module _ (network : NetworkTree) where
+  pub KeepsWindows-same : (own : List Document) (kept : KeptEntries) → KeepsWindows network own kept kept
+  KeepsWindows-same own kept = record { step = λ docs most among h. h; entries = λ h. h }
+
+  pub KeepsWindows-then : (own : List Document) (kept then next : KeptEntries) → KeepsWindows network own kept then → KeepsWindows network own then next → KeepsWindows network own kept next
+  KeepsWindows-then own kept held next first second = record { step = λ docs most among h. second.step docs most among (first.step docs most among h); entries = λ h. second.entries (first.entries h) }
 
   -- of fewer documents
-  pub KeepsWindows-among : (own all : List Document) (few next : Few Row) → All (Contains all) own → KeepsWindows leaves own few next → KeepsWindows leaves all few next
-  KeepsWindows-among own all few next inside h = record {
+  pub KeepsWindows-among : (own all : List Document) (kept next : KeptEntries) → All (Contains all) own → KeepsWindows network own kept next → KeepsWindows network all kept next
+  KeepsWindows-among own all kept next inside h = record {
     step = λ docs most among held. h.step docs most (All-weaker (Contains all) (Contains docs) (λ d there. All-contains (Contains docs) all d among there) own inside) held;
+    entries = h.entries;
   }
 
   -- of a live document of a part
-  pub KeepsWindows-live : (docs : List Document) (marks : List Bool) (i : ℕ) (few next : Few Row) → i < length docs → length marks ≡ length docs → get_or marks i false ≡ false
-      → KeepsWindows leaves (document_at docs i ∷ []) few next → KeepsWindows leaves (unmarked docs marks) few next
-  KeepsWindows-live docs marks i few next lt whole live h =
+  pub KeepsWindows-live : (docs : List Document) (marks : List Bool) (i : ℕ) (kept next : KeptEntries) → i < length docs → length marks ≡ length docs → get_or marks i false ≡ false
+      → KeepsWindows network (document_at docs i ∷ []) kept next → KeepsWindows network (unmarked docs marks) kept next
+  KeepsWindows-live docs marks i kept next lt whole live h =
       let all : List Document = unmarked docs marks in
-      KeepsWindows-among (document_at docs i ∷ []) all few next (All-cons (Contains all) (document_at docs i) [] (live-at docs marks i lt whole live) (All-nil (Contains all))) h
+      KeepsWindows-among (document_at docs i ∷ []) all kept next (All-cons (Contains all) (document_at docs i) [] (live-at docs marks i lt whole live) (All-nil (Contains all))) h
 
   -- the rows of a document are offered
-  pub KeepsWindows-offered : (d : Document) (few next : Few Row) (rows : List Row) → AddsRows d leaves [] rows → next.most ≡ few.most
-      → ((all : List Row) → AreFirst row_order few.most all few.held → AreFirst row_order few.most (rows ++ all) next.held) → KeepsWindows leaves (d ∷ []) few next
-  KeepsWindows-offered d few next rows adds room step = record {
-    step = λ docs most among h.
-        let P : Row → Type 0 = λ row. IsWindowIn docs leaves (row_candidate row) in
-        let there : Contains docs d = All-head (Contains docs) d [] among in
-        let added : All P adds.more = All-weaker (λ row. IsWindowOf d leaves (row_candidate row)) P (λ row is. (d, there, is)) adds.more adds.each in
+  pub KeepsWindows-offered : (d : Document) (kept next : KeptEntries) (rows : List Row) → AddsRows d (length network.leaves) [] rows → next.most ≡ kept.most → next.scale ≡ kept.scale
+      → AreAmong (next.held ++ next.near) (map (early_of network) rows ++ (kept.held ++ kept.near)) → KeepsWindows network (d ∷ []) kept next
+  KeepsWindows-offered d kept next rows adds room scale among = record {
+    step = λ docs most inside h.
+        let P : Candidate → Type 0 = IsWindowIn docs (length network.leaves) in
+        let there : Contains docs d = All-head (Contains docs) d [] inside in
+        let added : All (λ row. P (row_candidate row)) adds.more = All-weaker (λ row. IsWindowOf d (length network.leaves) (row_candidate row)) (λ row. P (row_candidate row)) (λ row is. (d, there, is)) adds.more adds.each in
+        let each : All (λ row. P (entry_candidate (early_of network row))) rows =
+        All-weaker (λ row. P (row_candidate row)) (λ row. P (entry_candidate (early_of network row))) (λ row is. subst P (sym (candidate_early network row)) is) rows (All-same (λ row. P (row_candidate row)) rows adds.more adds.behind added) in
         record {
-          rows = rows ++ h.rows;
-          each = All-append P rows h.rows (All-same P rows adds.more adds.behind added) h.each;
+          each = all_among (λ x. P (entry_candidate x)) (next.held ++ next.near) (map (early_of network) rows ++ (kept.held ++ kept.near)) among
+              (All-append (λ x. P (entry_candidate x)) (map (early_of network) rows) (kept.held ++ kept.near) (All-map (λ x. P (entry_candidate x)) (early_of network) rows each) h.each);
           room = room ∙ h.room;
-          first = subst (λ k. AreFirst row_order k h.rows few.held → AreFirst row_order k (rows ++ h.rows) next.held) h.room (step h.rows) h.first;
         };
+    entries = λ h. record {
+      scaled = scale ∙ h.scaled;
+      each = all_among (IsEarly (key_by network) (length network.leaves)) (next.held ++ next.near) (map (early_of network) rows ++ (kept.held ++ kept.near)) among
+          (All-append (IsEarly (key_by network) (length network.leaves)) (map (early_of network) rows) (kept.held ++ kept.near) (rows_early network rows (rows_each d (length network.leaves) rows adds)) h.each);
+    };
   }
 
   -- ---- the end
 
-  front-windows : (docs : List Document) (most : ℕ) (rows front : List Row) → All (λ row. IsWindowIn docs leaves (row_candidate row)) rows → IsFront row_order most rows front → AreWindows docs leaves most (map row_hit front)
-  front-windows docs most rows front each f =
-      let P : Row → Type 0 = λ row. IsWindowIn docs leaves (row_candidate row) in
-      let ranked : All P f.ranking = All-permutation P rows f.ranking f.same each in
-      record {
-        each = All-map (λ hit. IsWindowIn docs leaves (candidate_of hit)) row_hit front (All-same P front (take most f.ranking) f.first (All-take P most f.ranking ranked));
-        few = let long = length-map front row_hit in let short = ap length f.first ∙ length-take most f.ranking in omega (arith, long, short);
-      }
-
   -- the first in order are the results
-  pub HasWindows-ended : (docs : List Document) (most : ℕ) (was : Held) (few : Few Row) (front : List Row) (hits : List Hit) → was ≡ Open few → hits ≡ map row_hit front
-      → ((all : List Row) → AreFirst row_order few.most all few.held → IsFront row_order few.most all front) → HasWindows docs leaves most was → HasWindows docs leaves most (Ended hits)
-  HasWindows-ended docs most was few front hits is made shown h =
-      let held : HoldsWindows docs leaves most few = subst (λ (x : Held). HasWindows docs leaves most x) is h in
-      let f : IsFront row_order most held.rows front = subst (λ k. AreFirst row_order k held.rows few.held → IsFront row_order k held.rows front) held.room (shown held.rows) held.first in
-      subst (λ (hs : List Hit). AreWindows docs leaves most hs) (sym made) (front-windows docs most held.rows front held.each f)
+  pub HasWindows-ended : (leaves : ℕ) (docs : List Document) (most : ℕ) (was : Held) (kept : KeptEntries) (front : List (Settled Window)) (hits : List Hit) → was ≡ Open kept
+      → map candidate_of hits ≡ map settled_candidate front → length front ≤ kept.most → AreAmong front (map (settled (key_by network)) (kept.held ++ kept.near))
+      → HasWindows docs leaves most was → HasWindows docs leaves most (Ended hits)
+  HasWindows-ended leaves docs most was kept front hits is told short among h =
+      let P : Candidate → Type 0 = IsWindowIn docs leaves in
+      let held : HoldsWindows docs leaves most kept = subst (λ (x : Held). HasWindows docs leaves most x) is h in
+      let late : All (λ x. P (settled_candidate (settled (key_by network) x))) (kept.held ++ kept.near) =
+      All-weaker (λ x. P (entry_candidate x)) (λ x. P (settled_candidate (settled (key_by network) x))) (λ x w. subst P (sym (candidate_late network x)) w) (kept.held ++ kept.near) held.each in
+      let shown : All (λ x. P (settled_candidate x)) front =
+      all_among (λ x. P (settled_candidate x)) front (map (settled (key_by network)) (kept.held ++ kept.near)) among (All-map (λ x. P (settled_candidate x)) (settled (key_by network)) (kept.held ++ kept.near) late) in
+      let mapped : All P (map candidate_of hits) = subst (All P) (sym told) (All-map P settled_candidate front shown) in
+      let long : length hits ≡ length front = sym (length-map hits candidate_of) ∙ ap (λ (cs : List Candidate). length cs) told ∙ length-map front settled_candidate in
+      let room = held.room in
+      record { each = All-unmap candidate_of P hits mapped; few = omega (arith, long, short, room) }
 
+module _ (leaves : ℕ) where
   -- ---- before the first document
 
-  pub HoldsWindows-none : (docs : List Document) (most : ℕ) (few : Few Row) → few.most ≡ most → AreFirst row_order most [] few.held → HoldsWindows docs leaves most few
-  HoldsWindows-none docs most few room first = record { rows = []; each = All-nil (λ row. IsWindowIn docs leaves (row_candidate row)); room = room; first = first }
+  pub HoldsWindows-none : (docs : List Document) (most : ℕ) (kept : KeptEntries) → kept.most ≡ most → WereOffered [] kept → HoldsWindows docs leaves most kept
+  HoldsWindows-none docs most kept room offered = record {
+    each = subst (λ (xs : List (Entry Window)). All (λ x. IsWindowIn docs leaves (entry_candidate x)) xs) (sym (none_kept kept offered)) (All-nil (λ x. IsWindowIn docs leaves (entry_candidate x)));
+    room = room;
+  }
 
   pub AreWindows-none : (docs : List Document) (most : ℕ) → AreWindows docs leaves most []
   AreWindows-none docs most = record { each = All-nil (λ hit. IsWindowIn docs leaves (candidate_of hit)); few = omega arith }
 
   -- ---- by other files
 
-  -- a document has one in its place where docnos, lengths and fields are the same
-  in-place : (docs others : List Document) (d : Document) → map entry_of docs ≡ map entry_of others → Contains docs d → (e : Document) × Contains others e × (entry_of e ≡ entry_of d)
-  in-place docs others d same there =
-      let k : ℕ = there.0 in
-      let long : length others ≡ length docs = sym (length-map others entry_of) ∙ sym (ap (λ (es : List Entry). length es) same) ∙ length-map docs entry_of in
-      let inside : k < length docs = there.1 in
-      let e : Document = get_or others k d in
-      let here : get_or (map entry_of others) k (entry_of d) ≡ entry_of e = get_or-map entry_of others k d in
-      let own : get_or (map entry_of docs) k (entry_of d) ≡ entry_of (get_or docs k d) = get_or-map entry_of docs k d in (
-        e,
-        Contains-get_or others k d (omega (arith, inside, long)),
-        sym here ∙ sym (ap (λ (es : List Entry). get_or es k (entry_of d)) same) ∙ own ∙ ap entry_of there.2,
-      )
-
-  IsWindowIn-read : (docs others : List Document) (c : Candidate) → map entry_of docs ≡ map entry_of others → IsWindowIn docs leaves c → IsWindowIn others leaves c
-  IsWindowIn-read docs others c same h =
-      let there = in-place docs others h.0 same h.1 in
-      let long : length there.0.tokens ≡ length h.0.tokens = ap (λ (o : Entry). o.tokens) there.2 in
-      let inside = h.2.within in (
-        there.0,
-        there.1,
-        record { docno_is = h.2.docno_is ∙ sym (ap (λ (o : Entry). o.docno) there.2); some = h.2.some; within = omega (arith, inside, long); each = h.2.each },
-      )
-
   HasWindows-read : (docs others : List Document) (most : ℕ) (held : Held) → map entry_of docs ≡ map entry_of others → HasWindows docs leaves most held → HasWindows others leaves most held
-  HasWindows-read docs others most (Open few) same h = record {
-    rows = h.rows;
-    each = All-weaker (λ row. IsWindowIn docs leaves (row_candidate row)) (λ row. IsWindowIn others leaves (row_candidate row)) (λ row is. IsWindowIn-read docs others (row_candidate row) same is) h.rows h.each;
+  HasWindows-read docs others most (Open kept) same h = record {
+    each = All-weaker (λ x. IsWindowIn docs leaves (entry_candidate x)) (λ x. IsWindowIn others leaves (entry_candidate x)) (λ x is. IsWindowIn-read leaves docs others (entry_candidate x) same is) (kept.held ++ kept.near) h.each;
     room = h.room;
-    first = h.first;
   }
   HasWindows-read docs others most (Ended hits) same h = record {
-    each = All-weaker (λ hit. IsWindowIn docs leaves (candidate_of hit)) (λ hit. IsWindowIn others leaves (candidate_of hit)) (λ hit is. IsWindowIn-read docs others (candidate_of hit) same is) hits h.each;
+    each = All-weaker (λ hit. IsWindowIn docs leaves (candidate_of hit)) (λ hit. IsWindowIn others leaves (candidate_of hit)) (λ hit is. IsWindowIn-read leaves docs others (candidate_of hit) same is) hits h.each;
     few = h.few;
   }
 
-  -- documents of parts were passed, as they read by some files: so it is by any
-  pub HasWindows-on : (told here : Option Files) (parts : List Marked) (most : ℕ) (was : Held) (few next : Few Row) → was ≡ Open few → KeepsWindows leaves (live here parts) few next
-      → HasWindows (live told parts) leaves most was → HasWindows (live told parts) leaves most (Open next)
-  HasWindows-on told here parts most was few next is keeps h =
-      let now : HasWindows (live here parts) leaves most was = HasWindows-read (live told parts) (live here parts) most was (live-entries told here parts) h in
-      HasWindows-read (live here parts) (live told parts) most (Open next) (live-entries here told parts)
-      (keeps.step (live here parts) most (All-contains_itself (live here parts)) (subst (λ (x : Held). HasWindows (live here parts) leaves most x) is now))
+-- documents of parts were passed, as they read by some files: so it is by any
+pub HasWindows-on : (network : NetworkTree) (told here : Option Files) (parts : List Marked) (most : ℕ) (was : Held) (kept next : KeptEntries) → was ≡ Open kept → KeepsWindows network (live here parts) kept next
+    → HasWindows (live told parts) (length network.leaves) most was → HasWindows (live told parts) (length network.leaves) most (Open next)
+HasWindows-on network told here parts most was kept next is keeps h =
+    let leaves : ℕ = length network.leaves in
+    let now : HasWindows (live here parts) leaves most was = HasWindows-read leaves (live told parts) (live here parts) most was (live-entries told here parts) h in
+    HasWindows-read leaves (live here parts) (live told parts) most (Open next) (live-entries here told parts)
+    (keeps.step (live here parts) most (All-contains_itself (live here parts)) (subst (λ (x : Held). HasWindows (live here parts) leaves most x) is now))

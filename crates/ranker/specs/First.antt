@@ -1,30 +1,73 @@
--- The first candidates of documents, held as rows with their keys.
-use Rattle.std.specs.Prelude.{◌≡◌, ◌++◌, ℕ, List, map, All}
+-- The first candidates of documents, held as entries whose keys are known at the first level.
+use Rattle.std.specs.Prelude.{◌≡◌, ◌++◌, ℕ, List, length, map, All}
+use Rattle.std.specs.Cmp.Lexicographic.{slice_cmp}
+use Rattle.std.specs.Ordering.{nat_cmp, ordering_then}
 use Rattle.std.specs.declared.cmp.Ordering.{Ordering}
+use Rattle.log_chain.specs.Progress.{digits_of}
 use Rattle.ri_base.specs.Documents.{Document}
 use Rattle.ri_base.specs.Query.{FilterTree}
 use Rattle.smoothing.specs.declared.rule.RuleKind.{RuleKind}
+use Rattle.query_check.specs.Scale.{scale}
+use Rattle.belief_nodes.specs.Keys.{key}
 use Rattle.belief_nodes.specs.Network.{NetworkTree}
 use Rattle.belief_nodes.specs.Priors.{Prior}
-use Rattle.document_scoring.specs.Candidates.{candidates}
-use Rattle.document_scoring.specs.Rows.{IsKeyed, row_candidate, row_hit}
+use Rattle.bounded_keys.specs.Digits.{belief, early}
+use Rattle.bounded_keys.specs.Entries.{IsEarly, WereOffered, settled}
+use Rattle.bounded_keys.specs.Kept.{Kept}
+use Rattle.bounded_keys.specs.declared.entry.Entry.{Entry}
+use Rattle.bounded_keys.specs.declared.entry.Settled.{Settled}
+use Rattle.document_scoring.specs.Candidates.{Candidate, candidates}
+use Rattle.document_scoring.specs.Rows.{row_candidate}
 use Rattle.document_scoring.specs.declared.scoring.Row.{Row}
-use Rattle.first_few.specs.First.{AreFirst, Few}
-use Rattle.ranker.specs.Ranking.{hit_order}
+use Rattle.ranker.specs.declared.window.Window.{Window}
 
--- rows stand in the order of their hits
-abbrev pub row_order : Row → Row → Ordering
-row_order a b = hit_order (row_hit a) (row_hit b)
+-- by docno, begin and end
+abbrev pub window_order : Window → Window → Ordering
+window_order a b = ordering_then (slice_cmp nat_cmp a.docno b.docno) (ordering_then (nat_cmp a.begin b.begin) (nat_cmp a.end b.end))
 
--- of the rows of all candidates the first are held, at most so many
-pub record HoldsFirst (kind : RuleKind) (priors : List Prior) (filters : List FilterTree) (network : NetworkTree) (docs : List Document) (most : ℕ) (few : Few Row) : Type 0 where
+abbrev pub window_of : Row → Window
+window_of r = record { docno = r.docno; begin = r.begin; end = r.end }
+
+-- the key of a network's leaves by their digits
+abbrev pub key_by : NetworkTree → List ℕ → ℕ
+key_by network digits = key digits network.tree
+
+abbrev pub scale_of : NetworkTree → ℕ
+scale_of network = scale network.tree
+
+-- a row with the digits of its beliefs at the first level, and with their key there
+abbrev pub early_of : NetworkTree → Row → Entry Window
+early_of network r = record { leading = key_by network (map digits_of (early r.fractions)); window = window_of r; leaves = early r.fractions }
+
+-- the same with all digits
+abbrev pub late_of : NetworkTree → Row → Settled Window
+late_of network r = settled (key_by network) (early_of network r)
+
+-- what entries are of candidates
+abbrev pub entry_candidate : Entry Window → Candidate
+entry_candidate x = record { docno = x.window.docno; begin = x.window.begin; end = x.window.end; beliefs = map belief x.leaves }
+
+abbrev pub settled_candidate : Settled Window → Candidate
+settled_candidate x = record { docno = x.window.docno; begin = x.window.begin; end = x.window.end; beliefs = map belief x.leaves }
+
+-- what is held and kept of entries
+abbrev pub KeptEntries : Type 0
+KeptEntries = Kept (Entry Window)
+
+-- these are entries of the network's leaves, with their keys at the first level, under its scale
+pub record AreEntries (network : NetworkTree) (kept : KeptEntries) : Type 0 where
+  pub scaled : kept.scale ≡ scale_of network
+  pub each : All (IsEarly (key_by network) (length network.leaves)) (kept.held ++ kept.near)
+
+-- the entries of all candidates were offered, of which at most so many are wanted
+pub record HoldsFirst (kind : RuleKind) (priors : List Prior) (filters : List FilterTree) (network : NetworkTree) (docs : List Document) (most : ℕ) (kept : KeptEntries) : Type 0 where
   pub rows : List Row
   pub all : map row_candidate rows ≡ candidates kind priors filters network docs
-  pub keys : All (IsKeyed network.tree) rows
-  pub room : few.most ≡ most
-  pub first : AreFirst row_order most rows few.held
+  pub each : All (λ row. length row.fractions ≡ length network.leaves) rows
+  pub room : kept.most ≡ most
+  pub offered : WereOffered (map (early_of network) rows) kept
 
 -- Behind any documents: where the first candidates of these and the old ones were held, those of these and the new ones are held now.
-pub record Advances (kind : RuleKind) (priors : List Prior) (filters : List FilterTree) (network : NetworkTree) (old new : List Document) (few next : Few Row) : Type 0 where
+pub record Advances (kind : RuleKind) (priors : List Prior) (filters : List FilterTree) (network : NetworkTree) (old new : List Document) (kept next : KeptEntries) : Type 0 where
   pub step : (before : List Document) (most : ℕ)
-      → HoldsFirst kind priors filters network (before ++ old) most few → HoldsFirst kind priors filters network (before ++ new) most next
+      → HoldsFirst kind priors filters network (before ++ old) most kept → HoldsFirst kind priors filters network (before ++ new) most next

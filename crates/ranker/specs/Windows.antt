@@ -1,12 +1,10 @@
 -- What a search holds, whatever the files tell: windows of documents, each with a belief of each leaf.
-use Rattle.std.specs.Prelude.{◌≡◌, ◌≤◌, ℕ, List, length, All, Contains}
+use Rattle.std.specs.Prelude.{◌≡◌, ◌≤◌, ◌++◌, ℕ, List, length, All, Contains}
 use Rattle.ri_base.specs.Documents.{Document}
 use Rattle.ri_base.specs.declared.hit.Hit.{Hit}
+use Rattle.belief_nodes.specs.Network.{NetworkTree}
 use Rattle.document_scoring.specs.Candidates.{Candidate, IsWindowOf}
-use Rattle.document_scoring.specs.Rows.{row_candidate}
-use Rattle.document_scoring.specs.declared.scoring.Row.{Row}
-use Rattle.first_few.specs.First.{AreFirst, Few}
-use Rattle.ranker.specs.First.{row_order}
+use Rattle.ranker.specs.First.{AreEntries, KeptEntries, entry_candidate}
 use Rattle.ranker.specs.Ranking.{candidate_of}
 use Rattle.ranker.specs.declared.held.Held.{Held}
 use Rattle.ranker.specs.declared.held.Held.TheVariants.{Open, Ended}
@@ -20,18 +18,17 @@ pub record AreWindows (docs : List Document) (leaves most : ℕ) (hits : List Hi
   pub each : All (λ hit. IsWindowIn docs leaves (candidate_of hit)) hits
   pub few : length hits ≤ most
 
--- of some windows of documents the first are held, at most so many
-pub record HoldsWindows (docs : List Document) (leaves most : ℕ) (few : Few Row) : Type 0 where
-  pub rows : List Row
-  pub each : All (λ row. IsWindowIn docs leaves (row_candidate row)) rows
-  pub room : few.most ≡ most
-  pub first : AreFirst row_order most rows few.held
+-- what is held and kept are windows of documents, and at most so many are wanted
+pub record HoldsWindows (docs : List Document) (leaves most : ℕ) (kept : KeptEntries) : Type 0 where
+  pub each : All (λ x. IsWindowIn docs leaves (entry_candidate x)) (kept.held ++ kept.near)
+  pub room : kept.most ≡ most
 
--- Whatever the documents are, where these are among them: what is held stays windows of documents.
-pub record KeepsWindows (leaves : ℕ) (own : List Document) (few next : Few Row) : Type 0 where
-  pub step : (docs : List Document) (most : ℕ) → All (Contains docs) own → HoldsWindows docs leaves most few → HoldsWindows docs leaves most next
+-- Whatever the documents are, where these are among them: what is held stays windows of documents, and entries of the network.
+pub record KeepsWindows (network : NetworkTree) (own : List Document) (kept next : KeptEntries) : Type 0 where
+  pub step : (docs : List Document) (most : ℕ) → All (Contains docs) own → HoldsWindows docs (length network.leaves) most kept → HoldsWindows docs (length network.leaves) most next
+  pub entries : AreEntries network kept → AreEntries network next
 
 -- windows of these documents are held, or are the results
 abbrev pub HasWindows : List Document → ℕ → ℕ → Held → Type 0
-HasWindows docs leaves most (Open few) = HoldsWindows docs leaves most few
+HasWindows docs leaves most (Open kept) = HoldsWindows docs leaves most kept
 HasWindows docs leaves most (Ended hits) = AreWindows docs leaves most hits

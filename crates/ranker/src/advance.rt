@@ -12,7 +12,8 @@ ghost use Rattle.belief_nodes.specs.Network.{NetworkTree, network_tree};
 ghost use Rattle.belief_nodes.specs.Priors.{Prior};
 ghost use Rattle.disk_index.specs.Cache.{CacheKeeps, IsCacheBacked};
 ghost use Rattle.disk_index.specs.Snapshots.{AreBacked, IsFileAmong, IsSnapshot, live};
-ghost use Rattle.ranker.specs.Held.{IsHeld, is_open};
+ghost use Rattle.ranker.specs.First.{scale_of};
+ghost use Rattle.ranker.specs.Held.{HoldsEntries, IsHeld, is_open};
 ghost use Rattle.ranker.specs.Passed.{IsAheadAt, IsPlace, passed};
 ghost use Rattle.ranker.specs.Windows.{HasWindows};
 
@@ -20,18 +21,18 @@ use crate::held::Held;
 use crate::place::Place;
 use crate::snapshots::pass_parts;
 use belief_nodes::{BeliefNode, Network};
+use bounded_keys::Contenders;
 use disk_index::{BlockCache, MarkedPart};
-use document_scoring::Row;
-use first_few::FirstFew;
-use ri_base::{Filter, Fraction, Hits, SegFault};
+use ri_base::{Filter, Fraction, Hits, SegFault, Steps};
 use smoothing::Rule;
 use std::alloc::Global;
+use std::sync::ledger::{Blank, Ledger};
 use store_ends::Store;
 
 /// Passes so many live documents of the parts, which have so many, or all that are left where these are fewer. Where none is left the
-/// first of the candidates become the results.
+/// first of the candidates become the results. The blank says which counter takes the squarings.
 #[inline(never)]
-pub fn advance<T: Store, F: Fn(u32, u32, u64, u64) -> Fraction>(
+pub fn advance<T: Store, F: Fn(u32, u32, u64, u64) -> Fraction, L: Ledger>(
     alloc: Global,
     docs: u64,
     count: u64,
@@ -44,6 +45,7 @@ pub fn advance<T: Store, F: Fn(u32, u32, u64, u64) -> Fraction>(
     cache: &mut BlockCache,
     at: &mut Place,
     held: &mut Held,
+    blank: Blank,
 ) -> Result<(), SegFault>
     requires rule { Computes F.pre F.post rule.now.kind rule.now.f }
     requires shown { is_range (network_tree network.now).range ≡ true }
@@ -52,6 +54,10 @@ pub fn advance<T: Store, F: Fn(u32, u32, u64, u64) -> Fraction>(
     requires place { IsPlace parts.now at.old }
     requires count { (told : Option Files) → count ≡ length (live told parts.now) }
     requires open { is_open held.old ≡ nat_lt at.old.credit count }
+    requires entries { HoldsEntries (network_tree network.now) held.old }
+    requires name { blank.name ≡ L.name }
+    requires shares { blank.parts ≡ L.parts }
+    requires some { 0 < blank.parts }
     ensures ahead { AreBacked (T.files store.old) parts.now → IsCacheBacked (T.files store.old) cache.old → IsAheadAt (map filter_tree filters.now) (network_tree network.now).leaves (T.files store.old) parts.now at.old → OnOk result
         (IsAheadAt (map filter_tree filters.now) (network_tree network.now).leaves (T.files store.old) parts.now at.new) }
     ensures taken { AreBacked (T.files store.old) parts.now → IsCacheBacked (T.files store.old) cache.old → IsAheadAt (map filter_tree filters.now) (network_tree network.now).leaves (T.files store.old) parts.now at.old → OnOk result ((most : ℕ)
@@ -59,6 +65,7 @@ pub fn advance<T: Store, F: Fn(u32, u32, u64, u64) -> Fraction>(
         → IsHeld rule.now.kind (map (λ plug. meaning plug) plugs.old) (map filter_tree filters.now) (network_tree network.now) (passed (T.files store.old) parts.now at.new) most held.new) }
     ensures windows { OnOk result ((told : Option Files) (most : ℕ)
         → HasWindows (live told parts.now) (length (network_tree network.now).leaves) most held.old → HasWindows (live told parts.now) (length (network_tree network.now).leaves) most held.new) }
+    ensures entries { OnOk result (HoldsEntries (network_tree network.now) held.new) }
     ensures open { OnOk result (is_open held.new ≡ nat_lt at.new.credit count) }
     ensures place { IsPlace parts.now at.new }
     ensures credit { OnOk result (at.new.credit ≡ min (at.old.credit + docs) count) }
@@ -72,24 +79,37 @@ pub fn advance<T: Store, F: Fn(u32, u32, u64, u64) -> Fraction>(
     let Held::Open(first) = held else {
         return Ok(());
     };
+    let mut squares = Steps::<L>::new(blank);
     pass_parts(
-        alloc, filters, network, rule, plugs, parts, store, cache, at, docs, first,
+        alloc,
+        filters,
+        network,
+        rule,
+        plugs,
+        parts,
+        store,
+        cache,
+        at,
+        docs,
+        first,
+        &mut squares,
     )?;
     if at.credit < count {
         return Ok(());
     }
-    held.end(alloc)?;
+    held.end(alloc, network, &mut squares)?;
     Ok(())
 }
 
-/// What is held before the first of so many live documents.
-pub fn first_held(alloc: Global, most: usize, count: u32) -> Held
+/// What is held before the first of so many live documents, whose candidates have keys of this scale.
+pub fn first_held(alloc: Global, most: usize, scale: u64, count: u32) -> Held
     ensures open { is_open result ≡ nat_lt 0 count }
     ensures windows { (docs : List Document) (leaves : ℕ) → HasWindows docs leaves most result }
+    ensures entries { (network : NetworkTree) → scale ≡ scale_of network → HoldsEntries network result }
     ensures held { (kind : RuleKind) (priors : List Prior) (filters : List FilterTree) (network : NetworkTree) → IsHeld kind priors filters network [] most result }
 {
     if count == 0 {
         return Held::Ended(Hits::of(Vec::new(alloc)));
     }
-    Held::Open(FirstFew::new(alloc, most))
+    Held::Open(Contenders::new(alloc, most, scale))
 }

@@ -14,16 +14,19 @@ ghost use Rattle.ranker.specs.First.{Advances, HoldsFirst};
 ghost use Rattle.ranker.specs.Passed.{live_ids};
 ghost use Rattle.ranker.specs.Windows.{KeepsWindows};
 
+use crate::entries::offer_rows;
+use crate::window::Window;
 use belief_nodes::{BeliefNode, Network};
+use bounded_keys::{Contenders, Entry};
 use deletion_list::DelList;
-use document_scoring::{Row, score_document};
-use first_few::FirstFew;
-use ri_base::{Filter, Fraction, Postings, SegFault};
+use document_scoring::score_document;
+use ri_base::{Filter, Fraction, Postings, SegFault, Steps};
 use smoothing::Rule;
 use std::alloc::Global;
+use std::sync::ledger::Ledger;
 
 /// Offers the candidates of a document.
-fn offer_document<P: Postings, F: Fn(u32, u32, u64, u64) -> Fraction>(
+fn offer_document<P: Postings, F: Fn(u32, u32, u64, u64) -> Fraction, L: Ledger>(
     alloc: Global,
     filters: &[Filter],
     network: &Network,
@@ -31,7 +34,8 @@ fn offer_document<P: Postings, F: Fn(u32, u32, u64, u64) -> Fraction>(
     plugs: &mut [Box<dyn BeliefNode>],
     part: &mut P,
     id: u32,
-    first: &mut FirstFew<Row>,
+    first: &mut Contenders<Entry<Window>>,
+    squares: &mut Steps<L>,
 ) -> Result<(), SegFault>
     requires rule { Computes F.pre F.post rule.now.kind rule.now.f }
     requires id { id < length (P.documents part.old) }
@@ -41,20 +45,20 @@ fn offer_document<P: Postings, F: Fn(u32, u32, u64, u64) -> Fraction>(
     ensures first { P.sound part.old → OnOk result ((docs : List Document) (most : ℕ)
         → HoldsFirst rule.now.kind (map (λ plug. meaning plug) plugs.old) (map filter_tree filters.now) (network_tree network.now) docs most first.old
         → HoldsFirst rule.now.kind (map (λ plug. meaning plug) plugs.old) (map filter_tree filters.now) (network_tree network.now) (docs ++ document_at (P.documents part.old) id ∷ []) most first.new) }
-    ensures windows { OnOk result (KeepsWindows (length (network_tree network.now).leaves) (document_at (P.documents part.old) id ∷ []) first.old first.new) }
+    ensures windows { OnOk result (KeepsWindows (network_tree network.now) (document_at (P.documents part.old) id ∷ []) first.old first.new) }
     ensures stay { map (λ plug. meaning plug) plugs.new ≡ map (λ plug. meaning plug) plugs.old }
     ensures honest { P.sound part.old → IfErr result IsOutside }
     ensures store { result ≡ Err SegFault.Store → Rose (P.faults part.old) (P.faults part.new) }
 {
     let mut rows = Vec::new(alloc);
     score_document(alloc, filters, network, rule, plugs, part, id, &mut rows)?;
-    first.offer_all(&mut rows)?;
+    offer_rows(alloc, network, rows, first, squares)?;
     Ok(())
 }
 
 /// Passes a document of a part with these marks, and answers how many live ones it is: one or none. It is looked at where it is live
 /// and may have candidates.
-pub fn pass_document<P: Postings, F: Fn(u32, u32, u64, u64) -> Fraction>(
+pub fn pass_document<P: Postings, F: Fn(u32, u32, u64, u64) -> Fraction, L: Ledger>(
     alloc: Global,
     filters: &[Filter],
     network: &Network,
@@ -64,7 +68,8 @@ pub fn pass_document<P: Postings, F: Fn(u32, u32, u64, u64) -> Fraction>(
     marks: &DelList,
     may_have: bool,
     id: u32,
-    first: &mut FirstFew<Row>,
+    first: &mut Contenders<Entry<Window>>,
+    squares: &mut Steps<L>,
 ) -> Result<u64, SegFault>
     requires rule { Computes F.pre F.post rule.now.kind rule.now.f }
     requires id { id < length (P.documents part.old) }
@@ -75,7 +80,7 @@ pub fn pass_document<P: Postings, F: Fn(u32, u32, u64, u64) -> Fraction>(
     ensures first { P.sound part.old
         → (may_have ≡ false → query_may (map filter_tree filters.now) (network_tree network.now).leaves (document_at (P.documents part.old) id) ≡ false)
         → OnOk result (Advances rule.now.kind (map (λ plug. meaning plug) plugs.old) (map filter_tree filters.now) (network_tree network.now) (unmarked (take id (P.documents part.old)) marks.now) (unmarked (take (id + 1) (P.documents part.old)) marks.now) first.old first.new) }
-    ensures windows { OnOk result (KeepsWindows (length (network_tree network.now).leaves) (unmarked (P.documents part.old) marks.now) first.old first.new) }
+    ensures windows { OnOk result (KeepsWindows (network_tree network.now) (unmarked (P.documents part.old) marks.now) first.old first.new) }
     ensures docs { IfOk result (λ docs. live_ids marks.now (id + 1) ≡ live_ids marks.now id + docs) }
     ensures one { IfOk result (λ docs. docs ≤ 1) }
     ensures stay { map (λ plug. meaning plug) plugs.new ≡ map (λ plug. meaning plug) plugs.old }
@@ -88,6 +93,8 @@ pub fn pass_document<P: Postings, F: Fn(u32, u32, u64, u64) -> Fraction>(
     if !may_have {
         return Ok(1);
     }
-    offer_document(alloc, filters, network, rule, plugs, part, id, first)?;
+    offer_document(
+        alloc, filters, network, rule, plugs, part, id, first, squares,
+    )?;
     Ok(1)
 }

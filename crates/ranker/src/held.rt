@@ -1,41 +1,51 @@
 // What a search holds.
-ghost use Rattle.std.specs.Prelude.{◌≡◌, ℕ, true, List, IfOk, OnOk};
+ghost use Rattle.std.specs.Prelude.{◌≡◌, ℕ, true, List, length, IfOk, OnOk};
 ghost use Rattle.ri_base.specs.Documents.{Document};
 ghost use Rattle.ri_base.specs.Query.{FilterTree};
 ghost use Rattle.smoothing.specs.declared.rule.RuleKind.{RuleKind};
-ghost use Rattle.belief_nodes.specs.Network.{NetworkTree};
+ghost use Rattle.belief_nodes.specs.Network.{network_tree};
 ghost use Rattle.belief_nodes.specs.Priors.{Prior};
 
 use crate::hits::hits_of;
-use document_scoring::Row;
-use first_few::FirstFew;
-use ri_base::{Hits, NoMemory};
+use crate::keys::NetworkKeys;
+use crate::window::Window;
+use belief_nodes::Network;
+use bounded_keys::{Contenders, Entry};
+use ri_base::{Hits, NoMemory, Steps};
 use std::alloc::Global;
 use std::mem;
+use std::sync::ledger::Ledger;
 
-/// What a search holds of the documents that it passed: the first of their candidates as long as some are left, and the results
-/// once none is.
+/// What a search holds of the documents that it passed: those of their candidates that may be among the first, as long as some
+/// documents are left, and the results once none is.
 #[derive(Drop)]
 pub enum Held {
-    Open(FirstFew<Row>),
+    Open(Contenders<Entry<Window>>),
     Ended(Hits),
 }
 
 impl Held {
     ghost use Rattle.std.specs.Prelude.{false};
-    ghost use Rattle.ranker.specs.Held.{IsHeld, is_open};
+    ghost use Rattle.ranker.specs.Held.{HoldsEntries, IsHeld, is_open};
     ghost use Rattle.ranker.specs.Windows.{HasWindows};
 
-    /// The first of the candidates become the results.
-    pub fn end(&mut self, alloc: Global) -> Result<(), NoMemory>
+    /// The first of the candidates become the results. Further digits are taken of those alone that may be among them.
+    pub fn end<L: Ledger>(
+        &mut self,
+        alloc: Global,
+        network: &Network,
+        squares: &mut Steps<L>,
+    ) -> Result<(), NoMemory>
+        requires { HoldsEntries (network_tree network.now) self.old }
         ensures ended { OnOk result (is_open self.new ≡ false) }
-        ensures held { OnOk result ((kind : RuleKind) (priors : List Prior) (filters : List FilterTree) (network : NetworkTree) (docs : List Document) (most : ℕ)
-            → IsHeld kind priors filters network docs most self.old → IsHeld kind priors filters network docs most self.new) }
+        ensures held { OnOk result ((kind : RuleKind) (priors : List Prior) (filters : List FilterTree) (docs : List Document) (most : ℕ)
+            → IsHeld kind priors filters (network_tree network.now) docs most self.old → IsHeld kind priors filters (network_tree network.now) docs most self.new) }
         ensures windows { OnOk result ((docs : List Document) (leaves most : ℕ) → HasWindows docs leaves most self.old → HasWindows docs leaves most self.new) }
     {
         match mem::replace(self, Held::Ended(Hits::of(Vec::new(alloc)))) {
-            Held::Open(first) => {
-                let hits = hits_of(alloc, first.into_sorted())?;
+            Held::Open(kept) => {
+                let first = kept.into_first(alloc, &NetworkKeys { network }, squares)?;
+                let hits = hits_of(alloc, first)?;
                 *self = Held::Ended(hits);
             }
             Held::Ended(hits) => *self = Held::Ended(hits),

@@ -1,18 +1,41 @@
 // Hits.
 ghost use Rattle.std.specs.Prelude.{◌≡◌, map, IfOk};
-ghost use Rattle.document_scoring.specs.Rows.{row_hit};
+ghost use Rattle.ranker.specs.First.{settled_candidate};
+ghost use Rattle.ranker.specs.Ranking.{candidate_of};
 
-use document_scoring::Row;
-use ri_base::{Hits, NoMemory};
+use crate::window::Window;
+use bounded_keys::{Settled, fractions_of};
+use ri_base::{Hit, Hits, NoMemory};
 use std::alloc::Global;
 
-/// The hits of rows.
-pub fn hits_of(alloc: Global, rows: Vec<Row>) -> Result<Hits, NoMemory>
-    ensures { IfOk result (λ hits. hits ≡ map row_hit rows.items) }
+/// The hit of a candidate with all digits.
+fn hit_of(alloc: Global, settled: Settled<Window>) -> Result<Hit, NoMemory>
+    ensures candidate { IfOk result (λ hit. candidate_of hit ≡ settled_candidate settled) }
+    ensures key { IfOk result (λ hit. hit.key ≡ settled.key) }
 {
-    let mut hits = Vec::with_capacity(alloc, rows.len())?;
-    for row in rows {
-        hits.push(row.into_hit())?;
+    let Settled {
+        key,
+        window,
+        leaves,
+    } = settled;
+    let Window { docno, begin, end } = window;
+    Ok(Hit {
+        docno,
+        begin,
+        end,
+        key,
+        fractions: fractions_of(alloc, &leaves)?,
+    })
+}
+
+/// The hits of candidates with all digits.
+pub fn hits_of(alloc: Global, first: Vec<Settled<Window>>) -> Result<Hits, NoMemory>
+    ensures candidates { IfOk result (λ hits. map candidate_of hits ≡ map settled_candidate first.items) }
+    ensures keys { IfOk result (λ hits. map (λ hit. hit.key) hits ≡ map (λ x. x.key) first.items) }
+{
+    let mut hits = Vec::with_capacity(alloc, first.len())?;
+    for settled in first {
+        hits.push(hit_of(alloc, settled)?)?;
     }
     Ok(Hits::of(hits))
 }

@@ -15,18 +15,19 @@ use crate::ahead::ahead_of;
 use crate::documents::pass_document;
 use crate::place::{Ahead, Passed};
 use crate::unseen::pass_unseen;
+use crate::window::Window;
 use belief_nodes::{BeliefNode, Network};
+use bounded_keys::{Contenders, Entry};
 use deletion_list::DelList;
-use document_scoring::Row;
-use first_few::FirstFew;
 use range_masks::{TermMasks, has_id};
-use ri_base::{Filter, Fraction, SegFault};
+use ri_base::{Filter, Fraction, SegFault, Steps};
 use smoothing::Rule;
 use std::alloc::Global;
+use std::sync::ledger::Ledger;
 
 /// Passes the documents from an id on up to the end of what is known, at most so many live ones. Those are looked at that are live and
 /// whose bit is set.
-fn pass_masked<P: TermMasks, F: Fn(u32, u32, u64, u64) -> Fraction>(
+fn pass_masked<P: TermMasks, F: Fn(u32, u32, u64, u64) -> Fraction, L: Ledger>(
     alloc: Global,
     filters: &[Filter],
     network: &Network,
@@ -37,7 +38,8 @@ fn pass_masked<P: TermMasks, F: Fn(u32, u32, u64, u64) -> Fraction>(
     id: u32,
     ahead: Ahead,
     most: u64,
-    first: &mut FirstFew<Row>,
+    first: &mut Contenders<Entry<Window>>,
+    squares: &mut Steps<L>,
 ) -> Result<Passed, SegFault>
     requires rule { Computes F.pre F.post rule.now.kind rule.now.f }
     requires id { id < length (P.documents part.old) }
@@ -48,7 +50,7 @@ fn pass_masked<P: TermMasks, F: Fn(u32, u32, u64, u64) -> Fraction>(
     ensures keeps { Keeps P.documents P.faults P.sound P.quiet part.old part.new }
     ensures first { P.sound part.old → IsAhead (map filter_tree filters.now) (network_tree network.now).leaves (P.documents part.old) id ahead → IfOk result (λ to.
         Advances rule.now.kind (map (λ plug. meaning plug) plugs.old) (map filter_tree filters.now) (network_tree network.now) (unmarked (take id (P.documents part.old)) marks.now) (unmarked (take to.id (P.documents part.old)) marks.now) first.old first.new) }
-    ensures windows { OnOk result (KeepsWindows (length (network_tree network.now).leaves) (unmarked (P.documents part.old) marks.now) first.old first.new) }
+    ensures windows { OnOk result (KeepsWindows (network_tree network.now) (unmarked (P.documents part.old) marks.now) first.old first.new) }
     ensures ahead { P.sound part.old → IsAhead (map filter_tree filters.now) (network_tree network.now).leaves (P.documents part.old) id ahead → IfOk result (λ to.
         IsAhead (map filter_tree filters.now) (network_tree network.now).leaves (P.documents part.old) to.id to.ahead) }
     ensures passed { IfOk result (IsPassed marks.now id most) }
@@ -72,6 +74,7 @@ fn pass_masked<P: TermMasks, F: Fn(u32, u32, u64, u64) -> Fraction>(
             has_id(ahead.mask, at),
             at,
             first,
+            squares,
         )?;
         docs += passed;
         at += 1;
@@ -85,7 +88,7 @@ fn pass_masked<P: TermMasks, F: Fn(u32, u32, u64, u64) -> Fraction>(
 
 /// Passes documents from an id on, at most so many live ones: up to the end of what is known of the id, or, where nothing is, of what
 /// is found out. Where no bit is set no document is looked at.
-fn pass_on<P: TermMasks, F: Fn(u32, u32, u64, u64) -> Fraction>(
+fn pass_on<P: TermMasks, F: Fn(u32, u32, u64, u64) -> Fraction, L: Ledger>(
     alloc: Global,
     filters: &[Filter],
     network: &Network,
@@ -96,7 +99,8 @@ fn pass_on<P: TermMasks, F: Fn(u32, u32, u64, u64) -> Fraction>(
     id: u32,
     ahead: Ahead,
     most: u64,
-    first: &mut FirstFew<Row>,
+    first: &mut Contenders<Entry<Window>>,
+    squares: &mut Steps<L>,
 ) -> Result<Passed, SegFault>
     requires rule { Computes F.pre F.post rule.now.kind rule.now.f }
     requires id { id < length (P.documents part.old) }
@@ -106,7 +110,7 @@ fn pass_on<P: TermMasks, F: Fn(u32, u32, u64, u64) -> Fraction>(
     ensures keeps { Keeps P.documents P.faults P.sound P.quiet part.old part.new }
     ensures first { P.sound part.old → IsAhead (map filter_tree filters.now) (network_tree network.now).leaves (P.documents part.old) id ahead → IfOk result (λ to.
         Advances rule.now.kind (map (λ plug. meaning plug) plugs.old) (map filter_tree filters.now) (network_tree network.now) (unmarked (take id (P.documents part.old)) marks.now) (unmarked (take to.id (P.documents part.old)) marks.now) first.old first.new) }
-    ensures windows { OnOk result (KeepsWindows (length (network_tree network.now).leaves) (unmarked (P.documents part.old) marks.now) first.old first.new) }
+    ensures windows { OnOk result (KeepsWindows (network_tree network.now) (unmarked (P.documents part.old) marks.now) first.old first.new) }
     ensures ahead { P.sound part.old → IsAhead (map filter_tree filters.now) (network_tree network.now).leaves (P.documents part.old) id ahead → IfOk result (λ to.
         IsAhead (map filter_tree filters.now) (network_tree network.now).leaves (P.documents part.old) to.id to.ahead) }
     ensures passed { IfOk result (IsPassed marks.now id most) }
@@ -120,12 +124,12 @@ fn pass_on<P: TermMasks, F: Fn(u32, u32, u64, u64) -> Fraction>(
         return Ok(pass_unseen(marks, ahead, id, most));
     }
     pass_masked(
-        alloc, filters, network, rule, plugs, part, marks, id, ahead, most, first,
+        alloc, filters, network, rule, plugs, part, marks, id, ahead, most, first, squares,
     )
 }
 
 /// Passes the documents of a part from an id on, at most so many live ones.
-pub fn pass_part<P: TermMasks, F: Fn(u32, u32, u64, u64) -> Fraction>(
+pub fn pass_part<P: TermMasks, F: Fn(u32, u32, u64, u64) -> Fraction, L: Ledger>(
     alloc: Global,
     filters: &[Filter],
     network: &Network,
@@ -136,7 +140,8 @@ pub fn pass_part<P: TermMasks, F: Fn(u32, u32, u64, u64) -> Fraction>(
     id: u32,
     ahead: Ahead,
     most: u64,
-    first: &mut FirstFew<Row>,
+    first: &mut Contenders<Entry<Window>>,
+    squares: &mut Steps<L>,
 ) -> Result<Passed, SegFault>
     requires rule { Computes F.pre F.post rule.now.kind rule.now.f }
     requires id { id ≤ length (P.documents part.old) }
@@ -146,7 +151,7 @@ pub fn pass_part<P: TermMasks, F: Fn(u32, u32, u64, u64) -> Fraction>(
     ensures keeps { Keeps P.documents P.faults P.sound P.quiet part.old part.new }
     ensures first { P.sound part.old → IsAhead (map filter_tree filters.now) (network_tree network.now).leaves (P.documents part.old) id ahead → IfOk result (λ to.
         Advances rule.now.kind (map (λ plug. meaning plug) plugs.old) (map filter_tree filters.now) (network_tree network.now) (unmarked (take id (P.documents part.old)) marks.now) (unmarked (take to.id (P.documents part.old)) marks.now) first.old first.new) }
-    ensures windows { OnOk result (KeepsWindows (length (network_tree network.now).leaves) (unmarked (P.documents part.old) marks.now) first.old first.new) }
+    ensures windows { OnOk result (KeepsWindows (network_tree network.now) (unmarked (P.documents part.old) marks.now) first.old first.new) }
     ensures ahead { P.sound part.old → IsAhead (map filter_tree filters.now) (network_tree network.now).leaves (P.documents part.old) id ahead → IfOk result (λ to.
         IsAhead (map filter_tree filters.now) (network_tree network.now).leaves (P.documents part.old) to.id to.ahead) }
     ensures passed { IfOk result (IsPassed marks.now id most) }
@@ -172,6 +177,7 @@ pub fn pass_part<P: TermMasks, F: Fn(u32, u32, u64, u64) -> Fraction>(
             known,
             most - docs,
             first,
+            squares,
         )?;
         docs += to.docs;
         at = to.id;

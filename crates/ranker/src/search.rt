@@ -4,7 +4,7 @@ ghost use Rattle.ri_base.specs.Query.{is_range};
 ghost use Rattle.store_ends.specs.Files.{Files};
 ghost use Rattle.belief_nodes.specs.Network.{network_tree};
 ghost use Rattle.disk_index.specs.Snapshots.{live};
-ghost use Rattle.ranker.specs.Held.{is_open};
+ghost use Rattle.ranker.specs.Held.{HoldsEntries, is_open};
 ghost use Rattle.ranker.specs.Passed.{IsBareTo, IsPlace};
 ghost use Rattle.ranker.specs.Windows.{HasWindows};
 
@@ -18,6 +18,8 @@ use query_check::Checked;
 use ri_base::{Fraction, Hits, LeafStats, NoMemory, SegFault};
 use smoothing::Rule;
 use std::alloc::Global;
+use std::marker::Brand;
+use std::sync::ledger::Blank;
 use store_ends::Store;
 
 /// A search for the first candidates of the documents of a snapshot. It advances by so many documents as it is asked for. Its credit
@@ -39,6 +41,7 @@ pub struct Search {
     ghost place: { IsPlace snapshot at },
     ghost next: { usable ≡ true → IsBareTo snapshot at live_count bare_to },
     ghost open: { usable ≡ true → (told : Option Files) → is_open held ≡ nat_lt at.credit (length (live told snapshot)) },
+    ghost entries: { usable ≡ true → HoldsEntries (network_tree network) held },
     ghost windows: { usable ≡ true → (told : Option Files) → ∥ HasWindows (live told snapshot) (length (network_tree network).leaves) most held ∥₁ },
 }
 
@@ -78,7 +81,7 @@ impl Search {
     {
         let network = Network::new(alloc, &checked, stats)?;
         let live_count = snapshot.live_count();
-        let held = first_held(alloc, most as usize, live_count);
+        let held = first_held(alloc, most as usize, checked.scale, live_count);
         Ok(Search {
             snapshot,
             checked,
@@ -135,7 +138,7 @@ impl Search {
         ensures store { result ≡ Err SegFault.Store → Rose (T.faults store.old) (T.faults store.new) }
     {
         self.usable = false;
-        advance(
+        advance::<T, F, Brand>(
             alloc,
             docs,
             self.live_count,
@@ -148,6 +151,7 @@ impl Search {
             cache,
             &mut self.at,
             &mut self.held,
+            Blank::new(1),
         )?;
         self.bare_to = bare_to(self.snapshot.parts(), &self.at, self.live_count);
         self.usable = true;

@@ -16,17 +16,18 @@ ghost use Rattle.ranker.specs.Windows.{KeepsWindows};
 
 use crate::parts::pass_part;
 use crate::place::{Ahead, Passed, Place};
+use crate::window::Window;
 use belief_nodes::{BeliefNode, Network};
+use bounded_keys::{Contenders, Entry};
 use disk_index::{BlockCache, MarkedPart, PartReader};
-use document_scoring::Row;
-use first_few::FirstFew;
-use ri_base::{Filter, Fraction, SegFault};
+use ri_base::{Filter, Fraction, SegFault, Steps};
 use smoothing::Rule;
 use std::alloc::Global;
+use std::sync::ledger::Ledger;
 use store_ends::Store;
 
 /// Passes the documents of a part from an id on, of which so much is known, at most so many live ones.
-fn pass_marked<T: Store, F: Fn(u32, u32, u64, u64) -> Fraction>(
+fn pass_marked<T: Store, F: Fn(u32, u32, u64, u64) -> Fraction, L: Ledger>(
     alloc: Global,
     filters: &[Filter],
     network: &Network,
@@ -38,7 +39,8 @@ fn pass_marked<T: Store, F: Fn(u32, u32, u64, u64) -> Fraction>(
     id: u32,
     ahead: Ahead,
     most: u64,
-    first: &mut FirstFew<Row>,
+    first: &mut Contenders<Entry<Window>>,
+    squares: &mut Steps<L>,
 ) -> Result<Passed, SegFault>
     requires rule { Computes F.pre F.post rule.now.kind rule.now.f }
     requires id { id ≤ size marked.now.source }
@@ -47,7 +49,7 @@ fn pass_marked<T: Store, F: Fn(u32, u32, u64, u64) -> Fraction>(
     ensures first { IsPartBacked (T.files store.old) marked.now.source → IsCacheBacked (T.files store.old) cache.old
         → IsAhead (map filter_tree filters.now) (network_tree network.now).leaves (reads (T.files store.old) marked.now.source) id ahead → IfOk result (λ to.
         Advances rule.now.kind (map (λ plug. meaning plug) plugs.old) (map filter_tree filters.now) (network_tree network.now) (live_before (T.files store.old) marked.now id) (live_before (T.files store.old) marked.now to.id) first.old first.new) }
-    ensures windows { OnOk result (KeepsWindows (length (network_tree network.now).leaves) (live_in (T.files store.old) marked.now) first.old first.new) }
+    ensures windows { OnOk result (KeepsWindows (network_tree network.now) (live_in (T.files store.old) marked.now) first.old first.new) }
     ensures ahead { IsPartBacked (T.files store.old) marked.now.source → IsCacheBacked (T.files store.old) cache.old
         → IsAhead (map filter_tree filters.now) (network_tree network.now).leaves (reads (T.files store.old) marked.now.source) id ahead → IfOk result (λ to.
         IsAhead (map filter_tree filters.now) (network_tree network.now).leaves (reads (T.files store.old) marked.now.source) to.id to.ahead) }
@@ -74,6 +76,7 @@ fn pass_marked<T: Store, F: Fn(u32, u32, u64, u64) -> Fraction>(
         ahead,
         most,
         first,
+        squares,
     )
 }
 
@@ -102,7 +105,7 @@ fn place_behind(at: Place, to: Passed, most: u64) -> Place
 }
 
 /// Passes the documents of the part of a place from there on, at most so many live ones, and answers how many of these there were.
-fn pass_next<T: Store, F: Fn(u32, u32, u64, u64) -> Fraction>(
+fn pass_next<T: Store, F: Fn(u32, u32, u64, u64) -> Fraction, L: Ledger>(
     alloc: Global,
     filters: &[Filter],
     network: &Network,
@@ -113,7 +116,8 @@ fn pass_next<T: Store, F: Fn(u32, u32, u64, u64) -> Fraction>(
     cache: &mut BlockCache,
     at: &mut Place,
     most: u64,
-    first: &mut FirstFew<Row>,
+    first: &mut Contenders<Entry<Window>>,
+    squares: &mut Steps<L>,
 ) -> Result<u64, SegFault>
     requires rule { Computes F.pre F.post rule.now.kind rule.now.f }
     requires shown { is_range (network_tree network.now).range ≡ true }
@@ -123,7 +127,7 @@ fn pass_next<T: Store, F: Fn(u32, u32, u64, u64) -> Fraction>(
     requires some { at.old.part < length parts.now }
     ensures first { AreBacked (T.files store.old) parts.now → IsCacheBacked (T.files store.old) cache.old → IsAheadAt (map filter_tree filters.now) (network_tree network.now).leaves (T.files store.old) parts.now at.old → OnOk result
         (Advances rule.now.kind (map (λ plug. meaning plug) plugs.old) (map filter_tree filters.now) (network_tree network.now) (passed (T.files store.old) parts.now at.old) (passed (T.files store.old) parts.now at.new) first.old first.new) }
-    ensures windows { OnOk result (KeepsWindows (length (network_tree network.now).leaves) (live (T.files store.old) parts.now) first.old first.new) }
+    ensures windows { OnOk result (KeepsWindows (network_tree network.now) (live (T.files store.old) parts.now) first.old first.new) }
     ensures ahead { AreBacked (T.files store.old) parts.now → IsCacheBacked (T.files store.old) cache.old → IsAheadAt (map filter_tree filters.now) (network_tree network.now).leaves (T.files store.old) parts.now at.old → OnOk result
         (IsAheadAt (map filter_tree filters.now) (network_tree network.now).leaves (T.files store.old) parts.now at.new) }
     ensures place { IsPlace parts.now at.new }
@@ -139,13 +143,14 @@ fn pass_next<T: Store, F: Fn(u32, u32, u64, u64) -> Fraction>(
     let marked = &parts[at.part];
     let to = pass_marked(
         alloc, filters, network, rule, plugs, marked, store, cache, at.id, at.ahead, most, first,
+        squares,
     )?;
     *at = place_behind(*at, to, most);
     Ok(to.docs)
 }
 
 /// Passes the documents of the parts from a place on, so many live ones, or all that are left where these are fewer.
-pub fn pass_parts<T: Store, F: Fn(u32, u32, u64, u64) -> Fraction>(
+pub fn pass_parts<T: Store, F: Fn(u32, u32, u64, u64) -> Fraction, L: Ledger>(
     alloc: Global,
     filters: &[Filter],
     network: &Network,
@@ -156,7 +161,8 @@ pub fn pass_parts<T: Store, F: Fn(u32, u32, u64, u64) -> Fraction>(
     cache: &mut BlockCache,
     at: &mut Place,
     docs: u64,
-    first: &mut FirstFew<Row>,
+    first: &mut Contenders<Entry<Window>>,
+    squares: &mut Steps<L>,
 ) -> Result<(), SegFault>
     requires rule { Computes F.pre F.post rule.now.kind rule.now.f }
     requires shown { is_range (network_tree network.now).range ≡ true }
@@ -165,7 +171,7 @@ pub fn pass_parts<T: Store, F: Fn(u32, u32, u64, u64) -> Fraction>(
     requires place { IsPlace parts.now at.old }
     ensures first { AreBacked (T.files store.old) parts.now → IsCacheBacked (T.files store.old) cache.old → IsAheadAt (map filter_tree filters.now) (network_tree network.now).leaves (T.files store.old) parts.now at.old → OnOk result
         (Advances rule.now.kind (map (λ plug. meaning plug) plugs.old) (map filter_tree filters.now) (network_tree network.now) (passed (T.files store.old) parts.now at.old) (passed (T.files store.old) parts.now at.new) first.old first.new) }
-    ensures windows { OnOk result (KeepsWindows (length (network_tree network.now).leaves) (live (T.files store.old) parts.now) first.old first.new) }
+    ensures windows { OnOk result (KeepsWindows (network_tree network.now) (live (T.files store.old) parts.now) first.old first.new) }
     ensures ahead { AreBacked (T.files store.old) parts.now → IsCacheBacked (T.files store.old) cache.old → IsAheadAt (map filter_tree filters.now) (network_tree network.now).leaves (T.files store.old) parts.now at.old → OnOk result
         (IsAheadAt (map filter_tree filters.now) (network_tree network.now).leaves (T.files store.old) parts.now at.new) }
     ensures place { IsPlace parts.now at.new }
@@ -180,7 +186,7 @@ pub fn pass_parts<T: Store, F: Fn(u32, u32, u64, u64) -> Fraction>(
     let mut left = docs;
     while left > 0 && at.part < parts.len() {
         let passed = pass_next(
-            alloc, filters, network, rule, plugs, parts, store, cache, at, left, first,
+            alloc, filters, network, rule, plugs, parts, store, cache, at, left, first, squares,
         )?;
         left -= passed;
     }

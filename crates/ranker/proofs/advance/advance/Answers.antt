@@ -3,7 +3,7 @@ use Rattle.ri_base.specs.Query.{filter_tree}
 use Rattle.belief_nodes.specs.Network.{network_tree}
 use Rattle.disk_index.specs.Snapshots.{live}
 use Rattle.ranker.specs.Passed.{passed}
-use Rattle.ranker.proofs.HeldLemmas.{IsHeld-on, ended-credit}
+use Rattle.ranker.proofs.HeldLemmas.{HoldsEntries-on, HoldsEntries-shut, IsHeld-on, ended-credit}
 use Rattle.ranker.proofs.PlaceLemmas.{credit-le}
 use Rattle.ranker.proofs.WindowLemmas.{HasWindows-on}
 use Rattle.ranker.proofs.advance.advance.Goals as goal
@@ -38,16 +38,25 @@ returns-clause-taken g c = λ backed cached known most h.
     let priors = map (λ b. (goal.BeliefNode-dyn g (b.vtable, b.value)).meaning b.value) c.args.plugs.now in
     let filters = map filter_tree c.args.filters.now in
     let network = network_tree c.args.network.now in
-    c.in_ok-end.ensures.held kind priors filters network (passed told parts c.pass_parts.new.at) most
+    c.in_ok-end.ensures.held kind priors filters (passed told parts c.pass_parts.new.at) most
     (IsHeld-on kind priors filters network (passed told parts c.args.at.now) (passed told parts c.pass_parts.new.at) most
     c.args.held.now c.in-Open.first c.pass_parts.new.first c.in-Open.is (c.in_ok-pass_parts.ensures.first backed cached known) h)
 
 pub returns-then-at-count-clause-windows : goal.returns-then-at-count-clause-windows
 returns-then-at-count-clause-windows g c = λ told most h.
-    HasWindows-on (length (network_tree c.args.network.now).leaves) told (g.T.Store.files c.args.store.now) c.args.parts.now most c.args.held.now c.in-Open.first c.pass_parts.new.first c.in-Open.is c.in_ok-pass_parts.ensures.windows h
+    HasWindows-on (network_tree c.args.network.now) told (g.T.Store.files c.args.store.now) c.args.parts.now most c.args.held.now c.in-Open.first c.pass_parts.new.first c.in-Open.is c.in_ok-pass_parts.ensures.windows h
 
 pub returns-clause-windows : goal.returns-clause-windows
 returns-clause-windows g c = λ told most h.
     let leaves = length (network_tree c.args.network.now).leaves in
     c.in_ok-end.ensures.windows (live told c.args.parts.now) leaves most
-    (HasWindows-on leaves told (g.T.Store.files c.args.store.now) c.args.parts.now most c.args.held.now c.in-Open.first c.pass_parts.new.first c.in-Open.is c.in_ok-pass_parts.ensures.windows h)
+    (HasWindows-on (network_tree c.args.network.now) told (g.T.Store.files c.args.store.now) c.args.parts.now most c.args.held.now c.in-Open.first c.pass_parts.new.first c.in-Open.is c.in_ok-pass_parts.ensures.windows h)
+
+pub end-requires : goal.end-requires
+end-requires g c = HoldsEntries-on (network_tree c.args.network.now) (live (g.T.Store.files c.args.store.now) c.args.parts.now) c.args.held.now c.in-Open.first c.pass_parts.new.first c.in-Open.is c.in_ok-pass_parts.ensures.windows c.requires.entries
+
+pub returns-then-at-count-clause-entries : goal.returns-then-at-count-clause-entries
+returns-then-at-count-clause-entries g c = HoldsEntries-on (network_tree c.args.network.now) (live (g.T.Store.files c.args.store.now) c.args.parts.now) c.args.held.now c.in-Open.first c.pass_parts.new.first c.in-Open.is c.in_ok-pass_parts.ensures.windows c.requires.entries
+
+pub returns-clause-entries : goal.returns-clause-entries
+returns-clause-entries g c = HoldsEntries-shut (network_tree c.args.network.now) c.end.new.self c.in_ok-end.ensures.ended

@@ -5,8 +5,16 @@ use Rattle.belief_nodes.specs.Network.{network_tree}
 use Rattle.document_scoring.specs.Rows.{Adds, AddsRows}
 use Rattle.document_scoring.specs.declared.scoring.Row.{Row}
 use Rattle.ranker.proofs.RankingLemmas.{HoldsFirst-more}
-use Rattle.ranker.proofs.WindowLemmas.{KeepsWindows-offered}
+use Rattle.ranker.proofs.WindowLemmas.{KeepsWindows-offered, rows_each}
 use Rattle.ranker.proofs.documents.offer_document.Goals as goal
+
+pub offer_rows-requires : goal.offer_rows-requires
+offer_rows-requires g c =
+    let leaves = length (network_tree c.args.network.now).leaves in
+    let d = document_at (g.P.Postings.documents c.args.part.now) c.args.id in
+    let adds : AddsRows d leaves [] c.score_document.new.rows.items =
+    subst (λ (rs : List Row). AddsRows d leaves rs c.score_document.new.rows.items) c.new-rows.ensures.items c.in_ok-score_document.ensures.shape in
+    rows_each d leaves c.score_document.new.rows.items adds
 
 pub returns-clause-first : goal.returns-clause-first
 returns-clause-first g c = λ sound docs most h.
@@ -17,12 +25,15 @@ returns-clause-first g c = λ sound docs most h.
     let d = document_at (g.P.Postings.documents c.args.part.now) c.args.id in
     let adds : Adds kind priors filters network d [] c.score_document.new.rows.items =
     subst (λ (rs : List Row). Adds kind priors filters network d rs c.score_document.new.rows.items) c.new-rows.ensures.items (c.in_ok-score_document.ensures.exact sound) in
-    HoldsFirst-more kind priors filters network docs d most c.args.first.now _ _ adds c.offer_all.ensures.most c.in_ok-offer_all.ensures.first h
+    let rows : AddsRows d (length network.leaves) [] c.score_document.new.rows.items =
+    subst (λ (rs : List Row). AddsRows d (length network.leaves) rs c.score_document.new.rows.items) c.new-rows.ensures.items c.in_ok-score_document.ensures.shape in
+    HoldsFirst-more kind priors filters network docs d most c.args.first.now _ _ adds (rows_each d (length network.leaves) c.score_document.new.rows.items rows) c.offer_rows.ensures.most c.in_ok-offer_rows.ensures.offered h
 
 pub returns-clause-windows : goal.returns-clause-windows
 returns-clause-windows g c =
-    let leaves = length (network_tree c.args.network.now).leaves in
+    let network = network_tree c.args.network.now in
+    let leaves = length network.leaves in
     let d = document_at (g.P.Postings.documents c.args.part.now) c.args.id in
     let adds : AddsRows d leaves [] c.score_document.new.rows.items =
     subst (λ (rs : List Row). AddsRows d leaves rs c.score_document.new.rows.items) c.new-rows.ensures.items c.in_ok-score_document.ensures.shape in
-    KeepsWindows-offered leaves d c.args.first.now _ _ adds c.offer_all.ensures.most c.in_ok-offer_all.ensures.first
+    KeepsWindows-offered network d c.args.first.now _ _ adds c.offer_rows.ensures.most c.offer_rows.ensures.scale c.in_ok-offer_rows.ensures.among

@@ -43,5 +43,5 @@ returns-clause-docs g c = ids-live c.args.marks.now c.args.id (omega (arith, c.r
 
 pub returns-clause-windows : goal.returns-clause-windows
 returns-clause-windows g c =
-    KeepsWindows-live (length (network_tree c.args.network.now).leaves) (g.P.Postings.documents c.args.part.now) c.args.marks.now c.args.id c.args.first.now c.offer_document.new.first
+    KeepsWindows-live (network_tree c.args.network.now) (g.P.Postings.documents c.args.part.now) c.args.marks.now c.args.id c.args.first.now c.offer_document.new.first
     c.requires.id c.requires.marks (sym c.is_marked.ensures ∙ c.if-is_marked.false) c.in_ok-offer_document.ensures.windows

@@ -1,6 +1,13 @@
 use Rattle.std.proofs.Common.{◌≡◌, map}
-use Rattle.document_scoring.specs.Rows.{row_hit}
+use Rattle.bounded_keys.specs.declared.entry.Settled.{Settled}
+use Rattle.ri_base.specs.declared.hit.Hit.{Hit}
+use Rattle.ranker.specs.First.{settled_candidate}
+use Rattle.ranker.specs.Ranking.{candidate_of}
+use Rattle.ranker.specs.declared.window.Window.{Window}
 use Rattle.ranker.proofs.hits.hits_of.Given as goal
 
-abbrev pub invariant-loop-row : goal.invariant-loop-row
-invariant-loop-row l = l.hits.items ≡ map row_hit l.yielded
+abbrev pub invariant-loop-settled : goal.invariant-loop-settled
+invariant-loop-settled l = record {
+  candidates : map candidate_of l.hits.items ≡ map settled_candidate l.yielded;
+  keys : map (λ (h : Hit). h.key) l.hits.items ≡ map (λ (x : Settled Window). x.key) l.yielded;
+}

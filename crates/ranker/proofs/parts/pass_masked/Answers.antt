@@ -50,8 +50,8 @@ loop-at-preserved g c =
           Advances-then kind priors filters network (unmarked (take c.args.id docs) marks) (unmarked (take at docs) marks) (unmarked (take (at + 1) docs) marks) c.args.first.now c.loop-at.first c.pass_document.new.first
           (c.loop-at.invariant.so_far sound known)
           (Advances-read kind _ priors filters network read docs marks at (at + 1) c.loop-at.first c.pass_document.new.first c.loop-at.invariant.stay keeps.documents_stay (c.in_ok-passed.ensures.first (keeps.sound_stays sound) none));
-      windows = KeepsWindows-then (length network.leaves) (unmarked docs marks) c.args.first.now c.loop-at.first c.pass_document.new.first c.loop-at.invariant.windows
-          (subst (λ (ds : List Document). KeepsWindows (length network.leaves) (unmarked ds marks) c.loop-at.first c.pass_document.new.first) keeps.documents_stay c.in_ok-passed.ensures.windows);
+      windows = KeepsWindows-then network (unmarked docs marks) c.args.first.now c.loop-at.first c.pass_document.new.first c.loop-at.invariant.windows
+          (subst (λ (ds : List Document). KeepsWindows network (unmarked ds marks) c.loop-at.first c.pass_document.new.first) keeps.documents_stay c.in_ok-passed.ensures.windows);
       ids = omega (arith, c.loop-at.invariant.ids, c.in_ok-passed.ensures.docs);
       from = omega (arith, c.loop-at.invariant.from, c.in_ok-passed.ensures.one);
       inside = omega (arith, c.loop-at-test.true);

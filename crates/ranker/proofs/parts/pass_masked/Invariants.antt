@@ -14,7 +14,7 @@ invariant-loop-at g l = record {
   stay : map (λ b. (goal.BeliefNode-dyn g (b.vtable, b.value)).meaning b.value) l.plugs ≡ map (λ b. (goal.BeliefNode-dyn g (b.vtable, b.value)).meaning b.value) l.fn.plugs;
   so_far : g.P.Postings.sound l.fn.part → IsAhead (map filter_tree l.filters) (network_tree l.network).leaves (g.P.Postings.documents l.fn.part) l.id l.ahead
       → Advances l.rule.kind (map (λ b. (goal.BeliefNode-dyn g (b.vtable, b.value)).meaning b.value) l.fn.plugs) (map filter_tree l.filters) (network_tree l.network) (unmarked (take l.id (g.P.Postings.documents l.fn.part)) l.marks) (unmarked (take l.at (g.P.Postings.documents l.fn.part)) l.marks) l.fn.first l.first;
-  windows : KeepsWindows (length (network_tree l.network).leaves) (unmarked (g.P.Postings.documents l.fn.part) l.marks) l.fn.first l.first;
+  windows : KeepsWindows (network_tree l.network) (unmarked (g.P.Postings.documents l.fn.part) l.marks) l.fn.first l.first;
   ids : live_ids l.marks l.at ≡ live_ids l.marks l.id + l.docs;
   from : l.id + l.docs ≤ l.at;
   inside : l.at ≤ l.end;

@@ -46,8 +46,8 @@ loop-at-preserved g c =
           (c.loop-at.invariant.so_far sound known)
           (Advances-read kind _ priors filters network read docs marks at to.id c.loop-at.first c.pass_on.new.first c.loop-at.invariant.stay keeps.documents_stay (c.in_ok-to.ensures.first (keeps.sound_stays sound) (here sound known)));
       ahead = λ sound known. IsAhead-read filters network.leaves read docs to.id to.ahead keeps.documents_stay (c.in_ok-to.ensures.ahead (keeps.sound_stays sound) (here sound known));
-      windows = KeepsWindows-then (length network.leaves) (unmarked docs marks) c.args.first.now c.loop-at.first c.pass_on.new.first c.loop-at.invariant.windows
-          (subst (λ (ds : List Document). KeepsWindows (length network.leaves) (unmarked ds marks) c.loop-at.first c.pass_on.new.first) keeps.documents_stay c.in_ok-to.ensures.windows);
+      windows = KeepsWindows-then network (unmarked docs marks) c.args.first.now c.loop-at.first c.pass_on.new.first c.loop-at.invariant.windows
+          (subst (λ (ds : List Document). KeepsWindows network (unmarked ds marks) c.loop-at.first c.pass_on.new.first) keeps.documents_stay c.in_ok-to.ensures.windows);
       ids = omega (arith, c.loop-at.invariant.ids, passed.docs);
       inside = omega (arith, passed.inside, c.requires.marks, c.docs-size.ensures);
       few = omega (arith, c.loop-at.invariant.few, passed.few);

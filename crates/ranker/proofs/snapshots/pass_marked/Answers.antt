@@ -70,9 +70,9 @@ returns-clause-windows g c =
     let here = g.T.Store.files c.new-reader.result.store.now in
     let m = c.args.marked.now in
     let own = source_of c.new-reader.result.part.now in
-    let leaves = length (network_tree c.args.network.now).leaves in
+    let network = network_tree c.args.network.now in
     let same_told : here ≡ told = ap g.T.Store.files c.new-reader.ensures.store in
     let same_part : own ≡ m.source = ap source_of c.new-reader.ensures.part ∙ c.part.ensures.part in
     let docs : reads here own ≡ reads told m.source = ap (λ (t : Option Files). reads t own) same_told ∙ ap (reads told) same_part in
-    subst (λ (ds : List Document). OnOk c.pass_part.result (KeepsWindows leaves (unmarked ds m.marks) c.args.first.now c.pass_part.new.first)) docs
-    (subst (λ (ms : List Bool). OnOk c.pass_part.result (KeepsWindows leaves (unmarked (reads here own) ms) c.args.first.now c.pass_part.new.first)) c.marks.ensures.marks c.pass_part.ensures.windows)
+    subst (λ (ds : List Document). OnOk c.pass_part.result (KeepsWindows network (unmarked ds m.marks) c.args.first.now c.pass_part.new.first)) docs
+    (subst (λ (ms : List Bool). OnOk c.pass_part.result (KeepsWindows network (unmarked (reads here own) ms) c.args.first.now c.pass_part.new.first)) c.marks.ensures.marks c.pass_part.ensures.windows)

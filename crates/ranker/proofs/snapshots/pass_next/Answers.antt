@@ -9,7 +9,8 @@ use Rattle.ranker.specs.First.{Advances}
 use Rattle.ranker.specs.Passed.{IsAhead, IsAheadAt, IsPlace, behind, passed}
 use Rattle.ranker.specs.declared.place.Place.{Place}
 use Rattle.ranker.proofs.PlaceLemmas.{Advances-place, IsAheadAt-behind, IsPlace-behind, credit-behind, credit-few, part-behind, part-is}
-use Rattle.ranker.proofs.WindowLemmas.{KeepsWindows-among, live-among}
+use Rattle.ranker.proofs.DocumentLemmas.{live-among}
+use Rattle.ranker.proofs.WindowLemmas.{KeepsWindows-among}
 use Rattle.ranker.proofs.snapshots.pass_next.Goals as goal
 
 pub pass_marked-requires-clause-id : goal.pass_marked-requires-clause-id
@@ -65,7 +66,7 @@ returns-clause-windows g c =
     let told = g.T.Store.files c.args.store.now in
     let parts = c.args.parts.now in
     let m = c.index-parts-at.result in
-    KeepsWindows-among (length (network_tree c.args.network.now).leaves) (live_in told m) (live told parts) c.args.first.now c.pass_marked.new.first
+    KeepsWindows-among (network_tree c.args.network.now) (live_in told m) (live told parts) c.args.first.now c.pass_marked.new.first
     (live-among told parts c.args.at.now.part m c.requires.some c.index-parts-at.is) c.in_ok-to.ensures.windows
 
 pub returns-clause-place : goal.returns-clause-place

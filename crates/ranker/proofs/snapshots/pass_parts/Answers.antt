@@ -53,8 +53,8 @@ loop-left-preserved g c =
           subst (λ (f : Option Files). IsCacheBacked f c.loop-left.cache) (sym same) (IsCacheBacked-kept told (IsFileAmong parts) c.args.cache.now c.loop-left.cache inv.cache cached) in
           IsAheadAt-later filters network.leaves here told parts c.pass_next.new.at same
           (c.in_ok-passed.ensures.ahead there blocks (IsAheadAt-later filters network.leaves told here parts c.loop-left.at (sym same) (inv.ahead backed cached known)));
-      windows = KeepsWindows-then (length network.leaves) (live told parts) c.args.first.now c.loop-left.first c.pass_next.new.first inv.windows
-          (subst (λ (f : Option Files). KeepsWindows (length network.leaves) (live f parts) c.loop-left.first c.pass_next.new.first) same c.in_ok-passed.ensures.windows);
+      windows = KeepsWindows-then network (live told parts) c.args.first.now c.loop-left.first c.pass_next.new.first inv.windows
+          (subst (λ (f : Option Files). KeepsWindows network (live f parts) c.loop-left.first c.pass_next.new.first) same c.in_ok-passed.ensures.windows);
       place = c.pass_next.ensures.place;
       credit = omega (arith, docs, inv.credit);
       cache = CacheKeeps-after told here (IsFileAmong parts) c.args.cache.now c.loop-left.cache c.pass_next.new.cache same inv.cache c.pass_next.ensures.cache;

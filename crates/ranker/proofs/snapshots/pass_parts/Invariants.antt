@@ -18,7 +18,7 @@ invariant-loop-left g l = record {
   ahead : AreBacked (g.T.Store.files l.fn.store) l.parts → IsCacheBacked (g.T.Store.files l.fn.store) l.fn.cache
       → IsAheadAt (map filter_tree l.filters) (network_tree l.network).leaves (g.T.Store.files l.fn.store) l.parts l.fn.at
       → IsAheadAt (map filter_tree l.filters) (network_tree l.network).leaves (g.T.Store.files l.fn.store) l.parts l.at;
-  windows : KeepsWindows (length (network_tree l.network).leaves) (live (g.T.Store.files l.fn.store) l.parts) l.fn.first l.first;
+  windows : KeepsWindows (network_tree l.network) (live (g.T.Store.files l.fn.store) l.parts) l.fn.first l.first;
   place : IsPlace l.parts l.at;
   credit : l.at.credit + l.left ≡ l.fn.at.credit + l.docs;
   cache : CacheKeeps (g.T.Store.files l.fn.store) (IsFileAmong l.parts) l.fn.cache l.cache;

@@ -46,7 +46,7 @@ module _ (kind : RuleKind) (a b : List Prior) where
       flat_map (λ d. map (λ w. candidate-alike network alike d w i) (found_windows network.leaves network.range d)) (filter (λ d. list_all (passes d) filters) docs)
 
   held-alike : (filters : List FilterTree) (network : NetworkTree) (docs : List Document) (most : ℕ) → All (TellsAlike a b) network.leaves → (h : Held) → IsHeld kind a filters network docs most h → IsHeld kind b filters network docs most h
-  held-alike filters network docs most alike (Open few) held = record { rows = held.rows; all = held.all ∙ candidates-alike filters network alike docs; keys = held.keys; room = held.room; first = held.first }
+  held-alike filters network docs most alike (Open few) held = record { rows = held.rows; all = held.all ∙ candidates-alike filters network alike docs; each = held.each; room = held.room; offered = held.offered }
   held-alike filters network docs most alike (Ended hits) held =
       (held.0, record { all = subst (λ (cs : List Candidate). IsPermutation cs (map candidate_of held.0)) (candidates-alike filters network alike docs) held.1.all; keys = held.1.keys; sorted = held.1.sorted }, held.2)
 

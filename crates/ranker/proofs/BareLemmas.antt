@@ -135,11 +135,6 @@ module _ (parts : List Marked) (at : Place) (count : ℕ) (bare : AreBare (part_
       let credit : at.credit + 0 ≡ at.credit = omega arith in
       ap (λ i. moved at i (at.credit + 0)) id ∙ ap (λ n. moved at at.id n) credit
 
-  -- no id behind the end of what is known is come to
-  pub id-few : (docs top : ℕ) → docs ≤ count → at.id ≤ top → at.ahead.end ≤ top → at.id + docs ≤ top
-  id-few zero top few here known = omega (arith, here)
-  id-few (suc docs) top few here known = let last = (bare (at.id + docs) (omega arith) (omega (arith, few))).known in omega (arith, last, known)
-
   pub IsPlace-few : (docs : ℕ) → docs ≤ count → IsPlace parts at → IsPlace parts (place_on at docs)
   IsPlace-few zero few place = subst (IsPlace parts) (sym place_on-none) place
   IsPlace-few (suc docs) few place = IsPlace-on (suc docs) (omega (arith, few)) few place
@@ -152,8 +147,9 @@ module _ (parts : List Marked) (at : Place) (count : ℕ) (bare : AreBare (part_
 
 -- ---- up to a credit
 
-pub IsBareTo-at : (parts : List Marked) (at : Place) (count all to : ℕ) → AreBare (part_at parts at.part) at.ahead at.id count → at.credit ≤ all → to ≡ min (at.credit + count + 1) all → IsBareTo parts at all to
-IsBareTo-at parts at count all to bare few is = record {
+pub IsBareTo-at : (parts : List Marked) (at : Place) (count all to : ℕ) → AreBare (part_at parts at.part) at.ahead at.id count → at.id + count < 2 ^ 32 → at.credit ≤ all → to ≡ min (at.credit + count + 1) all → IsBareTo parts at all to
+IsBareTo-at parts at count all to bare ids few is = record {
+  ids = omega (arith, ids, is);
   from = omega (arith, few, is);
   left = omega (arith, is);
   bare = λ docs lt i low high. bare i low (omega (arith, high, lt, is));
@@ -163,5 +159,6 @@ pub IsBareTo-on : (parts : List Marked) (at : Place) (all to docs : ℕ) → at.
 IsBareTo-on parts at all to docs lt h = record {
   from = omega (arith, lt);
   left = h.left;
+  ids = let fits = h.ids in omega (arith, fits);
   bare = λ more less i low high. h.bare (docs + more) (omega (arith, less)) i (omega (arith, low)) (omega (arith, high));
 }

@@ -1,5 +1,5 @@
 -- Entries of which the first are held, as the ranking that their rows stand for.
-use Rattle.std.proofs.Common.{◌≡◌, ◌<◌, ℕ, ◌+◌, Bool, false, List, [], ◌∷◌, ◌++◌, length, map, filter, flat_map, get_or, take, refl, sym, ap, subst, ◌∙◌, arith}
+use Rattle.std.proofs.Common.{◌≡◌, ◌<◌, ℕ, ◌+◌, Bool, false, IfOk, Result, Ok, Err, List, [], ◌∷◌, ◌++◌, length, map, filter, flat_map, get_or, take, refl, sym, ap, subst, ◌∙◌, arith}
 use Rattle.std.specs.List.{All, list_all}
 use Rattle.std.specs.List.Sorted.{IsPermutation, IsSortedBy}
 use Rattle.std.specs.Ordering.{is_lt}
@@ -66,6 +66,11 @@ module _ (network : NetworkTree) where
       let leaves : x.leaves ≡ early row.fractions = early_leaves x.leaves row.fractions is.first beliefs in
       let leading : x.leading ≡ key_by network (map digits_of (early row.fractions)) = is.leads ∙ ap (λ (ls : List Progress). key_by network (map digits_of ls)) leaves in
       λ i. record { leading = leading i; window = window i; leaves = leaves i }
+
+  pub early_made : {E : Type 0} (row : Row) (made : Result (Entry Window) E) → IfOk made (λ x. x.window ≡ window_of row) → IfOk made (λ x. map belief x.leaves ≡ map ratio_of row.fractions)
+      → IfOk made (λ x. IsEarly (key_by network) (length network.leaves) x) → IfOk made (λ x. x ≡ early_of network row)
+  early_made row (Ok x) window beliefs is = early_is row x window beliefs is
+  early_made row (Err e) window beliefs is = tt
 
   IsEarly-row : (row : Row) → length row.fractions ≡ length network.leaves → IsEarly (key_by network) (length network.leaves) (early_of network row)
   IsEarly-row row long = record { each = early_length row.fractions ∙ long; first = early_level row.fractions; leads = refl }
@@ -189,8 +194,7 @@ module _ (kind : RuleKind) (priors : List Prior) (filters : List FilterTree) (ne
       let ranked = unmapped (late_of network) h.rows f.ranking f.same in
       let sorted : List Row = ranked.0 in
       let first : front ≡ map (late_of network) (take most sorted) = f.first ∙ ap (take most) (sym ranked.2) ∙ take-map (late_of network) most sorted in
-      let are : hits ≡ map (hit_of network) (take most sorted) = hits_are network hits (take most sorted) (told ∙ ap (map settled_candidate) first) (keys ∙ ap (map (λ (x : Settled Window). x.key)) first) in
-      (
+      let are : hits ≡ map (hit_of network) (take most sorted) = hits_are network hits (take most sorted) (told ∙ ap (map settled_candidate) first) (keys ∙ ap (map (λ (x : Settled Window). x.key)) first) in (
         map (hit_of network) sorted,
         IsRankingBy-rows docs h.rows sorted h.all ranked.1 (subst (λ (xs : List (Settled Window)). IsSortedBy (λ a b. is_lt (by_key window_order a b)) xs) (sym ranked.2) f.sorted),
         are ∙ sym (take-map (hit_of network) most sorted),

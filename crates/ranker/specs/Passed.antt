@@ -1,5 +1,5 @@
 -- How far a search has come.
-use Rattle.std.specs.Prelude.{◌≡◌, ◌<◌, ◌≤◌, ◌+◌, ◌%◌, if◌then◌else◌, nat_lt, ℕ, zero, suc, Bool, true, false, List, [], ◌∷◌, ◌++◌, Option, length, take, slice_index_or}
+use Rattle.std.specs.Prelude.{◌≡◌, ◌<◌, ◌≤◌, ◌+◌, ◌%◌, ◌^◌, if◌then◌else◌, nat_lt, ℕ, zero, suc, Bool, true, false, List, [], ◌∷◌, ◌++◌, Option, length, take, slice_index_or}
 use Rattle.std.specs.Int.{bit_at}
 use Rattle.ri_base.specs.Collection.{document_at}
 use Rattle.ri_base.specs.Documents.{Document}
@@ -71,8 +71,10 @@ pub record IsPlace (parts : List Marked) (at : Place) : Type 0 where
 abbrev pub behind : Place → Passed → ℕ → Place
 behind at to most = if nat_lt to.docs most then record { part = at.part + 1; id = 0; credit = at.credit + to.docs; ahead = nothing_known } else record { part = at.part; id = to.id; credit = at.credit + to.docs; ahead = to.ahead }
 
--- While the credit stays below a number, no less than now and no more than so many, the documents that come next have nothing to show.
+-- While the credit stays below a number, no less than now and no more than so many, the documents that come next have nothing to show,
+-- and their ids have 32 bits.
 pub record IsBareTo (parts : List Marked) (at : Place) (count to : ℕ) : Type 0 where
   pub from : at.credit ≤ to
   pub left : to ≤ count
+  pub ids : at.id + to ≤ at.credit + 2 ^ 32
   pub bare : (docs : ℕ) → at.credit + docs < to → AreBare (part_at parts at.part) at.ahead at.id docs

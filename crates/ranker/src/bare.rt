@@ -1,5 +1,5 @@
 // Live documents that come next and have nothing to show.
-ghost use Rattle.std.specs.Prelude.{◌≡◌, ◌<◌, ◌≤◌, ◌+◌, ◌%◌, ℕ, Option, false, length, slice_index_or};
+ghost use Rattle.std.specs.Prelude.{◌≡◌, ◌<◌, ◌≤◌, ◌+◌, ◌%◌, ◌^◌, ℕ, Option, false, length, slice_index_or};
 ghost use Rattle.std.specs.Int.{bit_at};
 ghost use Rattle.store_ends.specs.Files.{Files};
 ghost use Rattle.disk_index.specs.Snapshots.{IsSnapshot, live};
@@ -44,7 +44,8 @@ fn live_run(marks: &DelList, id: u32, count: u32) -> u32
 
 /// How many ids of a part from one on are live and have nothing to show, one behind the other, as far as is known.
 fn bare_from(marked: &MarkedPart, ahead: Ahead, id: u32) -> u32
-    ensures { AreBare marked.now ahead id result }
+    ensures bare { AreBare marked.now ahead id result }
+    ensures ids { id + result < 2 ^ 32 }
 {
     let end = ahead.end.min(marked.part().docs());
     if end <= id {
@@ -56,10 +57,17 @@ fn bare_from(marked: &MarkedPart, ahead: Ahead, id: u32) -> u32
 
 /// How many of the documents that come next at a place are live and have nothing to show.
 fn bare_at(parts: &[MarkedPart], at: &Place) -> u32
-    ensures { AreBare (part_at parts.now at.now.part) at.now.ahead at.now.id result }
+    ensures bare { AreBare (part_at parts.now at.now.part) at.now.ahead at.now.id result }
+    ensures ids { at.now.id + result < 2 ^ 32 }
 {
-    if at.part < parts.len() {
-        bare_from(&parts[at.part], at.ahead, at.id)
+    let Place {
+        part,
+        id,
+        ahead,
+        ..
+    } = *at;
+    if part < parts.len() {
+        bare_from(&parts[part], ahead, id)
     } else {
         0
     }

@@ -4,6 +4,7 @@ use belief_nodes::Network;
 use bounded_keys::Combination;
 
 /// A network as the combination of its leaves.
+#[derive(Clone, Copy)]
 pub struct NetworkKeys<'a> {
     pub network: &'a Network,
 }

@@ -12,10 +12,10 @@ into_first-requires-clause-early g c = (c.requires c.in-Open.kept (sym c.replace
 
 pub returns-in_ok-hits-in-Open-clause-held : goal.returns-in_ok-hits-in-Open-clause-held
 returns-in_ok-hits-in-Open-clause-held g c = λ kind priors filters docs most h.
-    IsHeld-ended kind priors filters (network_tree c.args.network.now) docs most c.args.self.now c.in-Open.kept c.in_ok-first.first.items c.in_ok-hits-in-Open.hits (sym c.replace.ensures.value ∙ c.in-Open.is)
-    c.in_ok-hits-in-Open.ensures.candidates c.in_ok-hits-in-Open.ensures.keys c.in_ok-first.ensures.front h
+    IsHeld-ended kind priors filters (network_tree c.args.network.now) docs most c.args.self.now c.in-Open.kept c.in_ok-first-in-Open.first.items c.in_ok-hits-in-Open.hits (sym c.replace.ensures.value ∙ c.in-Open.is)
+    c.in_ok-hits-in-Open.ensures.candidates c.in_ok-hits-in-Open.ensures.keys c.in_ok-first-in-Open.ensures.front h
 
 pub returns-in_ok-hits-in-Open-clause-windows : goal.returns-in_ok-hits-in-Open-clause-windows
 returns-in_ok-hits-in-Open-clause-windows g c = λ docs leaves most h.
-    HasWindows-ended (network_tree c.args.network.now) leaves docs most c.args.self.now c.in-Open.kept c.in_ok-first.first.items c.in_ok-hits-in-Open.hits (sym c.replace.ensures.value ∙ c.in-Open.is)
-    c.in_ok-hits-in-Open.ensures.candidates c.in_ok-first.ensures.few c.in_ok-first.ensures.among h
+    HasWindows-ended (network_tree c.args.network.now) leaves docs most c.args.self.now c.in-Open.kept c.in_ok-first-in-Open.first.items c.in_ok-hits-in-Open.hits (sym c.replace.ensures.value ∙ c.in-Open.is)
+    c.in_ok-hits-in-Open.ensures.candidates c.in_ok-first-in-Open.ensures.few c.in_ok-first-in-Open.ensures.among h

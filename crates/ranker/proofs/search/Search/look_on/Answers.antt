@@ -17,12 +17,13 @@ returns-clause-taken g c = λ backed cached h. record {
   ahead = (rw c.deref.ensures.value at (rw c.parts.ensures.parts at c.in_ok-advance.ensures.ahead)) backed cached h.ahead;
 }
 
-pub invariant_of-self-3 : goal.invariant_of-self-3
-invariant_of-self-3 g c = record {
+pub invariant_of-self-2 : goal.invariant_of-self-2
+invariant_of-self-2 g c = record {
   shown = c.args.self.now.shown;
   count = c.args.self.now.count;
   place = rw c.parts.ensures.parts at c.in_ok-advance.ensures.place;
   next = λ usable. rw c.parts-2.ensures.parts at c.bare_to-self.ensures;
   «open» = λ usable told. c.in_ok-advance.ensures.open ∙ ap (nat_lt c.advance.new.at.credit) (c.args.self.now.count told);
+  entries = λ usable. c.in_ok-advance.ensures.entries;
   windows = λ usable told. ∥∥₁_map (c.args.self.now.windows c.requires.usable told) (λ h. (rw c.parts.ensures.parts at c.in_ok-advance.ensures.windows) told c.args.self.now.most h);
 }

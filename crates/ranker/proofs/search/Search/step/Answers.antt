@@ -6,7 +6,7 @@ use Rattle.disk_index.specs.Parts.{reads}
 use Rattle.ranker.specs.Passed.{AreBare, IsBareTo, part_at}
 use Rattle.ranker.specs.Searches.{filters_of}
 use Rattle.ranker.proofs.AheadLemmas.{IsAhead-on}
-use Rattle.ranker.proofs.BareLemmas.{IsBareTo-on, IsHeld-few, IsPlace-few, id-few}
+use Rattle.ranker.proofs.BareLemmas.{IsBareTo-on, IsHeld-few, IsPlace-few}
 use Rattle.ranker.proofs.search.Search.step.Goals as goal
 
 pub overflow_add-self : goal.overflow_add-self
@@ -14,8 +14,16 @@ overflow_add-self g c =
     let s = c.args.self.now in
     let low : s.at.credit + c.args.docs < s.bare_to = c.passes_bare.ensures c.if-passes_bare.true in
     let here : IsBareTo s.snapshot s.at s.live_count s.bare_to = s.next c.requires.usable in
-    let few = id-few s.snapshot s.at c.args.docs (here.bare c.args.docs low) c.args.docs (2 ^ 32 - 1) (omega arith) (search rules) (search rules) in
-    omega (arith, few)
+    let fits = here.ids in
+    omega (arith, low, fits)
+
+pub overflow_cast-self : goal.overflow_cast-self
+overflow_cast-self g c =
+    let s = c.args.self.now in
+    let low : s.at.credit + c.args.docs < s.bare_to = c.passes_bare.ensures c.if-passes_bare.true in
+    let here : IsBareTo s.snapshot s.at s.live_count s.bare_to = s.next c.requires.usable in
+    let fits = here.ids in
+    omega (arith, low, fits)
 
 pub overflow_add-self-then-passes_bare : goal.overflow_add-self-then-passes_bare
 overflow_add-self-then-passes_bare g c =
@@ -70,5 +78,6 @@ invariant_of-self g c =
       place = IsPlace-few s.snapshot s.at c.args.docs (here.bare c.args.docs low) c.args.docs (omega arith) s.place;
       next = λ usable. IsBareTo-on s.snapshot s.at s.live_count s.bare_to c.args.docs low here;
       «open» = λ usable told. s.open usable told ∙ lt-ltb _ _ (omega (arith, low, left, s.count told)) ∙ sym (lt-ltb _ _ (omega (arith, low, left, s.count told)));
+      entries = s.entries;
       windows = s.windows;
     }

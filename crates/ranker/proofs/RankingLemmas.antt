@@ -10,10 +10,10 @@ use Rattle.std.proofs.lemmas.List.Sorted.{IsPermutation-append_comm, IsPermutati
 use Rattle.log_chain.specs.Chain.{chain}
 use Rattle.log_chain.specs.Progress.{Progress, digits_of}
 use Rattle.log_chain.specs.declared.chain.TheConstants.{FIRST, LAST}
-use Rattle.leaf_chains.specs.Chains.{AreAt, at_level}
+use Rattle.leaf_chains.specs.Chains.{AreAt}
 use Rattle.ri_base.specs.Documents.{Document}
 use Rattle.ri_base.specs.Query.{FilterTree}
-use Rattle.ri_base.specs.Ratio.{Ratio, ratio_of}
+use Rattle.ri_base.specs.Ratio.{ratio_of}
 use Rattle.ri_base.specs.declared.fraction.Fraction.{Fraction}
 use Rattle.ri_base.specs.declared.hit.Hit.{Hit}
 use Rattle.smoothing.specs.declared.rule.RuleKind.{RuleKind}

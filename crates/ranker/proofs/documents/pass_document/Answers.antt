@@ -1,4 +1,4 @@
-use Rattle.std.proofs.Common.{length, map, sym, arith, ◌∙◌}
+use Rattle.std.proofs.Common.{map, sym, arith, ◌∙◌}
 use Rattle.ri_base.specs.Query.{filter_tree}
 use Rattle.belief_nodes.specs.Network.{network_tree}
 use Rattle.ranker.proofs.PassedLemmas.{Advances-dead, Advances-live, Advances-unseen, ids-dead, ids-live}

@@ -1,4 +1,4 @@
-use Rattle.std.proofs.Common.{rules, ◌≡◌, [], ◌∷◌, ◌++◌, append_assoc, List, map, length, ap, subst, sym, ◌∙◌}
+use Rattle.std.proofs.Common.{rules, ◌≡◌, [], ◌∷◌, ◌++◌, append_assoc, List, map, length, ap, subst, ◌∙◌}
 use Rattle.belief_nodes.specs.Network.{network_tree}
 use Rattle.bounded_keys.specs.Entries.{WereOffered}
 use Rattle.bounded_keys.specs.Kept.{AreAmong}

@@ -1,4 +1,4 @@
-use Rattle.std.proofs.Common.{◌≡◌, Option, length, map, refl, subst, sym, ◌∙◌, arith}
+use Rattle.std.proofs.Common.{◌≡◌, Option, map, refl, subst, sym, ◌∙◌, arith}
 use Rattle.std.proofs.lemmas.Result.{err_from_is_err_and}
 use Rattle.ri_base.specs.Query.{filter_tree}
 use Rattle.store_ends.specs.Files.{Files}

@@ -1,4 +1,4 @@
-use Rattle.std.proofs.Common.{length, sym, ◌∙◌}
+use Rattle.std.proofs.Common.{sym, ◌∙◌}
 use Rattle.belief_nodes.specs.Network.{network_tree}
 use Rattle.ranker.proofs.HeldLemmas.{IsHeld-ended}
 use Rattle.ranker.proofs.WindowLemmas.{HasWindows-ended}

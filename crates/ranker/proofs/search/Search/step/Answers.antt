@@ -1,9 +1,9 @@
-use Rattle.std.proofs.Common.{rules, ◌≡◌, ◌<◌, ◌≤◌, ◌+◌, ◌-◌, ◌^◌, None, map, nat_lt, refl, sym, ◌∙◌, arith}
+use Rattle.std.proofs.Common.{rules, ◌<◌, ◌+◌, ◌^◌, map, refl, sym, ◌∙◌, arith}
 use Rattle.std.proofs.lemmas.Bool.{lt-ltb}
 use Rattle.std.proofs.lemmas.Bool.Decides.{nat_tests}
 use Rattle.belief_nodes.specs.Network.{network_tree}
 use Rattle.disk_index.specs.Parts.{reads}
-use Rattle.ranker.specs.Passed.{AreBare, IsBareTo, part_at}
+use Rattle.ranker.specs.Passed.{IsBareTo, part_at}
 use Rattle.ranker.specs.Searches.{filters_of}
 use Rattle.ranker.proofs.AheadLemmas.{IsAhead-on}
 use Rattle.ranker.proofs.BareLemmas.{IsBareTo-on, IsHeld-few, IsPlace-few}

@@ -4,7 +4,7 @@ use Rattle.std.specs.List.{All, AllAdjacentBelow, AllPairs, IsAllAdjacentAnswer,
 use Rattle.std.specs.List.Sorted.{IsStrictlyIncreasing}
 use Rattle.std.specs.Option.{option_map_or}
 use Rattle.std.proofs.lemmas.Bool.{cases_lt, eqb-true, lt-ltb, ltb-true}
-use Rattle.std.proofs.lemmas.List.{get_or_default, length-map, length-take, length-take-le}
+use Rattle.std.proofs.lemmas.List.{get_or_default, length-map, length-take}
 use Rattle.std.proofs.lemmas.List.Elements.{All-cons, All-nil}
 use Rattle.std.proofs.lemmas.List.Kept.{AllPairs-from_increasing}
 use Rattle.ri_base.specs.Collection.{document_at}
@@ -113,10 +113,10 @@ block-entries t range docs =
     let s = 64 * range in
     let front = take 64 (drop s docs) in
     entries-of (map entry_of docs) t s front (record {
-      inside = λ k low. omega (arith, low, length-take 64 (drop s docs), length-drop s docs, length-map entry_of docs);
+      inside = λ k low. omega (arith, low, length-take 64 (drop s docs), length-drop s docs, length-map docs entry_of);
       tokens = λ k low.
           let back : s + k - s ≡ k = omega arith in
-          document_at-tokens docs (s + k) ∙ ap (λ (d : Document). length d.tokens) (sym (sym (ap (document_at front) back) ∙ document_at-range s (s + k) docs (omega arith) (omega (arith, low, length-take-le 64 (drop s docs)))));
+          document_at-tokens docs (s + k) ∙ ap (λ (d : Document). length d.tokens) (sym (sym (ap (document_at front) back) ∙ document_at-range s (s + k) docs (omega arith) (omega (arith, low, length-take 64 (drop s docs)))));
     })
 
 outlines-kept : (told : Option Files) (kept : Kept) (docs : List Document) → IsBacked told kept docs → kept.outlines ≡ map entry_of docs

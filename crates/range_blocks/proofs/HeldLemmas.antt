@@ -1,5 +1,5 @@
 -- What is held, with one block more, and what it tells.
-use Rattle.std.proofs.Common.{◌≡◌, ◌<◌, ◌≤◌, ℕ, ◌+◌, ◌/◌, ◌==◌, List, [], length, map, Bool, true, false, cond, Option, Some, None, IfSome, is_some, refl, sym, ap, subst, ◌∙◌, arith}
+use Rattle.std.proofs.Common.{◌≡◌, ◌<◌, ◌≤◌, ℕ, ◌+◌, ◌/◌, ◌==◌, List, [], length, map, Bool, true, false, cond, Option, Some, None, Result, Ok, Err, IfOk, IfSome, is_some, refl, sym, ap, subst, ◌∙◌, arith}
 use Rattle.std.specs.List.{All}
 use Rattle.std.specs.Option.{option_map}
 use Rattle.std.specs.Str.{bytes_eq}
@@ -28,6 +28,10 @@ answers-of docs held are term id inside = by (id / 64 == held.range) refl
     by : (b : Bool) → (id / 64 == held.range) ≡ b → IfSome (cond b (option_map (places_of id) (block_in held term)) None) (λ ps. ps ≡ places term (document_at docs id))
     by false e = tt
     by true e = tell (eqb-true (id / 64) held.range e) (block_in held term) (are term)
+
+pub answers-result : (docs : List Document) {E : Type 0} (r : Result Held E) → IfOk r (AreBlocksOf docs) → IfOk r (AreAnswersOf docs)
+answers-result docs (Ok held) are = answers-of docs held are
+answers-result docs (Err e) are = tt
 
 -- what fits documents answers rising places of them
 pub answers-fit : (outlines : List Entry) (held : Held) (term : List ℕ) (id : ℕ) → FitDocuments outlines held → IfSome (answer held term id) (ArePlacesIn (tokens_of outlines id))

@@ -1,9 +1,11 @@
 -- What is held, with one block more, and what it tells.
-use Rattle.std.proofs.Common.{◌≡◌, ◌<◌, ◌≤◌, ℕ, ◌+◌, ◌/◌, ◌==◌, List, [], length, map, Bool, true, false, cond, Option, Some, None, Result, Ok, Err, IfOk, IfSome, is_some, refl, sym, ap, subst, ◌∙◌, arith}
+use Rattle.std.proofs.Common.{◌≡◌, ◌<◌, ◌≤◌, ℕ, ◌+◌, ◌/◌, ◌==◌, List, [], ◌∷◌, ◌++◌, length, take, get_or, Bool, true, false, cond, Option, Some, None, Result, Ok, Err, IfOk, IfSome, is_some, refl, sym, ap, subst, ◌∙◌, arith}
 use Rattle.std.specs.List.{All}
 use Rattle.std.specs.Option.{option_map}
 use Rattle.std.specs.Str.{bytes_eq}
 use Rattle.std.proofs.lemmas.Bool.{eqb-true}
+use Rattle.std.proofs.lemmas.List.{take_more}
+use Rattle.std.proofs.lemmas.List.Elements.{All-push}
 use Rattle.std.proofs.lemmas.Slice.Eq.{bytes_eq-Decides}
 use Rattle.ri_base.specs.Collection.{document_at}
 use Rattle.ri_base.specs.Documents.{Document}
@@ -14,7 +16,7 @@ use Rattle.seg_codec.specs.declared.documents.Entry.{Entry}
 use Rattle.disk_index.specs.Blocks.{block_of, places_of}
 use Rattle.disk_index.specs.Faults.{ArePlacesIn}
 use Rattle.disk_index.proofs.EntryLemmas.{places_of-block}
-use Rattle.range_blocks.specs.Held.{AreAnswersOf, AreBlocksOf, FitDocuments, Held, IsEntryOf, answer, block_in}
+use Rattle.range_blocks.specs.Held.{AreAnswersOf, AreBlocksOf, FitDocuments, HasAll, Held, IsEntryOf, answer, block_in}
 use Rattle.range_blocks.proofs.EntryLemmas.{places-among}
 
 -- the blocks of documents answer as these documents
@@ -64,3 +66,10 @@ module _ (x : List ℕ) (es : List BlockEntry) (old new : List ℕ → Option (L
       by : (b : Bool) → new t ≡ cond b (Some es) (old t) → is_some (new t) ≡ true
       by true is = ap is_some is
       by false is = ap is_some is ∙ was
+
+-- the blocks of the first terms are held, and that of one more
+pub has-more : (terms : List (List ℕ)) (i : ℕ) (x : List ℕ) (old new : Held) → i < length terms → x ≡ get_or terms i x → is_some (block_in new x) ≡ true
+    → ((t : List ℕ) → is_some (block_in old t) ≡ true → is_some (block_in new t) ≡ true) → HasAll (take i terms) old → HasAll (take (i + 1) terms) new
+has-more terms i x old new inside is own still has =
+    subst (λ (l : List (List ℕ)). HasAll l new) (sym (take_more terms i x inside ∙ ap (λ (y : List ℕ). take i terms ++ y ∷ []) (sym is)))
+    (All-push (λ t. is_some (block_in new t) ≡ true) (take i terms) x (λ k d low. still (get_or (take i terms) k d) (has k d low)) own)

@@ -131,9 +131,9 @@ fn written_before(found: &str) -> Option<(usize, bool)> {
         .lines()
         .filter(|line| line.starts_with("flushed") || line.starts_with("merged"))
         .count();
-    let writes = ["> flush\n", "> turn 9\n", "> end\n"]
-        .iter()
-        .any(|line| done.ends_with(*line));
+    let writes = done.ends_with("> flush\n")
+        || done.ends_with("> turn 9\n")
+        || done.ends_with("> end\n");
     Some((count, writes))
 }
 

@@ -15,7 +15,7 @@ use Rattle.belief_nodes.specs.Priors.{Prior}
 use Rattle.disk_index.specs.Parts.{reads, size}
 use Rattle.disk_index.specs.Snapshots.{Marked}
 use Rattle.disk_index.proofs.RebuiltLemmas.{reads-length}
-use Rattle.ranker.specs.First.{Advances, KeptEntries}
+use Rattle.ranker.specs.First.{Advances, Counted, counted}
 use Rattle.ranker.specs.Held.{IsHeld, is_open}
 use Rattle.ranker.specs.Passed.{AreBare, IsAheadAt, IsBare, IsBareTo, IsPassed, IsPlace, behind, live_ids, nothing_known, part_at, passed}
 use Rattle.ranker.specs.declared.held.Held.{Held}
@@ -114,7 +114,7 @@ module _ (parts : List Marked) (at : Place) (count : ℕ) (bare : AreBare (part_
     IsPlace-on place = subst (IsPlace parts) (behind-on docs) (IsPlace-behind parts at (to docs) docs own refl there first.whole is_passed (λ fewer. absurd (omega (arith, fewer))) place)
 
     module _ (kind : RuleKind) (priors : List Prior) (filters : List FilterTree) (network : NetworkTree) (told : Option Files) (ahead : IsAheadAt filters network.leaves told parts at) where
-      Advances-on : (rows : KeptEntries) → Advances kind priors filters network (passed told parts at) (passed told parts (place_on at docs)) rows rows
+      Advances-on : (rows : Counted) → Advances kind priors filters network (passed told parts at) (passed told parts (place_on at docs)) rows rows
       Advances-on rows =
           let whole = first.whole in
           let read = reads-length told own.source in
@@ -124,7 +124,7 @@ module _ (parts : List Marked) (at : Place) (count : ℕ) (bare : AreBare (part_
           (λ i low high. let b = bare i low (omega (arith, high, few)) in ahead.none i low b.known b.clear)))
 
       IsHeld-bare : (most : ℕ) (held : Held) → is_open held ≡ true → IsHeld kind priors filters network (passed told parts at) most held → IsHeld kind priors filters network (passed told parts (place_on at docs)) most held
-      IsHeld-bare most (Open rows) is h = (Advances-on rows).step [] most h
+      IsHeld-bare most (Open rows) is h = (Advances-on (counted rows 0)).step [] most h
       IsHeld-bare most (Ended hits) is h = absurd (false≢true is)
 
   -- ---- none of them, or so many

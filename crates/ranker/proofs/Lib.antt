@@ -8,4 +8,5 @@ pub mod PassedLemmas
 pub mod PlaceLemmas
 pub mod RankingLemmas
 pub mod SkippingLemmas
+pub mod SquaresLemmas
 pub mod WindowLemmas

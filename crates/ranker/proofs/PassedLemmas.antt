@@ -1,6 +1,7 @@
 -- Live documents that are passed one by one.
 use Rattle.std.proofs.Common.{◌≡◌, ◌<◌, ◌≤◌, ℕ, zero, suc, ◌+◌, ◌-◌, Bool, true, false, List, [], ◌∷◌, ◌++◌, cond, not, length, take, get_or, refl, sym, ap, subst, ◌∙◌, arith, append_assoc, append-nil}
 use Rattle.std.specs.Int.{from_bool}
+use Rattle.std.proofs.lemmas.List.{length-append}
 use Rattle.ri_base.specs.Collection.{document_at}
 use Rattle.ri_base.specs.Documents.{Document}
 use Rattle.ri_base.specs.Query.{FilterTree}
@@ -9,9 +10,11 @@ use Rattle.belief_nodes.specs.Network.{NetworkTree}
 use Rattle.belief_nodes.specs.Priors.{Prior}
 use Rattle.deletion_list.specs.Marks.{marked_count}
 use Rattle.disk_index.specs.Snapshots.{unmarked}
+use Rattle.document_scoring.specs.Candidates.{candidates}
 use Rattle.range_masks.specs.May.{query_may}
-use Rattle.ranker.specs.First.{Advances, HoldsFirst, KeptEntries}
+use Rattle.ranker.specs.First.{Advances, Counted, HoldsFirst, early_cost}
 use Rattle.ranker.specs.Passed.{live_ids}
+use Rattle.ranker.proofs.RankingLemmas.{candidates-append}
 use Rattle.ranker.proofs.SkippingLemmas.{HoldsFirst-skipped}
 
 -- ---- ids
@@ -66,47 +69,62 @@ unmarked-ids (x ∷ xs) [] (suc i) h = absurd (omega (arith, h))
 unmarked-ids (x ∷ xs) (true ∷ marks) (suc i) h = unmarked-ids xs marks i (omega (arith, h))
 unmarked-ids (x ∷ xs) (false ∷ marks) (suc i) h = ap suc (unmarked-ids xs marks i (omega (arith, h)))
 
+pub cost-sum : (network : NetworkTree) (m n : ℕ) → early_cost network (m + n) ≡ early_cost network m + early_cost network n
+cost-sum network m n = omega arith
+
 module _ (kind : RuleKind) (priors : List Prior) (filters : List FilterTree) (network : NetworkTree) where
+  abbrev spent_on : List Document → ℕ
+  spent_on ds = early_cost network (length (candidates kind priors filters network ds))
+
+  -- the squarings of some documents' candidates, and then those of others'
+  pub cost-append : (docs more : List Document) → spent_on (docs ++ more) ≡ spent_on docs + spent_on more
+  cost-append docs more =
+      let both : length (candidates kind priors filters network (docs ++ more)) ≡ length (candidates kind priors filters network docs) + length (candidates kind priors filters network more) =
+      ap length (candidates-append kind priors filters network docs more) ∙ length-append (candidates kind priors filters network docs) (candidates kind priors filters network more) in
+      ap (early_cost network) both ∙ cost-sum network (length (candidates kind priors filters network docs)) (length (candidates kind priors filters network more))
+
   -- ---- documents behind others
 
-  pub Advances-same : (old : List Document) (few : KeptEntries) → Advances kind priors filters network old old few few
-  Advances-same old few = record { step = λ before most h. h }
+  pub Advances-same : (old : List Document) (few : Counted) → Advances kind priors filters network old old few few
+  Advances-same old few = record { step = λ before most h. h; cost = omega arith }
 
-  pub Advances-then : (old mid new : List Document) (few then next : KeptEntries) → Advances kind priors filters network old mid few then → Advances kind priors filters network mid new then next
+  pub Advances-then : (old mid new : List Document) (few then next : Counted) → Advances kind priors filters network old mid few then → Advances kind priors filters network mid new then next
       → Advances kind priors filters network old new few next
-  Advances-then old mid new few held next first second = record { step = λ before most h. second.step before most (first.step before most h) }
+  Advances-then old mid new few held next first second = record { step = λ before most h. second.step before most (first.step before most h); cost = let a = first.cost in let b = second.cost in omega (arith, a, b) }
 
-  module _ (docs : List Document) (marks : List Bool) (i : ℕ) (few : KeptEntries) where
+  module _ (docs : List Document) (marks : List Bool) (i : ℕ) (few : Counted) where
     -- a dead document
     pub Advances-dead : i < length docs → length marks ≡ length docs → get_or marks i false ≡ true
         → Advances kind priors filters network (unmarked (take i docs) marks) (unmarked (take (i + 1) docs) marks) few few
     Advances-dead lt whole dead =
         let same : unmarked (take (i + 1) docs) marks ≡ unmarked (take i docs) marks =
         unmarked-more docs marks i lt whole ∙ ap (λ (b : Bool). unmarked (take i docs) marks ++ cond b [] (document_at docs i ∷ [])) dead ∙ append-nil (unmarked (take i docs) marks) in
-        record { step = λ before most h. subst (λ (ds : List Document). HoldsFirst kind priors filters network (before ++ ds) most few) (sym same) h }
+        record { step = λ before most h. subst (λ (ds : List Document). HoldsFirst kind priors filters network (before ++ ds) most few.kept) (sym same) h; cost = let e : spent_on (unmarked (take (i + 1) docs) marks) ≡ spent_on (unmarked (take i docs) marks) = ap spent_on same in omega (arith, e) }
 
     -- a live document whose candidates are held with those of any documents before it
-    pub Advances-live : (next : KeptEntries) → i < length docs → length marks ≡ length docs → get_or marks i false ≡ false
-        → ((before : List Document) (most : ℕ) → HoldsFirst kind priors filters network before most few → HoldsFirst kind priors filters network (before ++ document_at docs i ∷ []) most next)
+    pub Advances-live : (next : Counted) → i < length docs → length marks ≡ length docs → get_or marks i false ≡ false
+        → ((before : List Document) (most : ℕ) → HoldsFirst kind priors filters network before most few.kept → HoldsFirst kind priors filters network (before ++ document_at docs i ∷ []) most next.kept)
+        → next.squares ≤ few.squares + early_cost network (length (candidates kind priors filters network (document_at docs i ∷ [])))
         → Advances kind priors filters network (unmarked (take i docs) marks) (unmarked (take (i + 1) docs) marks) few next
-    Advances-live next lt whole live one =
+    Advances-live next lt whole live one few_squares =
         let d : List Document = document_at docs i ∷ [] in
         let seen : List Document = unmarked (take i docs) marks in
         let same : unmarked (take (i + 1) docs) marks ≡ seen ++ d = unmarked-more docs marks i lt whole ∙ ap (λ (b : Bool). seen ++ cond b [] d) live in
         record {
           step = λ before most h.
               let here : (before ++ seen) ++ d ≡ before ++ unmarked (take (i + 1) docs) marks = append_assoc before seen d ∙ ap (λ (ds : List Document). before ++ ds) (sym same) in
-              subst (λ (ds : List Document). HoldsFirst kind priors filters network ds most next) here (one (before ++ seen) most h);
+              subst (λ (ds : List Document). HoldsFirst kind priors filters network ds most next.kept) here (one (before ++ seen) most h);
+          cost = let e : spent_on (unmarked (take (i + 1) docs) marks) ≡ spent_on seen + spent_on d = ap spent_on same ∙ cost-append seen d in omega (arith, e, few_squares);
         }
 
     -- a live document that has nothing to show
     pub Advances-unseen : i < length docs → length marks ≡ length docs → get_or marks i false ≡ false → query_may filters network.leaves (document_at docs i) ≡ false
         → Advances kind priors filters network (unmarked (take i docs) marks) (unmarked (take (i + 1) docs) marks) few few
     Advances-unseen lt whole live none =
-        Advances-live few lt whole live (λ before most h. HoldsFirst-skipped kind priors filters network before (document_at docs i) most few none h)
+        Advances-live few lt whole live (λ before most h. HoldsFirst-skipped kind priors filters network before (document_at docs i) most few.kept none h) (omega arith)
 
   -- documents behind others that have nothing to show
-  unseen : (docs : List Document) (marks : List Bool) (few : KeptEntries) (n i j : ℕ) → j ≡ i + n → j ≤ length docs → length marks ≡ length docs
+  unseen : (docs : List Document) (marks : List Bool) (few : Counted) (n i j : ℕ) → j ≡ i + n → j ≤ length docs → length marks ≡ length docs
       → ((id : ℕ) → i ≤ id → id < j → query_may filters network.leaves (document_at docs id) ≡ false)
       → Advances kind priors filters network (unmarked (take i docs) marks) (unmarked (take j docs) marks) few few
   unseen docs marks few zero i j far le whole none =
@@ -120,7 +138,7 @@ module _ (kind : RuleKind) (priors : List Prior) (filters : List FilterTree) (ne
       one true dead = Advances-dead docs marks i few (omega (arith, far, le)) whole dead
       one false live = Advances-unseen docs marks i few (omega (arith, far, le)) whole live (none i (omega arith) (omega (arith, far)))
 
-  pub Advances-bare : (docs : List Document) (marks : List Bool) (few : KeptEntries) (i j : ℕ) → i ≤ j → j ≤ length docs → length marks ≡ length docs
+  pub Advances-bare : (docs : List Document) (marks : List Bool) (few : Counted) (i j : ℕ) → i ≤ j → j ≤ length docs → length marks ≡ length docs
       → ((id : ℕ) → i ≤ id → id < j → query_may filters network.leaves (document_at docs id) ≡ false)
       → Advances kind priors filters network (unmarked (take i docs) marks) (unmarked (take j docs) marks) few few
   Advances-bare docs marks few i j up le whole none = unseen docs marks few (j - i) i j (omega (arith, up)) le whole none
@@ -139,7 +157,7 @@ ids-all (true ∷ marks) = let rest = ids-all marks in omega (arith, rest)
 ids-all (false ∷ marks) = let rest = ids-all marks in omega (arith, rest)
 
 -- by what was read, and what the priors told, before
-pub Advances-read : (kind : RuleKind) (told priors : List Prior) (filters : List FilterTree) (network : NetworkTree) (read docs : List Document) (marks : List Bool) (i j : ℕ) (few next : KeptEntries) → told ≡ priors → read ≡ docs
+pub Advances-read : (kind : RuleKind) (told priors : List Prior) (filters : List FilterTree) (network : NetworkTree) (read docs : List Document) (marks : List Bool) (i j : ℕ) (few next : Counted) → told ≡ priors → read ≡ docs
     → Advances kind told filters network (unmarked (take i read) marks) (unmarked (take j read) marks) few next → Advances kind priors filters network (unmarked (take i docs) marks) (unmarked (take j docs) marks) few next
 Advances-read kind told priors filters network read docs marks i j few next stay same h =
     subst (λ (ds : List Document). Advances kind priors filters network (unmarked (take i ds) marks) (unmarked (take j ds) marks) few next) same

@@ -14,12 +14,12 @@ use Rattle.disk_index.specs.Parts.{InMemory, reads, size}
 use Rattle.disk_index.specs.Snapshots.{IsSnapshot, Marked, live, live_in, unmarked}
 use Rattle.disk_index.proofs.LiveLemmas.{live-few, live-length}
 use Rattle.disk_index.proofs.RebuiltLemmas.{reads-length}
-use Rattle.ranker.specs.First.{Advances, HoldsFirst, KeptEntries}
+use Rattle.ranker.specs.First.{Advances, Counted, HoldsFirst}
 use Rattle.ranker.specs.Passed.{IsAhead, IsAheadAt, IsPassed, IsPlace, behind, live_before, live_ids, nothing_known, part_at, passed}
 use Rattle.ranker.specs.declared.place.Passed.{Passed}
 use Rattle.ranker.specs.declared.place.Place.{Place}
 use Rattle.ranker.proofs.AheadLemmas.{IsAhead-nothing}
-use Rattle.ranker.proofs.PassedLemmas.{unmarked-ids}
+use Rattle.ranker.proofs.PassedLemmas.{cost-append, unmarked-ids}
 
 -- ---- documents before a place stand before all others
 
@@ -124,13 +124,14 @@ module _ (parts : List Marked) (at : Place) (to : Passed) (most : ℕ) where
   IsPlace-behind m is =
       subst (λ (p : Marked). at.part < length parts → length p.marks ≡ size p.source → IsPassed p.marks at.id most to → (to.docs < most → to.id ≡ size p.source) → IsPlace parts at → IsPlace parts (behind at to most)) is placed
 
-  module _ (kind : RuleKind) (priors : List Prior) (filters : List FilterTree) (network : NetworkTree) (told : Option Files) (few next : KeptEntries) where
+  module _ (kind : RuleKind) (priors : List Prior) (filters : List FilterTree) (network : NetworkTree) (told : Option Files) (few next : Counted) where
     -- the same behind documents of other parts
     Advances-behind : (first old new : List Document) → Advances kind priors filters network old new few next → Advances kind priors filters network (first ++ old) (first ++ new) few next
     Advances-behind first old new h = record {
       step = λ others k held.
-          subst (λ (ds : List Document). HoldsFirst kind priors filters network ds k next) (append_assoc others first new)
-          (h.step (others ++ first) k (subst (λ (ds : List Document). HoldsFirst kind priors filters network ds k few) (sym (append_assoc others first old)) held));
+          subst (λ (ds : List Document). HoldsFirst kind priors filters network ds k next.kept) (append_assoc others first new)
+          (h.step (others ++ first) k (subst (λ (ds : List Document). HoldsFirst kind priors filters network ds k few.kept) (sym (append_assoc others first old)) held));
+      cost = let a = cost-append kind priors filters network first old in let b = cost-append kind priors filters network first new in let c = h.cost in omega (arith, a, b, c);
     }
 
     advanced : at.part < length parts → (to.docs < most → to.id ≡ size (part_at parts at.part).source)
@@ -169,7 +170,7 @@ pub IsAheadAt-later : (filters : List FilterTree) (leaves : List LeafTree) (here
 IsAheadAt-later filters leaves here told parts at same h = subst (λ (f : Option Files). IsAheadAt filters leaves f parts at) same h
 
 -- by the files as they were, and what the priors told, before
-pub Advances-later : (kind : RuleKind) (was priors : List Prior) (filters : List FilterTree) (network : NetworkTree) (here told : Option Files) (parts : List Marked) (a b : Place) (few next : KeptEntries) → was ≡ priors → here ≡ told
+pub Advances-later : (kind : RuleKind) (was priors : List Prior) (filters : List FilterTree) (network : NetworkTree) (here told : Option Files) (parts : List Marked) (a b : Place) (few next : Counted) → was ≡ priors → here ≡ told
     → Advances kind was filters network (passed here parts a) (passed here parts b) few next → Advances kind priors filters network (passed told parts a) (passed told parts b) few next
 Advances-later kind was priors filters network here told parts a b few next stay same h =
     subst (λ (f : Option Files). Advances kind priors filters network (passed f parts a) (passed f parts b) few next) same

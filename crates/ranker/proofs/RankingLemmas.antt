@@ -135,12 +135,16 @@ module _ (kind : RuleKind) (priors : List Prior) (filters : List FilterTree) (ne
   -- ---- candidates, document by document
 
   -- the candidates of documents, and then those of others
-  candidates-append : (docs more : List Document)
+  pub candidates-append : (docs more : List Document)
       → candidates kind priors filters network (docs ++ more) ≡ candidates kind priors filters network docs ++ candidates kind priors filters network more
   candidates-append docs more =
       let f : Document → List Candidate = document_candidates kind priors network in
       let p : Document → Bool = λ d. list_all (passes d) filters in
       ap (flat_map f) (filter-append p docs more) ∙ flat_map-append f (filter p docs) (filter p more)
+
+  -- as many rows as the document has candidates
+  pub adds_length : (d : Document) (rows : List Row) → Adds kind priors filters network d [] rows → length rows ≡ length (candidates kind priors filters network (d ∷ []))
+  adds_length d rows adds = ap length adds.behind ∙ sym (length-map adds.more row_candidate) ∙ ap length adds.candidates
 
   -- ---- the first of the candidates
 

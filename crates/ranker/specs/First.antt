@@ -1,9 +1,10 @@
 -- The first candidates of documents, held as entries whose keys are known at the first level.
-use Rattle.std.specs.Prelude.{◌≡◌, ◌++◌, ℕ, List, length, map, All}
+use Rattle.std.specs.Prelude.{◌≡◌, ◌≤◌, ◌+◌, ◌*◌, ◌++◌, ℕ, List, length, map, All}
 use Rattle.std.specs.Cmp.Lexicographic.{slice_cmp}
 use Rattle.std.specs.Ordering.{nat_cmp, ordering_then}
 use Rattle.std.specs.declared.cmp.Ordering.{Ordering}
 use Rattle.log_chain.specs.Progress.{digits_of}
+use Rattle.log_chain.specs.declared.chain.TheConstants.{FIRST}
 use Rattle.ri_base.specs.Documents.{Document}
 use Rattle.ri_base.specs.Query.{FilterTree}
 use Rattle.smoothing.specs.declared.rule.RuleKind.{RuleKind}
@@ -67,7 +68,21 @@ pub record HoldsFirst (kind : RuleKind) (priors : List Prior) (filters : List Fi
   pub room : kept.most ≡ most
   pub offered : WereOffered (map (early_of network) rows) kept
 
--- Behind any documents: where the first candidates of these and the old ones were held, those of these and the new ones are held now.
-pub record Advances (kind : RuleKind) (priors : List Prior) (filters : List FilterTree) (network : NetworkTree) (old new : List Document) (kept next : KeptEntries) : Type 0 where
+-- what is held and kept, and a count of squarings
+pub record Counted : Type 0 where
+  pub kept : KeptEntries
+  pub squares : ℕ
+
+abbrev pub counted : KeptEntries → ℕ → Counted
+counted kept squares = record { kept = kept; squares = squares }
+
+-- the squarings of so many candidates up to the first level
+abbrev pub early_cost : NetworkTree → ℕ → ℕ
+early_cost network count = FIRST * length network.leaves * count
+
+-- Behind any documents: where the first candidates of these and the old ones were held, those of these and the new ones are held now. No
+-- more squarings were done than those of the candidates of the new ones that the old ones don't have.
+pub record Advances (kind : RuleKind) (priors : List Prior) (filters : List FilterTree) (network : NetworkTree) (old new : List Document) (was now : Counted) : Type 0 where
   pub step : (before : List Document) (most : ℕ)
-      → HoldsFirst kind priors filters network (before ++ old) most kept → HoldsFirst kind priors filters network (before ++ new) most next
+      → HoldsFirst kind priors filters network (before ++ old) most was.kept → HoldsFirst kind priors filters network (before ++ new) most now.kept
+  pub cost : now.squares + early_cost network (length (candidates kind priors filters network old)) ≤ was.squares + early_cost network (length (candidates kind priors filters network new))

@@ -3,4 +3,5 @@ pub mod Held
 pub mod Passed
 pub mod Ranking
 pub mod Searches
+pub mod Squares
 pub mod Windows

@@ -1,5 +1,5 @@
 -- What a search keeps between its steps.
-use Rattle.std.specs.Prelude.{◌≡◌, List, Option, map}
+use Rattle.std.specs.Prelude.{◌≡◌, ℕ, List, Option, map}
 use Rattle.ri_base.specs.Documents.{Document}
 use Rattle.ri_base.specs.Query.{FilterTree, filter_tree}
 use Rattle.ri_base.specs.declared.hit.Hit.{Hit}
@@ -9,9 +9,11 @@ use Rattle.query_check.specs.Answers.{whole_checked}
 use Rattle.belief_nodes.specs.Network.{network_tree}
 use Rattle.belief_nodes.specs.Priors.{Prior}
 use Rattle.disk_index.specs.Snapshots.{live}
-use Rattle.ranker.specs.Held.{IsHeld}
+use Rattle.document_scoring.specs.Candidates.{candidates}
+use Rattle.ranker.specs.Held.{IsHeld, is_open}
 use Rattle.ranker.specs.Passed.{IsAheadAt, passed}
 use Rattle.ranker.specs.Ranking.{IsAnswerBy}
+use Rattle.ranker.specs.Squares.{spent}
 use Rattle.ranker.specs.declared.search.Search.{Search}
 
 -- the documents of its snapshot, as they read by these files
@@ -37,3 +39,7 @@ pub record IsSameSearch (old new : Search) : Type 0 where
   pub checked : whole_checked new.checked ≡ whole_checked old.checked
   pub network : network_tree new.network ≡ network_tree old.network
   pub most : new.most ≡ old.most
+
+-- what the search has spent on squarings, by the documents that it has passed
+abbrev pub spent_by : RuleKind → List Prior → Option Files → Search → ℕ
+spent_by kind priors told s = spent (network_tree s.network) s.most (is_open s.held) (candidates kind priors (filters_of s) (network_tree s.network) (passed told s.snapshot s.at))

@@ -12,9 +12,11 @@ ghost use Rattle.belief_nodes.specs.Network.{NetworkTree, network_tree};
 ghost use Rattle.belief_nodes.specs.Priors.{Prior};
 ghost use Rattle.disk_index.specs.Cache.{CacheKeeps, IsCacheBacked};
 ghost use Rattle.disk_index.specs.Snapshots.{AreBacked, IsFileAmong, IsSnapshot, live};
+ghost use Rattle.document_scoring.specs.Candidates.{candidates};
 ghost use Rattle.ranker.specs.First.{scale_of};
 ghost use Rattle.ranker.specs.Held.{HoldsEntries, IsHeld, is_open};
 ghost use Rattle.ranker.specs.Passed.{IsAheadAt, IsPlace, passed};
+ghost use Rattle.ranker.specs.Squares.{spent};
 ghost use Rattle.ranker.specs.Windows.{HasWindows};
 
 use crate::held::Held;
@@ -26,11 +28,11 @@ use disk_index::{BlockCache, MarkedPart};
 use ri_base::{Filter, Fraction, Hits, SegFault, Steps};
 use smoothing::Rule;
 use std::alloc::Global;
-use std::sync::ledger::{Blank, Ledger};
+use std::sync::ledger::Ledger;
 use store_ends::Store;
 
 /// Passes so many live documents of the parts, which have so many, or all that are left where these are fewer. Where none is left the
-/// first of the candidates become the results. The blank says which counter takes the squarings.
+/// first of the candidates become the results.
 #[inline(never)]
 pub fn advance<T: Store, F: Fn(u32, u32, u64, u64) -> Fraction, L: Ledger>(
     alloc: Global,
@@ -45,7 +47,7 @@ pub fn advance<T: Store, F: Fn(u32, u32, u64, u64) -> Fraction, L: Ledger>(
     cache: &mut BlockCache,
     at: &mut Place,
     held: &mut Held,
-    blank: Blank,
+    squares: &mut Steps<L>,
 ) -> Result<(), SegFault>
     requires rule { Computes F.pre F.post rule.now.kind rule.now.f }
     requires shown { is_range (network_tree network.now).range ≡ true }
@@ -55,14 +57,15 @@ pub fn advance<T: Store, F: Fn(u32, u32, u64, u64) -> Fraction, L: Ledger>(
     requires count { (told : Option Files) → count ≡ length (live told parts.now) }
     requires open { is_open held.old ≡ nat_lt at.old.credit count }
     requires entries { HoldsEntries (network_tree network.now) held.old }
-    requires name { blank.name ≡ L.name }
-    requires shares { blank.parts ≡ L.parts }
-    requires some { 0 < blank.parts }
     ensures ahead { AreBacked (T.files store.old) parts.now → IsCacheBacked (T.files store.old) cache.old → IsAheadAt (map filter_tree filters.now) (network_tree network.now).leaves (T.files store.old) parts.now at.old → OnOk result
         (IsAheadAt (map filter_tree filters.now) (network_tree network.now).leaves (T.files store.old) parts.now at.new) }
     ensures taken { AreBacked (T.files store.old) parts.now → IsCacheBacked (T.files store.old) cache.old → IsAheadAt (map filter_tree filters.now) (network_tree network.now).leaves (T.files store.old) parts.now at.old → OnOk result ((most : ℕ)
         → IsHeld rule.now.kind (map (λ plug. meaning plug) plugs.old) (map filter_tree filters.now) (network_tree network.now) (passed (T.files store.old) parts.now at.old) most held.old
         → IsHeld rule.now.kind (map (λ plug. meaning plug) plugs.old) (map filter_tree filters.now) (network_tree network.now) (passed (T.files store.old) parts.now at.new) most held.new) }
+    ensures squares { AreBacked (T.files store.old) parts.now → IsCacheBacked (T.files store.old) cache.old → IsAheadAt (map filter_tree filters.now) (network_tree network.now).leaves (T.files store.old) parts.now at.old → OnOk result ((most : ℕ)
+        → IsHeld rule.now.kind (map (λ plug. meaning plug) plugs.old) (map filter_tree filters.now) (network_tree network.now) (passed (T.files store.old) parts.now at.old) most held.old
+        → squares.new + spent (network_tree network.now) most (is_open held.old) (candidates rule.now.kind (map (λ plug. meaning plug) plugs.old) (map filter_tree filters.now) (network_tree network.now) (passed (T.files store.old) parts.now at.old))
+        ≤ squares.old + spent (network_tree network.now) most (is_open held.new) (candidates rule.now.kind (map (λ plug. meaning plug) plugs.old) (map filter_tree filters.now) (network_tree network.now) (passed (T.files store.old) parts.now at.new))) }
     ensures windows { OnOk result ((told : Option Files) (most : ℕ)
         → HasWindows (live told parts.now) (length (network_tree network.now).leaves) most held.old → HasWindows (live told parts.now) (length (network_tree network.now).leaves) most held.new) }
     ensures entries { OnOk result (HoldsEntries (network_tree network.now) held.new) }
@@ -79,25 +82,13 @@ pub fn advance<T: Store, F: Fn(u32, u32, u64, u64) -> Fraction, L: Ledger>(
     let Held::Open(first) = held else {
         return Ok(());
     };
-    let mut squares = Steps::<L>::new(blank);
     pass_parts(
-        alloc,
-        filters,
-        network,
-        rule,
-        plugs,
-        parts,
-        store,
-        cache,
-        at,
-        docs,
-        first,
-        &mut squares,
+        alloc, filters, network, rule, plugs, parts, store, cache, at, docs, first, squares,
     )?;
     if at.credit < count {
         return Ok(());
     }
-    held.end(alloc, network, &mut squares)?;
+    held.end(alloc, network, squares)?;
     Ok(())
 }
 

@@ -1,9 +1,9 @@
 // Candidates with their keys at the first level.
-ghost use Rattle.std.specs.Prelude.{◌≡◌, ◌++◌, List, length, map, All, IfOk, OnOk};
+ghost use Rattle.std.specs.Prelude.{◌≡◌, ◌≤◌, ◌+◌, ◌++◌, List, length, map, All, IfOk, OnOk};
 ghost use Rattle.belief_nodes.specs.Network.{network_tree};
 ghost use Rattle.bounded_keys.specs.Entries.{WereOffered};
 ghost use Rattle.bounded_keys.specs.Kept.{AreAmong};
-ghost use Rattle.ranker.specs.First.{early_of};
+ghost use Rattle.ranker.specs.First.{early_cost, early_of};
 
 use crate::keys::NetworkKeys;
 use crate::window::Window;
@@ -22,7 +22,8 @@ fn early_of<L: Ledger>(
     squares: &mut Steps<L>,
 ) -> Result<Entry<Window>, NoMemory>
     requires { length row.fractions ≡ length (network_tree network.now).leaves }
-    ensures { IfOk result (λ x. x ≡ early_of (network_tree network.now) row) }
+    ensures entry { IfOk result (λ x. x ≡ early_of (network_tree network.now) row) }
+    ensures cost { squares.new ≤ squares.old + early_cost (network_tree network.now) 1 }
 {
     let Row {
         docno,
@@ -51,6 +52,7 @@ pub fn offer_rows<L: Ledger>(
     requires { All (λ row. length row.fractions ≡ length (network_tree network.now).leaves) rows.items }
     ensures most { first.new.most ≡ first.old.most }
     ensures scale { first.new.scale ≡ first.old.scale }
+    ensures cost { squares.new ≤ squares.old + early_cost (network_tree network.now) (length rows.items) }
     ensures offered { OnOk result ((all : List (Entry Window)) → WereOffered all first.old → WereOffered (map (early_of (network_tree network.now)) rows.items ++ all) first.new) }
     ensures among { OnOk result (AreAmong (first.new.held ++ first.new.near) (map (early_of (network_tree network.now)) rows.items ++ (first.old.held ++ first.old.near))) }
 {

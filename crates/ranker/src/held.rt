@@ -1,5 +1,5 @@
 // What a search holds.
-ghost use Rattle.std.specs.Prelude.{◌≡◌, ℕ, true, List, length, IfOk, OnOk};
+ghost use Rattle.std.specs.Prelude.{◌≡◌, ◌≤◌, ◌+◌, ℕ, true, List, IfOk, OnOk};
 ghost use Rattle.ri_base.specs.Documents.{Document};
 ghost use Rattle.ri_base.specs.Query.{FilterTree};
 ghost use Rattle.smoothing.specs.declared.rule.RuleKind.{RuleKind};
@@ -27,6 +27,8 @@ pub enum Held {
 impl Held {
     ghost use Rattle.std.specs.Prelude.{false};
     ghost use Rattle.ranker.specs.Held.{HoldsEntries, IsHeld, is_open};
+    ghost use Rattle.document_scoring.specs.Candidates.{candidates};
+    ghost use Rattle.ranker.specs.Squares.{late_cost};
     ghost use Rattle.ranker.specs.Windows.{HasWindows};
 
     /// The first of the candidates become the results. Further digits are taken of those alone that may be among them.
@@ -40,6 +42,9 @@ impl Held {
         ensures ended { OnOk result (is_open self.new ≡ false) }
         ensures held { OnOk result ((kind : RuleKind) (priors : List Prior) (filters : List FilterTree) (docs : List Document) (most : ℕ)
             → IsHeld kind priors filters (network_tree network.now) docs most self.old → IsHeld kind priors filters (network_tree network.now) docs most self.new) }
+        ensures cost { OnOk result ((kind : RuleKind) (priors : List Prior) (filters : List FilterTree) (docs : List Document) (most : ℕ)
+            → is_open self.old ≡ true → IsHeld kind priors filters (network_tree network.now) docs most self.old
+            → squares.new ≤ squares.old + late_cost (network_tree network.now) most (candidates kind priors filters (network_tree network.now) docs)) }
         ensures windows { OnOk result ((docs : List Document) (leaves most : ℕ) → HasWindows docs leaves most self.old → HasWindows docs leaves most self.new) }
     {
         match mem::replace(self, Held::Ended(Hits::of(Vec::new(alloc)))) {

@@ -15,11 +15,11 @@ use crate::place::{Ahead, Place};
 use belief_nodes::{BeliefNode, Network};
 use disk_index::{BlockCache, Snapshot};
 use query_check::Checked;
-use ri_base::{Fraction, Hits, LeafStats, NoMemory, SegFault};
+use ri_base::{Fraction, Hits, LeafStats, NoMemory, SegFault, Steps};
 use smoothing::Rule;
 use std::alloc::Global;
 use std::marker::Brand;
-use std::sync::ledger::Blank;
+use std::sync::ledger::{Blank, Ledger};
 use store_ends::Store;
 
 /// A search for the first candidates of the documents of a snapshot. It advances by so many documents as it is asked for. Its credit
@@ -57,7 +57,7 @@ impl Search {
     ghost use Rattle.belief_nodes.specs.Priors.{Prior};
     ghost use Rattle.disk_index.specs.Cache.{CacheKeeps, IsCacheBacked};
     ghost use Rattle.disk_index.specs.Snapshots.{AreBacked, IsFileAmong};
-    ghost use Rattle.ranker.specs.Searches.{IsAnswerOf, IsSameSearch, IsTaken, searched};
+    ghost use Rattle.ranker.specs.Searches.{IsAnswerOf, IsSameSearch, IsTaken, searched, spent_by};
     ghost use Rattle.ranker.specs.Windows.{AreWindows};
 
     /// A search over the documents of a snapshot that has passed none yet, for at most so many results. The statistics are those of
@@ -109,9 +109,10 @@ impl Search {
         docs < self.bare_to - self.at.credit
     }
 
-    /// Passes so many live documents, or all that are left where these are fewer: a step with a look at them.
+    /// Passes so many live documents, or all that are left where these are fewer, and answers whether all are passed. After an `Err`
+    /// the search isn't usable. The squarings are counted.
     #[inline(never)]
-    fn look_on<T: Store, F: Fn(u32, u32, u64, u64) -> Fraction>(
+    pub fn counted_step<T: Store, F: Fn(u32, u32, u64, u64) -> Fraction, L: Ledger>(
         &mut self,
         alloc: Global,
         docs: u64,
@@ -119,6 +120,7 @@ impl Search {
         plugs: &mut [Box<dyn BeliefNode>],
         store: &mut T,
         cache: &mut BlockCache,
+        squares: &mut Steps<L>,
     ) -> Result<bool, SegFault>
         requires usable { self.old.usable ≡ true }
         requires rule { Computes F.pre F.post rule.now.kind rule.now.f }
@@ -136,9 +138,13 @@ impl Search {
         ensures quiet { IsQuiet T.files T.layers T.clock T.since T.longest T.held store.old store.new }
         ensures later { T.faults store.old ≤ T.faults store.new }
         ensures store { result ≡ Err SegFault.Store → Rose (T.faults store.old) (T.faults store.new) }
+        ensures squares { AreBacked (T.files store.old) self.old.snapshot → IsCacheBacked (T.files store.old) cache.old → OnOk result
+            (IsTaken rule.now.kind (map (λ plug. meaning plug) plugs.old) (T.files store.old) self.old
+            → squares.new + spent_by rule.now.kind (map (λ plug. meaning plug) plugs.old) (T.files store.old) self.old
+            ≤ squares.old + spent_by rule.now.kind (map (λ plug. meaning plug) plugs.old) (T.files store.old) self.new) }
     {
         self.usable = false;
-        advance::<T, F, Brand>(
+        advance(
             alloc,
             docs,
             self.live_count,
@@ -151,11 +157,46 @@ impl Search {
             cache,
             &mut self.at,
             &mut self.held,
-            Blank::new(1),
+            squares,
         )?;
         self.bare_to = bare_to(self.snapshot.parts(), &self.at, self.live_count);
         self.usable = true;
         Ok(self.at.credit == self.live_count)
+    }
+
+    /// The same, with a counter of its own. The blank says which one.
+    fn uncounted_step<T: Store, F: Fn(u32, u32, u64, u64) -> Fraction, L: Ledger>(
+        &mut self,
+        alloc: Global,
+        docs: u64,
+        rule: &Rule<F>,
+        plugs: &mut [Box<dyn BeliefNode>],
+        store: &mut T,
+        cache: &mut BlockCache,
+        blank: Blank,
+    ) -> Result<bool, SegFault>
+        requires name { blank.name ≡ L.name }
+        requires parts { blank.parts ≡ L.parts }
+        requires some { 0 < blank.parts }
+        requires usable { self.old.usable ≡ true }
+        requires rule { Computes F.pre F.post rule.now.kind rule.now.f }
+        requires plugs { All (HasPrior (length plugs.old)) (network_tree self.old.network).leaves }
+        ensures taken { AreBacked (T.files store.old) self.old.snapshot → IsCacheBacked (T.files store.old) cache.old → OnOk result
+            (IsTaken rule.now.kind (map (λ plug. meaning plug) plugs.old) (T.files store.old) self.old
+            → IsTaken rule.now.kind (map (λ plug. meaning plug) plugs.old) (T.files store.old) self.new) }
+        ensures credit { OnOk result ((told : Option Files) → self.new.at.credit ≡ min (self.old.at.credit + docs) (length (searched told self.old))) }
+        ensures done { IfOk result (λ done. (told : Option Files) → done ≡ (self.new.at.credit == length (searched told self.old))) }
+        ensures same { IsSameSearch self.old self.new }
+        ensures usable { self.new.usable ≡ is_ok result }
+        ensures stay { map (λ plug. meaning plug) plugs.new ≡ map (λ plug. meaning plug) plugs.old }
+        ensures honest { AreBacked (T.files store.old) self.old.snapshot → IsCacheBacked (T.files store.old) cache.old → IfErr result IsOutside }
+        ensures cache { CacheKeeps (T.files store.old) (IsFileAmong self.old.snapshot) cache.old cache.new }
+        ensures quiet { IsQuiet T.files T.layers T.clock T.since T.longest T.held store.old store.new }
+        ensures later { T.faults store.old ≤ T.faults store.new }
+        ensures store { result ≡ Err SegFault.Store → Rose (T.faults store.old) (T.faults store.new) }
+    {
+        let mut squares = Steps::<L>::new(blank);
+        self.counted_step(alloc, docs, rule, plugs, store, cache, &mut squares)
     }
 
     /// Passes so many live documents, or all that are left where these are fewer, and answers whether all are passed. After an `Err`
@@ -192,7 +233,7 @@ impl Search {
             self.at.credit += docs;
             return Ok(false);
         }
-        self.look_on(alloc, docs, rule, plugs, store, cache)
+        self.uncounted_step::<T, F, Brand>(alloc, docs, rule, plugs, store, cache, Blank::new(1))
     }
 
     /// The first candidates of all documents in their order, once all are passed.

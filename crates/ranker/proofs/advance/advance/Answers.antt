@@ -1,10 +1,12 @@
-use Rattle.std.proofs.Common.{◌≡◌, ◌≤◌, ◌+◌, None, length, map, min, sym, ap, ◌∙◌, arith}
+use Rattle.std.proofs.Common.{◌≡◌, ◌≤◌, ◌+◌, None, true, length, map, min, refl, sym, ap, ◌∙◌, arith}
 use Rattle.ri_base.specs.Query.{filter_tree}
 use Rattle.belief_nodes.specs.Network.{network_tree}
 use Rattle.disk_index.specs.Snapshots.{live}
+use Rattle.ranker.specs.Held.{is_open}
 use Rattle.ranker.specs.Passed.{passed}
 use Rattle.ranker.proofs.HeldLemmas.{HoldsEntries-on, HoldsEntries-shut, IsHeld-on, ended-credit}
 use Rattle.ranker.proofs.PlaceLemmas.{credit-le}
+use Rattle.ranker.proofs.SquaresLemmas.{squares_end, squares_on}
 use Rattle.ranker.proofs.WindowLemmas.{HasWindows-on}
 use Rattle.ranker.proofs.advance.advance.Goals as goal
 
@@ -28,7 +30,7 @@ returns-then-at-count-clause-taken g c = λ backed cached known most h.
     let told = g.T.Store.files c.args.store.now in
     let parts = c.args.parts.now in
     IsHeld-on c.args.rule.now.kind (map (λ b. (goal.BeliefNode-dyn g (b.vtable, b.value)).meaning b.value) c.args.plugs.now) (map filter_tree c.args.filters.now) (network_tree c.args.network.now) (passed told parts c.args.at.now) (passed told parts c.pass_parts.new.at) most
-    c.args.held.now c.in-Open.first c.pass_parts.new.first c.in-Open.is (c.in_ok-pass_parts.ensures.first backed cached known) h
+    c.args.held.now c.in-Open.first c.pass_parts.new.first c.args.squares.now c.pass_parts.new.squares c.in-Open.is (c.in_ok-pass_parts.ensures.first backed cached known) h
 
 pub returns-clause-taken : goal.returns-clause-taken
 returns-clause-taken g c = λ backed cached known most h.
@@ -40,7 +42,7 @@ returns-clause-taken g c = λ backed cached known most h.
     let network = network_tree c.args.network.now in
     c.in_ok-end.ensures.held kind priors filters (passed told parts c.pass_parts.new.at) most
     (IsHeld-on kind priors filters network (passed told parts c.args.at.now) (passed told parts c.pass_parts.new.at) most
-    c.args.held.now c.in-Open.first c.pass_parts.new.first c.in-Open.is (c.in_ok-pass_parts.ensures.first backed cached known) h)
+    c.args.held.now c.in-Open.first c.pass_parts.new.first c.args.squares.now c.pass_parts.new.squares c.in-Open.is (c.in_ok-pass_parts.ensures.first backed cached known) h)
 
 pub returns-then-at-count-clause-windows : goal.returns-then-at-count-clause-windows
 returns-then-at-count-clause-windows g c = λ told most h.
@@ -60,3 +62,21 @@ returns-then-at-count-clause-entries g c = HoldsEntries-on (network_tree c.args.
 
 pub returns-clause-entries : goal.returns-clause-entries
 returns-clause-entries g c = HoldsEntries-shut (network_tree c.args.network.now) c.end.new.self c.in_ok-end.ensures.ended
+
+pub returns-then-at-count-clause-squares : goal.returns-then-at-count-clause-squares
+returns-then-at-count-clause-squares g c = λ backed cached known most h.
+    squares_on (network_tree c.args.network.now) most (is_open c.args.held.now) true _ _ c.args.squares.now c.pass_parts.new.squares (ap is_open c.in-Open.is) refl (c.in_ok-pass_parts.ensures.first backed cached known).cost
+
+pub returns-clause-squares : goal.returns-clause-squares
+returns-clause-squares g c = λ backed cached known most h.
+    let told = g.T.Store.files c.args.store.now in
+    let parts = c.args.parts.now in
+    let kind = c.args.rule.now.kind in
+    let priors = map (λ b. (goal.BeliefNode-dyn g (b.vtable, b.value)).meaning b.value) c.args.plugs.now in
+    let filters = map filter_tree c.args.filters.now in
+    let network = network_tree c.args.network.now in
+    let on = c.in_ok-pass_parts.ensures.first backed cached known in
+    squares_end network most (is_open c.args.held.now) (is_open c.end.new.self) _ _ c.args.squares.now c.pass_parts.new.squares c.end.new.squares (ap is_open c.in-Open.is) c.in_ok-end.ensures.ended on.cost
+    (c.in_ok-end.ensures.cost kind priors filters (passed told parts c.pass_parts.new.at) most refl
+    (IsHeld-on kind priors filters network (passed told parts c.args.at.now) (passed told parts c.pass_parts.new.at) most
+    c.args.held.now c.in-Open.first c.pass_parts.new.first c.args.squares.now c.pass_parts.new.squares c.in-Open.is on h))

@@ -7,6 +7,7 @@ use Rattle.belief_nodes.specs.Network.{network_tree}
 use Rattle.disk_index.specs.Snapshots.{unmarked}
 use Rattle.extent_lists.proofs.KeepsLemmas.{Keeps-then}
 use Rattle.range_masks.specs.May.{query_may}
+use Rattle.ranker.specs.First.{counted}
 use Rattle.ranker.specs.Windows.{KeepsWindows}
 use Rattle.ranker.proofs.AheadLemmas.{IsAhead-on}
 use Rattle.ranker.proofs.PassedLemmas.{Advances-read, Advances-same, Advances-then}
@@ -47,9 +48,9 @@ loop-at-preserved g c =
           λ clear.
           let bit : bit_at c.args.ahead.mask (at % 64) ≡ 0 = sym c.has_id.ensures ∙ ap (λ b. cond b 1 0) clear in
           subst (λ (ds : List Document). query_may filters network.leaves (document_at ds at) ≡ false) (sym keeps.documents_stay) (known.none at low (omega (arith, test)) bit) in
-          Advances-then kind priors filters network (unmarked (take c.args.id docs) marks) (unmarked (take at docs) marks) (unmarked (take (at + 1) docs) marks) c.args.first.now c.loop-at.first c.pass_document.new.first
+          Advances-then kind priors filters network (unmarked (take c.args.id docs) marks) (unmarked (take at docs) marks) (unmarked (take (at + 1) docs) marks) (counted c.args.first.now c.args.squares.now) (counted c.loop-at.first c.loop-at.squares) (counted c.pass_document.new.first c.pass_document.new.squares)
           (c.loop-at.invariant.so_far sound known)
-          (Advances-read kind _ priors filters network read docs marks at (at + 1) c.loop-at.first c.pass_document.new.first c.loop-at.invariant.stay keeps.documents_stay (c.in_ok-passed.ensures.first (keeps.sound_stays sound) none));
+          (Advances-read kind _ priors filters network read docs marks at (at + 1) (counted c.loop-at.first c.loop-at.squares) (counted c.pass_document.new.first c.pass_document.new.squares) c.loop-at.invariant.stay keeps.documents_stay (c.in_ok-passed.ensures.first (keeps.sound_stays sound) none));
       windows = KeepsWindows-then network (unmarked docs marks) c.args.first.now c.loop-at.first c.pass_document.new.first c.loop-at.invariant.windows
           (subst (λ (ds : List Document). KeepsWindows network (unmarked ds marks) c.loop-at.first c.pass_document.new.first) keeps.documents_stay c.in_ok-passed.ensures.windows);
       ids = omega (arith, c.loop-at.invariant.ids, c.in_ok-passed.ensures.docs);

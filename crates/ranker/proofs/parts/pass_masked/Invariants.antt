@@ -3,7 +3,7 @@ use Rattle.ri_base.specs.Keeps.{Keeps}
 use Rattle.ri_base.specs.Query.{filter_tree}
 use Rattle.belief_nodes.specs.Network.{network_tree}
 use Rattle.disk_index.specs.Snapshots.{unmarked}
-use Rattle.ranker.specs.First.{Advances}
+use Rattle.ranker.specs.First.{Advances, counted}
 use Rattle.ranker.specs.Passed.{IsAhead, live_ids}
 use Rattle.ranker.specs.Windows.{KeepsWindows}
 use Rattle.ranker.proofs.parts.pass_masked.Given as goal
@@ -13,7 +13,7 @@ invariant-loop-at g l = record {
   keeps : Keeps g.P.Postings.documents g.P.Postings.faults g.P.Postings.sound g.P.Postings.quiet l.fn.part l.part;
   stay : map (λ b. (goal.BeliefNode-dyn g (b.vtable, b.value)).meaning b.value) l.plugs ≡ map (λ b. (goal.BeliefNode-dyn g (b.vtable, b.value)).meaning b.value) l.fn.plugs;
   so_far : g.P.Postings.sound l.fn.part → IsAhead (map filter_tree l.filters) (network_tree l.network).leaves (g.P.Postings.documents l.fn.part) l.id l.ahead
-      → Advances l.rule.kind (map (λ b. (goal.BeliefNode-dyn g (b.vtable, b.value)).meaning b.value) l.fn.plugs) (map filter_tree l.filters) (network_tree l.network) (unmarked (take l.id (g.P.Postings.documents l.fn.part)) l.marks) (unmarked (take l.at (g.P.Postings.documents l.fn.part)) l.marks) l.fn.first l.first;
+      → Advances l.rule.kind (map (λ b. (goal.BeliefNode-dyn g (b.vtable, b.value)).meaning b.value) l.fn.plugs) (map filter_tree l.filters) (network_tree l.network) (unmarked (take l.id (g.P.Postings.documents l.fn.part)) l.marks) (unmarked (take l.at (g.P.Postings.documents l.fn.part)) l.marks) (counted l.fn.first l.fn.squares) (counted l.first l.squares);
   windows : KeepsWindows (network_tree l.network) (unmarked (g.P.Postings.documents l.fn.part) l.marks) l.fn.first l.first;
   ids : live_ids l.marks l.at ≡ live_ids l.marks l.id + l.docs;
   from : l.id + l.docs ≤ l.at;

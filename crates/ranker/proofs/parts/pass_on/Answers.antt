@@ -1,6 +1,7 @@
 use Rattle.std.proofs.Common.{map, sym, arith}
 use Rattle.ri_base.specs.Query.{filter_tree}
 use Rattle.belief_nodes.specs.Network.{network_tree}
+use Rattle.ranker.specs.First.{counted}
 use Rattle.ranker.proofs.AheadLemmas.{IsAhead-on, IsAhead-read, bare}
 use Rattle.ranker.proofs.PassedLemmas.{Advances-bare}
 use Rattle.ranker.proofs.WindowLemmas.{KeepsWindows-same}
@@ -20,7 +21,7 @@ returns-then-ahead-eq0-clause-first g c = λ sound known.
     let to = c.pass_unseen.result in
     let inside = c.pass_unseen.ensures.passed.inside in
     let within = c.pass_unseen.ensures.inside in
-    Advances-bare kind priors filters network docs marks c.args.first.now c.args.id to.id c.pass_unseen.ensures.back (omega (arith, inside, c.requires.marks)) c.requires.marks
+    Advances-bare kind priors filters network docs marks (counted c.args.first.now c.args.squares.now) c.args.id to.id c.pass_unseen.ensures.back (omega (arith, inside, c.requires.marks)) c.requires.marks
     (λ i low high. bare filters network.leaves docs c.args.id ahead c.if-ahead-eq0.true (c.in_ok-ahead.ensures.ahead sound known) i low (omega (arith, high, within)))
 
 pub returns-then-ahead-eq0-clause-ahead : goal.returns-then-ahead-eq0-clause-ahead

@@ -4,6 +4,7 @@ use Rattle.ri_base.specs.Query.{filter_tree}
 use Rattle.belief_nodes.specs.Network.{network_tree}
 use Rattle.disk_index.specs.Snapshots.{unmarked}
 use Rattle.extent_lists.proofs.KeepsLemmas.{Keeps-then}
+use Rattle.ranker.specs.First.{counted}
 use Rattle.ranker.specs.Passed.{IsAhead}
 use Rattle.ranker.specs.Windows.{KeepsWindows}
 use Rattle.ranker.proofs.AheadLemmas.{IsAhead-read}
@@ -42,9 +43,9 @@ loop-at-preserved g c =
       keeps = Keeps-then _ _ _ _ g.met.P.Postings.quiet_then _ _ _ keeps c.pass_on.ensures.keeps;
       stay = c.pass_on.ensures.stay ∙ c.loop-at.invariant.stay;
       so_far = λ sound known.
-          Advances-then kind priors filters network (unmarked (take c.args.id docs) marks) (unmarked (take at docs) marks) (unmarked (take to.id docs) marks) c.args.first.now c.loop-at.first c.pass_on.new.first
+          Advances-then kind priors filters network (unmarked (take c.args.id docs) marks) (unmarked (take at docs) marks) (unmarked (take to.id docs) marks) (counted c.args.first.now c.args.squares.now) (counted c.loop-at.first c.loop-at.squares) (counted c.pass_on.new.first c.pass_on.new.squares)
           (c.loop-at.invariant.so_far sound known)
-          (Advances-read kind _ priors filters network read docs marks at to.id c.loop-at.first c.pass_on.new.first c.loop-at.invariant.stay keeps.documents_stay (c.in_ok-to.ensures.first (keeps.sound_stays sound) (here sound known)));
+          (Advances-read kind _ priors filters network read docs marks at to.id (counted c.loop-at.first c.loop-at.squares) (counted c.pass_on.new.first c.pass_on.new.squares) c.loop-at.invariant.stay keeps.documents_stay (c.in_ok-to.ensures.first (keeps.sound_stays sound) (here sound known)));
       ahead = λ sound known. IsAhead-read filters network.leaves read docs to.id to.ahead keeps.documents_stay (c.in_ok-to.ensures.ahead (keeps.sound_stays sound) (here sound known));
       windows = KeepsWindows-then network (unmarked docs marks) c.args.first.now c.loop-at.first c.pass_on.new.first c.loop-at.invariant.windows
           (subst (λ (ds : List Document). KeepsWindows network (unmarked ds marks) c.loop-at.first c.pass_on.new.first) keeps.documents_stay c.in_ok-to.ensures.windows);

@@ -5,7 +5,7 @@ use Rattle.belief_nodes.specs.Network.{network_tree}
 use Rattle.disk_index.specs.Parts.{IsPartBacked, reads, size}
 use Rattle.disk_index.specs.Snapshots.{Marked, live, live_in}
 use Rattle.disk_index.proofs.AmongLemmas.{backed-at, blocks-among}
-use Rattle.ranker.specs.First.{Advances}
+use Rattle.ranker.specs.First.{Advances, counted}
 use Rattle.ranker.specs.Passed.{IsAhead, IsAheadAt, IsPlace, behind, passed}
 use Rattle.ranker.specs.declared.place.Place.{Place}
 use Rattle.ranker.proofs.PlaceLemmas.{Advances-place, IsAheadAt-behind, IsPlace-behind, credit-behind, credit-few, part-behind, part-is}
@@ -42,8 +42,8 @@ returns-clause-first g c = λ backed cached known.
     let kind = c.args.rule.now.kind in
     let filters = map filter_tree c.args.filters.now in
     let network = network_tree c.args.network.now in
-    subst (λ (p : Place). Advances kind priors filters network (passed told parts at) (passed told parts p) c.args.first.now c.pass_marked.new.first) (sym c.place_behind.ensures)
-    (Advances-place parts at to c.args.most kind priors filters network told c.args.first.now c.pass_marked.new.first m is c.requires.some c.in_ok-to.ensures.end
+    subst (λ (p : Place). Advances kind priors filters network (passed told parts at) (passed told parts p) (counted c.args.first.now c.args.squares.now) (counted c.pass_marked.new.first c.pass_marked.new.squares)) (sym c.place_behind.ensures)
+    (Advances-place parts at to c.args.most kind priors filters network told (counted c.args.first.now c.args.squares.now) (counted c.pass_marked.new.first c.pass_marked.new.squares) m is c.requires.some c.in_ok-to.ensures.end
     (c.in_ok-to.ensures.first own cached (subst (λ (p : Marked). IsAhead filters network.leaves (reads told p.source) at.id at.ahead) is known)))
 
 pub returns-clause-ahead : goal.returns-clause-ahead

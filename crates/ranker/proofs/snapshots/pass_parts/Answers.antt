@@ -6,6 +6,7 @@ use Rattle.belief_nodes.specs.Network.{network_tree}
 use Rattle.disk_index.specs.Cache.{IsCacheBacked}
 use Rattle.disk_index.specs.QuietLaws.{CacheKeeps-after, CacheKeeps-same, IsCacheBacked-kept, IsQuiet-same, IsQuiet-then}
 use Rattle.disk_index.specs.Snapshots.{AreBacked, IsFileAmong, live}
+use Rattle.ranker.specs.First.{counted}
 use Rattle.ranker.specs.Passed.{passed}
 use Rattle.ranker.specs.Windows.{KeepsWindows}
 use Rattle.ranker.proofs.PassedLemmas.{Advances-same, Advances-then}
@@ -44,8 +45,8 @@ loop-left-preserved g c =
           let there : AreBacked here parts = subst (λ (f : Option Files). AreBacked f parts) (sym same) backed in
           let blocks : IsCacheBacked here c.loop-left.cache =
           subst (λ (f : Option Files). IsCacheBacked f c.loop-left.cache) (sym same) (IsCacheBacked-kept told (IsFileAmong parts) c.args.cache.now c.loop-left.cache inv.cache cached) in
-          Advances-then kind priors filters network (passed told parts c.args.at.now) (passed told parts c.loop-left.at) (passed told parts c.pass_next.new.at) c.args.first.now c.loop-left.first c.pass_next.new.first (inv.so_far backed cached known)
-          (Advances-later kind _ priors filters network here told parts c.loop-left.at c.pass_next.new.at c.loop-left.first c.pass_next.new.first inv.stay same
+          Advances-then kind priors filters network (passed told parts c.args.at.now) (passed told parts c.loop-left.at) (passed told parts c.pass_next.new.at) (counted c.args.first.now c.args.squares.now) (counted c.loop-left.first c.loop-left.squares) (counted c.pass_next.new.first c.pass_next.new.squares) (inv.so_far backed cached known)
+          (Advances-later kind _ priors filters network here told parts c.loop-left.at c.pass_next.new.at (counted c.loop-left.first c.loop-left.squares) (counted c.pass_next.new.first c.pass_next.new.squares) inv.stay same
           (c.in_ok-passed.ensures.first there blocks (IsAheadAt-later filters network.leaves told here parts c.loop-left.at (sym same) (inv.ahead backed cached known))));
       ahead = λ backed cached known.
           let there : AreBacked here parts = subst (λ (f : Option Files). AreBacked f parts) (sym same) backed in

@@ -1,6 +1,6 @@
 use Rattle.std.proofs.Common.{refl, ap, sym, ◌∙◌, None, nat_lt}
 use Rattle.std.proofs.Math.Logic.{∥∥₁_map}
-use Rattle.ranker.proofs.search.Search.look_on.Goals as goal
+use Rattle.ranker.proofs.search.Search.counted_step.Goals as goal
 
 pub advance-requires-clause-open : goal.advance-requires-clause-open
 advance-requires-clause-open g c = c.args.self.now.open c.requires.usable None ∙ ap (nat_lt c.args.self.now.at.credit) (sym (c.args.self.now.count None))
@@ -27,3 +27,7 @@ invariant_of-self-2 g c = record {
   entries = λ usable. c.in_ok-advance.ensures.entries;
   windows = λ usable told. ∥∥₁_map (c.args.self.now.windows c.requires.usable told) (λ h. (rw c.parts.ensures.parts at c.in_ok-advance.ensures.windows) told c.args.self.now.most h);
 }
+
+pub returns-clause-squares : goal.returns-clause-squares
+returns-clause-squares g c = λ backed cached h.
+    (rw c.deref.ensures.value at (rw c.parts.ensures.parts at c.in_ok-advance.ensures.squares)) backed cached h.ahead c.args.self.now.most h.held

@@ -2,6 +2,12 @@
 #![tactic(auto)]
 
 mod asked;
+mod begins;
+mod begun;
 mod part_tables;
+mod sections;
+mod table;
+mod texts;
 
 pub use part_tables::tables;
+pub use table::table_of;

@@ -12,6 +12,7 @@ ghost use Rattle.range_bounds.specs.Bounds.{CountsFor};
 ghost use Rattle.range_bounds.specs.Tables.{AreTablesOf, IsTableOf, names_of, terms_of};
 
 use crate::asked::asked_by;
+use crate::table_of;
 use disk_index::{BlockCache, MarkedPart, Part, PartReader};
 use expression_words::Asked;
 use query_check::LeafKind;
@@ -21,7 +22,7 @@ use std::alloc::{AllocError, Global};
 use store_ends::Store;
 
 /// The table of a part, with the counts of what is asked for.
-fn table_of<T: Store>(
+fn part_table<T: Store>(
     alloc: Global,
     asked: &Asked,
     part: &Part,
@@ -39,7 +40,7 @@ fn table_of<T: Store>(
     ensures store { result ≡ Err SegFault.Store → Rose (T.faults store.old) (T.faults store.new) }
 {
     let mut reader = PartReader::new(part, store, cache);
-    RangeTable::of(alloc, &mut reader, &asked.terms, &asked.names)
+    table_of(alloc, &mut reader, &asked.terms, &asked.names)
 }
 
 /// The tables of the parts, one for each, with the counts of what the leaves ask for.
@@ -63,7 +64,7 @@ pub fn tables<T: Store>(
     let asked = asked_by(alloc, leaves)?;
     let mut tables = Vec::with_capacity(alloc, parts.len())?;
     for marked in parts {
-        let table = table_of(alloc, &asked, marked.part(), store, cache)?;
+        let table = part_table(alloc, &asked, marked.part(), store, cache)?;
         tables.push(table).map_err(AllocError::from)?;
     }
     Ok(tables)

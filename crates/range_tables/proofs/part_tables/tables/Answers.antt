@@ -51,10 +51,10 @@ loop-marked-preserved g c =
           tables_more (λ (n : Marked). reads told n.source) parts i m c.loop-marked.tables.items c.push.new.self.items table c.loop-marked-test.true c.marked-item.is pushed (inv.exact backed cached) found;
       each = ap length pushed ∙ omega (arith, length-append c.loop-marked.tables.items (table ∷ []), inv.each);
       counts = subst (All (CountsFor (map leaf_tree c.args.leaves.now))) (sym pushed) (All-push (CountsFor (map leaf_tree c.args.leaves.now)) c.loop-marked.tables.items table inv.counts (record { words = words; names = names }));
-      cache = keeps-among parts i m c.loop-marked-test.true c.marked-item.is told here c.args.cache.now c.loop-marked.cache c.table_of.new.cache same inv.cache
-          (subst (λ (s : Source). CacheKeeps here (IsFileOf s) c.loop-marked.cache c.table_of.new.cache) own c.table_of.ensures.cache);
-      quiet = IsQuiet-then g.T.Store.files g.T.Store.layers g.T.Store.clock g.T.Store.since g.T.Store.longest g.T.Store.held g.T.Store.faults c.args.store.now c.loop-marked.store c.table_of.new.store inv.quiet c.table_of.ensures.quiet;
-      later = omega (arith, inv.later, c.table_of.ensures.later);
+      cache = keeps-among parts i m c.loop-marked-test.true c.marked-item.is told here c.args.cache.now c.loop-marked.cache c.part_table.new.cache same inv.cache
+          (subst (λ (s : Source). CacheKeeps here (IsFileOf s) c.loop-marked.cache c.part_table.new.cache) own c.part_table.ensures.cache);
+      quiet = IsQuiet-then g.T.Store.files g.T.Store.layers g.T.Store.clock g.T.Store.since g.T.Store.longest g.T.Store.held g.T.Store.faults c.args.store.now c.loop-marked.store c.part_table.new.store inv.quiet c.part_table.ensures.quiet;
+      later = omega (arith, inv.later, c.part_table.ensures.later);
     }
 
 pub returns-in_err-table-clause-honest : goal.returns-in_err-table-clause-honest
@@ -74,14 +74,14 @@ returns-in_err-table-clause-honest g c = λ backed cached.
 pub returns-in_err-table-clause-cache : goal.returns-in_err-table-clause-cache
 returns-in_err-table-clause-cache g c =
     let here = g.T.Store.files c.loop-marked.store in
-    keeps-among c.args.parts.now c.loop-marked.marked-index c.marked-item.result c.loop-marked-test.true c.marked-item.is (g.T.Store.files c.args.store.now) here c.args.cache.now c.loop-marked.cache c.table_of.new.cache
-    c.loop-marked.invariant.quiet.same_files c.loop-marked.invariant.cache (subst (λ (s : Source). CacheKeeps here (IsFileOf s) c.loop-marked.cache c.table_of.new.cache) c.part.ensures.part c.table_of.ensures.cache)
+    keeps-among c.args.parts.now c.loop-marked.marked-index c.marked-item.result c.loop-marked-test.true c.marked-item.is (g.T.Store.files c.args.store.now) here c.args.cache.now c.loop-marked.cache c.part_table.new.cache
+    c.loop-marked.invariant.quiet.same_files c.loop-marked.invariant.cache (subst (λ (s : Source). CacheKeeps here (IsFileOf s) c.loop-marked.cache c.part_table.new.cache) c.part.ensures.part c.part_table.ensures.cache)
 
 pub returns-in_err-map_err-clause-cache : goal.returns-in_err-map_err-clause-cache
 returns-in_err-map_err-clause-cache g c =
     let here = g.T.Store.files c.loop-marked.store in
-    keeps-among c.args.parts.now c.loop-marked.marked-index c.marked-item.result c.loop-marked-test.true c.marked-item.is (g.T.Store.files c.args.store.now) here c.args.cache.now c.loop-marked.cache c.table_of.new.cache
-    c.loop-marked.invariant.quiet.same_files c.loop-marked.invariant.cache (subst (λ (s : Source). CacheKeeps here (IsFileOf s) c.loop-marked.cache c.table_of.new.cache) c.part.ensures.part c.table_of.ensures.cache)
+    keeps-among c.args.parts.now c.loop-marked.marked-index c.marked-item.result c.loop-marked-test.true c.marked-item.is (g.T.Store.files c.args.store.now) here c.args.cache.now c.loop-marked.cache c.part_table.new.cache
+    c.loop-marked.invariant.quiet.same_files c.loop-marked.invariant.cache (subst (λ (s : Source). CacheKeeps here (IsFileOf s) c.loop-marked.cache c.part_table.new.cache) c.part.ensures.part c.part_table.ensures.cache)
 
 pub returns-clause-exact : goal.returns-clause-exact
 returns-clause-exact g c = λ backed cached.

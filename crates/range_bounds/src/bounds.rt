@@ -1,5 +1,5 @@
 // The bounds of the leaves of a query.
-ghost use Rattle.std.specs.Prelude.{◌≡◌, ◌<◌, ◌≤◌, List, length, map, Contains, IfOk};
+ghost use Rattle.std.specs.Prelude.{◌≡◌, ◌<◌, ◌≤◌, ℕ, List, length, map, Contains, IfOk};
 ghost use Rattle.std.specs.List.{All};
 ghost use Rattle.ri_base.specs.Documents.{Document};
 ghost use Rattle.ri_base.specs.Pair.{Pair};
@@ -7,11 +7,12 @@ ghost use Rattle.ri_base.specs.Ratio.{ratio_of};
 ghost use Rattle.ri_base.specs.declared.limits.TheConstants.{MAX_DOC_TOKENS};
 ghost use Rattle.smoothing.specs.Fractions.{Computes};
 ghost use Rattle.query_check.specs.Leaves.{leaf_tree};
+ghost use Rattle.belief_nodes.specs.Keys.{key_at};
 ghost use Rattle.belief_nodes.specs.Leaves.{AreLeafStats, HasPrior};
 ghost use Rattle.belief_nodes.specs.Network.{network_tree};
 ghost use Rattle.belief_nodes.specs.Priors.{IsGreatestOf, prior_at, prior_fractions};
 ghost use Rattle.windows.specs.Windows.{windows};
-ghost use Rattle.range_bounds.specs.Bounds.{AreBounds, AreCovered, CountsFor, IsToldBound, least_scored};
+ghost use Rattle.range_bounds.specs.Bounds.{AreBounds, AreCovered, CountsFor, IsToldBound, beliefs_in, least_scored};
 ghost use Rattle.range_bounds.specs.Ranges.{range_documents};
 ghost use Rattle.range_bounds.specs.Tables.{IsTableOf, range_count};
 
@@ -46,6 +47,11 @@ impl RangeTable {
             → Contains (range_documents docs range) d → Contains (windows (network_tree network.now).range (length d.tokens) d.fields) w
             → IfOk result (λ bounds. AreCovered rule.now.kind (map (λ plug. meaning plug) plugs.now) d w
             (network_tree network.now).leaves (network_tree network.now).stats (map ratio_of bounds)) }
+        ensures keys { (docs : List Document) (d : Document) (w : Pair) (k : ℕ) → IsTableOf docs self.now
+            → Contains (range_documents docs range) d → Contains (windows (network_tree network.now).range (length d.tokens) d.fields) w
+            → IfOk result (λ bounds. key_at k (map ratio_of bounds) (network_tree network.now).tree
+            ≤ key_at k (beliefs_in rule.now.kind (map (λ plug. meaning plug) plugs.now) d w
+            (network_tree network.now).leaves (network_tree network.now).stats) (network_tree network.now).tree) }
     {
         let stats = network.stats();
         let counts = &self.ranges[range as usize];

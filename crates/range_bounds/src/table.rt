@@ -15,11 +15,7 @@ pub struct RangeTable {
 
 impl RangeTable {
     /// The table of ranges with these counts, of these terms and of the fields of these names.
-    pub fn new(
-        terms: IndexSet<Term>,
-        names: IndexSet<Name>,
-        ranges: Vec<RangeCounts>,
-    ) -> RangeTable
+    pub fn new(terms: IndexSet<Term>, names: IndexSet<Name>, ranges: Vec<RangeCounts>) -> RangeTable
         ensures { result ≡ record { terms = terms; names = names; ranges = ranges } }
     {
         RangeTable {

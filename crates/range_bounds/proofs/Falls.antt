@@ -1,5 +1,5 @@
 -- Smaller beliefs have a greater key.
-use Rattle.std.proofs.Common.{◌≡◌, ◌<◌, ◌≤◌, ◌⊎◌, ◌*◌, ◌^◌, ℕ, zero, suc, List, [], ◌∷◌, arith, mul-le-mul_left, pow-suc, sym, ap, subst, ◌∙◌, inl, inr, ⊎_elim}
+use Rattle.std.proofs.Common.{◌≡◌, ◌<◌, ◌≤◌, ◌⊎◌, ◌*◌, ◌^◌, ℕ, zero, suc, List, [], ◌∷◌, arith, mul-le-mul_left, pow-suc, sym, subst, inl, ⊎_elim}
 use Rattle.std.specs.Prelude.{All, slice_index}
 use Rattle.std.specs.List.{AllZip}
 use Rattle.std.proofs.lemmas.Bool.{cases_lt}

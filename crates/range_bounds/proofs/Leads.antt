@@ -1,6 +1,6 @@
 -- In each window of each document of a range the key is at least that of the bounds.
-use Rattle.std.proofs.Common.{◌≡◌, ◌<◌, ◌≤◌, ◌*◌, ◌+◌, ◌^◌, ℕ, zero, suc, max, List, [], ◌∷◌, length, map, Option, None, Some, get_or, subst, sym, arith, inl, inr, mul-pos, mul-le-mul_left}
-use Rattle.std.specs.Prelude.{All, Contains}
+use Rattle.std.proofs.Common.{◌<◌, ◌≤◌, ◌*◌, ◌+◌, ◌^◌, ℕ, zero, suc, max, List, [], ◌∷◌, length, map, Option, None, Some, get_or, subst, sym, arith, inl, inr, mul-pos, mul-le-mul_left}
+use Rattle.std.specs.Prelude.{All}
 use Rattle.std.specs.List.{AllZip}
 use Rattle.std.proofs.lemmas.List.Elements.{All-cons, All-map, All-nil, All-weaker}
 use Rattle.ri_base.specs.Documents.{Document}
@@ -8,7 +8,6 @@ use Rattle.ri_base.specs.Pair.{Pair}
 use Rattle.ri_base.specs.Ratio.{IsBelief, Ratio, ratio_of}
 use Rattle.ri_base.specs.declared.fraction.Fraction.{Fraction}
 use Rattle.ri_base.specs.declared.hit.LeafStats.{LeafStats}
-use Rattle.ri_base.specs.declared.limits.TheConstants.{MAX_DOC_TOKENS}
 use Rattle.ri_base.specs.declared.query.Range.{Range}
 use Rattle.ri_base.specs.declared.query.Range.TheVariants.{Whole, Field as Fields, Passages}
 use Rattle.extent_evaluation.specs.Counts.{len, tf}
@@ -18,16 +17,13 @@ use Rattle.smoothing.specs.declared.rule.RuleKind.TheVariants.{Dirichlet}
 use Rattle.query_check.specs.Leaves.{LeafTree, extents, prior}
 use Rattle.query_check.specs.Trees.{ScaledTree}
 use Rattle.belief_nodes.specs.Keys.{key_at}
-use Rattle.belief_nodes.specs.Leaves.{AreLeafStats}
 use Rattle.belief_nodes.specs.Priors.{IsPrior, Prior, prior_at, prior_fractions}
 use Rattle.belief_nodes.proofs.LeafBeliefs.{prior_kept}
 use Rattle.belief_nodes.proofs.Lists.{all_first, all_rest}
-use Rattle.windows.specs.Windows.{windows}
 use Rattle.range_bounds.specs.Bounds.{AreBounds, AreCovered, IsLeafBound, belief_in, beliefs_in, least_scored}
 use Rattle.range_bounds.specs.Most.{most}
 use Rattle.range_bounds.specs.Ranges.{least_length}
-use Rattle.range_bounds.specs.Tables.{AreFormed}
-use Rattle.range_bounds.proofs.Covers.{all_covered, least_fits}
+use Rattle.range_bounds.proofs.Covers.{least_fits}
 use Rattle.range_bounds.proofs.Falls.{IsBoundedBy, IsLed, key_led}
 
 -- ---- beliefs above 0

@@ -12,7 +12,7 @@ ghost use Rattle.belief_nodes.specs.Leaves.{AreLeafStats, HasPrior};
 ghost use Rattle.belief_nodes.specs.Network.{network_tree};
 ghost use Rattle.belief_nodes.specs.Priors.{IsGreatestOf, prior_at, prior_fractions};
 ghost use Rattle.windows.specs.Windows.{windows};
-ghost use Rattle.range_bounds.specs.Bounds.{AreBounds, AreCovered, CountsFor, IsToldBound, beliefs_in, least_scored};
+ghost use Rattle.range_bounds.specs.Bounds.{AreBounds, AreCovered, IsToldBound, beliefs_in, least_scored};
 ghost use Rattle.range_bounds.specs.Ranges.{range_documents};
 ghost use Rattle.range_bounds.specs.Tables.{IsTableOf, range_count};
 
@@ -27,7 +27,7 @@ use std::alloc::Global;
 
 impl RangeTable {
     /// For each leaf, in order of their numbers, a fraction that its belief doesn't exceed in any window of any document of
-    /// the range. The terms and the names that the leaves ask for were handed to the call that made the table.
+    /// the range. The table was made for these leaves.
     pub fn bound_fractions<F: Fn(u32, u32, u64, u64) -> Fraction>(
         &self,
         alloc: Global,
@@ -38,16 +38,15 @@ impl RangeTable {
     ) -> Result<Fractions, NoMemory>
         requires rule { Computes F.pre F.post rule.now.kind rule.now.f }
         requires range { range < range_count self.now }
-        requires counts { CountsFor (network_tree network.now).leaves self.now }
         requires plugs { All (HasPrior (length plugs.now)) (network_tree network.now).leaves }
-        ensures exact { (docs : List Document) → IsTableOf docs self.now → IfOk result
+        ensures exact { (docs : List Document) → IsTableOf (network_tree network.now).leaves docs self.now → IfOk result
             (λ bounds. AreBounds rule.now.kind (map (λ plug. meaning plug) plugs.now) (network_tree network.now).range
             (range_documents docs range) (network_tree network.now).leaves (network_tree network.now).stats (map ratio_of bounds)) }
-        ensures covers { (docs : List Document) (d : Document) (w : Pair) → IsTableOf docs self.now
+        ensures covers { (docs : List Document) (d : Document) (w : Pair) → IsTableOf (network_tree network.now).leaves docs self.now
             → Contains (range_documents docs range) d → Contains (windows (network_tree network.now).range (length d.tokens) d.fields) w
             → IfOk result (λ bounds. AreCovered rule.now.kind (map (λ plug. meaning plug) plugs.now) d w
             (network_tree network.now).leaves (network_tree network.now).stats (map ratio_of bounds)) }
-        ensures keys { (docs : List Document) (d : Document) (w : Pair) (k : ℕ) → IsTableOf docs self.now
+        ensures keys { (docs : List Document) (d : Document) (w : Pair) (k : ℕ) → IsTableOf (network_tree network.now).leaves docs self.now
             → Contains (range_documents docs range) d → Contains (windows (network_tree network.now).range (length d.tokens) d.fields) w
             → IfOk result (λ bounds. key_at k (map ratio_of bounds) (network_tree network.now).tree
             ≤ key_at k (beliefs_in rule.now.kind (map (λ plug. meaning plug) plugs.now) d w

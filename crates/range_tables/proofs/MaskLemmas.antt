@@ -10,7 +10,7 @@ use Rattle.range_masks.specs.May.{has_term}
 use Rattle.range_masks.proofs.MaskLemmas.{IsMask-tells}
 use Rattle.range_masks.proofs.PostingLemmas.{some, some_place}
 
-none_long : (ps : List ℕ) → some ps ≡ false → length ps ≡ 0
+pub none_long : (ps : List ℕ) → some ps ≡ false → length ps ≡ 0
 none_long [] h = refl
 none_long (p ∷ ps) h = absurd (both_ways true h refl)
 

@@ -4,7 +4,9 @@
 mod asked;
 mod begins;
 mod begun;
+mod needs;
 mod part_tables;
+mod presence;
 mod sections;
 mod table;
 mod texts;

@@ -1,20 +1,25 @@
 // What is counted of the documents with the ids from one on up to another.
 ghost use Rattle.std.specs.Prelude.{◌≡◌, ◌≤◌, ◌<◌, ◌+◌, ◌*◌, ◌/◌, length, map, Err, IfErr, IfOk};
+ghost use Rattle.std.specs.List.{AllZip};
 ghost use Rattle.ri_base.specs.Collection.{document_at};
 ghost use Rattle.ri_base.specs.Documents.{IsDocument};
 ghost use Rattle.ri_base.specs.Faults.{IsOutside};
 ghost use Rattle.ri_base.specs.Keeps.{Keeps, Rose};
 ghost use Rattle.ri_base.specs.Places.{places};
 ghost use Rattle.ri_base.specs.declared.limits.TheConstants.{MAX_DOC_TOKENS};
+ghost use Rattle.query_check.specs.Leaves.{leaf_tree};
 ghost use Rattle.range_masks.specs.Masks.{IsMask};
 ghost use Rattle.range_masks.specs.May.{has_term};
 ghost use Rattle.range_bounds.specs.Most.{capped};
-ghost use Rattle.range_bounds.specs.Ranges.{least_length, most_begins, most_places};
+ghost use Rattle.range_bounds.specs.Ranges.{least_length, most_begins, most_places, range_documents};
+ghost use Rattle.range_tables.specs.Needs.{IsTermCount};
 ghost use Rattle.range_tables.specs.Sections.{section};
 ghost use Rattle.range_bounds.specs.Tables.{AreFormed};
 
 use crate::begins::begin_count;
+use crate::needs::is_needed;
 use crate::table::RANGE_IDS;
+use query_check::LeafKind;
 use range_masks::{TermMasks, has_id};
 use ri_base::limits::MAX_DOC_TOKENS;
 use ri_base::{Name, NoMemory, Postings, SegFault, Term};
@@ -147,10 +152,37 @@ fn most_places<P: TermMasks>(
     most_by_mask(alloc, part, term, mask, first, end)
 }
 
-/// The same of each term.
-pub(crate) fn all_most_places<P: TermMasks>(
+/// How many places the term has at most in one document of the range. Where no leaf that asks for the term may occur there, they
+/// aren't looked at, and it is 0.
+fn needed_places<P: TermMasks>(
     alloc: Global,
     part: &mut P,
+    leaves: &[LeafKind],
+    term: &Term,
+    first: u32,
+    end: u32,
+) -> Result<u32, SegFault>
+    requires order { first ≤ end }
+    requires within { end ≤ length (P.documents part.old) }
+    requires few { end ≤ 64 * (first / 64) + 64 }
+    requires whole { section (P.documents part.old) first end ≡ range_documents (P.documents part.old) (first / 64) }
+    ensures keeps { Keeps P.documents P.faults P.sound P.quiet part.old part.new }
+    ensures exact { P.sound part.old → IfOk result
+        (IsTermCount (map leaf_tree leaves.now) (section (P.documents part.old) first end) term.now) }
+    ensures honest { P.sound part.old → IfErr result IsOutside }
+    ensures store { result ≡ Err SegFault.Store → Rose (P.faults part.old) (P.faults part.new) }
+{
+    if !is_needed(leaves, term, part, first / RANGE_IDS) {
+        return Ok(0);
+    }
+    most_places(alloc, part, term, first, end)
+}
+
+/// The same of each term.
+pub(crate) fn all_needed_places<P: TermMasks>(
+    alloc: Global,
+    part: &mut P,
+    leaves: &[LeafKind],
     terms: &[Term],
     first: u32,
     end: u32,
@@ -158,15 +190,16 @@ pub(crate) fn all_most_places<P: TermMasks>(
     requires order { first ≤ end }
     requires within { end ≤ length (P.documents part.old) }
     requires few { end ≤ 64 * (first / 64) + 64 }
+    requires whole { section (P.documents part.old) first end ≡ range_documents (P.documents part.old) (first / 64) }
     ensures keeps { Keeps P.documents P.faults P.sound P.quiet part.old part.new }
     ensures exact { P.sound part.old → IfOk result
-        (λ v. v.items ≡ map (λ t. capped (most_places (section (P.documents part.old) first end) t)) terms.now) }
+        (λ v. AllZip (IsTermCount (map leaf_tree leaves.now) (section (P.documents part.old) first end)) terms.now v.items) }
     ensures honest { P.sound part.old → IfErr result IsOutside }
     ensures store { result ≡ Err SegFault.Store → Rose (P.faults part.old) (P.faults part.new) }
 {
     let mut all = Vec::with_capacity(alloc, terms.len())?;
     for term in terms {
-        let most = most_places(alloc, part, term, first, end)?;
+        let most = needed_places(alloc, part, leaves, term, first, end)?;
         all.push(most).map_err(AllocError::from)?;
     }
     Ok(all)

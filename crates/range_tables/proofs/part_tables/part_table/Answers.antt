@@ -1,10 +1,9 @@
-use Rattle.std.proofs.Common.{◌≡◌, ◌∙◌, ℕ, IfOk, List, Option, ap, subst}
-use Rattle.std.specs.Prelude.{Contains}
-use Rattle.std.specs.List.{All}
+use Rattle.std.proofs.Common.{◌≡◌, ◌∙◌, IfOk, List, Option, map, ap, subst}
 use Rattle.ri_base.specs.Documents.{Document}
 use Rattle.store_ends.specs.Files.{Files}
+use Rattle.query_check.specs.Leaves.{leaf_tree}
 use Rattle.disk_index.specs.Parts.{reads, source_of}
-use Rattle.range_bounds.specs.Tables.{IsTableOf, names_of, terms_of}
+use Rattle.range_bounds.specs.Tables.{IsTableOf}
 use Rattle.disk_index.proofs.AmongLemmas.{sound-of}
 use Rattle.range_tables.proofs.part_tables.part_table.Goals as goal
 
@@ -18,15 +17,9 @@ returns-clause-exact g c = λ part cached.
     let same_part : own ≡ source = ap source_of c.new-reader.ensures.part in
     let docs : reads here own ≡ reads told source = ap (λ (t : Option Files). reads t own) same_told ∙ ap (reads told) same_part in
     let there = sound-of told here source own c.args.cache.now c.new-reader.result.cache.now same_told same_part c.new-reader.ensures.cache part cached in
-    subst (λ (ds : List Document). IfOk c.table_of.result (IsTableOf ds)) docs (c.table_of.ensures.exact there)
+    subst (λ (ds : List Document). IfOk c.table_of.result (IsTableOf (map leaf_tree c.args.leaves.now) ds)) docs (c.table_of.ensures.exact there)
 
 pub returns-clause-honest : goal.returns-clause-honest
 returns-clause-honest g c = λ part cached.
     c.table_of.ensures.honest (sound-of (g.T.Store.files c.args.store.now) (g.T.Store.files c.new-reader.result.store.now) (source_of c.args.part.now) (source_of c.new-reader.result.part.now) c.args.cache.now c.new-reader.result.cache.now
     (ap g.T.Store.files c.new-reader.ensures.store) (ap source_of c.new-reader.ensures.part) c.new-reader.ensures.cache part cached)
-
-pub returns-clause-terms : goal.returns-clause-terms
-returns-clause-terms g c = subst (λ (ts : List (List ℕ)). IfOk c.table_of.result (λ table. All (Contains (terms_of table)) ts)) c.deref.ensures.value c.table_of.ensures.terms
-
-pub returns-clause-names : goal.returns-clause-names
-returns-clause-names g c = subst (λ (ns : List (List ℕ)). IfOk c.table_of.result (λ table. All (Contains (names_of table)) ns)) c.deref-2.ensures.value c.table_of.ensures.names

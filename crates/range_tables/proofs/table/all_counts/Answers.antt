@@ -1,9 +1,10 @@
-use Rattle.std.proofs.Common.{rules, ◌≡◌, ◌<◌, ◌≤◌, ◌*◌, ◌∙◌, ◌++◌, ◌∷◌, [], ℕ, List, length, length-append, get_or, refl, sym, ap, subst, arith, ⊎_elim}
+use Rattle.std.proofs.Common.{rules, ◌≡◌, ◌<◌, ◌≤◌, ◌*◌, ◌∙◌, ◌++◌, ◌∷◌, [], ℕ, List, length, length-append, get_or, map, refl, sym, ap, subst, arith, ⊎_elim}
 use Rattle.std.proofs.lemmas.Bool.{cases_lt}
 use Rattle.std.proofs.lemmas.List.{get_or_append_left}
 use Rattle.std.proofs.Math.Seq.{get_or-append_seam}
 use Rattle.ri_base.specs.Documents.{Document}
 use Rattle.extent_lists.proofs.KeepsLemmas.{Keeps-then}
+use Rattle.query_check.specs.Leaves.{leaf_tree}
 use Rattle.range_bounds.specs.Ranges.{range_documents}
 use Rattle.range_bounds.specs.Tables.{AreCountsOf}
 use Rattle.range_bounds.specs.declared.range_counts.RangeCounts.{RangeCounts}
@@ -28,14 +29,15 @@ loop-range-init g c =
       exact = λ sound range d inside. absurd (omega (arith, inside, none));
     }
 
-pub range_counts-counts-requires : goal.of-requires
-range_counts-counts-requires g c =
+pub range_counts-requires-clause-range : goal.range_counts-requires-clause-range
+range_counts-requires-clause-range g c =
     subst (λ (ds : List Document). 64 * c.loop-range.range < length ds) (sym c.loop-range.invariant.keeps.documents_stay) (omega (arith, c.loop-range-test.true, c.range_count-range-end.ensures.some, c.range_count-range-end.ensures.all, c.docs.ensures))
 
 pub loop-range-preserved : goal.loop-range-preserved
 loop-range-preserved g c =
     let docs = g.P.Postings.documents c.args.part.now in
     let so_far = c.loop-range.invariant in
+    let leaves = map leaf_tree c.args.leaves.now in
     let terms = c.args.terms.now in
     let names = c.args.names.now in
     let counts = c.in_ok-counts.counts in
@@ -45,8 +47,8 @@ loop-range-preserved g c =
       long = ap length pushed ∙ omega (arith, length-append c.loop-range.ranges.items (counts ∷ []), so_far.long);
       exact = λ sound.
           let here = rw so_far.keeps.documents_stay at (c.in_ok-counts.ensures.exact (so_far.keeps.sound_stays sound)) in
-          subst (λ xs. (i : ℕ) (d : RangeCounts) → i < length xs → AreCountsOf terms names (range_documents docs i) (get_or xs i d)) (sym pushed)
-          (one_more (λ i x. AreCountsOf terms names (range_documents docs i) x) c.loop-range.ranges.items counts (so_far.exact sound) (subst (λ n. AreCountsOf terms names (range_documents docs n) counts) (sym so_far.long) here));
+          subst (λ xs. (i : ℕ) (d : RangeCounts) → i < length xs → AreCountsOf leaves terms names (range_documents docs i) (get_or xs i d)) (sym pushed)
+          (one_more (λ i x. AreCountsOf leaves terms names (range_documents docs i) x) c.loop-range.ranges.items counts (so_far.exact sound) (subst (λ n. AreCountsOf leaves terms names (range_documents docs n) counts) (sym so_far.long) here));
     }
 
 pub returns-clause-exact : goal.returns-clause-exact

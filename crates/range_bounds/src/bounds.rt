@@ -1,9 +1,9 @@
 // The bounds of the leaves of a query.
-ghost use Rattle.std.specs.Prelude.{◌≡◌, ◌<◌, ◌≤◌, ℕ, List, length, map, Contains, IfOk};
+ghost use Rattle.std.specs.Prelude.{◌≡◌, ◌<◌, ◌≤◌, ℕ, List, length, map, Contains, IfOk, OnOk};
 ghost use Rattle.std.specs.List.{All};
 ghost use Rattle.ri_base.specs.Documents.{Document};
 ghost use Rattle.ri_base.specs.Pair.{Pair};
-ghost use Rattle.ri_base.specs.Ratio.{ratio_of};
+ghost use Rattle.ri_base.specs.Ratio.{IsBelief, ratio_of};
 ghost use Rattle.ri_base.specs.declared.limits.TheConstants.{MAX_DOC_TOKENS};
 ghost use Rattle.smoothing.specs.Fractions.{Computes};
 ghost use Rattle.query_check.specs.Leaves.{leaf_tree};
@@ -16,6 +16,7 @@ ghost use Rattle.range_bounds.specs.Bounds.{AreBounds, AreCovered, IsToldBound, 
 ghost use Rattle.range_bounds.specs.Ranges.{range_documents};
 ghost use Rattle.range_bounds.specs.Tables.{IsTableOf, range_count};
 
+use crate::beliefs::ask_rule;
 use crate::most::most;
 use crate::range_counts::RangeCounts;
 use crate::table::RangeTable;
@@ -46,12 +47,17 @@ impl RangeTable {
             → Contains (range_documents docs range) d → Contains (windows (network_tree network.now).range (length d.tokens) d.fields) w
             → IfOk result (λ bounds. AreCovered rule.now.kind (map (λ plug. meaning plug) plugs.now) d w
             (network_tree network.now).leaves (network_tree network.now).stats (map ratio_of bounds)) }
+        ensures beliefs { (docs : List Document) (d : Document) (w : Pair) → IsTableOf (network_tree network.now).leaves docs self.now
+            → Contains (range_documents docs range) d → Contains (windows (network_tree network.now).range (length d.tokens) d.fields) w
+            → OnOk result (All IsBelief (beliefs_in rule.now.kind (map (λ plug. meaning plug) plugs.now) d w
+            (network_tree network.now).leaves (network_tree network.now).stats)) }
         ensures keys { (docs : List Document) (d : Document) (w : Pair) (k : ℕ) → IsTableOf (network_tree network.now).leaves docs self.now
             → Contains (range_documents docs range) d → Contains (windows (network_tree network.now).range (length d.tokens) d.fields) w
             → IfOk result (λ bounds. key_at k (map ratio_of bounds) (network_tree network.now).tree
             ≤ key_at k (beliefs_in rule.now.kind (map (λ plug. meaning plug) plugs.now) d w
             (network_tree network.now).leaves (network_tree network.now).stats) (network_tree network.now).tree) }
     {
+        ask_rule(rule);
         let stats = network.stats();
         let counts = &self.ranges[range as usize];
         let mut bounds = Vec::with_capacity(alloc, stats.len())?;

@@ -1,6 +1,7 @@
 //! Bounds of the beliefs of a query's leaves in all windows of all documents of a range of 64 ids, told by counts of the range.
 #![tactic(auto)]
 
+mod beliefs;
 mod bounds;
 mod laws;
 mod most;

@@ -14,7 +14,7 @@ use Rattle.range_bounds.specs.Ranges.{range_documents}
 use Rattle.range_bounds.specs.Tables.{AreCountsOf, names_of, terms_of}
 use Rattle.range_bounds.specs.declared.range_counts.RangeCounts.{RangeCounts}
 use Rattle.range_bounds.proofs.Covers.{all_covered}
-use Rattle.range_bounds.proofs.Leads.{are_beliefs, each_told, keys_lead}
+use Rattle.range_bounds.proofs.Leads.{all_are_beliefs, are_beliefs, each_told, keys_lead}
 use Rattle.range_bounds.proofs.Told.{AreToldBounds, bounds_more, bounds_told}
 use Rattle.range_bounds.proofs.table.RangeTable.bound_fractions.Goals as goal
 
@@ -88,6 +88,17 @@ returns-clause-covers g c = λ docs d w is_table has in_it.
     let counted : AreCountsOf leaves (terms_of c.args.self.now) (names_of c.args.self.now) (range_documents docs c.args.range) counts = is_table.each c.args.range c.index-counts.result.now c.requires.range in
     all_covered kind priors network.range (range_documents docs c.args.range) d w counted.formed has in_it leaves network.stats.items _ network.kept.counted (returns-clause-exact g c docs is_table)
 
+pub returns-clause-beliefs : goal.returns-clause-beliefs
+returns-clause-beliefs g c = λ docs d w is_table has in_it.
+    let kind = c.args.rule.now.kind in
+    let priors = map (λ b. (goal.BeliefNode-dyn g (b.vtable, b.value)).meaning b.value) c.args.plugs.now in
+    let network = c.args.network.now in
+    let leaves : List LeafTree = map leaf_tree network.leaves.items in
+    let told : All IsPrior priors = each_told _ c.args.plugs.now (λ b. (g.dyn-1-met b.vtable).0.beliefs b.value) in
+    let counts : RangeCounts = get_or c.args.self.now.ranges.items c.args.range c.index-counts.result.now in
+    let counted : AreCountsOf leaves (terms_of c.args.self.now) (names_of c.args.self.now) (range_documents docs c.args.range) counts = is_table.each c.args.range c.index-counts.result.now c.requires.range in
+    all_are_beliefs kind priors network.range (range_documents docs c.args.range) d w counted.formed has in_it c.ask_rule.ensures told leaves network.stats.items network.kept.counted
+
 pub returns-clause-keys : goal.returns-clause-keys
 returns-clause-keys g c = λ docs d w k is_table has in_it.
     let kind = c.args.rule.now.kind in
@@ -96,5 +107,7 @@ returns-clause-keys g c = λ docs d w k is_table has in_it.
     let leaves : List LeafTree = map leaf_tree network.leaves.items in
     let bounds = c.of.result in
     let told : All IsPrior priors = each_told _ c.args.plugs.now (λ b. (g.dyn-1-met b.vtable).0.beliefs b.value) in
-    keys_lead kind priors network.range (range_documents docs c.args.range) d w told leaves network.stats.items (map ratio_of bounds) (scaled_tree network.tree) k (are_beliefs bounds)
-    (returns-clause-exact g c docs is_table) (returns-clause-covers g c docs d w is_table has in_it)
+    let counts : RangeCounts = get_or c.args.self.now.ranges.items c.args.range c.index-counts.result.now in
+    let counted : AreCountsOf leaves (terms_of c.args.self.now) (names_of c.args.self.now) (range_documents docs c.args.range) counts = is_table.each c.args.range c.index-counts.result.now c.requires.range in
+    keys_lead kind priors network.range (range_documents docs c.args.range) d w counted.formed has in_it c.ask_rule.ensures told leaves network.stats.items (map ratio_of bounds) (scaled_tree network.tree) k network.kept.counted (are_beliefs bounds)
+    (returns-clause-exact g c docs is_table)

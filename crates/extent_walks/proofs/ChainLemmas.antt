@@ -1,5 +1,5 @@
 -- chains whose arguments have the ends of their extents in order
-use Rattle.std.proofs.Common.{◌≡◌, ℕ, zero, suc, ◌+◌, ◌-◌, ◌<◌, ◌≤◌, ⊎_elim, Bool, true, false, nat_le, Some, None, List, [], ◌∷◌, length, drop, get_or, slice_set, add-one, refl, sym, ap, ◌∙◌, subst, arith}
+use Rattle.std.proofs.Common.{◌≡◌, ℕ, zero, suc, ◌+◌, ◌-◌, ◌<◌, ◌≤◌, ⊎_elim, Bool, true, false, nat_le, Option, Some, None, List, [], ◌∷◌, length, drop, get_or, slice_set, add-one, refl, sym, ap, ◌∙◌, subst, arith}
 use Rattle.std.specs.Prelude.{⊤}
 use Rattle.std.specs.List.{All}
 use Rattle.ri_base.specs.Pair.{Pair}
@@ -15,7 +15,7 @@ use Rattle.extent_walks.specs.Walks.{plan, plans}
 use Rattle.extent_walks.specs.declared.reach.Reach.{Reach}
 use Rattle.extent_walks.specs.declared.walk.Ahead.{Ahead}
 use Rattle.extent_walks.proofs.NextLemmas.{IsFrom-begin, never}
-use Rattle.extent_walks.proofs.ShapeLemmas.{EachMonotone}
+use Rattle.extent_walks.proofs.ShapeLemmas.{EachMonotone, chained_monotone}
 use Rattle.extent_walks.proofs.WalkLaws.{set-some}
 
 -- ---- one argument of several
@@ -277,54 +277,97 @@ IsSearched-asked n g low i old new h a last =
       run = rw (drop_plans g i (omega (arith, last))) tt;
     })
 
-module _ (n : ℕ) (g : Plans) (mono : EachMonotone (each_set g)) (low k end : ℕ) (ls : List ℕ) (x : Pair) (h : IsSearched n g low (k + 1) end ls) (inside : k < plans_count g) (f : IsNext (SetAt g k) (get_or ls k 0) 0 (Some x)) where
+-- ---- an argument on the way, and the one behind it
+
+-- `x` is the next extent of the k-th argument from its number on, and those behind it are searched
+pub record IsAt (n : ℕ) (g : Plans) (low k end : ℕ) (ls : List ℕ) (x : Pair) : Type 0 where
+  pub mono : EachMonotone (each_set g)
+  pub searched : IsSearched n g low (k + 1) end ls
+  pub inside : k < plans_count g
+  pub next : IsNext (SetAt g k) (get_or ls k 0) 0 (Some x)
+
+-- and `y` is that of the argument behind it
+pub record IsFollowed (g : Plans) (k : ℕ) (ls : List ℕ) (y : Pair) : Type 0 where
+  pub more_of : k + 1 < plans_count g
+  pub next : IsNext (SetAt g (k + 1)) (get_or ls (k + 1) 0) 0 (Some y)
+
+pub number_is : (ls : List ℕ) (k v : ℕ) → k < length ls → v ≡ get_or ls k v → v ≡ get_or ls k 0
+number_is [] k v p e = absurd (omega (arith, p))
+number_is (l ∷ ls) zero v p e = e
+number_is (l ∷ ls) (suc k) v p e = number_is ls k v (omega (arith, p)) e
+
+searched_before : (n : ℕ) (g : Plans) (low i end : ℕ) (ls : List ℕ) → 0 < i → IsSearched n g low i end ls → IsSearched n g low ((i - 1) + 1) end ls
+searched_before n g low i end ls p h = let one : i ≡ (i - 1) + 1 = omega (arith, p) in subst (λ (v : ℕ). IsSearched n g low v end ls) one h
+
+-- the walks of the arguments are as they were at first
+module _ (xs ys : List Ahead) (same : plans xs ≡ plans ys) where
+  pub is_inside : {i : ℕ} → 0 < i → i ≤ length xs → i - 1 < plans_count (plans ys)
+  is_inside some inside = omega (arith, some, inside, plans_count-is xs, ap plans_count same)
+
+  -- the next extent is that from the number that is held
+  pub next_at : {n low i end : ℕ} {ls : List ℕ} (k : ℕ) {v : ℕ} {o : Option Pair} → IsSearched n (plans ys) low i end ls → k < plans_count (plans ys) → v ≡ get_or ls k v → IsNext (set (plan_at (plans xs) k)) v 0 o
+      → IsNext (SetAt (plans ys) k) (get_or ls k 0) 0 o
+  next_at {n} {low} {i} {end} {ls} k {v} {o} searched inside is next =
+      let low_is : v ≡ get_or ls k 0 = number_is ls k v (omega (arith, inside, searched.count)) is in
+      subst (λ (l : ℕ). IsNext (SetAt (plans ys) k) l 0 o) low_is (subst (λ (g : Plans). IsNext (SetAt g k) v 0 o) same next)
+
+  pub is_at : {n low i end : ℕ} {ls : List ℕ} {v : ℕ} {x : Pair} → AreChained (plans ys) → 0 < i → i ≤ length xs → IsSearched n (plans ys) low i end ls → v ≡ get_or ls (i - 1) v → IsNext (set (plan_at (plans xs) (i - 1))) v 0 (Some x)
+      → IsAt n (plans ys) low (i - 1) end ls x
+  is_at {n} {low} {i} {end} {ls} chained some inside searched is next = record {
+    mono = chained_monotone (plans ys) chained;
+    searched = searched_before n (plans ys) low i end ls some searched;
+    inside = is_inside some inside;
+    next = next_at (i - 1) searched (is_inside some inside) is next;
+  }
+
+module _ {n : ℕ} {g : Plans} {low k end : ℕ} {ls : List ℕ} {x : Pair} (here : IsAt n g low k end ls x) where
   first_is : get_or ls k 0 ≤ x.begin
-  first_is = IsFrom-begin (get_or ls k 0) 0 x.begin x.end (f.only x refl).1
+  first_is = IsFrom-begin (get_or ls k 0) 0 x.begin x.end (here.next.only x refl).1
 
   pub IsSearched-last : plans_count g ≤ k + 1 → IsSearched n g low k x.end ls
   IsSearched-last last = record {
-    count = h.count;
-    passed = h.passed;
-    first = h.first;
-    run = run_last n g k x ls (omega (arith, last, inside)) (omega (arith, h.count, inside)) f;
+    count = here.searched.count;
+    passed = here.searched.passed;
+    first = here.searched.first;
+    run = run_last n g k x ls (omega (arith, last, here.inside)) (omega (arith, here.searched.count, here.inside)) here.next;
   }
 
-  module _ (y : Pair) (more_of : k + 1 < plans_count g) (s : IsNext (SetAt g (k + 1)) (get_or ls (k + 1) 0) 0 (Some y)) where
+  module _ {y : Pair} (behind : IsFollowed g k ls y) where
     next_is : get_or ls (k + 1) 0 ≤ y.begin
-    next_is = IsFrom-begin (get_or ls (k + 1) 0) 0 y.begin y.end (s.only y refl).1
+    next_is = IsFrom-begin (get_or ls (k + 1) 0) 0 y.begin y.end (behind.next.only y refl).1
 
     pub IsSearched-follows : x.end ≤ y.begin → y.begin < x.end + n → IsSearched n g low k end ls
-    IsSearched-follows behind near = record {
-      count = h.count;
-      passed = h.passed;
-      first = h.first;
-      run = run_more n g k x y ls end (omega (arith, more_of)) (omega (arith, h.count, inside)) f (rw add-one at s) (behind, omega (arith, near)) (rw add-one at h.run);
+    IsSearched-follows after near = record {
+      count = here.searched.count;
+      passed = here.searched.passed;
+      first = here.searched.first;
+      run = run_more n g k x y ls end (omega (arith, behind.more_of)) (omega (arith, here.searched.count, here.inside)) here.next (rw add-one at behind.next) (after, omega (arith, near)) (rw add-one at here.searched.run);
     }
 
     pub IsSearched-early : y.begin < x.end → IsSearched n g low (k + 2) end (slice_set ls (k + 1) x.end)
     IsSearched-early early = record {
-      count = length-set ls (k + 1) x.end ∙ h.count;
-      passed = λ b e p c. rw add-one (raise_next n g k x ls (omega (arith, more_of)) mono f b e (h.passed b e p c));
-      first = below_set low ls (k + 1) x.end (omega (arith, h.count, more_of)) (omega (arith, next_is, early)) h.first;
-      run = rw (drop-set-lt (k + 2) ls (k + 1) x.end (omega arith)) (two (run_tail n g (k + 1) ls end more_of h.run));
+      count = length-set ls (k + 1) x.end ∙ here.searched.count;
+      passed = λ b e p c. rw add-one (raise_next n g k x ls (omega (arith, behind.more_of)) here.mono here.next b e (here.searched.passed b e p c));
+      first = below_set low ls (k + 1) x.end (omega (arith, here.searched.count, behind.more_of)) (omega (arith, next_is, early)) here.searched.first;
+      run = rw (drop-set-lt (k + 2) ls (k + 1) x.end (omega arith)) (two (run_tail n g (k + 1) ls end behind.more_of here.searched.run));
     }
       where
         two : HasRun n (plans_drop (suc (k + 1)) g) (drop (suc (k + 1)) ls) end → HasRun n (plans_drop (k + 2) g) (drop (k + 2) ls) end
         two r = let e : suc (k + 1) ≡ k + 2 = omega arith in rw e at r
 
     pub room-early : y.begin < x.end → x.end ≤ 4294967296 → room (slice_set ls (k + 1) x.end) < room ls
-    room-early early fits = room_falls ls (k + 1) x.end (omega (arith, h.count, more_of)) (omega (arith, next_is, early)) fits
+    room-early early fits = room_falls ls (k + 1) x.end (omega (arith, here.searched.count, behind.more_of)) (omega (arith, next_is, early)) fits
 
     pub IsSearched-far : x.end + n ≤ y.begin → IsSearched n g low (k + 1) end (slice_set ls k (x.begin + 1))
     IsSearched-far far = record {
-      count = length-set ls k (x.begin + 1) ∙ h.count;
-      passed = λ b e p c. raise_here n g k x y ls (omega (arith, more_of)) mono f (rw add-one at s) far b e (h.passed b e p c);
-      first = below_set low ls k (x.begin + 1) (omega (arith, h.count, inside)) (omega (arith, first_is)) h.first;
-      run = rw (drop-set-lt (k + 1) ls k (x.begin + 1) (omega arith)) h.run;
+      count = length-set ls k (x.begin + 1) ∙ here.searched.count;
+      passed = λ b e p c. raise_here n g k x y ls (omega (arith, behind.more_of)) here.mono here.next (rw add-one at behind.next) far b e (here.searched.passed b e p c);
+      first = below_set low ls k (x.begin + 1) (omega (arith, here.searched.count, here.inside)) (omega (arith, first_is)) here.searched.first;
+      run = rw (drop-set-lt (k + 1) ls k (x.begin + 1) (omega arith)) here.searched.run;
     }
 
     pub room-far : x.begin + 1 ≤ 4294967296 → room (slice_set ls k (x.begin + 1)) < room ls
-    room-far fits = room_falls ls k (x.begin + 1) (omega (arith, h.count, inside)) (omega (arith, first_is)) fits
+    room-far fits = room_falls ls k (x.begin + 1) (omega (arith, here.searched.count, here.inside)) (omega (arith, first_is)) fits
 
 pub IsNext-no_chain : (n : ℕ) (g : Plans) (low i k end : ℕ) (ls : List ℕ) → IsSearched n g low i end ls → k < plans_count g → IsNext (SetAt g k) (get_or ls k 0) 0 None → IsNext (IsChain n (each_set g)) low 0 None
 IsNext-no_chain n g low i k end ls h inside f = record {
@@ -389,14 +432,6 @@ searched_some n (more q g) low end (l ∷ ls) x h p f =
     let at : h.run.0 ≡ x.begin = run_first n q g l ls h.run.0 end x h.run.1 f in
     let some = chain_some n (more q g) h.run.0 end (run_chain n (more q g) (l ∷ ls) h.run.0 end h.run.1) in
     omega (arith, some, at)
-
-pub number_is : (ls : List ℕ) (k v : ℕ) → k < length ls → v ≡ get_or ls k v → v ≡ get_or ls k 0
-number_is [] k v p e = absurd (omega (arith, p))
-number_is (l ∷ ls) zero v p e = e
-number_is (l ∷ ls) (suc k) v p e = number_is ls k v (omega (arith, p)) e
-
-pub searched_before : (n : ℕ) (g : Plans) (low i end : ℕ) (ls : List ℕ) → 0 < i → IsSearched n g low i end ls → IsSearched n g low ((i - 1) + 1) end ls
-searched_before n g low i end ls p h = let one : i ≡ (i - 1) + 1 = omega (arith, p) in subst (λ (v : ℕ). IsSearched n g low v end ls) one h
 
 pub chained_of : (xs : List Ahead) → 0 < length xs → is_monotone (plans_shape (plans xs)) ≡ true → AreChained (plans xs)
 chained_of [] p h = absurd (omega (arith, p))

@@ -1,4 +1,4 @@
-use Rattle.std.proofs.Common.{◌≡◌, ◌≢◌, ◌+◌, ◌-◌, ◌<◌, ◌≤◌, ⊎_elim, Some, None, true, false, get_or, refl, sym, ap, ◌∙◌, arith}
+use Rattle.std.proofs.Common.{◌≡◌, ◌≢◌, ◌+◌, ◌-◌, ◌<◌, ◌≤◌, ⊎_elim, Some, None, true, false, refl, sym, ap, ◌∙◌, arith}
 use Rattle.std.proofs.lemmas.List.{length-set}
 use Rattle.extent_walks.specs.Next.{IsNext}
 use Rattle.extent_lists.specs.Operators.{IsChain, IsInSome, IsWindow, Joins}
@@ -9,7 +9,7 @@ use Rattle.extent_walks.specs.declared.walk.Ahead.{Ahead}
 use Rattle.ri_base.specs.Pair.{Pair}
 use Rattle.extent_walks.specs.Chains.{plan_at}
 use Rattle.extent_walks.proofs.BuildLemmas.{chain_plan-is}
-use Rattle.extent_walks.proofs.ChainLemmas.{IsNext-chain, IsNext-no_chain, IsReached-searched, IsSearched, IsSearched-asked, IsSearched-early, IsSearched-far, IsSearched-follows, IsSearched-last, chained_some, number_is, plan_at-is, plans_count, plans_count-is, room-early, room-far, searched_before, searched_some}
+use Rattle.extent_walks.proofs.ChainLemmas.{IsFollowed, IsNext-chain, IsNext-no_chain, IsReached-searched, IsSearched, IsSearched-asked, IsSearched-early, IsSearched-far, IsSearched-follows, IsSearched-last, chained_some, is_at, is_inside, next_at, plan_at-is, plans_count, plans_count-is, room-early, room-far, searched_some}
 use Rattle.extent_walks.proofs.NextLemmas.{AreLow-over, HasEach-more, IsFrom-begin, IsFrom-here, IsJoinedSoFar-more, IsLeast-at_top, IsLeast-first, IsLeast-first_end, IsLeast-joined_beyond, IsLeast-short, IsLeast-window, IsLeastBelow-both, IsLeastBelow-missing, IsLeastBelow-none, IsLeastSoFar-more, IsNext-at_begin, IsNext-either, IsNext-later, IsNext-least, IsNext-no_extent, IsNext-no_least, IsNext-none, IsNext-same, IsNext-within, IsPassed-over, place_falls}
 use Rattle.extent_walks.proofs.ShapeLemmas.{chained_monotone, monotone_plan}
 use Rattle.extent_walks.proofs.WalkLaws.{IsKept-Chain, argument_depth, argument_has, argument_inside, argument_kept, depth, depth-at, depth-chain, depths, each_set-more, each_set-none, joined_above, kept-at, kept-set, plan-Chain, plan-Listed, plan-Within, plans-past, plans-set, plans_before, plans_stay, set-listed, set-some, set-within}
@@ -352,218 +352,176 @@ first_chain-loop-i-init t c =
 
 pub first_chain-index-requires : goal.first_chain-index-requires
 first_chain-index-requires t c =
-    let g = plans c.args.all.now.items in
-    let ls = c.loop-i.reach.lows.items in
-    let k = c.loop-i.i - 1 in
     let inv = c.loop-i.invariant in
-    let inside : k < plans_count g = omega (arith, inv.inside, c.loop-i-test.true, plans_count-is c.loop-i.all.items, ap plans_count inv.same) in
+    let inside = is_inside c.loop-i.all.items c.args.all.now.items inv.same c.loop-i-test.true inv.inside in
     omega (arith, inside, inv.searched.count, c.loop-i.reach.lows.ok.0)
+
 
 pub first_chain-next_of_one-requires : goal.first_chain-next_of_one-requires
 first_chain-next_of_one-requires t c =
-    let g = plans c.args.all.now.items in
-    let ls = c.loop-i.reach.lows.items in
-    let k = c.loop-i.i - 1 in
     let inv = c.loop-i.invariant in
-    let inside : k < plans_count g = omega (arith, inv.inside, c.loop-i-test.true, plans_count-is c.loop-i.all.items, ap plans_count inv.same) in
     (omega (arith, c.decreases, ap depths inv.same), (inv.kept, omega (arith, inv.inside, c.loop-i-test.true)))
+
 
 pub first_chain-returns-in_default-clause-next : goal.first_chain-returns-in_default-clause-next
 first_chain-returns-in_default-clause-next t c =
-    let g = plans c.args.all.now.items in
-    let ls = c.loop-i.reach.lows.items in
-    let k = c.loop-i.i - 1 in
     let inv = c.loop-i.invariant in
-    let inside : k < plans_count g = omega (arith, inv.inside, c.loop-i-test.true, plans_count-is c.loop-i.all.items, ap plans_count inv.same) in
-    let low : c.index.result.now ≡ get_or ls k 0 = number_is ls k c.index.result.now (omega (arith, inside, inv.searched.count)) c.index.ensures in
-    IsNext-no_chain c.args.n g c.args.low c.loop-i.i k c.loop-i.end ls inv.searched inside (rw (inv.same, low) at c.in_default.ensures.next)
+    let inside = is_inside c.loop-i.all.items c.args.all.now.items inv.same c.loop-i-test.true inv.inside in
+    IsNext-no_chain c.args.n (plans c.args.all.now.items) c.args.low c.loop-i.i (c.loop-i.i - 1) c.loop-i.end c.loop-i.reach.lows.items inv.searched inside
+    (next_at c.loop-i.all.items c.args.all.now.items inv.same (c.loop-i.i - 1) inv.searched inside c.index.ensures c.in_default.ensures.next)
+
 
 pub first_chain-returns-in_default-clause-reached : goal.first_chain-returns-in_default-clause-reached
 first_chain-returns-in_default-clause-reached t c =
     IsReached-searched c.args.n (plans c.args.all.now.items) c.args.low c.loop-i.i c.loop-i.end c.loop-i.reach c.loop-i.invariant.from c.loop-i.invariant.searched
 
+
 pub first_chain-loop-i-preserved-then-i-len : goal.first_chain-loop-i-preserved-then-i-len
 first_chain-loop-i-preserved-then-i-len t c =
-    let g = plans c.args.all.now.items in
-    let ls = c.loop-i.reach.lows.items in
-    let k = c.loop-i.i - 1 in
     let inv = c.loop-i.invariant in
-    let inside : k < plans_count g = omega (arith, inv.inside, c.loop-i-test.true, plans_count-is c.loop-i.all.items, ap plans_count inv.same) in
-    let low : c.index.result.now ≡ get_or ls k 0 = number_is ls k c.index.result.now (omega (arith, inside, inv.searched.count)) c.index.ensures in
-    let h = searched_before c.args.n g c.args.low c.loop-i.i c.loop-i.end ls c.loop-i-test.true inv.searched in
-    let mono = chained_monotone g c.requires.chained in
-    let f : IsNext (set (plan_at g k)) (get_or ls k 0) 0 (Some c.in-Some.x) = rw (inv.same, low) at c.in-Some.ensures.next in
-    let last : plans_count g ≤ k + 1 = omega (arith, inside, c.if-i-len.true, c.len.ensures, c.next_of_one.new.all.ok.0, plans_count-is c.next_of_one.new.all.items, ap plans_count (c.next_of_one.ensures.same ∙ inv.same)) in
+    let here = is_at c.loop-i.all.items c.args.all.now.items inv.same c.requires.chained c.loop-i-test.true inv.inside inv.searched c.index.ensures c.in-Some.ensures.next in
+    let same = c.next_of_one.ensures.same ∙ inv.same in
+    let last : plans_count (plans c.args.all.now.items) ≤ c.loop-i.i - 1 + 1 = omega (arith, here.inside, c.if-i-len.true, c.len.ensures, c.next_of_one.new.all.ok.0, plans_count-is c.next_of_one.new.all.items, ap plans_count same) in
     record {
-      inside = omega (arith, inside, plans_count-is c.next_of_one.new.all.items, ap plans_count (c.next_of_one.ensures.same ∙ inv.same));
-      same = c.next_of_one.ensures.same ∙ inv.same;
+      inside = omega (arith, here.inside, plans_count-is c.next_of_one.new.all.items, ap plans_count same);
+      same = same;
       kept = c.next_of_one.ensures.kept;
       from = inv.from;
-      searched = rw c.end-end.ensures.end (IsSearched-last c.args.n g mono c.args.low k c.loop-i.end ls c.in-Some.x h inside f last);
+      searched = rw c.end-end.ensures.end (IsSearched-last here last);
     }
+
 
 pub first_chain-index-requires-in-loop-i : goal.first_chain-index-requires-in-loop-i
 first_chain-index-requires-in-loop-i t c =
-    let g = plans c.args.all.now.items in
-    let ls = c.loop-i.reach.lows.items in
-    let k = c.loop-i.i - 1 in
     let inv = c.loop-i.invariant in
-    let inside : k < plans_count g = omega (arith, inv.inside, c.loop-i-test.true, plans_count-is c.loop-i.all.items, ap plans_count inv.same) in
-    let more_of : k + 1 < plans_count g = omega (arith, inside, c.if-i-len.false, c.len.ensures, c.next_of_one.new.all.ok.0, plans_count-is c.next_of_one.new.all.items, ap plans_count (c.next_of_one.ensures.same ∙ inv.same)) in
+    let inside = is_inside c.loop-i.all.items c.args.all.now.items inv.same c.loop-i-test.true inv.inside in
+    let same = c.next_of_one.ensures.same ∙ inv.same in
+    let more_of : c.loop-i.i - 1 + 1 < plans_count (plans c.args.all.now.items) = omega (arith, inside, c.if-i-len.false, c.len.ensures, c.next_of_one.new.all.ok.0, plans_count-is c.next_of_one.new.all.items, ap plans_count same) in
     omega (arith, more_of, inv.searched.count, c.loop-i.reach.lows.ok.0)
+
 
 pub first_chain-next_of_one-requires-in-loop-i : goal.first_chain-next_of_one-requires-in-loop-i
 first_chain-next_of_one-requires-in-loop-i t c =
-    let g = plans c.args.all.now.items in
-    let ls = c.loop-i.reach.lows.items in
-    let k = c.loop-i.i - 1 in
     let inv = c.loop-i.invariant in
-    let inside : k < plans_count g = omega (arith, inv.inside, c.loop-i-test.true, plans_count-is c.loop-i.all.items, ap plans_count inv.same) in
-    let more_of : k + 1 < plans_count g = omega (arith, inside, c.if-i-len.false, c.len.ensures, c.next_of_one.new.all.ok.0, plans_count-is c.next_of_one.new.all.items, ap plans_count (c.next_of_one.ensures.same ∙ inv.same)) in
-    (omega (arith, c.decreases, ap depths (c.next_of_one.ensures.same ∙ inv.same)), (c.next_of_one.ensures.kept, omega (arith, more_of, plans_count-is c.next_of_one.new.all.items, ap plans_count (c.next_of_one.ensures.same ∙ inv.same))))
+    let inside = is_inside c.loop-i.all.items c.args.all.now.items inv.same c.loop-i-test.true inv.inside in
+    let same = c.next_of_one.ensures.same ∙ inv.same in
+    let more_of : c.loop-i.i - 1 + 1 < plans_count (plans c.args.all.now.items) = omega (arith, inside, c.if-i-len.false, c.len.ensures, c.next_of_one.new.all.ok.0, plans_count-is c.next_of_one.new.all.items, ap plans_count same) in
+    (omega (arith, c.decreases, ap depths same), (c.next_of_one.ensures.kept, omega (arith, more_of, plans_count-is c.next_of_one.new.all.items, ap plans_count same)))
+
 
 pub first_chain-returns-in_default-next_of_one-clause-next : goal.first_chain-returns-in_default-next_of_one-clause-next
 first_chain-returns-in_default-next_of_one-clause-next t c =
-    let g = plans c.args.all.now.items in
-    let ls = c.loop-i.reach.lows.items in
-    let k = c.loop-i.i - 1 in
     let inv = c.loop-i.invariant in
-    let inside : k < plans_count g = omega (arith, inv.inside, c.loop-i-test.true, plans_count-is c.loop-i.all.items, ap plans_count inv.same) in
-    let more_of : k + 1 < plans_count g = omega (arith, inside, c.if-i-len.false, c.len.ensures, c.next_of_one.new.all.ok.0, plans_count-is c.next_of_one.new.all.items, ap plans_count (c.next_of_one.ensures.same ∙ inv.same)) in
-    let low_next : c.index-in-loop-i.result.now ≡ get_or ls (k + 1) 0 = number_is ls (k + 1) c.index-in-loop-i.result.now (omega (arith, more_of, inv.searched.count)) c.index-in-loop-i.ensures in
-    IsNext-no_chain c.args.n g c.args.low c.loop-i.i (k + 1) c.loop-i.end ls inv.searched more_of (rw (c.next_of_one.ensures.same, inv.same, low_next) at c.in_default-next_of_one.ensures.next)
+    let inside = is_inside c.loop-i.all.items c.args.all.now.items inv.same c.loop-i-test.true inv.inside in
+    let same = c.next_of_one.ensures.same ∙ inv.same in
+    let more_of : c.loop-i.i - 1 + 1 < plans_count (plans c.args.all.now.items) = omega (arith, inside, c.if-i-len.false, c.len.ensures, c.next_of_one.new.all.ok.0, plans_count-is c.next_of_one.new.all.items, ap plans_count same) in
+    IsNext-no_chain c.args.n (plans c.args.all.now.items) c.args.low c.loop-i.i (c.loop-i.i - 1 + 1) c.loop-i.end c.loop-i.reach.lows.items inv.searched more_of
+    (next_at c.next_of_one.new.all.items c.args.all.now.items same (c.loop-i.i - 1 + 1) inv.searched more_of c.index-in-loop-i.ensures c.in_default-next_of_one.ensures.next)
+
 
 pub first_chain-returns-in_default-next_of_one-clause-reached : goal.first_chain-returns-in_default-next_of_one-clause-reached
 first_chain-returns-in_default-next_of_one-clause-reached t c =
     IsReached-searched c.args.n (plans c.args.all.now.items) c.args.low c.loop-i.i c.loop-i.end c.loop-i.reach c.loop-i.invariant.from c.loop-i.invariant.searched
 
+
 pub first_chain-index_mut-requires : goal.first_chain-index_mut-requires
 first_chain-index_mut-requires t c =
-    let g = plans c.args.all.now.items in
-    let ls = c.loop-i.reach.lows.items in
-    let k = c.loop-i.i - 1 in
     let inv = c.loop-i.invariant in
-    let inside : k < plans_count g = omega (arith, inv.inside, c.loop-i-test.true, plans_count-is c.loop-i.all.items, ap plans_count inv.same) in
-    let more_of : k + 1 < plans_count g = omega (arith, inside, c.if-i-len.false, c.len.ensures, c.next_of_one.new.all.ok.0, plans_count-is c.next_of_one.new.all.items, ap plans_count (c.next_of_one.ensures.same ∙ inv.same)) in
+    let inside = is_inside c.loop-i.all.items c.args.all.now.items inv.same c.loop-i-test.true inv.inside in
+    let same = c.next_of_one.ensures.same ∙ inv.same in
+    let more_of : c.loop-i.i - 1 + 1 < plans_count (plans c.args.all.now.items) = omega (arith, inside, c.if-i-len.false, c.len.ensures, c.next_of_one.new.all.ok.0, plans_count-is c.next_of_one.new.all.items, ap plans_count same) in
     omega (arith, more_of, inv.searched.count, c.loop-i.reach.lows.ok.0)
+
 
 pub first_chain-loop-i-smaller-then-begin-end : goal.first_chain-loop-i-smaller-then-begin-end
 first_chain-loop-i-smaller-then-begin-end t c =
-    let g = plans c.args.all.now.items in
-    let ls = c.loop-i.reach.lows.items in
-    let k = c.loop-i.i - 1 in
     let inv = c.loop-i.invariant in
-    let inside : k < plans_count g = omega (arith, inv.inside, c.loop-i-test.true, plans_count-is c.loop-i.all.items, ap plans_count inv.same) in
-    let low : c.index.result.now ≡ get_or ls k 0 = number_is ls k c.index.result.now (omega (arith, inside, inv.searched.count)) c.index.ensures in
-    let h = searched_before c.args.n g c.args.low c.loop-i.i c.loop-i.end ls c.loop-i-test.true inv.searched in
-    let mono = chained_monotone g c.requires.chained in
-    let f : IsNext (set (plan_at g k)) (get_or ls k 0) 0 (Some c.in-Some.x) = rw (inv.same, low) at c.in-Some.ensures.next in
-    let more_of : k + 1 < plans_count g = omega (arith, inside, c.if-i-len.false, c.len.ensures, c.next_of_one.new.all.ok.0, plans_count-is c.next_of_one.new.all.items, ap plans_count (c.next_of_one.ensures.same ∙ inv.same)) in
-    let low_next : c.index-in-loop-i.result.now ≡ get_or ls (k + 1) 0 = number_is ls (k + 1) c.index-in-loop-i.result.now (omega (arith, more_of, inv.searched.count)) c.index-in-loop-i.ensures in
-    let s : IsNext (set (plan_at g (k + 1))) (get_or ls (k + 1) 0) 0 (Some c.in-Some-next_of_one.y) = rw (c.next_of_one.ensures.same, inv.same, low_next) at c.in-Some-next_of_one.ensures.next in
+    let here = is_at c.loop-i.all.items c.args.all.now.items inv.same c.requires.chained c.loop-i-test.true inv.inside inv.searched c.index.ensures c.in-Some.ensures.next in
+    let same = c.next_of_one.ensures.same ∙ inv.same in
+    let more_of : c.loop-i.i - 1 + 1 < plans_count (plans c.args.all.now.items) = omega (arith, here.inside, c.if-i-len.false, c.len.ensures, c.next_of_one.new.all.ok.0, plans_count-is c.next_of_one.new.all.items, ap plans_count same) in
+    let behind : IsFollowed (plans c.args.all.now.items) (c.loop-i.i - 1) c.loop-i.reach.lows.items c.in-Some-next_of_one.y =
+    record { more_of = more_of; next = next_at c.next_of_one.new.all.items c.args.all.now.items same (c.loop-i.i - 1 + 1) inv.searched more_of c.index-in-loop-i.ensures c.in-Some-next_of_one.ensures.next } in
     let early : c.in-Some-next_of_one.y.begin < c.in-Some.x.end = omega (arith, c.if-begin-end.true, c.begin.ensures.begin, c.end.ensures.end) in
-    let falls = room-early c.args.n g mono c.args.low k c.loop-i.end ls c.in-Some.x h inside f c.in-Some-next_of_one.y more_of s early (omega (arith, c.end.ensures.end, c.end.type_inv)) in
+    let falls = room-early here behind early (omega (arith, c.end.ensures.end, c.end.type_inv)) in
     rw c.end-then-begin-end.ensures.end (omega (arith, falls, c.loop-i-test.true))
+
 
 pub first_chain-loop-i-preserved-then-begin-end : goal.first_chain-loop-i-preserved-then-begin-end
 first_chain-loop-i-preserved-then-begin-end t c =
-    let g = plans c.args.all.now.items in
-    let ls = c.loop-i.reach.lows.items in
-    let k = c.loop-i.i - 1 in
     let inv = c.loop-i.invariant in
-    let inside : k < plans_count g = omega (arith, inv.inside, c.loop-i-test.true, plans_count-is c.loop-i.all.items, ap plans_count inv.same) in
-    let low : c.index.result.now ≡ get_or ls k 0 = number_is ls k c.index.result.now (omega (arith, inside, inv.searched.count)) c.index.ensures in
-    let h = searched_before c.args.n g c.args.low c.loop-i.i c.loop-i.end ls c.loop-i-test.true inv.searched in
-    let mono = chained_monotone g c.requires.chained in
-    let f : IsNext (set (plan_at g k)) (get_or ls k 0) 0 (Some c.in-Some.x) = rw (inv.same, low) at c.in-Some.ensures.next in
-    let more_of : k + 1 < plans_count g = omega (arith, inside, c.if-i-len.false, c.len.ensures, c.next_of_one.new.all.ok.0, plans_count-is c.next_of_one.new.all.items, ap plans_count (c.next_of_one.ensures.same ∙ inv.same)) in
-    let low_next : c.index-in-loop-i.result.now ≡ get_or ls (k + 1) 0 = number_is ls (k + 1) c.index-in-loop-i.result.now (omega (arith, more_of, inv.searched.count)) c.index-in-loop-i.ensures in
-    let s : IsNext (set (plan_at g (k + 1))) (get_or ls (k + 1) 0) 0 (Some c.in-Some-next_of_one.y) = rw (c.next_of_one.ensures.same, inv.same, low_next) at c.in-Some-next_of_one.ensures.next in
+    let here = is_at c.loop-i.all.items c.args.all.now.items inv.same c.requires.chained c.loop-i-test.true inv.inside inv.searched c.index.ensures c.in-Some.ensures.next in
+    let same = c.next_of_one.ensures.same ∙ inv.same in
+    let more_of : c.loop-i.i - 1 + 1 < plans_count (plans c.args.all.now.items) = omega (arith, here.inside, c.if-i-len.false, c.len.ensures, c.next_of_one.new.all.ok.0, plans_count-is c.next_of_one.new.all.items, ap plans_count same) in
+    let behind : IsFollowed (plans c.args.all.now.items) (c.loop-i.i - 1) c.loop-i.reach.lows.items c.in-Some-next_of_one.y =
+    record { more_of = more_of; next = next_at c.next_of_one.new.all.items c.args.all.now.items same (c.loop-i.i - 1 + 1) inv.searched more_of c.index-in-loop-i.ensures c.in-Some-next_of_one.ensures.next } in
     let early : c.in-Some-next_of_one.y.begin < c.in-Some.x.end = omega (arith, c.if-begin-end.true, c.begin.ensures.begin, c.end.ensures.end) in
-    let same = c.next_of_one-in-loop-i.ensures.same ∙ c.next_of_one.ensures.same ∙ inv.same in
+    let again = c.next_of_one-in-loop-i.ensures.same ∙ same in
     record {
-      inside = omega (arith, more_of, plans_count-is c.next_of_one-in-loop-i.new.all.items, ap plans_count same);
-      same = same;
+      inside = omega (arith, more_of, plans_count-is c.next_of_one-in-loop-i.new.all.items, ap plans_count again);
+      same = again;
       kept = c.next_of_one-in-loop-i.ensures.kept;
       from = inv.from;
-      searched = rw c.end-then-begin-end.ensures.end (IsSearched-early c.args.n g mono c.args.low k c.loop-i.end ls c.in-Some.x h inside f c.in-Some-next_of_one.y more_of s early);
+      searched = rw c.end-then-begin-end.ensures.end (IsSearched-early here behind early);
     }
+
 
 pub first_chain-index_mut-requires-then-from : goal.first_chain-index_mut-requires-then-from
 first_chain-index_mut-requires-then-from t c =
-    let g = plans c.args.all.now.items in
-    let ls = c.loop-i.reach.lows.items in
-    let k = c.loop-i.i - 1 in
     let inv = c.loop-i.invariant in
-    let inside : k < plans_count g = omega (arith, inv.inside, c.loop-i-test.true, plans_count-is c.loop-i.all.items, ap plans_count inv.same) in
+    let inside = is_inside c.loop-i.all.items c.args.all.now.items inv.same c.loop-i-test.true inv.inside in
     omega (arith, inside, inv.searched.count, c.loop-i.reach.lows.ok.0)
+
 
 pub first_chain-loop-i-smaller-then-from : goal.first_chain-loop-i-smaller-then-from
 first_chain-loop-i-smaller-then-from t c =
-    let g = plans c.args.all.now.items in
-    let ls = c.loop-i.reach.lows.items in
-    let k = c.loop-i.i - 1 in
     let inv = c.loop-i.invariant in
-    let inside : k < plans_count g = omega (arith, inv.inside, c.loop-i-test.true, plans_count-is c.loop-i.all.items, ap plans_count inv.same) in
-    let low : c.index.result.now ≡ get_or ls k 0 = number_is ls k c.index.result.now (omega (arith, inside, inv.searched.count)) c.index.ensures in
-    let h = searched_before c.args.n g c.args.low c.loop-i.i c.loop-i.end ls c.loop-i-test.true inv.searched in
-    let mono = chained_monotone g c.requires.chained in
-    let f : IsNext (set (plan_at g k)) (get_or ls k 0) 0 (Some c.in-Some.x) = rw (inv.same, low) at c.in-Some.ensures.next in
-    let more_of : k + 1 < plans_count g = omega (arith, inside, c.if-i-len.false, c.len.ensures, c.next_of_one.new.all.ok.0, plans_count-is c.next_of_one.new.all.items, ap plans_count (c.next_of_one.ensures.same ∙ inv.same)) in
-    let low_next : c.index-in-loop-i.result.now ≡ get_or ls (k + 1) 0 = number_is ls (k + 1) c.index-in-loop-i.result.now (omega (arith, more_of, inv.searched.count)) c.index-in-loop-i.ensures in
-    let s : IsNext (set (plan_at g (k + 1))) (get_or ls (k + 1) 0) 0 (Some c.in-Some-next_of_one.y) = rw (c.next_of_one.ensures.same, inv.same, low_next) at c.in-Some-next_of_one.ensures.next in
-    let far : c.in-Some.x.end + c.args.n ≤ c.in-Some-next_of_one.y.begin = omega (arith, c.if-from.true, c.from.ensures, c.from-in-loop-i.ensures, c.from-in-loop-i-2.ensures, c.begin-in-loop-i.ensures.begin, c.end-in-loop-i.ensures.end) in
-    let falls = room-far c.args.n g mono c.args.low k c.loop-i.end ls c.in-Some.x h inside f c.in-Some-next_of_one.y more_of s (omega (arith, c.begin-then-from.ensures.begin, c.begin-then-from.type_inv)) in
+    let here = is_at c.loop-i.all.items c.args.all.now.items inv.same c.requires.chained c.loop-i-test.true inv.inside inv.searched c.index.ensures c.in-Some.ensures.next in
+    let same = c.next_of_one.ensures.same ∙ inv.same in
+    let more_of : c.loop-i.i - 1 + 1 < plans_count (plans c.args.all.now.items) = omega (arith, here.inside, c.if-i-len.false, c.len.ensures, c.next_of_one.new.all.ok.0, plans_count-is c.next_of_one.new.all.items, ap plans_count same) in
+    let behind : IsFollowed (plans c.args.all.now.items) (c.loop-i.i - 1) c.loop-i.reach.lows.items c.in-Some-next_of_one.y =
+    record { more_of = more_of; next = next_at c.next_of_one.new.all.items c.args.all.now.items same (c.loop-i.i - 1 + 1) inv.searched more_of c.index-in-loop-i.ensures c.in-Some-next_of_one.ensures.next } in
+    let falls = room-far here behind (omega (arith, c.begin-then-from.ensures.begin, c.begin-then-from.type_inv)) in
     rw c.begin-then-from.ensures.begin (omega (arith, falls, c.loop-i-test.true))
+
 
 pub first_chain-loop-i-preserved-then-from : goal.first_chain-loop-i-preserved-then-from
 first_chain-loop-i-preserved-then-from t c =
-    let g = plans c.args.all.now.items in
-    let ls = c.loop-i.reach.lows.items in
-    let k = c.loop-i.i - 1 in
     let inv = c.loop-i.invariant in
-    let inside : k < plans_count g = omega (arith, inv.inside, c.loop-i-test.true, plans_count-is c.loop-i.all.items, ap plans_count inv.same) in
-    let low : c.index.result.now ≡ get_or ls k 0 = number_is ls k c.index.result.now (omega (arith, inside, inv.searched.count)) c.index.ensures in
-    let h = searched_before c.args.n g c.args.low c.loop-i.i c.loop-i.end ls c.loop-i-test.true inv.searched in
-    let mono = chained_monotone g c.requires.chained in
-    let f : IsNext (set (plan_at g k)) (get_or ls k 0) 0 (Some c.in-Some.x) = rw (inv.same, low) at c.in-Some.ensures.next in
-    let more_of : k + 1 < plans_count g = omega (arith, inside, c.if-i-len.false, c.len.ensures, c.next_of_one.new.all.ok.0, plans_count-is c.next_of_one.new.all.items, ap plans_count (c.next_of_one.ensures.same ∙ inv.same)) in
-    let low_next : c.index-in-loop-i.result.now ≡ get_or ls (k + 1) 0 = number_is ls (k + 1) c.index-in-loop-i.result.now (omega (arith, more_of, inv.searched.count)) c.index-in-loop-i.ensures in
-    let s : IsNext (set (plan_at g (k + 1))) (get_or ls (k + 1) 0) 0 (Some c.in-Some-next_of_one.y) = rw (c.next_of_one.ensures.same, inv.same, low_next) at c.in-Some-next_of_one.ensures.next in
+    let here = is_at c.loop-i.all.items c.args.all.now.items inv.same c.requires.chained c.loop-i-test.true inv.inside inv.searched c.index.ensures c.in-Some.ensures.next in
+    let same = c.next_of_one.ensures.same ∙ inv.same in
+    let more_of : c.loop-i.i - 1 + 1 < plans_count (plans c.args.all.now.items) = omega (arith, here.inside, c.if-i-len.false, c.len.ensures, c.next_of_one.new.all.ok.0, plans_count-is c.next_of_one.new.all.items, ap plans_count same) in
+    let behind : IsFollowed (plans c.args.all.now.items) (c.loop-i.i - 1) c.loop-i.reach.lows.items c.in-Some-next_of_one.y =
+    record { more_of = more_of; next = next_at c.next_of_one.new.all.items c.args.all.now.items same (c.loop-i.i - 1 + 1) inv.searched more_of c.index-in-loop-i.ensures c.in-Some-next_of_one.ensures.next } in
     let far : c.in-Some.x.end + c.args.n ≤ c.in-Some-next_of_one.y.begin = omega (arith, c.if-from.true, c.from.ensures, c.from-in-loop-i.ensures, c.from-in-loop-i-2.ensures, c.begin-in-loop-i.ensures.begin, c.end-in-loop-i.ensures.end) in
-    let same = c.next_of_one-in-loop-i.ensures.same ∙ c.next_of_one.ensures.same ∙ inv.same in
+    let again = c.next_of_one-in-loop-i.ensures.same ∙ same in
     record {
-      inside = omega (arith, inside, plans_count-is c.next_of_one-in-loop-i.new.all.items, ap plans_count same);
-      same = same;
+      inside = omega (arith, here.inside, plans_count-is c.next_of_one-in-loop-i.new.all.items, ap plans_count again);
+      same = again;
       kept = c.next_of_one-in-loop-i.ensures.kept;
       from = inv.from;
-      searched = rw c.begin-then-from.ensures.begin (IsSearched-far c.args.n g mono c.args.low k c.loop-i.end ls c.in-Some.x h inside f c.in-Some-next_of_one.y more_of s far);
+      searched = rw c.begin-then-from.ensures.begin (IsSearched-far here behind far);
     }
+
 
 pub first_chain-loop-i-preserved : goal.first_chain-loop-i-preserved
 first_chain-loop-i-preserved t c =
-    let g = plans c.args.all.now.items in
-    let ls = c.loop-i.reach.lows.items in
-    let k = c.loop-i.i - 1 in
     let inv = c.loop-i.invariant in
-    let inside : k < plans_count g = omega (arith, inv.inside, c.loop-i-test.true, plans_count-is c.loop-i.all.items, ap plans_count inv.same) in
-    let low : c.index.result.now ≡ get_or ls k 0 = number_is ls k c.index.result.now (omega (arith, inside, inv.searched.count)) c.index.ensures in
-    let h = searched_before c.args.n g c.args.low c.loop-i.i c.loop-i.end ls c.loop-i-test.true inv.searched in
-    let mono = chained_monotone g c.requires.chained in
-    let f : IsNext (set (plan_at g k)) (get_or ls k 0) 0 (Some c.in-Some.x) = rw (inv.same, low) at c.in-Some.ensures.next in
-    let more_of : k + 1 < plans_count g = omega (arith, inside, c.if-i-len.false, c.len.ensures, c.next_of_one.new.all.ok.0, plans_count-is c.next_of_one.new.all.items, ap plans_count (c.next_of_one.ensures.same ∙ inv.same)) in
-    let low_next : c.index-in-loop-i.result.now ≡ get_or ls (k + 1) 0 = number_is ls (k + 1) c.index-in-loop-i.result.now (omega (arith, more_of, inv.searched.count)) c.index-in-loop-i.ensures in
-    let s : IsNext (set (plan_at g (k + 1))) (get_or ls (k + 1) 0) 0 (Some c.in-Some-next_of_one.y) = rw (c.next_of_one.ensures.same, inv.same, low_next) at c.in-Some-next_of_one.ensures.next in
-    let same = c.next_of_one-in-loop-i.ensures.same ∙ c.next_of_one.ensures.same ∙ inv.same in
-    let behind : c.in-Some.x.end ≤ c.in-Some-next_of_one.y.begin = omega (arith, c.if-begin-end.false, c.begin.ensures.begin, c.end.ensures.end) in
+    let here = is_at c.loop-i.all.items c.args.all.now.items inv.same c.requires.chained c.loop-i-test.true inv.inside inv.searched c.index.ensures c.in-Some.ensures.next in
+    let same = c.next_of_one.ensures.same ∙ inv.same in
+    let more_of : c.loop-i.i - 1 + 1 < plans_count (plans c.args.all.now.items) = omega (arith, here.inside, c.if-i-len.false, c.len.ensures, c.next_of_one.new.all.ok.0, plans_count-is c.next_of_one.new.all.items, ap plans_count same) in
+    let behind : IsFollowed (plans c.args.all.now.items) (c.loop-i.i - 1) c.loop-i.reach.lows.items c.in-Some-next_of_one.y =
+    record { more_of = more_of; next = next_at c.next_of_one.new.all.items c.args.all.now.items same (c.loop-i.i - 1 + 1) inv.searched more_of c.index-in-loop-i.ensures c.in-Some-next_of_one.ensures.next } in
+    let after : c.in-Some.x.end ≤ c.in-Some-next_of_one.y.begin = omega (arith, c.if-begin-end.false, c.begin.ensures.begin, c.end.ensures.end) in
     let near : c.in-Some-next_of_one.y.begin < c.in-Some.x.end + c.args.n = omega (arith, c.if-from.false, c.from.ensures, c.from-in-loop-i.ensures, c.from-in-loop-i-2.ensures, c.begin-in-loop-i.ensures.begin, c.end-in-loop-i.ensures.end) in
+    let again = c.next_of_one-in-loop-i.ensures.same ∙ same in
     record {
-      inside = omega (arith, inside, plans_count-is c.next_of_one-in-loop-i.new.all.items, ap plans_count same);
-      same = same;
+      inside = omega (arith, here.inside, plans_count-is c.next_of_one-in-loop-i.new.all.items, ap plans_count again);
+      same = again;
       kept = c.next_of_one-in-loop-i.ensures.kept;
       from = inv.from;
-      searched = IsSearched-follows c.args.n g mono c.args.low k c.loop-i.end ls c.in-Some.x h inside f c.in-Some-next_of_one.y more_of s behind near;
+      searched = IsSearched-follows here behind after near;
     }
+
 
 pub first_chain-index-requires-2 : goal.first_chain-index-requires-2
 first_chain-index-requires-2 t c =
@@ -577,13 +535,10 @@ first_chain-next_of_one-requires-2 t c =
 pub first_chain-returns-in_default-next_of_one-2-clause-next : goal.first_chain-returns-in_default-next_of_one-2-clause-next
 first_chain-returns-in_default-next_of_one-2-clause-next t c =
     let g = plans c.args.all.now.items in
-    let ls = c.loop-i.reach.lows.items in
     let inv = c.loop-i.invariant in
-    let zero : c.loop-i.i ≡ 0 = omega (arith, c.loop-i-test.false) in
     let some = chained_some g c.requires.chained in
-    let h : IsSearched c.args.n g c.args.low 0 c.loop-i.end ls = rw zero at inv.searched in
-    let low : c.index-2.result.now ≡ get_or ls 0 0 = number_is ls 0 c.index-2.result.now (omega (arith, some, inv.searched.count)) c.index-2.ensures in
-    IsNext-no_chain c.args.n g c.args.low 0 0 c.loop-i.end ls h some (rw (inv.same, low) at c.in_default-next_of_one-2.ensures.next)
+    IsNext-no_chain c.args.n g c.args.low c.loop-i.i 0 c.loop-i.end c.loop-i.reach.lows.items inv.searched some
+    (next_at c.loop-i.all.items c.args.all.now.items inv.same 0 inv.searched some c.index-2.ensures c.in_default-next_of_one-2.ensures.next)
 
 pub first_chain-returns-in_default-next_of_one-2-clause-reached : goal.first_chain-returns-in_default-next_of_one-2-clause-reached
 first_chain-returns-in_default-next_of_one-2-clause-reached t c =
@@ -592,26 +547,22 @@ first_chain-returns-in_default-next_of_one-2-clause-reached t c =
 pub first_chain-new-requires : goal.first_chain-new-requires
 first_chain-new-requires t c =
     let g = plans c.args.all.now.items in
-    let ls = c.loop-i.reach.lows.items in
     let inv = c.loop-i.invariant in
     let zero : c.loop-i.i ≡ 0 = omega (arith, c.loop-i-test.false) in
     let some = chained_some g c.requires.chained in
-    let h : IsSearched c.args.n g c.args.low 0 c.loop-i.end ls = rw zero at inv.searched in
-    let low : c.index-2.result.now ≡ get_or ls 0 0 = number_is ls 0 c.index-2.result.now (omega (arith, some, inv.searched.count)) c.index-2.ensures in
-    let f : IsNext (set (plan_at g 0)) (get_or ls 0 0) 0 (Some c.in-Some-next_of_one-2.x) = rw (inv.same, low) at c.in-Some-next_of_one-2.ensures.next in
-    omega (arith, c.begin-2.ensures.begin, searched_some c.args.n g c.args.low c.loop-i.end ls c.in-Some-next_of_one-2.x h some f)
+    let all : IsSearched c.args.n g c.args.low 0 c.loop-i.end c.loop-i.reach.lows.items = rw zero at inv.searched in
+    let next = next_at c.loop-i.all.items c.args.all.now.items inv.same 0 inv.searched some c.index-2.ensures c.in-Some-next_of_one-2.ensures.next in
+    omega (arith, c.begin-2.ensures.begin, searched_some c.args.n g c.args.low c.loop-i.end c.loop-i.reach.lows.items c.in-Some-next_of_one-2.x all some next)
 
 pub first_chain-returns-clause-next : goal.first_chain-returns-clause-next
 first_chain-returns-clause-next t c =
     let g = plans c.args.all.now.items in
-    let ls = c.loop-i.reach.lows.items in
     let inv = c.loop-i.invariant in
     let zero : c.loop-i.i ≡ 0 = omega (arith, c.loop-i-test.false) in
     let some = chained_some g c.requires.chained in
-    let h : IsSearched c.args.n g c.args.low 0 c.loop-i.end ls = rw zero at inv.searched in
-    let low : c.index-2.result.now ≡ get_or ls 0 0 = number_is ls 0 c.index-2.result.now (omega (arith, some, inv.searched.count)) c.index-2.ensures in
-    let f : IsNext (set (plan_at g 0)) (get_or ls 0 0) 0 (Some c.in-Some-next_of_one-2.x) = rw (inv.same, low) at c.in-Some-next_of_one-2.ensures.next in
-    IsNext-chain c.args.n g c.args.low c.loop-i.end ls c.in-Some-next_of_one-2.x c.new.result (chained_monotone g c.requires.chained) h some f
+    let all : IsSearched c.args.n g c.args.low 0 c.loop-i.end c.loop-i.reach.lows.items = rw zero at inv.searched in
+    let next = next_at c.loop-i.all.items c.args.all.now.items inv.same 0 inv.searched some c.index-2.ensures c.in-Some-next_of_one-2.ensures.next in
+    IsNext-chain c.args.n g c.args.low c.loop-i.end c.loop-i.reach.lows.items c.in-Some-next_of_one-2.x c.new.result (chained_monotone g c.requires.chained) all some next
     (ap (λ (x : Pair). x.begin) c.new.ensures ∙ c.begin-2.ensures.begin) (ap (λ (x : Pair). x.end) c.new.ensures)
 
 pub first_chain-returns-clause-reached : goal.first_chain-returns-clause-reached

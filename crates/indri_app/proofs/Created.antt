@@ -3,7 +3,7 @@ use Rattle.std.proofs.Common.{◌≡◌, ◌≤◌, inl, inr, ℕ, List, [], Opt
 use Rattle.std.specs.Prelude.{is_some}
 use Rattle.std.specs.Option.{IfSome}
 use Rattle.ri_base.specs.declared.limits.TheConstants.{MAX_HELD_TOKENS, MAX_PART_DOCS}
-use Rattle.store_ends.specs.Files.{Files, Leaves}
+use Rattle.store_ends.specs.Files.{Files}
 use Rattle.store_ends.proofs.Files.{Leaves-same}
 use Rattle.command_words.specs.Table.{Asks, add, create, delete, explain, gen, merge, prior, query, scan, session}
 use Rattle.command_pieces.specs.CommandFaults.{IsBrokenBy, IsCreateFault, IsDamage, IsExistsFault}

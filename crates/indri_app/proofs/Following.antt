@@ -2,7 +2,6 @@
 use Rattle.std.proofs.Common.{◌≡◌, ◌⊎◌, inl, inr, ℕ, Bool, true, false, ◌||◌, List, [], ◌∷◌, ◌++◌, refl, ap, sym, ◌∙◌, subst, Option, Some, None, append_assoc, append-nil}
 use Rattle.std.specs.Option.{option_map, IfSome}
 use Rattle.store_ends.specs.Files.{Files, Leaves}
-use Rattle.store_ends.proofs.Files.{Leaves-same}
 use Rattle.command_pieces.specs.CommandFaults.{IsBrokenBy}
 use Rattle.command_pieces.specs.Pieces.{Finished, Piece, StandsAlong, StoppedBetween, kept_behind, some_refused}
 use Rattle.command_pieces.specs.declared.command_fault.CommandFault.{CommandFault}

@@ -25,7 +25,7 @@ use Rattle.generated_events.specs.declared.generator.TheConstants.{MAX_GENERATED
 use Rattle.desk.specs.State.{State}
 use Rattle.desk.specs.Step.{step}
 use Rattle.indri_app.specs.Faults.{IsGenFault, IsSilentFault}
-use Rattle.indri_app.specs.Generated.{AreGenPieces, MakingPiece, created, gen_items, gen_pieces, made_state, new_state, silent, silent_pieces}
+use Rattle.indri_app.specs.Generated.{MakingPiece, created, gen_items, gen_pieces, made_state, new_state, silent, silent_pieces}
 use Rattle.indri_app.specs.GeneratedTexts.{gen_text, summary_text, told_lines}
 use Rattle.indri_app.specs.Generation.{IsGenBroken, IsGenerated, IsMadeWith, StandsSome, StopsSome}
 use Rattle.indri_app.specs.Items.{pieces_of, state_behind_all}

@@ -8,7 +8,7 @@ use Rattle.ri_base.specs.declared.seg_fault.SegFault.TheVariants as files
 use Rattle.store_ends.specs.Files.{Files, Leaves}
 use Rattle.store_ends.proofs.Files.{Leaves-same, Leaves-then}
 use Rattle.command_pieces.specs.CommandFaults.{IsBrokenBy, IsDamage, of_files, of_items}
-use Rattle.command_pieces.specs.Pieces.{Finished, Piece, StandsAlong, StoppedBetween, Writes, WritesFront, kept_behind, text_of}
+use Rattle.command_pieces.specs.Pieces.{Finished, Piece, StandsAlong, StoppedBetween, WritesFront, kept_behind, text_of}
 use Rattle.command_pieces.specs.Written.{AllWritten, Plain}
 use Rattle.command_pieces.specs.declared.command_fault.CommandFault.{CommandFault}
 use Rattle.command_pieces.specs.declared.command_fault.CommandFault.TheVariants as command

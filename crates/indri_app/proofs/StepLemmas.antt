@@ -6,13 +6,12 @@ use Rattle.store_ends.proofs.Files.{Leaves-same, Leaves-then}
 use Rattle.ri_base.specs.Expression.{ExprTree}
 use Rattle.query_check.specs.Check.{CheckedTree}
 use Rattle.belief_nodes.specs.Priors.{Prior}
-use Rattle.holdings.specs.declared.limits.Limits.{Limits}
 use Rattle.refusals.specs.Lines.{refusal_piece}
 use Rattle.refusals.specs.declared.refusal.Refusal.TheVariants.{Document, Input}
 use Rattle.repository.specs.RealLimits.{AreReal, StandsFor}
 use Rattle.repository.specs.Stands.{Collection, Stands}
 use Rattle.repository.specs.Writes.{IsEither}
-use Rattle.repository.proofs.RealLemmas.{either-for, stands-for}
+use Rattle.repository.proofs.RealLemmas.{stands-for}
 use Rattle.desk.specs.Priors.{names_with}
 use Rattle.script_reader.specs.State.{is_end}
 use Rattle.script_reader.specs.declared.item.Item.{Item}

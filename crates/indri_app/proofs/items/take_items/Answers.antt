@@ -1,8 +1,8 @@
-use Rattle.std.proofs.Common.{rules, ◌≡◌, ◌∙◌, [], ◌∷◌, ◌++◌, List, length, map, refl, subst, sym, arith, true≢false}
+use Rattle.std.proofs.Common.{rules, ◌≡◌, ◌∙◌, [], ◌∷◌, ◌++◌, List, refl, subst, sym, arith, true≢false}
 use Rattle.store_ends.specs.Files.{Leaves}
 use Rattle.store_ends.proofs.Files.{Leaves-same}
 use Rattle.command_pieces.specs.CommandFaults.{IsBrokenBy}
-use Rattle.command_pieces.specs.Pieces.{Finished, StandsAlong, kept_behind, some_refused}
+use Rattle.command_pieces.specs.Pieces.{Finished, StandsAlong, some_refused}
 use Rattle.command_pieces.specs.declared.command_fault.CommandFault.TheVariants as fault
 use Rattle.command_pieces.proofs.Joining.{StoppedBetween-none}
 use Rattle.repository.specs.RealLimits.{StandsFor}

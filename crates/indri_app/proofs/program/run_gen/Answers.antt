@@ -1,4 +1,4 @@
-use Rattle.std.proofs.Common.{Err, ap, inl, inr, refl, subst}
+use Rattle.std.proofs.Common.{Err, ap, inl, inr, subst}
 use Rattle.command_words.specs.Table.{gen}
 use Rattle.indri_app.specs.Faults.{IsGenFault}
 use Rattle.indri_app.specs.LastLines.{exists_line}

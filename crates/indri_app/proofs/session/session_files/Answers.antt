@@ -1,9 +1,7 @@
-use Rattle.std.proofs.Common.{◌≡◌, List, refl, sym, subst}
+use Rattle.std.proofs.Common.{◌≡◌, refl, sym, subst}
 use Rattle.command_words.specs.Table as asks
-use Rattle.command_pieces.specs.Pieces.{Piece}
 use Rattle.command_pieces.specs.declared.command_fault.CommandFault.TheVariants as fault
 use Rattle.repository.specs.RealLimits.{StandsFor}
-use Rattle.repository.specs.Stands.{Collection}
 use Rattle.smoothing.specs.declared.rule.RuleKind.TheVariants.{Dirichlet}
 use Rattle.collection_commands.specs.Ahead.{IsAhead}
 use Rattle.indri_app.specs.Sessions.{session_pieces}

@@ -1,4 +1,4 @@
-use Rattle.std.proofs.Common.{◌≡◌, ◌∙◌, ap, not, subst, sym, List, length, map}
+use Rattle.std.proofs.Common.{◌≡◌, ◌∙◌, ap, not, subst, sym, List, length}
 use Rattle.std.proofs.lemmas.List.{length-map}
 use Rattle.std.proofs.lemmas.Result.{IfErr-weaker, IfOk-weaker}
 use Rattle.ri_base.specs.Faults.{IsOutside}
@@ -8,9 +8,8 @@ use Rattle.belief_nodes.specs.Priors.{Prior}
 use Rattle.command_pieces.specs.Written.{Plain}
 use Rattle.desk.specs.Replied.{reply_piece}
 use Rattle.script_reader.specs.declared.item.Item.TheVariants.{Event}
-use Rattle.desk.specs.Backed.{IsUsable, state_of}
-use Rattle.indri_app.specs.Items.{item_reply, kept_by, state_behind}
-use Rattle.indri_app.specs.Orders.{IsTrueItem}
+use Rattle.desk.specs.Backed.{state_of}
+use Rattle.indri_app.specs.Items.{item_reply, kept_by}
 use Rattle.indri_app.specs.Sessions.{IsUnderWay}
 use Rattle.indri_app.proofs.Standing.{on-ok}
 use Rattle.indri_app.proofs.StepLemmas.{either-step, goes-on, reply-step, stands-step, stands-under, state-step, stops-step, true-step}

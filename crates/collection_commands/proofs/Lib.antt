@@ -1,3 +1,4 @@
+pub mod CauseLemmas
 pub mod ChangeLemmas
 pub mod CommitLemmas
 pub mod CreateLemmas

@@ -3,7 +3,8 @@ use Rattle.indri_app.specs.Generated.{gen_items, new_state}
 use Rattle.indri_app.specs.Items.{pieces_of}
 use Rattle.indri_app.proofs.Ended.{rose-earlier}
 use Rattle.indri_app.proofs.Generating.{stands-created, stands-filled, stops-created, stops-filled}
-use Rattle.indri_app.proofs.NewRepository.{file-of, not-exists, silent-of_file}
+use Rattle.indri_app.proofs.NewRepository.{not-exists, silent-of_file}
+use Rattle.indri_app.proofs.OpeningLemmas.{file-of}
 use Rattle.indri_app.proofs.OpeningLemmas.{store-of_files, want-of}
 use Rattle.indri_app.proofs.SilentPieces.{made-all}
 use Rattle.indri_app.proofs.generation.made_text.Goals as goal

@@ -2,9 +2,10 @@ use Rattle.std.proofs.Common.{Err, ap, inl, inr, refl, subst}
 use Rattle.command_words.specs.Table.{create}
 use Rattle.command_pieces.specs.CommandFaults.{IsCreateFault}
 use Rattle.collection_commands.specs.Creation.{create_pieces}
+use Rattle.collection_commands.proofs.CauseLemmas.{undamaged-create}
 use Rattle.indri_app.specs.LastLines.{exists_line}
 use Rattle.indri_app.proofs.Closing.{stops-none}
-use Rattle.indri_app.proofs.Created.{create-not_damage, exists-closed-status, exists-runs, made-closed, stands-there}
+use Rattle.indri_app.proofs.Created.{exists-closed-status, exists-runs, made-closed, stands-there}
 use Rattle.indri_app.proofs.Ended.{absent-closed, exists-closed, exists-line-closed, line-first, malformed-closed, read-closed, refused-not_closed, rose-later, store-closed, usage-not_closed, write-closed}
 use Rattle.indri_app.proofs.program.run_create.Goals as goal
 
@@ -51,9 +52,9 @@ returns-in-Err-clause-has_run g c = λ left.
       made_stops = λ makes f told none. (create_pieces, refl, c.create_repository.ensures.stops f told none);
       made_order = λ makes f told none all. tt;
       scans = λ text is. absurd cc;
-      sound = λ is k stands. create-not_damage why did.only (malformed-closed why _ _ _ _ _ ends is);
-      there = λ f told is. absurd (create-not_damage why did.only (malformed-closed why _ _ _ _ _ ends is));
-      damage = λ is. absurd (create-not_damage why did.only (malformed-closed why _ _ _ _ _ ends is));
+      sound = λ is k stands. undamaged-create why did.only (malformed-closed why _ _ _ _ _ ends is);
+      there = λ f told is. absurd (undamaged-create why did.only (malformed-closed why _ _ _ _ _ ends is));
+      damage = λ is. absurd (undamaged-create why did.only (malformed-closed why _ _ _ _ _ ends is));
       intact = λ f told has needs. absurd needs;
       intact_priors = λ f told has reads. absurd reads;
       absent = λ f told is. absurd (subst IsCreateFault (absent-closed why _ _ _ _ _ ends is) did.only);

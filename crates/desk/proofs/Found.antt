@@ -1,10 +1,28 @@
 -- The open query of a name among those of a desk that is seen as another, and what is kept of it.
-use Rattle.std.proofs.Common.{◌≡◌, ◌∙◌, ℕ, true, List, Some, ap, get_or, length}
+use Rattle.std.proofs.Common.{◌≡◌, ◌∙◌, ℕ, Bool, true, List, None, Option, Some, ap, get_or, length, map}
+use Rattle.std.specs.Prelude.{is_some}
 use Rattle.std.specs.List.{position}
+use Rattle.store_ends.specs.Files.{Files}
 use Rattle.desk.specs.Backed.{IsUsable, Keeps}
 use Rattle.desk.specs.Keeping.{AreKept, IsOpen}
+use Rattle.desk.specs.Queries.{query_of}
+use Rattle.desk.specs.State.{named}
+use Rattle.desk.specs.declared.kept.Kept.TheInside.{Inside}
 use Rattle.desk.specs.declared.query.OpenQuery.{OpenQuery}
-use Rattle.desk.proofs.Naming.{IsPlace, at-place, found-place, is_named}
+use Rattle.desk.proofs.Naming.{IsPlace, at-place, found-place, is_named, named-none}
+
+-- what a desk is seen as, of its fields
+abbrev pub seen : Inside → Keeps
+seen s = record { repository = s.repository; kind = s.kind; queries = s.queries.items; counts = s.counts; cache = s.cache; usable = s.usable }
+
+module _ (view now : Keeps) (name : List ℕ) (same : view ≡ now) where
+  -- whether there is one
+  pub found-as : (b : Bool) → is_some (position (is_named name) now.queries) ≡ b → is_some (position (is_named name) view.queries) ≡ b
+  found-as b found = ap (λ (x : Keeps). is_some (position (is_named name) x.queries)) same ∙ found
+
+  -- there is none
+  pub none-found : (told : Option Files) → position (is_named name) now.queries ≡ None → named name (map (query_of told) view.queries) ≡ None
+  none-found told none = named-none told name view.queries (ap (λ (x : Keeps). position (is_named name) x.queries) same ∙ none)
 
 module _ (view now : Keeps) (name : List ℕ) (i : ℕ) (q : OpenQuery) (same : view ≡ now) (found : position (is_named name) now.queries ≡ Some i) where
   -- it stands at its place

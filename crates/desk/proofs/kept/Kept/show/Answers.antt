@@ -16,7 +16,7 @@ use Rattle.desk.specs.Queries.{IsQueryBacked, priors_in, query_of}
 use Rattle.desk.specs.State.{named}
 use Rattle.desk.proofs.Cases.{show-noname, show-results}
 use Rattle.desk.proofs.Exits.{accepted-by, of-now, refused-by, refused-exit, refused-here, refused-so}
-use Rattle.desk.proofs.Found.{open-of, place-of}
+use Rattle.desk.proofs.Found.{open-of, place-of, seen}
 use Rattle.desk.proofs.FormLemmas.{results-form}
 use Rattle.desk.proofs.NamedExits.{all-passed, not-yet, not-yet-shown, show-exit, shown-entries}
 use Rattle.desk.proofs.Naming.{at-place, is_named, named-here, named-none}
@@ -40,9 +40,8 @@ returns-in_default-clause-order c = λ told backed. true-refused (state_of told 
 
 pub returns-in-None-clause-steps : goal.returns-in-None-clause-steps
 returns-in-None-clause-steps c = λ told backed.
-    let s = c.self.inside in
     let name = c.args.name in
-    let view : Keeps = record { repository = s.repository; kind = s.kind; queries = s.queries.items; counts = s.counts; cache = s.cache; usable = s.usable } in
+    let view = seen c.self.inside in
     let q = c.index.result.now in
     let place = place-of view c.args.self.now name c.in-Some.place q c.self.view_is (sym c.find.ensures ∙ c.in-Some.is) in
     let was = open-of view c.args.self.now name c.in-Some.place q c.self.view_is (sym c.find.ensures ∙ c.in-Some.is) c.index.ensures c.self.invariant c.requires.usable in
@@ -51,9 +50,8 @@ returns-in-None-clause-steps c = λ told backed.
 
 pub returns-in-None-clause-refuses : goal.returns-in-None-clause-refuses
 returns-in-None-clause-refuses c = λ told.
-    let s = c.self.inside in
     let name = c.args.name in
-    let view : Keeps = record { repository = s.repository; kind = s.kind; queries = s.queries.items; counts = s.counts; cache = s.cache; usable = s.usable } in
+    let view = seen c.self.inside in
     let q = c.index.result.now in
     let place = place-of view c.args.self.now name c.in-Some.place q c.self.view_is (sym c.find.ensures ∙ c.in-Some.is) in
     let was = open-of view c.args.self.now name c.in-Some.place q c.self.view_is (sym c.find.ensures ∙ c.in-Some.is) c.index.ensures c.self.invariant c.requires.usable in
@@ -67,7 +65,7 @@ pub returns-in_ok-clone_in-in-Some-results-clause-steps : goal.returns-in_ok-clo
 returns-in_ok-clone_in-in-Some-results-clause-steps c = λ told backed.
     let s = c.self.inside in
     let name = c.args.name in
-    let view : Keeps = record { repository = s.repository; kind = s.kind; queries = s.queries.items; counts = s.counts; cache = s.cache; usable = s.usable } in
+    let view = seen c.self.inside in
     let q = c.index.result.now in
     let place = place-of view c.args.self.now name c.in-Some.place q c.self.view_is (sym c.find.ensures ∙ c.in-Some.is) in
     let was = open-of view c.args.self.now name c.in-Some.place q c.self.view_is (sym c.find.ensures ∙ c.in-Some.is) c.index.ensures c.self.invariant c.requires.usable in
@@ -87,7 +85,7 @@ pub returns-in_ok-clone_in-in-Some-results-clause-order : goal.returns-in_ok-clo
 returns-in_ok-clone_in-in-Some-results-clause-order c = λ told backed.
     let s = c.self.inside in
     let name = c.args.name in
-    let view : Keeps = record { repository = s.repository; kind = s.kind; queries = s.queries.items; counts = s.counts; cache = s.cache; usable = s.usable } in
+    let view = seen c.self.inside in
     let q = c.index.result.now in
     let place = place-of view c.args.self.now name c.in-Some.place q c.self.view_is (sym c.find.ensures ∙ c.in-Some.is) in
     let was = open-of view c.args.self.now name c.in-Some.place q c.self.view_is (sym c.find.ensures ∙ c.in-Some.is) c.index.ensures c.self.invariant c.requires.usable in
@@ -106,7 +104,7 @@ pub returns-in_ok-clone_in-in-Some-results-clause-form : goal.returns-in_ok-clon
 returns-in_ok-clone_in-in-Some-results-clause-form c =
     let s = c.self.inside in
     let name = c.args.name in
-    let view : Keeps = record { repository = s.repository; kind = s.kind; queries = s.queries.items; counts = s.counts; cache = s.cache; usable = s.usable } in
+    let view = seen c.self.inside in
     let q = c.index.result.now in
     let place = place-of view c.args.self.now name c.in-Some.place q c.self.view_is (sym c.find.ensures ∙ c.in-Some.is) in
     let was = open-of view c.args.self.now name c.in-Some.place q c.self.view_is (sym c.find.ensures ∙ c.in-Some.is) c.index.ensures c.self.invariant c.requires.usable in
@@ -116,10 +114,9 @@ returns-in_ok-clone_in-in-Some-results-clause-form c =
 
 pub returns-in_ok-clone_in-in-Some-results-clause-refuses : goal.returns-in_ok-clone_in-in-Some-results-clause-refuses
 returns-in_ok-clone_in-in-Some-results-clause-refuses c = λ told.
-    let s = c.self.inside in
     let name = c.args.name in
-    let view : Keeps = record { repository = s.repository; kind = s.kind; queries = s.queries.items; counts = s.counts; cache = s.cache; usable = s.usable } in
+    let view = seen c.self.inside in
     let q = c.index.result.now in
     let place = place-of view c.args.self.now name c.in-Some.place q c.self.view_is (sym c.find.ensures ∙ c.in-Some.is) in
     let passed = all-passed told view name c.in-Some.place q place c.index.ensures (is_some c.results.result) (c.results.ensures.some told) (ap is_some c.in-Some-results.is) in
-    accepted-by (event.Show name) told view c.args.self.now _ c.self.view_is (show-results (state_of told view) name (query_of told q) (named-here told name s.queries.items c.in-Some.place q place c.index.ensures) passed) refl
+    accepted-by (event.Show name) told view c.args.self.now _ c.self.view_is (show-results (state_of told view) name (query_of told q) (named-here told name view.queries c.in-Some.place q place c.index.ensures) passed) refl

@@ -27,9 +27,9 @@ use Rattle.desk.specs.Told.{told_early}
 use Rattle.desk.proofs.CacheLemmas.{cache-read}
 use Rattle.desk.proofs.Cases.{explain-noname}
 use Rattle.desk.proofs.Exits.{of-now, refused-exit, refused-here}
-use Rattle.desk.proofs.Found.{none-found, open-of, place-of, seen}
+use Rattle.desk.proofs.Found.{left-explained, none-found, open-of, place-of, seen}
 use Rattle.desk.proofs.FormLemmas.{scale-form}
-use Rattle.desk.proofs.NamedExits.{all-passed, not-yet, not-yet-explained, shown-entries}
+use Rattle.desk.proofs.NamedExits.{all-passed, shown-entries}
 use Rattle.desk.proofs.Naming.{at-place, named-here}
 use Rattle.desk.proofs.ReadingExits.{early-passed, early-refused, explain-exit, no-rank, with_cache}
 use Rattle.desk.proofs.kept.Kept.explain.Goals as goal
@@ -37,36 +37,24 @@ use Rattle.desk.proofs.kept.Kept.explain.Goals as goal
 pub returns-in_default-clause-steps : goal.returns-in_default-clause-steps
 returns-in_default-clause-steps g c = λ backed.
     let told = g.T.Store.files c.args.store.now in
-    let name = c.args.name in
     let view = seen c.self.inside in
-    refused-here (event.Explain name c.args.rank) told view c.args.self.now (NoSuchName name) c.self.view_is (explain-noname (state_of told view) name c.args.rank (none-found view c.args.self.now name c.self.view_is told (sym c.find.ensures ∙ c.in_default.is))) backed
+    refused-here (event.Explain c.args.name c.args.rank) told view c.args.self.now (NoSuchName c.args.name) c.self.view_is (explain-noname (state_of told view) c.args.name c.args.rank (none-found view c.args.self.now c.args.name c.self.view_is told (sym c.find.ensures ∙ c.in_default.is))) backed
 
 pub returns-in_default-clause-early : goal.returns-in_default-clause-early
 returns-in_default-clause-early g c = λ told.
-    let name = c.args.name in
     let view = seen c.self.inside in
-    early-refused (event.Explain name c.args.rank) told view c.args.self.now (NoSuchName name) c.self.view_is (explain-noname (state_of told view) name c.args.rank (none-found view c.args.self.now name c.self.view_is told (sym c.find.ensures ∙ c.in_default.is)))
+    early-refused (event.Explain c.args.name c.args.rank) told view c.args.self.now (NoSuchName c.args.name) c.self.view_is (explain-noname (state_of told view) c.args.name c.args.rank (none-found view c.args.self.now c.args.name c.self.view_is told (sym c.find.ensures ∙ c.in_default.is)))
 
 pub returns-in_default-results-clause-steps : goal.returns-in_default-results-clause-steps
 returns-in_default-results-clause-steps g c = λ backed.
     let told = g.T.Store.files c.args.store.now in
-    let name = c.args.name in
     let view = seen c.self.inside in
-    let q = c.index.result.now in
-    let place = place-of view c.args.self.now name c.in-Some.place q c.self.view_is (sym c.find.ensures ∙ c.in-Some.is) in
-    let was = open-of view c.args.self.now name c.in-Some.place q c.self.view_is (sym c.find.ensures ∙ c.in-Some.is) c.index.ensures c.self.invariant c.requires.usable in
-    let less = not-yet told view name c.in-Some.place q place c.index.ensures was.usable (is_some c.results.result) (c.results.ensures.some told) (ap is_some c.in_default-results.is) in
-    refused-here (event.Explain name c.args.rank) told view c.args.self.now (NotYet name) c.self.view_is (not-yet-explained told view name c.in-Some.place q place c.index.ensures c.args.rank less) backed
+    refused-here (event.Explain c.args.name c.args.rank) told view c.args.self.now (NotYet c.args.name) c.self.view_is (left-explained view c.args.self.now c.args.name c.in-Some.place c.index.result.now c.self.view_is (sym c.find.ensures ∙ c.in-Some.is) told c.index.ensures c.self.invariant c.requires.usable (is_some c.results.result) (c.results.ensures.some told) (ap is_some c.in_default-results.is) c.args.rank) backed
 
 pub returns-in_default-results-clause-early : goal.returns-in_default-results-clause-early
 returns-in_default-results-clause-early g c = λ told.
-    let name = c.args.name in
     let view = seen c.self.inside in
-    let q = c.index.result.now in
-    let place = place-of view c.args.self.now name c.in-Some.place q c.self.view_is (sym c.find.ensures ∙ c.in-Some.is) in
-    let was = open-of view c.args.self.now name c.in-Some.place q c.self.view_is (sym c.find.ensures ∙ c.in-Some.is) c.index.ensures c.self.invariant c.requires.usable in
-    let less = not-yet told view name c.in-Some.place q place c.index.ensures was.usable (is_some c.results.result) (c.results.ensures.some told) (ap is_some c.in_default-results.is) in
-    early-refused (event.Explain name c.args.rank) told view c.args.self.now (NotYet name) c.self.view_is (not-yet-explained told view name c.in-Some.place q place c.index.ensures c.args.rank less)
+    early-refused (event.Explain c.args.name c.args.rank) told view c.args.self.now (NotYet c.args.name) c.self.view_is (left-explained view c.args.self.now c.args.name c.in-Some.place c.index.result.now c.self.view_is (sym c.find.ensures ∙ c.in-Some.is) told c.index.ensures c.self.invariant c.requires.usable (is_some c.results.result) (c.results.ensures.some told) (ap is_some c.in_default-results.is) c.args.rank)
 
 pub returns-in_default-2-clause-steps : goal.returns-in_default-2-clause-steps
 returns-in_default-2-clause-steps g c = λ backed.
@@ -98,11 +86,9 @@ returns-in_default-2-clause-early g c = λ told.
 pub explain_hit-requires-clause-hit : goal.explain_hit-requires-clause-hit
 explain_hit-requires-clause-hit g c =
     let told = g.T.Store.files c.args.store.now in
-    let s = c.self.inside in
     let name = c.args.name in
     let view = seen c.self.inside in
     let q = c.index.result.now in
-    let place = place-of view c.args.self.now name c.in-Some.place q c.self.view_is (sym c.find.ensures ∙ c.in-Some.is) in
     let was = open-of view c.args.self.now name c.in-Some.place q c.self.view_is (sym c.find.ensures ∙ c.in-Some.is) c.index.ensures c.self.invariant c.requires.usable in
     let n = length (network_tree q.search.network).leaves in
     let hit = c.in-Some-2.hit in

@@ -16,9 +16,9 @@ use Rattle.desk.specs.Queries.{IsQueryBacked, priors_in, query_of}
 use Rattle.desk.specs.State.{named}
 use Rattle.desk.proofs.Cases.{show-noname, show-results}
 use Rattle.desk.proofs.Exits.{accepted-by, of-now, refused-by, refused-exit, refused-here, refused-so}
-use Rattle.desk.proofs.Found.{open-of, place-of, seen}
+use Rattle.desk.proofs.Found.{left-shown, open-of, place-of, seen}
 use Rattle.desk.proofs.FormLemmas.{results-form}
-use Rattle.desk.proofs.NamedExits.{all-passed, not-yet, not-yet-shown, show-exit, shown-entries}
+use Rattle.desk.proofs.NamedExits.{all-passed, show-exit, shown-entries}
 use Rattle.desk.proofs.Naming.{at-place, is_named, named-here, named-none}
 use Rattle.desk.proofs.OrderLemmas.{shown-true, true-refused}
 use Rattle.desk.proofs.kept.Kept.show.Goals as goal
@@ -40,23 +40,13 @@ returns-in_default-clause-order c = λ told backed. true-refused (state_of told 
 
 pub returns-in-None-clause-steps : goal.returns-in-None-clause-steps
 returns-in-None-clause-steps c = λ told backed.
-    let name = c.args.name in
     let view = seen c.self.inside in
-    let q = c.index.result.now in
-    let place = place-of view c.args.self.now name c.in-Some.place q c.self.view_is (sym c.find.ensures ∙ c.in-Some.is) in
-    let was = open-of view c.args.self.now name c.in-Some.place q c.self.view_is (sym c.find.ensures ∙ c.in-Some.is) c.index.ensures c.self.invariant c.requires.usable in
-    let less = not-yet told view name c.in-Some.place q place c.index.ensures was.usable (is_some c.results.result) (c.results.ensures.some told) (ap is_some c.in-None.is) in
-    refused-here (event.Show name) told view c.args.self.now (NotYet name) c.self.view_is (not-yet-shown told view name c.in-Some.place q place c.index.ensures less) backed
+    refused-here (event.Show c.args.name) told view c.args.self.now (NotYet c.args.name) c.self.view_is (left-shown view c.args.self.now c.args.name c.in-Some.place c.index.result.now c.self.view_is (sym c.find.ensures ∙ c.in-Some.is) told c.index.ensures c.self.invariant c.requires.usable (is_some c.results.result) (c.results.ensures.some told) (ap is_some c.in-None.is)) backed
 
 pub returns-in-None-clause-refuses : goal.returns-in-None-clause-refuses
 returns-in-None-clause-refuses c = λ told.
-    let name = c.args.name in
     let view = seen c.self.inside in
-    let q = c.index.result.now in
-    let place = place-of view c.args.self.now name c.in-Some.place q c.self.view_is (sym c.find.ensures ∙ c.in-Some.is) in
-    let was = open-of view c.args.self.now name c.in-Some.place q c.self.view_is (sym c.find.ensures ∙ c.in-Some.is) c.index.ensures c.self.invariant c.requires.usable in
-    let less = not-yet told view name c.in-Some.place q place c.index.ensures was.usable (is_some c.results.result) (c.results.ensures.some told) (ap is_some c.in-None.is) in
-    refused-by (event.Show name) told view c.args.self.now (NotYet name) c.self.view_is (not-yet-shown told view name c.in-Some.place q place c.index.ensures less)
+    refused-by (event.Show c.args.name) told view c.args.self.now (NotYet c.args.name) c.self.view_is (left-shown view c.args.self.now c.args.name c.in-Some.place c.index.result.now c.self.view_is (sym c.find.ensures ∙ c.in-Some.is) told c.index.ensures c.self.invariant c.requires.usable (is_some c.results.result) (c.results.ensures.some told) (ap is_some c.in-None.is))
 
 pub returns-in-None-clause-order : goal.returns-in-None-clause-order
 returns-in-None-clause-order c = λ told backed. true-refused (state_of told c.args.self.now) (named c.args.name (state_of told c.args.self.now).queries) (NotYet c.args.name)
@@ -106,7 +96,6 @@ returns-in_ok-clone_in-in-Some-results-clause-form c =
     let name = c.args.name in
     let view = seen c.self.inside in
     let q = c.index.result.now in
-    let place = place-of view c.args.self.now name c.in-Some.place q c.self.view_is (sym c.find.ensures ∙ c.in-Some.is) in
     let was = open-of view c.args.self.now name c.in-Some.place q c.self.view_is (sym c.find.ensures ∙ c.in-Some.is) c.index.ensures c.self.invariant c.requires.usable in
     let scale : c.checked.result.now.scale ≡ q.search.checked.scale = ap (λ (x : Checked). x.scale) c.checked.ensures in
     subst (λ (hits : List Hit). AreResults c.checked.result.now.scale hits) (sym c.in_ok-clone_in-in-Some-results.ensures)

@@ -22,22 +22,19 @@ use Rattle.desk.proofs.kept.Kept.step.Goals as goal
 pub returns-in_default-clause-steps : goal.returns-in_default-clause-steps
 returns-in_default-clause-steps g c = λ backed are.
     let told = g.T.Store.files c.args.store.now in
-    let name = c.args.name in
     let view = seen c.self.inside in
-    refused-here (event.Step name c.args.docs) told view c.args.self.now (NoSuchName name) c.self.view_is (step-noname (state_of told view) name c.args.docs (none-found view c.args.self.now name c.self.view_is told (sym c.find.ensures ∙ c.in_default.is))) backed
+    refused-here (event.Step c.args.name c.args.docs) told view c.args.self.now (NoSuchName c.args.name) c.self.view_is (step-noname (state_of told view) c.args.name c.args.docs (none-found view c.args.self.now c.args.name c.self.view_is told (sym c.find.ensures ∙ c.in_default.is))) backed
 
 pub returns-in_default-clause-refuses : goal.returns-in_default-clause-refuses
 returns-in_default-clause-refuses g c = λ told.
-    let name = c.args.name in
     let view = seen c.self.inside in
-    refused-by (event.Step name c.args.docs) told view c.args.self.now (NoSuchName name) c.self.view_is (step-noname (state_of told view) name c.args.docs (none-found view c.args.self.now name c.self.view_is told (sym c.find.ensures ∙ c.in_default.is)))
+    refused-by (event.Step c.args.name c.args.docs) told view c.args.self.now (NoSuchName c.args.name) c.self.view_is (step-noname (state_of told view) c.args.name c.args.docs (none-found view c.args.self.now c.args.name c.self.view_is told (sym c.find.ensures ∙ c.in_default.is)))
 
 pub advance-requires-clause-usable : goal.advance-requires-clause-usable
 advance-requires-clause-usable g c =
     let name = c.args.name in
     let view = seen c.self.inside in
     let q = c.index_mut.result.now in
-    let place = place-of view c.args.self.now name c.in-Some.place q c.self.view_is (sym c.find.ensures ∙ c.in-Some.is) in
     let was = open-of view c.args.self.now name c.in-Some.place q c.self.view_is (sym c.find.ensures ∙ c.in-Some.is) c.index_mut.ensures.value c.self.invariant c.requires.usable in
     was.usable
 
@@ -47,7 +44,6 @@ advance-requires-clause-plugs g c =
     let name = c.args.name in
     let view = seen c.self.inside in
     let q = c.index_mut.result.now in
-    let place = place-of view c.args.self.now name c.in-Some.place q c.self.view_is (sym c.find.ensures ∙ c.in-Some.is) in
     let was = open-of view c.args.self.now name c.in-Some.place q c.self.view_is (sym c.find.ensures ∙ c.in-Some.is) c.index_mut.ensures.value c.self.invariant c.requires.usable in
     asks-nine (length s.repository.priors) (length c.args.plugs.now) (network_tree q.search.network).leaves
     (c.priors-few.ensures.few (ap (λ (x : Keeps). x.repository.usable) c.self.view_is ∙ c.requires.usable.1)) c.requires.nine was.priors

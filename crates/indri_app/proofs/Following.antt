@@ -154,6 +154,14 @@ stopped-here kept s done rest before now f a = subst (λ ps. StoppedBetween Stan
 pub Along-here : (past since : ℕ → Files → Type 0) (kept : Collection) (s : State) (done rest : List Item) → Leaves past since (StandsAlong StandsFor kept (pieces_of s done)) → Leaves past since (StandsAlong StandsFor kept (pieces_of s (done ++ rest)))
 Along-here past since kept s done rest l = subst (λ ps. Leaves past since (StandsAlong StandsFor kept ps)) (sym (pieces-append s done rest)) (Along-more past since StandsFor kept (pieces_of s done) _ l)
 
+-- the same of a script of which these items are done
+module _ (kept : Collection) (s : State) (done : List Item) (r : ItemReader) (first left : Option (List ℕ)) (followed : AreFollowed done r first left) where
+  pub some-stopped : (before now : Option (List ℕ)) (f : Option Files) → Finished StandsFor kept (pieces_of s done) before now f → IfSome first (λ bytes. StoppedBetween StandsFor kept (pieces_of s (items bytes)) before now f)
+  some-stopped before now f a = some-done (λ (is : List Item). StoppedBetween StandsFor kept (pieces_of s is) before now f) done r first left followed (λ rest. stopped-here kept s done rest before now f a)
+
+  pub some-along : (past since : ℕ → Files → Type 0) → Leaves past since (StandsAlong StandsFor kept (pieces_of s done)) → IfSome first (λ bytes. Leaves past since (StandsAlong StandsFor kept (pieces_of s (items bytes))))
+  some-along past since l = some-done (λ (is : List Item). Leaves past since (StandsAlong StandsFor kept (pieces_of s is))) done r first left followed (λ rest. Along-here past since kept s done rest l)
+
 pub along-here : (kept : Collection) (s : State) (done rest : List Item) (f : Option Files) → StandsAlong StandsFor kept (pieces_of s done) f → StandsAlong StandsFor kept (pieces_of s (done ++ rest)) f
 along-here kept s done rest f a =
     let more = pieces_of (state_behind_all s done) rest in

@@ -78,16 +78,27 @@ module _ (before : Option Files) (old : Keeps) (plugs : List Prior) (kept : Coll
   pub stands-step : (f : Option Files) → Stands old.repository.held.limits f (points.kept_behind kept (step (state_of before old) e)) → StandsFor (kept_by kept (state_of before old) (item.Event e)) f
   stands-step f stands = subst (λ k. StandsFor k f) (kept-step kept (state_of before old) e) (stands-for old.repository.held.limits _ f way.real stands)
 
-  pub either-step : (f : Option Files) → IsEither old.repository.held.limits kept (points.kept_behind kept (step (state_of before old) e)) f → StandsFor kept f ⊎ StandsFor (kept_by kept (state_of before old) (item.Event e)) f
+  either-step : (f : Option Files) → IsEither old.repository.held.limits kept (points.kept_behind kept (step (state_of before old) e)) f → StandsFor kept f ⊎ StandsFor (kept_by kept (state_of before old) (item.Event e)) f
   either-step f either = elim either [
     | inl same ↦ inl (stands-for old.repository.held.limits kept f way.real same)
     | inr new ↦ inr (stands-step f new)
   ]
 
-  pub stops-step : (past since : ℕ → Files → Type 0) → Leaves past since (IsEither old.repository.held.limits kept (points.kept_behind kept (step (state_of before old) e)))
+  stops-step : (past since : ℕ → Files → Type 0) → Leaves past since (IsEither old.repository.held.limits kept (points.kept_behind kept (step (state_of before old) e)))
       → Leaves past since (λ f. StandsFor kept f ⊎ StandsFor (kept_by kept (state_of before old) (item.Event e)) f)
   stops-step past since leaves = Leaves-then past past since (λ f. StandsFor kept f ⊎ StandsFor (kept_by kept (state_of before old) (item.Event e)) f)
       (IsEither old.repository.held.limits kept (points.kept_behind kept (step (state_of before old) e))) (Leaves-same past _) leaves (λ f either. either-step f either)
+
+  -- what is said of any collection that the files stand for
+  pub now-step : (f : Option Files)
+      → ((k : Collection) → IsDeskBacked before old → Stands old.repository.held.limits before k → IsEither old.repository.held.limits k (points.kept_behind k (step (state_of before old) e)) f)
+      → StandsFor kept f ⊎ StandsFor (kept_by kept (state_of before old) (item.Event e)) f
+  now-step f now = either-step f (now kept way.backed stands-under)
+
+  pub left-step : (past since : ℕ → Files → Type 0)
+      → ((k : Collection) → IsDeskBacked before old → Stands old.repository.held.limits before k → Leaves past since (IsEither old.repository.held.limits k (points.kept_behind k (step (state_of before old) e))))
+      → Leaves past since (λ f. StandsFor kept f ⊎ StandsFor (kept_by kept (state_of before old) (item.Event e)) f)
+  left-step past since stops = stops-step past since (stops kept way.backed stands-under)
 
 -- ---- what is shown is in a true order
 

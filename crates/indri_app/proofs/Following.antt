@@ -1,5 +1,5 @@
 -- Items that are done one behind the other.
-use Rattle.std.proofs.Common.{◌≡◌, ◌⊎◌, inl, inr, ℕ, Bool, true, false, ◌||◌, List, [], ◌∷◌, ◌++◌, refl, ap, sym, ◌∙◌, subst, Option, Some, None, append_assoc, append-nil}
+use Rattle.std.proofs.Common.{◌≡◌, ◌⊎◌, inl, inr, ℕ, Bool, true, false, ◌||◌, List, [], ◌∷◌, ◌++◌, map, refl, ap, sym, ◌∙◌, subst, Option, Some, None, append_assoc, append-nil}
 use Rattle.std.specs.Option.{option_map, IfSome}
 use Rattle.store_ends.specs.Files.{Files, Leaves}
 use Rattle.command_pieces.specs.CommandFaults.{IsBrokenBy}
@@ -12,7 +12,9 @@ use Rattle.repository.specs.Stands.{Collection}
 use Rattle.script_reader.specs.Items.{items}
 use Rattle.script_reader.specs.State.{answer_items, is_end, items_left}
 use Rattle.script_reader.specs.declared.item.Item.{Item}
+use Rattle.script_reader.specs.declared.item.Item.TheVariants as item
 use Rattle.script_reader.specs.declared.reader.ItemReader.{ItemReader}
+use Rattle.session_events.specs.declared.event.Event.{Event}
 use Rattle.desk.specs.State.{State, collection_of}
 use Rattle.indri_app.specs.Items.{item_piece, kept_by, pieces_of, state_behind, state_behind_all}
 use Rattle.indri_app.specs.Orders.{AreTrue, IsTrueItem}
@@ -166,6 +168,18 @@ pub along-here : (kept : Collection) (s : State) (done rest : List Item) (f : Op
 along-here kept s done rest f a =
     let more = pieces_of (state_behind_all s done) rest in
     record { done = a.done; left = a.left ++ more; are = pieces-append s done rest ∙ ap (λ ps. ps ++ more) a.are ∙ append_assoc a.done a.left more; files_stand = a.files_stand }
+
+-- the same where the items are told
+module _ (kept : Collection) (s : State) (done rest all : List Item) (followed : done ++ rest ≡ all) where
+  pub stands-of : (f : Option Files) → StandsAlong StandsFor kept (pieces_of s done) f → StandsAlong StandsFor kept (pieces_of s all) f
+  stands-of f a = subst (λ (is : List Item). StandsAlong StandsFor kept (pieces_of s is) f) followed (along-here kept s done rest f a)
+
+  pub leaves-of : (past since : ℕ → Files → Type 0) → Leaves past since (StandsAlong StandsFor kept (pieces_of s done)) → Leaves past since (StandsAlong StandsFor kept (pieces_of s all))
+  leaves-of past since l = subst (λ (is : List Item). Leaves past since (StandsAlong StandsFor kept (pieces_of s is))) followed (Along-here past since kept s done rest l)
+
+-- one event more is done
+pub events-next : (done all : List Item) (e : Event) (old new : List Event) → old ≡ e ∷ new → done ++ map item.Event old ≡ all → (done ++ item.Event e ∷ []) ++ map item.Event new ≡ all
+events-next done all e old new gives followed = append_assoc done (item.Event e ∷ []) (map item.Event new) ∙ ap (λ es. done ++ map item.Event es) (sym gives) ∙ followed
 
 pub along-none : (kept : Collection) (ps : List (Piece Collection)) (f : Option Files) → StandsFor kept f → StandsAlong StandsFor kept ps f
 along-none kept ps f stands = record { done = []; left = ps; are = refl; files_stand = subst (λ k. StandsFor k f) (sym (kept-none kept)) stands }

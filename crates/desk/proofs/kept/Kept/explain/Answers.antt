@@ -105,7 +105,6 @@ returns-clause-form g c = scale-form c.checked.result.now c.in_ok-explained.expl
 pub returns-clause-steps : goal.returns-clause-steps
 returns-clause-steps g c = λ backed.
     let told = g.T.Store.files c.args.store.now in
-    let s = c.self.inside in
     let name = c.args.name in
     let view = seen c.self.inside in
     let after = g.T.Store.files c.explain_hit.new.store in
@@ -119,15 +118,15 @@ returns-clause-steps g c = λ backed.
     let cache = c.explain_hit.new.cache in
     let same : after ≡ told = c.in_ok-explained.ensures.reads.quiet.same_files in
     let parts : c.parts.result.now ≡ q.search.snapshot = c.parts.ensures.parts ∙ c.snapshot.ensures in
-    let names : c.deref.result.now ≡ map (λ (x : PriorEntry). x.name) s.repository.priors = c.deref.ensures.value ∙ c.in_ok-names.ensures ∙ ap (map (λ (x : PriorEntry). x.name)) c.priors.ensures.list in
+    let names : c.deref.result.now ≡ map (λ (x : PriorEntry). x.name) view.repository.priors = c.deref.ensures.value ∙ c.in_ok-names.ensures ∙ ap (map (λ (x : PriorEntry). x.name)) c.priors.ensures.list in
     of-now told view c.args.self.now (λ x. Steps (event.Explain name c.args.rank) told after x (with_cache view cache) (reply.Explained e)) c.self.view_is
     (λ b.
-    let query : IsQueryBacked told s.repository s.kind q = at-place (IsQueryBacked told s.repository s.kind) s.queries.items c.in-Some.place q place.within c.index.ensures b.queries in
-    let entries = shown-entries told view name c.in-Some.place q place c.index.ensures hits was.distinct query (c.in-Some-results.ensures.answer s.kind (priors_with (priors_in told s.repository.priors)) told query.taken) in
+    let query : IsQueryBacked told view.repository view.kind q = at-place (IsQueryBacked told view.repository view.kind) view.queries c.in-Some.place q place.within c.index.ensures b.queries in
+    let entries = shown-entries told view name c.in-Some.place q place c.index.ensures hits was.distinct query (c.in-Some-results.ensures.answer view.kind (priors_with (priors_in told view.repository.priors)) told query.taken) in
     let found_in = c.in_ok-explained.ensures.exact (subst (λ (ms : List Marked). AreBacked told ms) (sym parts) query.snapshot) b.cache.backed in
     let document = sym (ap (λ (ms : List Marked). document_with hit.docno (live told ms)) parts) ∙ found_in.1 in
     let is = subst (λ (k : Checked). IsExplanation c.deref.result.now (whole_checked k) c.stats.result.now found_in.0 c.args.rank hit e) c.checked.ensures found_in.2 in
-    let kept_blocks : IsCacheKept told s.repository cache = cache-read told s.repository c.parts.result.now s.cache cache (subst (λ (ms : List Marked). AreListed s.repository (part_numbers ms)) (sym parts) query.listed) c.in_ok-explained.ensures.reads.cache b.cache in
+    let kept_blocks : IsCacheKept told view.repository cache = cache-read told view.repository c.parts.result.now view.cache cache (subst (λ (ms : List Marked). AreListed view.repository (part_numbers ms)) (sym parts) query.listed) c.in_ok-explained.ensures.reads.cache b.cache in
     explain-exit told view name c.in-Some.place q place c.index.ensures passed hits entries c.args.rank after cache hit found_in.0 c.deref.result.now c.stats.result.now e same (sym c.in-Some-2.is ∙ c.in_ok-hit.ensures) document names c.stats.ensures is query kept_blocks b)
     backed
 
@@ -144,13 +143,12 @@ returns-clause-early g c = λ told.
 pub returns-in_err-explained-clause-honest : goal.returns-in_err-explained-clause-honest
 returns-in_err-explained-clause-honest g c = λ backed.
     let told = g.T.Store.files c.args.store.now in
-    let s = c.self.inside in
     let name = c.args.name in
     let view = seen c.self.inside in
     let q = c.index.result.now in
     let place = place-of view c.args.self.now name c.in-Some.place q c.self.view_is (sym c.find.ensures ∙ c.in-Some.is) in
     let b : IsDeskBacked told view = subst (IsDeskBacked told) (sym c.self.view_is) backed in
-    let query : IsQueryBacked told s.repository s.kind q = at-place (IsQueryBacked told s.repository s.kind) s.queries.items c.in-Some.place q place.within c.index.ensures b.queries in
+    let query : IsQueryBacked told view.repository view.kind q = at-place (IsQueryBacked told view.repository view.kind) view.queries c.in-Some.place q place.within c.index.ensures b.queries in
     let parts : c.parts.result.now ≡ q.search.snapshot = c.parts.ensures.parts ∙ c.snapshot.ensures in
     let p = err_from_is_err_and c.from_residual-in_err-explained.result c.from_residual-in_err-explained.ensures.1 in
     rw (p.1, p.2) (c.in_err-explained.ensures.honest (subst (λ (ms : List Marked). AreBacked told ms) (sym parts) query.snapshot) b.cache.backed)

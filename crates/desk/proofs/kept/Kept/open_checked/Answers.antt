@@ -20,7 +20,7 @@ use Rattle.desk.proofs.CacheLemmas.{cache-read, listed-now}
 use Rattle.desk.proofs.Closing.{priors-closed, snapped-kept, summed-kept}
 use Rattle.desk.proofs.Found.{found-as, seen}
 use Rattle.desk.proofs.KeptLemmas.{kept-pushed}
-use Rattle.desk.proofs.OpenExits.{IsNewSearch, full-refused, open-accepted-by, open-done, open-new, open-refusal, open-refused-by, taken-refused}
+use Rattle.desk.proofs.OpenExits.{full-refused, new-search, open-accepted-by, open-done, open-new, open-refusal, open-refused-by, taken-refused}
 use Rattle.desk.proofs.kept.Kept.open_checked.Goals as goal
 
 pub returns-then-is_some-clause-steps : goal.returns-then-is_some-clause-steps
@@ -98,14 +98,8 @@ invariant_of-self-2 g c =
     let q : OpenQuery = record { name = c.args.name; search = c.in_ok-search.search } in
     let snapshot = c.in_ok-snapshot.snapshot in
     let stats = c.deref-2.result.now in
-    let new : IsNewSearch snapshot c.args.checked stats c.args.k q.search = record {
-      snapshot_is = c.in_ok-search.ensures.snapshot;
-      checked_is = c.in_ok-search.ensures.checked;
-      network_is = c.in_ok-search.ensures.network;
-      most_is = c.in_ok-search.ensures.most;
-      credit_is = c.in_ok-search.ensures.credit;
-      usable_is = c.in_ok-search.ensures.usable;
-    } in
+    let made = c.in_ok-search.ensures in
+    let new = new-search snapshot c.args.checked stats c.args.k q.search made.snapshot made.checked made.network made.most made.credit made.usable in
     let asks = subst (λ (x : Keeps). All (AsksFor (length x.repository.priors)) (whole_checked c.args.checked).leaves) (sym c.self.view_is) c.requires.asks in
     let one : IsOpen (length c.snapshot.new.self.priors) q = open-new (length c.snapshot.new.self.priors) name snapshot c.args.checked stats c.args.k q new c.in_ok-snapshot.ensures.distinct c.requires.k.1
     (subst (λ n. All (AsksFor n) (whole_checked c.args.checked).leaves) (sym (ap length priors)) asks) in
@@ -133,14 +127,8 @@ returns-clause-steps g c = λ backed.
     let q : OpenQuery = record { name = c.args.name; search = c.in_ok-search.search } in
     let snapshot = c.in_ok-snapshot.snapshot in
     let stats = c.deref-2.result.now in
-    let new : IsNewSearch snapshot c.args.checked stats c.args.k q.search = record {
-      snapshot_is = c.in_ok-search.ensures.snapshot;
-      checked_is = c.in_ok-search.ensures.checked;
-      network_is = c.in_ok-search.ensures.network;
-      most_is = c.in_ok-search.ensures.most;
-      credit_is = c.in_ok-search.ensures.credit;
-      usable_is = c.in_ok-search.ensures.usable;
-    } in
+    let made = c.in_ok-search.ensures in
+    let new = new-search snapshot c.args.checked stats c.args.k q.search made.snapshot made.checked made.network made.most made.credit made.usable in
     let documents = c.in_ok-snapshot.ensures.documents told in
     let wide : c.from-live.result ≡ c.live_count.result = search rules in
     let pushed : c.push.new.self.items ≡ s.queries.items ++ q ∷ [] = search rules in

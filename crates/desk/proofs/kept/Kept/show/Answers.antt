@@ -53,7 +53,6 @@ returns-in-None-clause-order c = λ told backed. true-refused (state_of told c.a
 
 pub returns-in_ok-clone_in-in-Some-results-clause-steps : goal.returns-in_ok-clone_in-in-Some-results-clause-steps
 returns-in_ok-clone_in-in-Some-results-clause-steps c = λ told backed.
-    let s = c.self.inside in
     let name = c.args.name in
     let view = seen c.self.inside in
     let q = c.index.result.now in
@@ -65,15 +64,14 @@ returns-in_ok-clone_in-in-Some-results-clause-steps c = λ told backed.
     let scale : c.checked.result.now.scale ≡ (whole_checked q.search.checked).scale = ap (λ (x : Checked). x.scale) c.checked.ensures in
     of-now told view c.args.self.now (λ (x : Keeps). Steps (event.Show name) told told x x (reply.Results name c.checked.result.now.scale hits)) c.self.view_is
     (λ b.
-    let query : IsQueryBacked told s.repository s.kind q = at-place (IsQueryBacked told s.repository s.kind) s.queries.items c.in-Some.place q place.within c.index.ensures b.queries in
-    let priors = priors_with (priors_in told s.repository.priors) in
-    let answered : IsAnswerOf s.kind priors q.search (searched told q.search) hits = subst (IsAnswerOf s.kind priors q.search (searched told q.search)) (sym same) (c.in-Some-results.ensures.answer s.kind priors told query.taken) in
+    let query : IsQueryBacked told view.repository view.kind q = at-place (IsQueryBacked told view.repository view.kind) view.queries c.in-Some.place q place.within c.index.ensures b.queries in
+    let priors = priors_with (priors_in told view.repository.priors) in
+    let answered : IsAnswerOf view.kind priors q.search (searched told q.search) hits = subst (IsAnswerOf view.kind priors q.search (searched told q.search)) (sym same) (c.in-Some-results.ensures.answer view.kind priors told query.taken) in
     show-exit told view name c.in-Some.place q place c.index.ensures hits c.checked.result.now.scale scale passed (shown-entries told view name c.in-Some.place q place c.index.ensures hits was.distinct query answered) b)
     backed
 
 pub returns-in_ok-clone_in-in-Some-results-clause-order : goal.returns-in_ok-clone_in-in-Some-results-clause-order
 returns-in_ok-clone_in-in-Some-results-clause-order c = λ told backed.
-    let s = c.self.inside in
     let name = c.args.name in
     let view = seen c.self.inside in
     let q = c.index.result.now in
@@ -84,22 +82,21 @@ returns-in_ok-clone_in-in-Some-results-clause-order c = λ told backed.
     let scale : c.checked.result.now.scale ≡ q.search.checked.scale = ap (λ (x : Checked). x.scale) c.checked.ensures in
     of-now told view c.args.self.now (λ (x : Keeps). IsTrueReply (state_of told x) (event.Show name) (reply.Results name c.checked.result.now.scale hits)) c.self.view_is
     (λ b.
-    let query : IsQueryBacked told s.repository s.kind q = at-place (IsQueryBacked told s.repository s.kind) s.queries.items c.in-Some.place q place.within c.index.ensures b.queries in
-    let priors = priors_with (priors_in told s.repository.priors) in
-    let answered : IsAnswerOf s.kind priors q.search (searched told q.search) hits = subst (IsAnswerOf s.kind priors q.search (searched told q.search)) (sym same) (c.in-Some-results.ensures.answer s.kind priors told query.taken) in
+    let query : IsQueryBacked told view.repository view.kind q = at-place (IsQueryBacked told view.repository view.kind) view.queries c.in-Some.place q place.within c.index.ensures b.queries in
+    let priors = priors_with (priors_in told view.repository.priors) in
+    let answered : IsAnswerOf view.kind priors q.search (searched told q.search) hits = subst (IsAnswerOf view.kind priors q.search (searched told q.search)) (sym same) (c.in-Some-results.ensures.answer view.kind priors told query.taken) in
     shown-true told view name c.in-Some.place q place c.index.ensures c.ranking_is_true.ensures c.checked.result.now.scale hits scale was.distinct query answered)
     backed
 
 pub returns-in_ok-clone_in-in-Some-results-clause-form : goal.returns-in_ok-clone_in-in-Some-results-clause-form
 returns-in_ok-clone_in-in-Some-results-clause-form c =
-    let s = c.self.inside in
     let name = c.args.name in
     let view = seen c.self.inside in
     let q = c.index.result.now in
     let was = open-of view c.args.self.now name c.in-Some.place q c.self.view_is (sym c.find.ensures ∙ c.in-Some.is) c.index.ensures c.self.invariant c.requires.usable in
     let scale : c.checked.result.now.scale ≡ q.search.checked.scale = ap (λ (x : Checked). x.scale) c.checked.ensures in
     subst (λ (hits : List Hit). AreResults c.checked.result.now.scale hits) (sym c.in_ok-clone_in-in-Some-results.ensures)
-    (results-form (length s.repository.priors) c.checked.result.now.scale q (searched None q.search) c.in-Some-results.hits.now was scale (c.in-Some-results.ensures.windows None))
+    (results-form (length view.repository.priors) c.checked.result.now.scale q (searched None q.search) c.in-Some-results.hits.now was scale (c.in-Some-results.ensures.windows None))
 
 pub returns-in_ok-clone_in-in-Some-results-clause-refuses : goal.returns-in_ok-clone_in-in-Some-results-clause-refuses
 returns-in_ok-clone_in-in-Some-results-clause-refuses c = λ told.

@@ -40,12 +40,11 @@ advance-requires-clause-usable g c =
 
 pub advance-requires-clause-plugs : goal.advance-requires-clause-plugs
 advance-requires-clause-plugs g c =
-    let s = c.self.inside in
     let name = c.args.name in
     let view = seen c.self.inside in
     let q = c.index_mut.result.now in
     let was = open-of view c.args.self.now name c.in-Some.place q c.self.view_is (sym c.find.ensures ∙ c.in-Some.is) c.index_mut.ensures.value c.self.invariant c.requires.usable in
-    asks-nine (length s.repository.priors) (length c.args.plugs.now) (network_tree q.search.network).leaves
+    asks-nine (length view.repository.priors) (length c.args.plugs.now) (network_tree q.search.network).leaves
     (c.priors-few.ensures.few (ap (λ (x : Keeps). x.repository.usable) c.self.view_is ∙ c.requires.usable.1)) c.requires.nine was.priors
 
 pub invariant_of-self : goal.invariant_of-self
@@ -66,26 +65,25 @@ pub returns-in-Ok-clause-steps : goal.returns-in-Ok-clause-steps
 returns-in-Ok-clause-steps g c = λ backed are.
     let told = g.T.Store.files c.args.store.now in
     let after = g.T.Store.files c.advance.new.store in
-    let s = c.self.inside in
     let name = c.args.name in
     let view = seen c.self.inside in
     let q = c.index_mut.result.now in
     let place = place-of view c.args.self.now name c.in-Some.place q c.self.view_is (sym c.find.ensures ∙ c.in-Some.is) in
     let was = open-of view c.args.self.now name c.in-Some.place q c.self.view_is (sym c.find.ensures ∙ c.in-Some.is) c.index_mut.ensures.value c.self.invariant c.requires.usable in
-    let few : length s.repository.priors ≤ 8 = c.priors-few.ensures.few (ap (λ (x : Keeps). x.repository.usable) c.self.view_is ∙ c.requires.usable.1) in
+    let few : length view.repository.priors ≤ 8 = c.priors-few.ensures.few (ap (λ (x : Keeps). x.repository.usable) c.self.view_is ∙ c.requires.usable.1) in
     let new = c.advance.new.self in
     let cache = c.advance.new.cache in
     let same : after ≡ told = c.advance.ensures.quiet.same_files in
-    let kind : c.args.rule.now.kind ≡ s.kind = c.requires.kind ∙ sym (ap (λ (x : Keeps). x.kind) c.self.view_is) in
+    let kind : c.args.rule.now.kind ≡ view.kind = c.requires.kind ∙ sym (ap (λ (x : Keeps). x.kind) c.self.view_is) in
     of-now told view c.args.self.now
-    (λ (x : Keeps). Steps (event.Step name c.args.docs) told after x (with_search view (set s.queries.items c.in-Some.place new) cache) (reply.Stepped name c.in-Ok.credit c.in-Ok.live)) c.self.view_is
+    (λ (x : Keeps). Steps (event.Step name c.args.docs) told after x (with_search view (set view.queries c.in-Some.place new) cache) (reply.Stepped name c.in-Ok.credit c.in-Ok.live)) c.self.view_is
     (λ b.
-    let query : IsQueryBacked told s.repository s.kind q = at-place (IsQueryBacked told s.repository s.kind) s.queries.items c.in-Some.place q place.within c.index_mut.ensures.value b.queries in
-    let own : IsQueryBacked told s.repository c.args.rule.now.kind q = subst (λ k. IsQueryBacked told s.repository k q) (sym kind) query in
-    let now : IsQueryBacked after s.repository s.kind new =
-    subst (λ k. IsQueryBacked after s.repository k new) kind
-    (c.in-Ok.ensures.backed s.repository few was.priors (plugs-moved told view c.args.self.now _ c.self.view_is are) b.cache.backed own) in
-    let blocks : IsCacheKept after s.repository cache = subst (λ (f : Option Files). IsCacheKept f s.repository cache) (sym same) (cache-read told s.repository q.search.snapshot s.cache cache query.listed c.advance.ensures.cache b.cache) in
+    let query : IsQueryBacked told view.repository view.kind q = at-place (IsQueryBacked told view.repository view.kind) view.queries c.in-Some.place q place.within c.index_mut.ensures.value b.queries in
+    let own : IsQueryBacked told view.repository c.args.rule.now.kind q = subst (λ k. IsQueryBacked told view.repository k q) (sym kind) query in
+    let now : IsQueryBacked after view.repository view.kind new =
+    subst (λ k. IsQueryBacked after view.repository k new) kind
+    (c.in-Ok.ensures.backed view.repository few was.priors (plugs-moved told view c.args.self.now _ c.self.view_is are) b.cache.backed own) in
+    let blocks : IsCacheKept after view.repository cache = subst (λ (f : Option Files). IsCacheKept f view.repository cache) (sym same) (cache-read told view.repository q.search.snapshot view.cache cache query.listed c.advance.ensures.cache b.cache) in
     step-exit told view name c.in-Some.place q place c.index_mut.ensures.value after c.args.docs c.in-Ok.credit c.in-Ok.live new cache same (c.in-Ok.ensures.query told) now blocks (c.in-Ok.ensures.credit told) (c.in-Ok.ensures.live told) b)
     backed
 

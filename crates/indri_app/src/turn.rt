@@ -1,5 +1,5 @@
 // One item of a session.
-ghost use Rattle.std.specs.Prelude.{◌≡◌, ◌≤◌, ◌⊎◌, ◌∷◌, [], Err, Some, true, false, length, map, IfErr, IfOk, IsErrOf, OnOk};
+ghost use Rattle.std.specs.Prelude.{◌≡◌, ◌≤◌, ◌⊎◌, ◌∷◌, [], Err, Some, false, length, map, IfErr, IfOk, IsErrOf, OnOk};
 ghost use Rattle.ri_base.specs.Faults.{IsOutside};
 ghost use Rattle.ri_ends.specs.Causes.{Rose};
 ghost use Rattle.store_ends.specs.Files.{GoesOn, Leaves};

@@ -29,7 +29,7 @@ use Rattle.desk.specs.Step.{step}
 use Rattle.desk.specs.Told as told
 use Rattle.desk.specs.Told.{Shows, Told, is_flush_point}
 use Rattle.desk.proofs.Staying.{step-stays}
-use Rattle.indri_app.specs.Items.{item_flushes, item_reply, kept_by, state_behind, unread_reply}
+use Rattle.indri_app.specs.Items.{IsNoEvent, item_flushes, item_reply, kept_by, state_behind, unread_reply}
 use Rattle.indri_app.specs.Orders.{IsTrueItem, IsTrueTold}
 use Rattle.indri_app.specs.Sessions.{IsUnderWay}
 use Rattle.indri_app.specs.ToldTexts.{told_reply}
@@ -139,11 +139,11 @@ true-step s event.End r shows holds = tt
 
 -- ---- what is no event
 
-abbrev pub IsNoEvent : Item → Type 0
-IsNoEvent (item.Event e) = ⊥
-IsNoEvent (item.Unread kind place) = Unit {0}
-IsNoEvent (item.Trec why) = Unit {0}
-IsNoEvent (item.Token why) = Unit {0}
+pub no-event : (i : Item) → ((e : Event) → i ≡ item.Event e → ⊥) → IsNoEvent i
+no-event (item.Event e) not = not e refl
+no-event (item.Unread kind place) not = tt
+no-event (item.Trec why) not = tt
+no-event (item.Token why) not = tt
 
 pub none-state : (s : State) (i : Item) → IsNoEvent i → s ≡ state_behind s i
 unfolding state_behind

@@ -4,6 +4,7 @@ pub mod CommitLemmas
 pub mod CreateLemmas
 pub mod DeletionLemmas
 pub mod FaultLemmas
+pub mod Followed
 pub mod Following
 pub mod PriorLemmas
 pub mod RowLemmas

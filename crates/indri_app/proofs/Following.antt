@@ -16,6 +16,7 @@ use Rattle.script_reader.specs.declared.item.Item.TheVariants as item
 use Rattle.script_reader.specs.declared.reader.ItemReader.{ItemReader}
 use Rattle.session_events.specs.declared.event.Event.{Event}
 use Rattle.desk.specs.State.{State, collection_of}
+use Rattle.collection_commands.proofs.Followed.{all-taken, more-taken, some-taken}
 use Rattle.indri_app.specs.Items.{item_piece, kept_by, pieces_of, state_behind, state_behind_all}
 use Rattle.indri_app.specs.Orders.{AreTrue, IsTrueItem}
 use Rattle.indri_app.proofs.StepLemmas.{end-kept}
@@ -30,30 +31,15 @@ followed-start r (Some bytes) all = ap Some (all bytes)
 
 pub followed-more : (done : List Item) (i : Item) (r r' : ItemReader) (start old new : Option (List ℕ)) → AreFollowed done r start old
     → option_map (items_left r) old ≡ option_map (answer_items (Some i) r') new → AreFollowed (done ++ i ∷ []) r' start new
-followed-more done i r r' start None None f e = f
-followed-more done i r r' start None (Some ys) f e = cc
-followed-more done i r r' start (Some xs) None f e = cc
-followed-more done i r r' start (Some xs) (Some ys) f e =
-    let one : items_left r xs ≡ i ∷ items_left r' ys = cc in
-    ap Some (append_assoc done (i ∷ []) (items_left r' ys) ∙ ap (λ rest. done ++ rest) (sym one)) ∙ f
+followed-more done i r r' start old new f e = more-taken items done (items_left r) i (items_left r') old new start f e
 
 -- What holds of the items that are done, however they go on, holds of those of the script.
 pub some-done : (Q : List Item → Type 0) (done : List Item) (r : ItemReader) (start now : Option (List ℕ)) → AreFollowed done r start now → ((rest : List Item) → Q (done ++ rest)) → IfSome start (λ bytes. Q (items bytes))
-some-done Q done r None now f q = tt
-some-done Q done r (Some bytes) None f q = cc
-some-done Q done r (Some bytes) (Some ys) f q =
-    let all : done ++ items_left r ys ≡ items bytes = cc in
-    subst Q all (q (items_left r ys))
+some-done Q done r start now f q = some-taken items done (items_left r) Q now start f q
 
 -- The script ends.
 pub all-done : (Q : List Item → Type 0) (done : List Item) (r : ItemReader) (start old new : Option (List ℕ)) → AreFollowed done r start old → option_map (items_left r) old ≡ option_map (λ rest. []) new → Q done → IfSome start (λ bytes. Q (items bytes))
-all-done Q done r None old new f e q = tt
-all-done Q done r (Some bytes) None new f e q = cc
-all-done Q done r (Some bytes) (Some ys) None f e q = cc
-all-done Q done r (Some bytes) (Some ys) (Some zs) f e q =
-    let none : items_left r ys ≡ [] = cc in
-    let all : done ++ items_left r ys ≡ items bytes = cc in
-    subst Q (sym (append-nil done) ∙ ap (λ rest. done ++ rest) (sym none) ∙ all) q
+all-done Q done r start old new f e q = all-taken items done (items_left r) Q old new start f e q
 
 -- ---- pieces and states
 

@@ -129,30 +129,25 @@ returns-in-Ok-None-clause-order g c = λ kept way.
 
 pub returns-in-Ok-None-clause-stops : goal.returns-in-Ok-None-clause-stops
 returns-in-Ok-None-clause-stops g c = λ kept way.
-    let inv = c.items.invariant in
-    some-along kept (state_of (g.T.Store.files c.args.store.now) c.args.desk.now.kept) inv.0 c.items.reader _ _ inv.1.followed _ _ (inv.1.stops kept way)
+    some-along kept (state_of (g.T.Store.files c.args.store.now) c.args.desk.now.kept) c.items.invariant.0 c.items.reader _ _ c.items.invariant.1.followed _ _ (c.items.invariant.1.stops kept way)
 
 -- the source fails, or there is no memory for an item
 
 pub returns-in-Err-Read-clause-broken : goal.returns-in-Err-Read-clause-broken
 returns-in-Err-Read-clause-broken g c = λ kept way.
-    let inv = c.items.invariant in
-    some-stopped kept (state_of (g.T.Store.files c.args.store.now) c.args.desk.now.kept) inv.0 c.items.reader _ _ inv.1.followed _ _ _ (inv.1.finished kept way)
+    some-stopped kept (state_of (g.T.Store.files c.args.store.now) c.args.desk.now.kept) c.items.invariant.0 c.items.reader _ _ c.items.invariant.1.followed _ _ _ (c.items.invariant.1.finished kept way)
 
 pub returns-in-Err-Read-clause-stops : goal.returns-in-Err-Read-clause-stops
 returns-in-Err-Read-clause-stops g c = λ kept way.
-    let inv = c.items.invariant in
-    some-along kept (state_of (g.T.Store.files c.args.store.now) c.args.desk.now.kept) inv.0 c.items.reader _ _ inv.1.followed _ _ (inv.1.stops kept way)
+    some-along kept (state_of (g.T.Store.files c.args.store.now) c.args.desk.now.kept) c.items.invariant.0 c.items.reader _ _ c.items.invariant.1.followed _ _ (c.items.invariant.1.stops kept way)
 
 pub returns-in-Err-Memory-clause-broken : goal.returns-in-Err-Memory-clause-broken
 returns-in-Err-Memory-clause-broken g c = λ kept way.
-    let inv = c.items.invariant in
-    some-stopped kept (state_of (g.T.Store.files c.args.store.now) c.args.desk.now.kept) inv.0 c.items.reader _ _ inv.1.followed _ _ _ (inv.1.finished kept way)
+    some-stopped kept (state_of (g.T.Store.files c.args.store.now) c.args.desk.now.kept) c.items.invariant.0 c.items.reader _ _ c.items.invariant.1.followed _ _ _ (c.items.invariant.1.finished kept way)
 
 pub returns-in-Err-Memory-clause-stops : goal.returns-in-Err-Memory-clause-stops
 returns-in-Err-Memory-clause-stops g c = λ kept way.
-    let inv = c.items.invariant in
-    some-along kept (state_of (g.T.Store.files c.args.store.now) c.args.desk.now.kept) inv.0 c.items.reader _ _ inv.1.followed _ _ (inv.1.stops kept way)
+    some-along kept (state_of (g.T.Store.files c.args.store.now) c.args.desk.now.kept) c.items.invariant.0 c.items.reader _ _ c.items.invariant.1.followed _ _ (c.items.invariant.1.stops kept way)
 
 -- an item is broken off
 

@@ -5,9 +5,9 @@ use Rattle.std.specs.List.{position}
 use Rattle.store_ends.specs.Files.{Files}
 use Rattle.ranker.specs.Searches.{searched}
 use Rattle.session_events.specs.declared.event.Event.TheVariants as event
-use Rattle.desk.specs.Backed.{IsUsable, Keeps, state_of}
+use Rattle.desk.specs.Backed.{IsDeskBacked, IsUsable, Keeps, state_of}
 use Rattle.desk.specs.Keeping.{AreKept, IsOpen}
-use Rattle.desk.specs.Queries.{query_of}
+use Rattle.desk.specs.Queries.{IsQueryBacked, query_of}
 use Rattle.desk.specs.State.{named}
 use Rattle.desk.specs.Step.{refuse, step}
 use Rattle.desk.specs.declared.kept.Kept.TheInside.{Inside}
@@ -39,6 +39,10 @@ module _ (view now : Keeps) (name : List ℕ) (i : ℕ) (q : OpenQuery) (same : 
   open-of there kept usable =
       let all = kept (ap (λ (x : Keeps). x.usable) same ∙ usable.0) (ap (λ (x : Keeps). x.repository.usable) same ∙ usable.1) in
       at-place (IsOpen (length view.repository.priors)) view.queries i q place-of.within there all.each
+
+  -- and backed, where the desk is
+  pub backed-of : (told : Option Files) → q ≡ get_or view.queries i q → IsDeskBacked told view → IsQueryBacked told view.repository view.kind q
+  backed-of told there b = at-place (IsQueryBacked told view.repository view.kind) view.queries i q place-of.within there b.queries
 
   -- documents of it are left
   module _ (told : Option Files) (there : q ≡ get_or view.queries i q) (kept : view.usable ≡ true → view.repository.usable ≡ true → AreKept view.repository view.queries view.counts) (usable : IsUsable now) (b : Bool)

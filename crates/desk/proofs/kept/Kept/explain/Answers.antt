@@ -21,16 +21,16 @@ use Rattle.session_events.specs.declared.event.Event.TheVariants as event
 use Rattle.desk.specs.declared.reply.Reply.TheVariants as reply
 use Rattle.desk.specs.declared.reply.Refusal.TheVariants.{NoSuchName, NoSuchRank, NotYet}
 use Rattle.desk.specs.Backed.{IsDeskBacked, Keeps, Steps, state_of}
-use Rattle.desk.specs.Queries.{AreListed, IsCacheKept, IsQueryBacked, priors_in, query_of}
+use Rattle.desk.specs.Queries.{AreListed, IsCacheKept, priors_in, query_of}
 use Rattle.desk.specs.Step.{step}
 use Rattle.desk.specs.Told.{told_early}
 use Rattle.desk.proofs.CacheLemmas.{cache-read}
 use Rattle.desk.proofs.Cases.{explain-noname}
 use Rattle.desk.proofs.Exits.{of-now, refused-exit, refused-here}
-use Rattle.desk.proofs.Found.{left-explained, none-found, open-of, place-of, seen}
+use Rattle.desk.proofs.Found.{backed-of, left-explained, none-found, open-of, place-of, seen}
 use Rattle.desk.proofs.FormLemmas.{scale-form}
 use Rattle.desk.proofs.NamedExits.{all-passed, shown-entries}
-use Rattle.desk.proofs.Naming.{at-place, named-here}
+use Rattle.desk.proofs.Naming.{named-here}
 use Rattle.desk.proofs.ReadingExits.{early-passed, early-refused, explain-exit, no-rank, with_cache}
 use Rattle.desk.proofs.kept.Kept.explain.Goals as goal
 
@@ -68,7 +68,7 @@ returns-in_default-2-clause-steps g c = λ backed.
     let hits : List Hit = c.in-Some-results.hits.now in
     of-now told view c.args.self.now (λ x. Steps (event.Explain name c.args.rank) told told x x (reply.Refused (NoSuchRank name))) c.self.view_is
     (λ b.
-    let query : IsQueryBacked told view.repository view.kind q = at-place (IsQueryBacked told view.repository view.kind) view.queries c.in-Some.place q place.within c.index.ensures b.queries in
+    let query = backed-of view c.args.self.now name c.in-Some.place q c.self.view_is (sym c.find.ensures ∙ c.in-Some.is) told c.index.ensures b in
     let entries = shown-entries told view name c.in-Some.place q place c.index.ensures hits was.distinct query (c.in-Some-results.ensures.answer view.kind (priors_with (priors_in told view.repository.priors)) told query.taken) in
     refused-exit (event.Explain name c.args.rank) told view (NoSuchRank name) (no-rank told view name c.in-Some.place q place c.index.ensures passed hits entries c.args.rank (sym c.in_default-2.is ∙ c.in_ok-hit.ensures)) b)
     backed
@@ -121,7 +121,7 @@ returns-clause-steps g c = λ backed.
     let names : c.deref.result.now ≡ map (λ (x : PriorEntry). x.name) view.repository.priors = c.deref.ensures.value ∙ c.in_ok-names.ensures ∙ ap (map (λ (x : PriorEntry). x.name)) c.priors.ensures.list in
     of-now told view c.args.self.now (λ x. Steps (event.Explain name c.args.rank) told after x (with_cache view cache) (reply.Explained e)) c.self.view_is
     (λ b.
-    let query : IsQueryBacked told view.repository view.kind q = at-place (IsQueryBacked told view.repository view.kind) view.queries c.in-Some.place q place.within c.index.ensures b.queries in
+    let query = backed-of view c.args.self.now name c.in-Some.place q c.self.view_is (sym c.find.ensures ∙ c.in-Some.is) told c.index.ensures b in
     let entries = shown-entries told view name c.in-Some.place q place c.index.ensures hits was.distinct query (c.in-Some-results.ensures.answer view.kind (priors_with (priors_in told view.repository.priors)) told query.taken) in
     let found_in = c.in_ok-explained.ensures.exact (subst (λ (ms : List Marked). AreBacked told ms) (sym parts) query.snapshot) b.cache.backed in
     let document = sym (ap (λ (ms : List Marked). document_with hit.docno (live told ms)) parts) ∙ found_in.1 in
@@ -146,9 +146,8 @@ returns-in_err-explained-clause-honest g c = λ backed.
     let name = c.args.name in
     let view = seen c.self.inside in
     let q = c.index.result.now in
-    let place = place-of view c.args.self.now name c.in-Some.place q c.self.view_is (sym c.find.ensures ∙ c.in-Some.is) in
     let b : IsDeskBacked told view = subst (IsDeskBacked told) (sym c.self.view_is) backed in
-    let query : IsQueryBacked told view.repository view.kind q = at-place (IsQueryBacked told view.repository view.kind) view.queries c.in-Some.place q place.within c.index.ensures b.queries in
+    let query = backed-of view c.args.self.now name c.in-Some.place q c.self.view_is (sym c.find.ensures ∙ c.in-Some.is) told c.index.ensures b in
     let parts : c.parts.result.now ≡ q.search.snapshot = c.parts.ensures.parts ∙ c.snapshot.ensures in
     let p = err_from_is_err_and c.from_residual-in_err-explained.result c.from_residual-in_err-explained.ensures.1 in
     rw (p.1, p.2) (c.in_err-explained.ensures.honest (subst (λ (ms : List Marked). AreBacked told ms) (sym parts) query.snapshot) b.cache.backed)

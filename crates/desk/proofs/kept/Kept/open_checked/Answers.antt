@@ -26,36 +26,32 @@ use Rattle.desk.proofs.kept.Kept.open_checked.Goals as goal
 pub returns-then-is_some-clause-steps : goal.returns-then-is_some-clause-steps
 returns-then-is_some-clause-steps g c = λ backed.
     let told = g.T.Store.files c.args.store.now in
-    let name = c.args.name in
     let view = seen c.self.inside in
-    let taken = found-as view c.args.self.now name c.self.view_is true (ap is_some (sym c.find.ensures) ∙ sym c.is_some.ensures ∙ c.if-is_some.true) in
-    open-refusal told view c.args.self.now name c.args.k (whole_checked c.args.checked) (NameTaken name) c.self.view_is (taken-refused told view name c.args.k (whole_checked c.args.checked) taken) backed
+    let taken = found-as view c.args.self.now c.args.name c.self.view_is true (ap is_some (sym c.find.ensures) ∙ sym c.is_some.ensures ∙ c.if-is_some.true) in
+    open-refusal told view c.args.self.now c.args.name c.args.k (whole_checked c.args.checked) (NameTaken c.args.name) c.self.view_is (taken-refused told view c.args.name c.args.k (whole_checked c.args.checked) taken) backed
 
 pub returns-then-is_some-clause-refuses : goal.returns-then-is_some-clause-refuses
 returns-then-is_some-clause-refuses g c = λ told.
-    let name = c.args.name in
     let view = seen c.self.inside in
-    let taken = found-as view c.args.self.now name c.self.view_is true (ap is_some (sym c.find.ensures) ∙ sym c.is_some.ensures ∙ c.if-is_some.true) in
-    open-refused-by told view c.args.self.now name c.args.k (whole_checked c.args.checked) (NameTaken name) c.self.view_is (taken-refused told view name c.args.k (whole_checked c.args.checked) taken)
+    let taken = found-as view c.args.self.now c.args.name c.self.view_is true (ap is_some (sym c.find.ensures) ∙ sym c.is_some.ensures ∙ c.if-is_some.true) in
+    open-refused-by told view c.args.self.now c.args.name c.args.k (whole_checked c.args.checked) (NameTaken c.args.name) c.self.view_is (taken-refused told view c.args.name c.args.k (whole_checked c.args.checked) taken)
 
 pub returns-then-len-ge-MAX_QUERIES-clause-steps : goal.returns-then-len-ge-MAX_QUERIES-clause-steps
 returns-then-len-ge-MAX_QUERIES-clause-steps g c = λ backed.
     let told = g.T.Store.files c.args.store.now in
     let s = c.self.inside in
-    let name = c.args.name in
     let view = seen c.self.inside in
-    let free = found-as view c.args.self.now name c.self.view_is false (ap is_some (sym c.find.ensures) ∙ sym c.is_some.ensures ∙ c.if-is_some.false) in
+    let free = found-as view c.args.self.now c.args.name c.self.view_is false (ap is_some (sym c.find.ensures) ∙ sym c.is_some.ensures ∙ c.if-is_some.false) in
     let full : nat_le MAX_QUERIES (length s.queries.items) ≡ true = le-leb MAX_QUERIES (length s.queries.items) (omega (arith, c.len.ensures, c.if-len-ge-MAX_QUERIES.true)) in
-    open-refusal told view c.args.self.now name c.args.k (whole_checked c.args.checked) (DeskFull name) c.self.view_is (full-refused told view name c.args.k (whole_checked c.args.checked) free full) backed
+    open-refusal told view c.args.self.now c.args.name c.args.k (whole_checked c.args.checked) (DeskFull c.args.name) c.self.view_is (full-refused told view c.args.name c.args.k (whole_checked c.args.checked) free full) backed
 
 pub returns-then-len-ge-MAX_QUERIES-clause-refuses : goal.returns-then-len-ge-MAX_QUERIES-clause-refuses
 returns-then-len-ge-MAX_QUERIES-clause-refuses g c = λ told.
     let s = c.self.inside in
-    let name = c.args.name in
     let view = seen c.self.inside in
-    let free = found-as view c.args.self.now name c.self.view_is false (ap is_some (sym c.find.ensures) ∙ sym c.is_some.ensures ∙ c.if-is_some.false) in
+    let free = found-as view c.args.self.now c.args.name c.self.view_is false (ap is_some (sym c.find.ensures) ∙ sym c.is_some.ensures ∙ c.if-is_some.false) in
     let full : nat_le MAX_QUERIES (length s.queries.items) ≡ true = le-leb MAX_QUERIES (length s.queries.items) (omega (arith, c.len.ensures, c.if-len-ge-MAX_QUERIES.true)) in
-    open-refused-by told view c.args.self.now name c.args.k (whole_checked c.args.checked) (DeskFull name) c.self.view_is (full-refused told view name c.args.k (whole_checked c.args.checked) free full)
+    open-refused-by told view c.args.self.now c.args.name c.args.k (whole_checked c.args.checked) (DeskFull c.args.name) c.self.view_is (full-refused told view c.args.name c.args.k (whole_checked c.args.checked) free full)
 
 pub invariant_of-self : goal.invariant_of-self
 invariant_of-self g c =
@@ -145,8 +141,7 @@ returns-clause-steps g c = λ backed.
 pub returns-clause-refuses : goal.returns-clause-refuses
 returns-clause-refuses g c = λ told.
     let s = c.self.inside in
-    let name = c.args.name in
     let view = seen c.self.inside in
-    let free = found-as view c.args.self.now name c.self.view_is false (ap is_some (sym c.find.ensures) ∙ sym c.is_some.ensures ∙ c.if-is_some.false) in
+    let free = found-as view c.args.self.now c.args.name c.self.view_is false (ap is_some (sym c.find.ensures) ∙ sym c.is_some.ensures ∙ c.if-is_some.false) in
     let room : nat_le MAX_QUERIES (length s.queries.items) ≡ false = lt-leb MAX_QUERIES (length s.queries.items) (omega (arith, c.len.ensures, c.if-len-ge-MAX_QUERIES.false)) in
-    open-accepted-by told view c.args.self.now name c.args.k (whole_checked c.args.checked) c.self.view_is free room
+    open-accepted-by told view c.args.self.now c.args.name c.args.k (whole_checked c.args.checked) c.self.view_is free room

@@ -12,14 +12,14 @@ use Rattle.desk.specs.declared.reply.Reply.TheVariants as reply
 use Rattle.desk.specs.declared.reply.Refusal.TheVariants.{NoSuchName, NotYet}
 use Rattle.desk.specs.Backed.{Keeps, Steps, state_of}
 use Rattle.desk.specs.Orders.{IsTrueReply}
-use Rattle.desk.specs.Queries.{IsQueryBacked, priors_in, query_of}
+use Rattle.desk.specs.Queries.{priors_in, query_of}
 use Rattle.desk.specs.State.{named}
 use Rattle.desk.proofs.Cases.{show-noname, show-results}
 use Rattle.desk.proofs.Exits.{accepted-by, of-now, refused-by, refused-exit, refused-here, refused-so}
-use Rattle.desk.proofs.Found.{left-shown, open-of, place-of, seen}
+use Rattle.desk.proofs.Found.{backed-of, left-shown, open-of, place-of, seen}
 use Rattle.desk.proofs.FormLemmas.{results-form}
 use Rattle.desk.proofs.NamedExits.{all-passed, show-exit, shown-entries}
-use Rattle.desk.proofs.Naming.{at-place, is_named, named-here, named-none}
+use Rattle.desk.proofs.Naming.{is_named, named-here, named-none}
 use Rattle.desk.proofs.OrderLemmas.{shown-true, true-refused}
 use Rattle.desk.proofs.kept.Kept.show.Goals as goal
 
@@ -64,7 +64,7 @@ returns-in_ok-clone_in-in-Some-results-clause-steps c = λ told backed.
     let scale : c.checked.result.now.scale ≡ (whole_checked q.search.checked).scale = ap (λ (x : Checked). x.scale) c.checked.ensures in
     of-now told view c.args.self.now (λ (x : Keeps). Steps (event.Show name) told told x x (reply.Results name c.checked.result.now.scale hits)) c.self.view_is
     (λ b.
-    let query : IsQueryBacked told view.repository view.kind q = at-place (IsQueryBacked told view.repository view.kind) view.queries c.in-Some.place q place.within c.index.ensures b.queries in
+    let query = backed-of view c.args.self.now name c.in-Some.place q c.self.view_is (sym c.find.ensures ∙ c.in-Some.is) told c.index.ensures b in
     let priors = priors_with (priors_in told view.repository.priors) in
     let answered : IsAnswerOf view.kind priors q.search (searched told q.search) hits = subst (IsAnswerOf view.kind priors q.search (searched told q.search)) (sym same) (c.in-Some-results.ensures.answer view.kind priors told query.taken) in
     show-exit told view name c.in-Some.place q place c.index.ensures hits c.checked.result.now.scale scale passed (shown-entries told view name c.in-Some.place q place c.index.ensures hits was.distinct query answered) b)
@@ -82,7 +82,7 @@ returns-in_ok-clone_in-in-Some-results-clause-order c = λ told backed.
     let scale : c.checked.result.now.scale ≡ q.search.checked.scale = ap (λ (x : Checked). x.scale) c.checked.ensures in
     of-now told view c.args.self.now (λ (x : Keeps). IsTrueReply (state_of told x) (event.Show name) (reply.Results name c.checked.result.now.scale hits)) c.self.view_is
     (λ b.
-    let query : IsQueryBacked told view.repository view.kind q = at-place (IsQueryBacked told view.repository view.kind) view.queries c.in-Some.place q place.within c.index.ensures b.queries in
+    let query = backed-of view c.args.self.now name c.in-Some.place q c.self.view_is (sym c.find.ensures ∙ c.in-Some.is) told c.index.ensures b in
     let priors = priors_with (priors_in told view.repository.priors) in
     let answered : IsAnswerOf view.kind priors q.search (searched told q.search) hits = subst (IsAnswerOf view.kind priors q.search (searched told q.search)) (sym same) (c.in-Some-results.ensures.answer view.kind priors told query.taken) in
     shown-true told view name c.in-Some.place q place c.index.ensures c.ranking_is_true.ensures c.checked.result.now.scale hits scale was.distinct query answered)

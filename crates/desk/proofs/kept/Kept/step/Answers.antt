@@ -12,7 +12,7 @@ use Rattle.desk.specs.Queries.{IsCacheKept, IsQueryBacked, query_of}
 use Rattle.desk.proofs.CacheLemmas.{cache-read}
 use Rattle.desk.proofs.Cases.{step-noname, step-stepped}
 use Rattle.desk.proofs.Exits.{accepted-by, of-now, refused-by, refused-here}
-use Rattle.desk.proofs.Found.{none-found, open-of, place-of, seen}
+use Rattle.desk.proofs.Found.{backed-of, none-found, open-of, place-of, seen}
 use Rattle.desk.proofs.KeptLemmas.{asks-nine, kept-set, open-on}
 use Rattle.desk.proofs.NamedExits.{step-exit, with_search}
 use Rattle.desk.proofs.Naming.{at-place, found-place, is_named, named-here}
@@ -78,7 +78,7 @@ returns-in-Ok-clause-steps g c = λ backed are.
     of-now told view c.args.self.now
     (λ (x : Keeps). Steps (event.Step name c.args.docs) told after x (with_search view (set view.queries c.in-Some.place new) cache) (reply.Stepped name c.in-Ok.credit c.in-Ok.live)) c.self.view_is
     (λ b.
-    let query : IsQueryBacked told view.repository view.kind q = at-place (IsQueryBacked told view.repository view.kind) view.queries c.in-Some.place q place.within c.index_mut.ensures.value b.queries in
+    let query = backed-of view c.args.self.now name c.in-Some.place q c.self.view_is (sym c.find.ensures ∙ c.in-Some.is) told c.index_mut.ensures.value b in
     let own : IsQueryBacked told view.repository c.args.rule.now.kind q = subst (λ k. IsQueryBacked told view.repository k q) (sym kind) query in
     let now : IsQueryBacked after view.repository view.kind new =
     subst (λ k. IsQueryBacked after view.repository k new) kind
@@ -101,8 +101,7 @@ returns-in-Err-clause-honest g c = λ backed.
     let name = c.args.name in
     let view = seen c.self.inside in
     let q = c.index_mut.result.now in
-    let place = place-of view c.args.self.now name c.in-Some.place q c.self.view_is (sym c.find.ensures ∙ c.in-Some.is) in
     let b : IsDeskBacked told view = subst (IsDeskBacked told) (sym c.self.view_is) backed in
-    let query : IsQueryBacked told view.repository view.kind q = at-place (IsQueryBacked told view.repository view.kind) view.queries c.in-Some.place q place.within c.index_mut.ensures.value b.queries in
+    let query = backed-of view c.args.self.now name c.in-Some.place q c.self.view_is (sym c.find.ensures ∙ c.in-Some.is) told c.index_mut.ensures.value b in
     let kind : c.args.rule.now.kind ≡ view.kind = c.requires.kind ∙ sym (ap (λ (x : Keeps). x.kind) c.self.view_is) in
     c.in-Err.ensures.honest view.repository (subst (λ k. IsQueryBacked told view.repository k q) (sym kind) query) b.cache.backed

@@ -23,40 +23,37 @@ module _ (pieces : List ℕ → List Plain) (behind : List ℕ → Collection) (
   changed-refused None noted e = tt
   changed-refused (Some bytes) noted e = refused-changed (behind bytes) (pieces bytes) (flushed_piece (behind bytes)) refl ∙ sym e
 
-  pub changed-finished : (left : Option (List ℕ)) (before mid now : Option (List ℕ)) (f g : Option Files) → IfSome left (λ bytes. AllWritten (pieces bytes) before mid) → StandsFor kept f
-      → IfSome left (λ bytes. Finished StandsFor kept (flush_pieces (behind bytes)) mid now g) → IfSome left (λ bytes. Finished StandsFor kept (then_flushed (pieces bytes) (behind bytes)) before now g)
-  changed-finished None before mid now f g a s b = tt
-  changed-finished (Some bytes) before mid now f g a s b = Finished-changed StandsFor kept (behind bytes) (pieces bytes) (flushed_piece (behind bytes)) before mid now f g a s b
-
-  pub changed-broken : (e : CommandFault) (left : Option (List ℕ)) (before mid now : Option (List ℕ)) (f g : Option Files) → IfSome left (λ bytes. AllWritten (pieces bytes) before mid) → StandsFor kept f
-      → IfSome left (λ bytes. IsBrokenBy e StandsFor kept (flush_pieces (behind bytes)) mid now g) → IfSome left (λ bytes. IsBrokenBy e StandsFor kept (then_flushed (pieces bytes) (behind bytes)) before now g)
-  changed-broken e None before mid now f g a s b = tt
-  changed-broken e (Some bytes) before mid now f g a s b = by-changed e StandsFor kept (behind bytes) (pieces bytes) (flushed_piece (behind bytes)) before mid now f g a s b
-
   pub unchanged-broken : (e : Fault) (r : CommandFault) (left : Option (List ℕ)) (before now : Option (List ℕ)) (f : Option Files) → r ≡ of_items e → IfSome left (λ bytes. IsCut e (pieces bytes) before now) → StandsFor kept f
       → IfSome left (λ bytes. IsBrokenBy r StandsFor kept (then_flushed (pieces bytes) (behind bytes)) before now f)
   unchanged-broken e r None before now f by b s = tt
   unchanged-broken e r (Some bytes) before now f by b s =
       subst (λ (x : CommandFault). IsBrokenBy x StandsFor kept (then_flushed (pieces bytes) (behind bytes)) before now f) (sym by) (by-unchanged e StandsFor kept (behind bytes) (pieces bytes) (flushed_piece (behind bytes)) before now f b s)
 
-  pub changed-stops : (left : Option (List ℕ)) (past since : ℕ → Files → Type 0) → IfSome left (λ bytes. Leaves past since (StandsAlong StandsFor kept (flush_pieces (behind bytes))))
-      → IfSome left (λ bytes. Leaves past since (StandsAlong StandsFor kept (then_flushed (pieces bytes) (behind bytes))))
-  changed-stops None past since leaves = tt
-  changed-stops (Some bytes) past since leaves = Along-changed past since StandsFor kept (behind bytes) (pieces bytes) (flushed_piece (behind bytes)) leaves
+  -- the files aren't touched
+  pub unchanged-stops : (left : Option (List ℕ)) (past : ℕ → Files → Type 0) → IfSome left (λ bytes. Leaves past past (StandsAlong StandsFor kept (then_flushed (pieces bytes) (behind bytes))))
+  unchanged-stops None past = tt
+  unchanged-stops (Some bytes) past = Leaves-same past _
+
+  -- The repository is ahead of the files then: the flush, by what it does for each collection that the repository may read as.
+  pub flushed-finished : (told : Option Files) (s : State) (left before mid now : Option (List ℕ)) (g : Option Files) → IfSome left (λ bytes. IsAhead told s kept (behind bytes)) → IfSome left (λ bytes. AllWritten (pieces bytes) before mid)
+      → StandsFor kept told → ((k c : Collection) → IsAhead told s k c → Finished StandsFor k (flush_pieces c) mid now g) → IfSome left (λ bytes. Finished StandsFor kept (then_flushed (pieces bytes) (behind bytes)) before now g)
+  flushed-finished told s None before mid now g ahead a stands does = tt
+  flushed-finished told s (Some bytes) before mid now g ahead a stands does =
+      Finished-changed StandsFor kept (behind bytes) (pieces bytes) (flushed_piece (behind bytes)) before mid now told g a stands (does kept (behind bytes) ahead)
+
+  pub flushed-broken : (e : CommandFault) (told : Option Files) (s : State) (left before mid now : Option (List ℕ)) (g : Option Files) → IfSome left (λ bytes. IsAhead told s kept (behind bytes)) → IfSome left (λ bytes. AllWritten (pieces bytes) before mid)
+      → StandsFor kept told → ((k c : Collection) → IsAhead told s k c → IsBrokenBy e StandsFor k (flush_pieces c) mid now g) → IfSome left (λ bytes. IsBrokenBy e StandsFor kept (then_flushed (pieces bytes) (behind bytes)) before now g)
+  flushed-broken e told s None before mid now g ahead a stands does = tt
+  flushed-broken e told s (Some bytes) before mid now g ahead a stands does =
+      by-changed e StandsFor kept (behind bytes) (pieces bytes) (flushed_piece (behind bytes)) before mid now told g a stands (does kept (behind bytes) ahead)
+
+  pub flushed-stops : (told : Option Files) (s : State) (left : Option (List ℕ)) (past since : ℕ → Files → Type 0) → IfSome left (λ bytes. IsAhead told s kept (behind bytes))
+      → ((k c : Collection) → IsAhead told s k c → Leaves past since (StandsAlong StandsFor k (flush_pieces c))) → IfSome left (λ bytes. Leaves past since (StandsAlong StandsFor kept (then_flushed (pieces bytes) (behind bytes))))
+  flushed-stops told s None past since ahead stops = tt
+  flushed-stops told s (Some bytes) past since ahead stops = Along-changed past since StandsFor kept (behind bytes) (pieces bytes) (flushed_piece (behind bytes)) (stops kept (behind bytes) ahead)
 
 -- the repository behind the items
 pub ahead-some : (behind : List ℕ → Collection) (told : Option Files) (s : State) (kept : Collection) (left : Option (List ℕ)) → IsBacked told s → AreReal s.held.limits → StandsFor kept told → IfSome left (λ bytes. ReadsAs told s (behind bytes))
     → IfSome left (λ bytes. IsAhead told s kept (behind bytes))
 ahead-some behind told s kept None backed real stands reads = tt
 ahead-some behind told s kept (Some bytes) backed real stands reads = record { backed = backed; real = real; stands = stands; reads = reads }
-
--- what holds of each collection that it may read as
-pub for-some : (X : Collection → Type 0) (behind : List ℕ → Collection) (told : Option Files) (s : State) (kept : Collection) (left : Option (List ℕ)) → IfSome left (λ bytes. IsAhead told s kept (behind bytes)) → ((c : Collection) → IsAhead told s kept c → X c)
-    → IfSome left (λ bytes. X (behind bytes))
-for-some X behind told s kept None ahead all = tt
-for-some X behind told s kept (Some bytes) ahead all = all (behind bytes) ahead
-
--- the files aren't touched
-pub some-quiet : (behind : List ℕ → Collection) (kept : Collection) (left : Option (List ℕ)) (past : ℕ → Files → Type 0) → IfSome left (λ bytes. Leaves past past (StandsAlong StandsFor kept (flush_pieces (behind bytes))))
-some-quiet behind kept None past = tt
-some-quiet behind kept (Some bytes) past = Leaves-same past _

@@ -1,5 +1,5 @@
 -- Lines of docnos that are taken one by one.
-use Rattle.std.proofs.Common.{◌≡◌, ℕ, Bool, false, ◌||◌, List, [], ◌∷◌, ◌++◌, refl, ap, sym, ◌∙◌, subst, Option, Some, None, append_assoc, append-nil}
+use Rattle.std.proofs.Common.{◌≡◌, ℕ, Bool, false, ◌||◌, List, [], ◌∷◌, ◌++◌, refl, ap, sym, ◌∙◌, subst, Option, Some, None}
 use Rattle.std.specs.Io.KnownBytes.{prepend_known}
 use Rattle.std.specs.Option.{option_map, IfSome}
 use Rattle.command_pieces.specs.Faults.{IsCut}
@@ -12,6 +12,7 @@ use Rattle.docno_lines.specs.Docnos.{docno_answer, docnos_at}
 use Rattle.docno_lines.specs.declared.docno.DocnoLine.{DocnoLine}
 use Rattle.repository.specs.Stands.{Collection}
 use Rattle.collection_commands.specs.Deletions.{behind_line, behind_lines, line_piece, line_pieces}
+use Rattle.collection_commands.proofs.Followed.{all-taken, more-taken, some-taken}
 
 -- These lines were read, and what is unread, before which stand so many bytes, holds the others.
 abbrev pub AreFollowed : List DocnoLine → ℕ → Option (List ℕ) → Option (List ℕ) → Type 0
@@ -26,30 +27,15 @@ followed-start ahead offset start none first = rw (none, first) (followed-from s
 
 pub followed-more : (done : List DocnoLine) (line : DocnoLine) (o p : ℕ) (old new start : Option (List ℕ)) → AreFollowed done o old start
     → option_map (docnos_at o) old ≡ option_map (docno_answer (Some line) p) new → AreFollowed (done ++ line ∷ []) p new start
-followed-more done line o p None None start f e = f
-followed-more done line o p None (Some ys) start f e = cc
-followed-more done line o p (Some xs) None start f e = cc
-followed-more done line o p (Some xs) (Some ys) start f e =
-    let one : docnos_at o xs ≡ line ∷ docnos_at p ys = cc in
-    ap Some (append_assoc done (line ∷ []) (docnos_at p ys) ∙ ap (λ rest. done ++ rest) (sym one)) ∙ f
+followed-more done line o p old new start f e = more-taken (docnos_at 0) done (docnos_at o) line (docnos_at p) old new start f e
 
 -- What holds of the lines that were read, however the input goes on, holds of the input.
 pub some-done : (Q : List DocnoLine → Type 0) (done : List DocnoLine) (o : ℕ) (unread start : Option (List ℕ)) → AreFollowed done o unread start → ((rest : List DocnoLine) → Q (done ++ rest)) → IfSome start (λ bytes. Q (docnos_at 0 bytes))
-some-done Q done o unread None f q = tt
-some-done Q done o None (Some bytes) f q = cc
-some-done Q done o (Some ys) (Some bytes) f q =
-    let all : done ++ docnos_at o ys ≡ docnos_at 0 bytes = cc in
-    subst Q all (q (docnos_at o ys))
+some-done Q done o unread start f q = some-taken (docnos_at 0) done (docnos_at o) Q unread start f q
 
 -- The input ends.
 pub all-done : (Q : List DocnoLine → Type 0) (done : List DocnoLine) (o p : ℕ) (old new start : Option (List ℕ)) → AreFollowed done o old start → option_map (docnos_at o) old ≡ option_map (docno_answer None p) new → Q done → IfSome start (λ bytes. Q (docnos_at 0 bytes))
-all-done Q done o p old new None f e q = tt
-all-done Q done o p None new (Some bytes) f e q = cc
-all-done Q done o p (Some xs) None (Some bytes) f e q = cc
-all-done Q done o p (Some xs) (Some ys) (Some bytes) f e q =
-    let none : docnos_at o xs ≡ [] = cc in
-    let all : done ++ docnos_at o xs ≡ docnos_at 0 bytes = cc in
-    subst Q (sym (append-nil done) ∙ ap (λ rest. done ++ rest) (sym none) ∙ all) q
+all-done Q done o p old new start f e q = all-taken (docnos_at 0) done (docnos_at o) Q old new start f e q
 
 -- ---- what is written of lines
 

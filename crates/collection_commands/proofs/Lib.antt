@@ -1,8 +1,10 @@
+pub mod CauseLemmas
 pub mod ChangeLemmas
 pub mod CommitLemmas
 pub mod CreateLemmas
 pub mod DeletionLemmas
 pub mod FaultLemmas
+pub mod Followed
 pub mod Following
 pub mod PriorLemmas
 pub mod RowLemmas

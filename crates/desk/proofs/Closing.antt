@@ -1,5 +1,5 @@
 -- Where the part that is being filled is closed: a desk reads as before, and stays backed.
-use Rattle.std.proofs.Common.{◌≡◌, ◌⊎◌, inl, inr, List, Option, refl, sym, ap, subst}
+use Rattle.std.proofs.Common.{◌≡◌, ◌⊎◌, inl, inr, ◌<◌, ◌-◌, ◌^◌, List, Contains, Option, refl, sym, ap, subst}
 use Rattle.std.specs.Prelude.{Err, Ok, OnErr, OnOk, Result}
 use Rattle.ri_base.specs.Documents.{Document}
 use Rattle.store_ends.specs.Files.{Files}
@@ -15,9 +15,12 @@ use Rattle.repository.proofs.KeepLemmas.{merging-closed}
 use Rattle.repository.proofs.SaveLemmas.{numbers-sealed}
 use Rattle.repository.proofs.StepLemmas.{backed-closed, reads-closed}
 use Rattle.desk.specs.Backed.{IsDeskBacked, Keeps, state_of}
+use Rattle.desk.specs.Keeping.{AreKept}
 use Rattle.desk.specs.Queries.{IsCacheKept}
 use Rattle.desk.specs.State.{collection_of}
+use Rattle.desk.specs.declared.query.OpenQuery.{OpenQuery}
 use Rattle.desk.proofs.Keeping.{Cache-on, Lists, Merge-on, Queries-on, listed-held, merge-condition}
+use Rattle.desk.proofs.KeptLemmas.{kept-counts, kept-repository}
 use Rattle.desk.proofs.Reading.{reads-state}
 
 -- the repository, with the part that was being filled closed
@@ -39,6 +42,15 @@ priors-closed (Err e) s t done left = elim left [
   | inl same ↦ ap (λ (x : repositories.State). x.priors) same
   | inr now ↦ ap (λ (x : repositories.State). x.priors) now
 ]
+
+-- what is kept over a snapshot
+pub snapped-kept : {A E : Type 0} (r : Result A E) (s t : repositories.State) (qs : List OpenQuery) (cs : List Kept) → OnOk r (t ≡ closed s) → OnErr r ((t ≡ s) ⊎ (t ≡ closed s)) → AreKept s qs cs → AreKept t qs cs
+snapped-kept r s t qs cs done left kept = kept-repository s t qs cs (priors-closed r s t done left) kept
+
+-- and where other sums are kept of it
+pub summed-kept : {A E : Type 0} (r : Result A E) (s t : repositories.State) (qs : List OpenQuery) (cs ds : List Kept) → OnOk r (t ≡ closed s) → OnErr r ((t ≡ s) ⊎ (t ≡ closed s))
+    → ((e : Kept) → Contains ds e → Contains cs e ⊎ (e.generation < 2 ^ 64 - 1)) → AreKept s qs cs → AreKept t qs ds
+summed-kept r s t qs cs ds done left adds kept = kept-counts t qs cs ds adds (snapped-kept r s t qs cs done left kept)
 
 module _ (told : Option Files) (d : Keeps) (backed : IsDeskBacked told d) where
   pub closed-reads : ReadsAs told (closed d.repository) (collection_of (state_of told d))

@@ -2,19 +2,21 @@
 use Rattle.std.proofs.Common.{◌≡◌, ◌∙◌, ℕ, List, [], ◌∷◌, length, refl, sym, ap, arith, Option}
 use Rattle.std.specs.Prelude.{sum_by}
 use Rattle.std.proofs.lemmas.List.{length-map}
-use Rattle.std.proofs.lemmas.List.Sums.{sum_by-append, sum_by-cons}
+use Rattle.std.proofs.lemmas.List.Sums.{sum_by-append}
 use Rattle.ri_base.specs.Collection.{token_count}
 use Rattle.ri_base.specs.Documents.{Document}
 use Rattle.store_ends.specs.Files.{Files}
 use Rattle.seg_codec.specs.Segment.{entry_of}
 use Rattle.seg_codec.specs.declared.documents.Entry.{Entry}
-use Rattle.disk_index.specs.Parts.{outlines_of, reads, size}
+use Rattle.disk_index.specs.Parts.{outlines_of, reads}
 use Rattle.disk_index.specs.Snapshots as snapshots
 use Rattle.disk_index.specs.Snapshots.{Marked, documents_held, live_in, unmarked}
 use Rattle.disk_index.proofs.AlikeLemmas.{map-unmarked, outlines-reads, tokens-outlines}
-use Rattle.holdings.specs.MarkedParts.{filled, tokens_held, tokens_in}
-use Rattle.holdings.specs.Parts.{Parts, all_parts, closed_by, sealed}
+use Rattle.holdings.specs.MarkedParts.{tokens_held}
+use Rattle.holdings.specs.Parts.{Parts, all_parts, sealed}
 use Rattle.holdings.proofs.LiveLemmas.{docnos-live}
+use Rattle.holdings.proofs.SumLemmas.{documents-sealed, tokens-sealed}
+use Rattle.repository.proofs.CommitLemmas.{documents-whole, filling-by, tokens-whole}
 
 pub length-alike : (a b : Option Files) (parts : List Marked) → length (snapshots.live a parts) ≡ length (snapshots.live b parts)
 length-alike a b parts =
@@ -36,24 +38,11 @@ tokens-alike a b (m ∷ ms) =
 
 -- ---- what is held is held in the closed parts, once the one that was being filled is closed
 
+none-filling : (p : Parts) → (sealed p).filling ≡ []
+none-filling p = filling-by p p.filling refl
+
 pub documents-closed : (p : Parts) → documents_held (sealed p).closed ≡ documents_held (all_parts p)
-documents-closed p = go p.filling refl
-  where
-    go : (docs : List Document) → p.filling ≡ docs → documents_held (closed_by p docs).closed ≡ documents_held (all_parts p)
-    go [] none =
-        let both = sum_by-append (λ (m : Marked). size m.source) p.closed (filled p.filling p.marks ∷ []) in
-        let last = sum_by-cons (λ (m : Marked). size m.source) (filled p.filling p.marks) [] in
-        let empty : length p.filling ≡ 0 = ap length none in
-        omega (arith, both, last, empty)
-    go (d ∷ docs) some = refl
+documents-closed p = sym (documents-whole (sealed p) (none-filling p)) ∙ documents-sealed p
 
 pub tokens-closed : (p : Parts) → tokens_held (sealed p).closed ≡ tokens_held (all_parts p)
-tokens-closed p = go p.filling refl
-  where
-    go : (docs : List Document) → p.filling ≡ docs → tokens_held (closed_by p docs).closed ≡ tokens_held (all_parts p)
-    go [] none =
-        let both = sum_by-append (λ (m : Marked). tokens_in m.source) p.closed (filled p.filling p.marks ∷ []) in
-        let last = sum_by-cons (λ (m : Marked). tokens_in m.source) (filled p.filling p.marks) [] in
-        let empty : token_count p.filling ≡ 0 = ap token_count none in
-        omega (arith, both, last, empty)
-    go (d ∷ docs) some = refl
+tokens-closed p = sym (tokens-whole (sealed p) (none-filling p)) ∙ tokens-sealed p

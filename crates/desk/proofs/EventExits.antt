@@ -125,10 +125,6 @@ module _ {S : Type 0} (files : S → Option Files) (layers : S → Option (List 
     pub quiet-stops : Leaves (since old) (since new) (IsEither d.repository.held.limits kept (kept_behind kept (step (state_of (files old) d) e)))
     quiet-stops = none-written (since old) (since new) (IsEither d.repository.held.limits kept (kept_behind kept (step (state_of (files old) d) e))) quiet.no_more
 
--- nothing of a store changed
-pub quiet-same : {S : Type 0} (files : S → Option Files) (layers : S → Option (List Files)) (clock : S → ℕ) (since : S → ℕ → Files → Type 0) (longest : S → ℕ) (held : S → List ℕ) (s : S) → IsQuiet files layers clock since longest held s s
-quiet-same files layers clock since longest held s = record { same_files = refl; same_layers = refl; same_clock = refl; same_longest = refl; same_held = refl; no_more = λ t f left. left }
-
 -- ---- a fault of memory
 
 pub outside-memory : {A : Type 0} (r : Result A SegFault) → IfErr r (λ why. why ≡ fault.Memory) → IfErr r IsOutside

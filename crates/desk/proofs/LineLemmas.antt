@@ -1,5 +1,5 @@
 -- Lines without labels are result lines.
-use Rattle.std.proofs.Common.{◌≡◌, ◌+◌, ◌++◌, ℕ, List, [], ◌∷◌, Option, None, ap, refl}
+use Rattle.std.proofs.Common.{◌≡◌, ◌+◌, ◌++◌, ℕ, List, [], ◌∷◌, None, ap, refl}
 use Rattle.ranked_output.specs.Texts.{Line, line_text, lines_text, text_from}
 use Rattle.desk.specs.Shown.{shown_from, shown_text}
 

@@ -150,6 +150,10 @@ pub record IsNewSearch (snapshot : List Marked) (checked : Checked) (stats : Lis
   pub credit_is : s.at.credit ≡ 0
   pub usable_is : s.usable ≡ true
 
+pub new-search : (snapshot : List Marked) (checked : Checked) (stats : List LeafStats) (k : ℕ) (s : Search) → s.snapshot ≡ snapshot → s.checked ≡ checked → network_tree s.network ≡ network_of checked stats → s.most ≡ k → s.at.credit ≡ 0 → s.usable ≡ true
+    → IsNewSearch snapshot checked stats k s
+new-search snapshot checked stats k s a b n m e u = record { snapshot_is = a; checked_is = b; network_is = n; most_is = m; credit_is = e; usable_is = u }
+
 -- It is an open query of its snapshot.
 pub open-new : (count : ℕ) (name : List ℕ) (snapshot : List Marked) (checked : Checked) (stats : List LeafStats) (k : ℕ) (q : OpenQuery) → IsNewSearch snapshot checked stats k q.search → IsDistinct bytes_eq (docnos_of snapshot) → k ≤ MAX_RESULTS
     → All (AsksFor count) (whole_checked checked).leaves → IsOpen count q

@@ -76,9 +76,3 @@ step-stays s (event.Explain name rank) = explain-stays s name rank (named name s
 step-stays s (event.Scan text) = scan-stays s (scanned text)
 step-stays s (event.Close name) = close-stays s name (named name s.queries)
 step-stays s event.End = same s _ refl refl refl
-
-pub priors-stay : (s : State) (e : Event) → (step s e).0.priors ≡ s.priors
-priors-stay s e = (step-stays s e).priors
-
-pub limits-stay : (s : State) (e : Event) → (step s e).0.limits ≡ s.limits
-limits-stay s e = (step-stays s e).limits

@@ -137,16 +137,6 @@ want-runs told files asks c (Some bytes) before now a z why s h same stands want
 
 -- ---- by the manifest
 
-pub damage-not_want : (why : CommandFault) → IsDamage why → IsWant why → ⊥
-damage-not_want fault.Read d want = d
-damage-not_want fault.Write d want = d
-damage-not_want fault.Store d want = d
-damage-not_want (fault.Malformed f p place) d want = want
-damage-not_want (fault.Missing f) d want = want
-damage-not_want fault.NoRepository d want = d
-damage-not_want fault.Exists d want = d
-damage-not_want fault.Memory d want = d
-
 pub damage-over : (files : Files) (why : CommandFault) → IsDamage why → IsBrokenOver files why → files manifest_name ≡ None → ⊥
 damage-over files fault.Read d over none = absurd d
 damage-over files fault.Write d over none = absurd d

@@ -19,13 +19,14 @@ use Rattle.repository.specs.Names.{manifest_name}
 use Rattle.repository.specs.Stands.{Collection, IsPriorListed, Prior as Kept}
 use Rattle.desk.specs.Priors.{names_with, priors_with}
 use Rattle.desk.specs.Shown.{Shown}
+use Rattle.collection_commands.proofs.CauseLemmas.{of-more}
 use Rattle.indri_app.specs.Asked.{IfRefused, IsAnswerOver, IsAskBroken, IsAskFault, IsAsked, IsBrokenOver, IsFaultOver, IsOpenAskFault, ask_fault}
 use Rattle.indri_app.specs.Command.{IsQuery, query_refusal}
-use Rattle.indri_app.specs.Opened.{IsAbsentFault, IsFileFault, IsOpenFault}
+use Rattle.indri_app.specs.Opened.{IsAbsentFault, IsFileFault, IsOpenFault, file_causes, open_causes}
 use Rattle.indri_app.specs.Texts.{IsTextFault}
 use Rattle.indri_app.specs.declared.question.AskFault.{AskFault}
 use Rattle.indri_app.specs.declared.question.AskFault.TheVariants.{Broken, Refused}
-use Rattle.indri_app.proofs.OpeningLemmas.{store-of_files}
+use Rattle.indri_app.proofs.OpeningLemmas.{file-of, store-of_files}
 use Rattle.indri_app.specs.declared.texts.TextFault.{TextFault}
 use Rattle.indri_app.specs.declared.texts.TextFault.TheVariants as text
 
@@ -56,12 +57,6 @@ opened-over f fault.Memory only absent without = tt
 
 -- ---- the repository is open, and a file of it isn't read
 
-pub of_files-file : (why : SegFault) → IsFileFault (of_files why)
-of_files-file (files.Malformed file part place) = tt
-of_files-file (files.Missing file) = tt
-of_files-file files.Store = tt
-of_files-file files.Memory = tt
-
 file-over : (f : Files) (why : CommandFault) → IsFileFault why → IsTrue (is_some (f manifest_name)) → IsBrokenOver f why
 file-over f fault.Read only there = only
 file-over f fault.Write only there = only
@@ -73,17 +68,10 @@ file-over f fault.Exists only there = only
 file-over f fault.Memory only there = tt
 
 file-open : (why : CommandFault) → IsFileFault why → IsOpenFault why
-file-open fault.Read only = only
-file-open fault.Write only = only
-file-open fault.Store only = tt
-file-open (fault.Malformed file part place) only = tt
-file-open (fault.Missing file) only = tt
-file-open fault.NoRepository only = absurd only
-file-open fault.Exists only = only
-file-open fault.Memory only = tt
+file-open = of-more file_causes open_causes refl
 
 pub files-over : (f : Files) (why : SegFault) → IsTrue (is_some (f manifest_name)) → IsBrokenOver f (of_files why)
-files-over f why there = file-over f (of_files why) (of_files-file why) there
+files-over f why there = file-over f (of_files why) (file-of why) there
 
 pub broken-store : (answer : Result Plain AskFault) (told : CommandFault) (why : SegFault) → told ≡ of_files why → answer ≡ Err (Broken told) → answer ≡ Err (Broken fault.Store) → why ≡ files.Store
 broken-store answer told why is e store = let one : told ≡ fault.Store = cc in store-of_files why (sym is ∙ one)

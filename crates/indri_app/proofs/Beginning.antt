@@ -1,5 +1,5 @@
 -- The state in which a session begins.
-use Rattle.std.proofs.Common.{◌≡◌, ◌≤◌, ◌<◌, ◌+◌, ◌-◌, ℕ, List, [], length, map, drop, get_or, refl, sym, ap, subst, ◌∙◌, arith, Option, None, Some}
+use Rattle.std.proofs.Common.{◌≡◌, ◌≤◌, ◌<◌, ◌+◌, ◌-◌, ℕ, List, [], length, map, drop, get_or, sym, ap, subst, ◌∙◌, arith, Option, None, Some}
 use Rattle.std.specs.Option.{IfSome, option_map}
 use Rattle.std.proofs.lemmas.Bool.{leb-true}
 use Rattle.std.proofs.lemmas.List.{get_or-append_right, get_or-drop, get_or-map, get_or_append_left, length-map}
@@ -21,11 +21,13 @@ use Rattle.repository.specs.RealLimits.{AreReal, StandsFor}
 use Rattle.repository.specs.Stands.{Collection, Prior}
 use Rattle.repository.specs.States.{IsBacked, ReadsAs}
 use Rattle.repository.specs.States as repositories
+use Rattle.repository.proofs.GoingLemmas.{going-then}
 use Rattle.collection_commands.specs.Ahead.{IsAhead}
 use Rattle.desk.specs.Priors.{kept_prior, length_prior, priors_with, run_priors}
 use Rattle.desk.specs.Backed.{IsDeskBacked, IsMergeBacked, Keeps, merge_of, state_of}
 use Rattle.desk.specs.Plugs.{ArePlugs, IsPlugOf}
 use Rattle.desk.specs.Queries.{priors_in, query_of}
+use Rattle.desk.proofs.EventExits.{quiet-on}
 use Rattle.desk.proofs.Exits.{state-by}
 use Rattle.desk.proofs.Reading.{priors-read}
 use Rattle.indri_app.specs.Faults.{IsSessionFault}
@@ -120,14 +122,8 @@ pub files-fault : (e : SegFault) → IsSessionFault (of_files e)
 files-fault e = item-only (of_files e) (files-only e)
 
 module _ {S : Type 0} (files : S → Option Files) (layers : S → Option (List Files)) (clock : S → ℕ) (since : S → ℕ → Files → Type 0) (longest : S → ℕ) (held : S → List ℕ) where
-  pub quiet-on : (r s : S) → IsQuiet files layers clock since longest held r s → GoesOn layers clock longest held r s
-  quiet-on r s q = let same = q.same_clock in record { same_layers = q.same_layers; same_longest = q.same_longest; same_held = q.same_held; later = omega (arith, same) }
-
   pub behind-on : (r s t : S) → IsQuiet files layers clock since longest held r s → GoesOn layers clock longest held s t → GoesOn layers clock longest held r t
-  behind-on r s t q b =
-      let same = q.same_clock in
-      let more = b.later in
-      record { same_layers = b.same_layers ∙ q.same_layers; same_longest = b.same_longest ∙ q.same_longest; same_held = b.same_held ∙ q.same_held; later = omega (arith, same, more) }
+  behind-on r s t q b = going-then layers clock longest held r s t (quiet-on files layers clock since longest held r s q) b
 
 pub rose-earlier : (a b z : ℕ) → a ≤ b → Rose b z → Rose a z
 rose-earlier a b z h r = omega (arith, h, r)

@@ -3,10 +3,10 @@ use Rattle.std.proofs.Common.{◌≡◌, ◌≤◌, inl, inr, ℕ, List, [], Opt
 use Rattle.std.specs.Prelude.{is_some}
 use Rattle.std.specs.Option.{IfSome}
 use Rattle.ri_base.specs.declared.limits.TheConstants.{MAX_HELD_TOKENS, MAX_PART_DOCS}
-use Rattle.store_ends.specs.Files.{Files, Leaves}
+use Rattle.store_ends.specs.Files.{Files}
 use Rattle.store_ends.proofs.Files.{Leaves-same}
 use Rattle.command_words.specs.Table.{Asks, add, create, delete, explain, gen, merge, prior, query, scan, session}
-use Rattle.command_pieces.specs.CommandFaults.{IsBrokenBy, IsCreateFault, IsDamage, IsExistsFault}
+use Rattle.command_pieces.specs.CommandFaults.{IsBrokenBy, IsExistsFault}
 use Rattle.command_pieces.specs.Pieces.{BrokenOff, StandsAlong, StoppedBetween}
 use Rattle.command_pieces.specs.declared.command_fault.CommandFault.{CommandFault}
 use Rattle.command_pieces.specs.declared.command_fault.CommandFault.TheVariants as fault
@@ -41,16 +41,6 @@ stands-there c told stands =
     (has.files, has.is_told, rw file refl)
 
 -- ---- there is a manifest
-
-pub create-not_damage : (why : CommandFault) → IsCreateFault why → IsDamage why → ⊥
-create-not_damage fault.Read can d = can
-create-not_damage fault.Write can d = d
-create-not_damage fault.Store can d = d
-create-not_damage (fault.Malformed f p place) can d = can
-create-not_damage (fault.Missing f) can d = can
-create-not_damage fault.NoRepository can d = can
-create-not_damage fault.Exists can d = d
-create-not_damage fault.Memory can d = d
 
 exists-runs-one : (asks : Asks) → MakesRepository asks → (why : CommandFault) (s : Status) (c : Collection) (bytes : List ℕ) (told files : Option Files) (start mid now : Option (List ℕ)) (a b z : ℕ) → IsExistsFault why → IsClosed why s mid now b z → mid ≡ start → a ≤ b → files ≡ told → StandsFor c told
     → RunsTo s told asks c bytes start now files a z

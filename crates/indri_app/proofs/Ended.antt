@@ -1,5 +1,5 @@
 -- How a run ends, by what its command answers.
-use Rattle.std.proofs.Common.{◌≡◌, ◌≤◌, ◌⊎◌, inl, inr, ℕ, Bool, List, Option, None, Some, Result, Ok, Err, true, false, refl, sym, ap, subst, ◌∙◌, arith, take}
+use Rattle.std.proofs.Common.{◌≡◌, ◌≤◌, ◌⊎◌, inl, inr, ℕ, Bool, List, Option, None, Some, Result, Ok, Err, true, false, refl, sym, ap, subst, ◌∙◌, arith, take, []}
 use Rattle.std.specs.Prelude.{IfErr, OnOk, IsTrue, is_some}
 use Rattle.std.proofs.lemmas.Bool.{both_ways}
 use Rattle.ri_ends.specs.Causes.{Rose}
@@ -8,9 +8,10 @@ use Rattle.command_pieces.specs.Lines.{WritesLine}
 use Rattle.command_pieces.specs.Pieces.{Writes}
 use Rattle.command_pieces.specs.declared.command_fault.CommandFault.{CommandFault}
 use Rattle.command_pieces.specs.declared.command_fault.CommandFault.TheVariants as fault
-use Rattle.indri_app.specs.Changes.{IsFoundFirst, IsOverFault}
+use Rattle.collection_commands.proofs.CauseLemmas.{as-causes, damage_causes, of-both, of-more}
+use Rattle.indri_app.specs.Changes.{IsFoundFirst, IsOverFault, first_causes}
 use Rattle.indri_app.specs.LastLines.{EndsWith, IsClosed, absent_line, exists_line, last_line, malformed_line, missing_line, status_of}
-use Rattle.indri_app.specs.Opened.{IsAbsentFault}
+use Rattle.indri_app.specs.Opened.{IsAbsentFault, IsWant, absent_causes, want_causes}
 use Rattle.indri_app.specs.Runs.{HasDone, IsAbsentStatus, IsAllDone, IsEnded, IsUntouched, TellsDamage}
 use Rattle.indri_app.specs.declared.status.Status.{Status}
 use Rattle.indri_app.specs.declared.status.Status.TheVariants as status
@@ -196,14 +197,7 @@ damage-first start mid now a b z e h (why, damage, (line, is, l)) = (why, damage
 
 -- the fault is one that is found first
 first-damage : (why : CommandFault) → IsDamage why → IsFoundFirst why
-first-damage fault.Read d = absurd d
-first-damage fault.Write d = absurd d
-first-damage fault.Store d = absurd d
-first-damage (fault.Malformed f p place) d = tt
-first-damage (fault.Missing f) d = tt
-first-damage fault.NoRepository d = absurd d
-first-damage fault.Exists d = absurd d
-first-damage fault.Memory d = absurd d
+first-damage why d = of-more damage_causes first_causes refl why ((as-causes why).damage d)
 
 pub first-ended : (Q : Type 0) (answer : Result Bool CommandFault) (s : Status) (mid now : Option (List ℕ)) (b z : ℕ) → IfErr answer (λ why. IsFoundFirst why → Q) → IsEnded answer s mid now b z → s ≡ status.Malformed → Q
 first-ended Q (Ok false) s mid now b z q (w, same) e = absurd cc
@@ -218,14 +212,10 @@ damage-ended (Err why) s mid now b z ends e = damage-closed why s mid now b z en
 -- ---- the manifest
 
 damage-not_absent : (why : CommandFault) → IsDamage why → IsAbsentFault why → ⊥
-damage-not_absent fault.Read d absent = d
-damage-not_absent fault.Write d absent = d
-damage-not_absent fault.Store d absent = d
-damage-not_absent (fault.Malformed f p place) d absent = absent
-damage-not_absent (fault.Missing f) d absent = absent
-damage-not_absent fault.NoRepository d absent = d
-damage-not_absent fault.Exists d absent = d
-damage-not_absent fault.Memory d absent = d
+damage-not_absent why d absent = of-both damage_causes absent_causes [] refl why ((as-causes why).damage d) absent
+
+pub damage-not_want : (why : CommandFault) → IsDamage why → IsWant why → ⊥
+damage-not_want why d want = of-both damage_causes want_causes [] refl why ((as-causes why).damage d) want
 
 -- damage is told only where there is a manifest
 pub there-ended : (found : Option (List ℕ)) (answer : Result Bool CommandFault) (s : Status) (mid now : Option (List ℕ)) (b z : ℕ) → (found ≡ None → OnOk answer ⊥ × IfErr answer IsAbsentFault) → IsEnded answer s mid now b z → s ≡ status.Malformed

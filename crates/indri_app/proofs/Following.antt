@@ -1,8 +1,7 @@
 -- Items that are done one behind the other.
-use Rattle.std.proofs.Common.{◌≡◌, ◌⊎◌, inl, inr, ℕ, Bool, true, false, ◌||◌, List, [], ◌∷◌, ◌++◌, refl, ap, sym, ◌∙◌, subst, Option, Some, None, append_assoc, append-nil}
+use Rattle.std.proofs.Common.{◌≡◌, ◌⊎◌, inl, inr, ℕ, Bool, true, false, ◌||◌, List, [], ◌∷◌, ◌++◌, map, refl, ap, sym, ◌∙◌, subst, Option, Some, None, append_assoc, append-nil}
 use Rattle.std.specs.Option.{option_map, IfSome}
 use Rattle.store_ends.specs.Files.{Files, Leaves}
-use Rattle.store_ends.proofs.Files.{Leaves-same}
 use Rattle.command_pieces.specs.CommandFaults.{IsBrokenBy}
 use Rattle.command_pieces.specs.Pieces.{Finished, Piece, StandsAlong, StoppedBetween, kept_behind, some_refused}
 use Rattle.command_pieces.specs.declared.command_fault.CommandFault.{CommandFault}
@@ -13,8 +12,11 @@ use Rattle.repository.specs.Stands.{Collection}
 use Rattle.script_reader.specs.Items.{items}
 use Rattle.script_reader.specs.State.{answer_items, is_end, items_left}
 use Rattle.script_reader.specs.declared.item.Item.{Item}
+use Rattle.script_reader.specs.declared.item.Item.TheVariants as item
 use Rattle.script_reader.specs.declared.reader.ItemReader.{ItemReader}
+use Rattle.session_events.specs.declared.event.Event.{Event}
 use Rattle.desk.specs.State.{State, collection_of}
+use Rattle.collection_commands.proofs.Followed.{all-taken, more-taken, some-taken}
 use Rattle.indri_app.specs.Items.{item_piece, kept_by, pieces_of, state_behind, state_behind_all}
 use Rattle.indri_app.specs.Orders.{AreTrue, IsTrueItem}
 use Rattle.indri_app.proofs.StepLemmas.{end-kept}
@@ -29,30 +31,15 @@ followed-start r (Some bytes) all = ap Some (all bytes)
 
 pub followed-more : (done : List Item) (i : Item) (r r' : ItemReader) (start old new : Option (List ℕ)) → AreFollowed done r start old
     → option_map (items_left r) old ≡ option_map (answer_items (Some i) r') new → AreFollowed (done ++ i ∷ []) r' start new
-followed-more done i r r' start None None f e = f
-followed-more done i r r' start None (Some ys) f e = cc
-followed-more done i r r' start (Some xs) None f e = cc
-followed-more done i r r' start (Some xs) (Some ys) f e =
-    let one : items_left r xs ≡ i ∷ items_left r' ys = cc in
-    ap Some (append_assoc done (i ∷ []) (items_left r' ys) ∙ ap (λ rest. done ++ rest) (sym one)) ∙ f
+followed-more done i r r' start old new f e = more-taken items done (items_left r) i (items_left r') old new start f e
 
 -- What holds of the items that are done, however they go on, holds of those of the script.
 pub some-done : (Q : List Item → Type 0) (done : List Item) (r : ItemReader) (start now : Option (List ℕ)) → AreFollowed done r start now → ((rest : List Item) → Q (done ++ rest)) → IfSome start (λ bytes. Q (items bytes))
-some-done Q done r None now f q = tt
-some-done Q done r (Some bytes) None f q = cc
-some-done Q done r (Some bytes) (Some ys) f q =
-    let all : done ++ items_left r ys ≡ items bytes = cc in
-    subst Q all (q (items_left r ys))
+some-done Q done r start now f q = some-taken items done (items_left r) Q now start f q
 
 -- The script ends.
 pub all-done : (Q : List Item → Type 0) (done : List Item) (r : ItemReader) (start old new : Option (List ℕ)) → AreFollowed done r start old → option_map (items_left r) old ≡ option_map (λ rest. []) new → Q done → IfSome start (λ bytes. Q (items bytes))
-all-done Q done r None old new f e q = tt
-all-done Q done r (Some bytes) None new f e q = cc
-all-done Q done r (Some bytes) (Some ys) None f e q = cc
-all-done Q done r (Some bytes) (Some ys) (Some zs) f e q =
-    let none : items_left r ys ≡ [] = cc in
-    let all : done ++ items_left r ys ≡ items bytes = cc in
-    subst Q (sym (append-nil done) ∙ ap (λ rest. done ++ rest) (sym none) ∙ all) q
+all-done Q done r start old new f e q = all-taken items done (items_left r) Q old new start f e q
 
 -- ---- pieces and states
 
@@ -155,10 +142,30 @@ stopped-here kept s done rest before now f a = subst (λ ps. StoppedBetween Stan
 pub Along-here : (past since : ℕ → Files → Type 0) (kept : Collection) (s : State) (done rest : List Item) → Leaves past since (StandsAlong StandsFor kept (pieces_of s done)) → Leaves past since (StandsAlong StandsFor kept (pieces_of s (done ++ rest)))
 Along-here past since kept s done rest l = subst (λ ps. Leaves past since (StandsAlong StandsFor kept ps)) (sym (pieces-append s done rest)) (Along-more past since StandsFor kept (pieces_of s done) _ l)
 
+-- the same of a script of which these items are done
+module _ (kept : Collection) (s : State) (done : List Item) (r : ItemReader) (first left : Option (List ℕ)) (followed : AreFollowed done r first left) where
+  pub some-stopped : (before now : Option (List ℕ)) (f : Option Files) → Finished StandsFor kept (pieces_of s done) before now f → IfSome first (λ bytes. StoppedBetween StandsFor kept (pieces_of s (items bytes)) before now f)
+  some-stopped before now f a = some-done (λ (is : List Item). StoppedBetween StandsFor kept (pieces_of s is) before now f) done r first left followed (λ rest. stopped-here kept s done rest before now f a)
+
+  pub some-along : (past since : ℕ → Files → Type 0) → Leaves past since (StandsAlong StandsFor kept (pieces_of s done)) → IfSome first (λ bytes. Leaves past since (StandsAlong StandsFor kept (pieces_of s (items bytes))))
+  some-along past since l = some-done (λ (is : List Item). Leaves past since (StandsAlong StandsFor kept (pieces_of s is))) done r first left followed (λ rest. Along-here past since kept s done rest l)
+
 pub along-here : (kept : Collection) (s : State) (done rest : List Item) (f : Option Files) → StandsAlong StandsFor kept (pieces_of s done) f → StandsAlong StandsFor kept (pieces_of s (done ++ rest)) f
 along-here kept s done rest f a =
     let more = pieces_of (state_behind_all s done) rest in
     record { done = a.done; left = a.left ++ more; are = pieces-append s done rest ∙ ap (λ ps. ps ++ more) a.are ∙ append_assoc a.done a.left more; files_stand = a.files_stand }
+
+-- the same where the items are told
+module _ (kept : Collection) (s : State) (done rest all : List Item) (followed : done ++ rest ≡ all) where
+  pub stands-of : (f : Option Files) → StandsAlong StandsFor kept (pieces_of s done) f → StandsAlong StandsFor kept (pieces_of s all) f
+  stands-of f a = subst (λ (is : List Item). StandsAlong StandsFor kept (pieces_of s is) f) followed (along-here kept s done rest f a)
+
+  pub leaves-of : (past since : ℕ → Files → Type 0) → Leaves past since (StandsAlong StandsFor kept (pieces_of s done)) → Leaves past since (StandsAlong StandsFor kept (pieces_of s all))
+  leaves-of past since l = subst (λ (is : List Item). Leaves past since (StandsAlong StandsFor kept (pieces_of s is))) followed (Along-here past since kept s done rest l)
+
+-- one event more is done
+pub events-next : (done all : List Item) (e : Event) (old new : List Event) → old ≡ e ∷ new → done ++ map item.Event old ≡ all → (done ++ item.Event e ∷ []) ++ map item.Event new ≡ all
+events-next done all e old new gives followed = append_assoc done (item.Event e ∷ []) (map item.Event new) ∙ ap (λ es. done ++ map item.Event es) (sym gives) ∙ followed
 
 pub along-none : (kept : Collection) (ps : List (Piece Collection)) (f : Option Files) → StandsFor kept f → StandsAlong StandsFor kept ps f
 along-none kept ps f stands = record { done = []; left = ps; are = refl; files_stand = subst (λ k. StandsFor k f) (sym (kept-none kept)) stands }

@@ -23,12 +23,12 @@ lines-shown (told.flushed live) r shows = ap reply_lines shows
 lines-shown (told.merging size) r shows = ap reply_lines shows
 lines-shown (told.turned credit size) r shows = ap reply_lines shows
 lines-shown (told.merged live) r shows = ap reply_lines shows
-lines-shown (told.opened name live) r shows = ap reply_lines shows
-lines-shown (told.stepped name credit live) r shows = ap reply_lines shows
-lines-shown (told.results name scale entries) r shows = ap reply_lines shows.1.0 ∙ hits-text scale shows.0 entries shows.1.1
+lines-shown (told.opened query live) r shows = ap reply_lines shows
+lines-shown (told.stepped query credit live) r shows = ap reply_lines shows
+lines-shown (told.results query scale entries) r shows = ap reply_lines shows.1.0 ∙ hits-text scale shows.0 entries shows.1.1
 lines-shown (told.explained line) r shows = ap reply_lines shows.1.0
 lines-shown (told.extents found) r shows = ap reply_lines shows
-lines-shown (told.closed name) r shows = ap reply_lines shows
+lines-shown (told.closed query) r shows = ap reply_lines shows
 lines-shown (told.ended live) r shows = ap reply_lines shows
 lines-shown (told.refused why) r shows = ap reply_lines shows
 

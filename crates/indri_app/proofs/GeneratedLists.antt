@@ -1,12 +1,11 @@
 -- Lists of generated documents, by their numbers.
-use Rattle.std.proofs.Common.{◌≡◌, ◌<◌, ◌≤◌, ◌+◌, ◌^◌, ◌∙◌, ◌++◌, ℕ, zero, suc, ◌||◌, true, false, not, cond, List, [], ◌∷◌, drop, filter, map, refl, ap, arith}
+use Rattle.std.proofs.Common.{◌≡◌, ◌<◌, ◌≤◌, ◌+◌, ◌^◌, ◌∙◌, ◌++◌, ℕ, zero, suc, true, false, not, List, [], ◌∷◌, drop, map, refl, ap, arith}
 use Rattle.std.specs.List.{All, range_with_len}
 use Rattle.std.specs.Str.{bytes_eq}
 use Rattle.std.proofs.lemmas.Bool.{cond-false, cond-true, false_from_ne_true, not_from_false, not_from_true, or_from, or_left, or_right}
 use Rattle.std.proofs.lemmas.Fmt.{decimal_injective}
 use Rattle.std.proofs.lemmas.List.Elements.{All-cons, All-head, All-nil, All-tail, All-weaker}
 use Rattle.std.proofs.lemmas.Slice.Eq.{bytes_eq-Decides}
-use Rattle.ri_base.specs.Documents.{Document}
 use Rattle.holdings.specs.Parts.{without}
 use Rattle.generated_events.specs.Documents.{docno_of, generated}
 use Rattle.desk.specs.Step.{is_live}

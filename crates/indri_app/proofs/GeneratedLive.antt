@@ -1,7 +1,7 @@
 -- Behind all events the documents that are kept are live.
-use Rattle.std.proofs.Common.{◌≡◌, ◌<◌, ◌≤◌, ◌+◌, ◌*◌, ◌^◌, ◌∙◌, ◌++◌, ℕ, zero, suc, Bool, true, false, not, cond, List, [], ◌∷◌, Option, None, Some, filter, length, map, refl, sym, ap, subst, arith, append_assoc}
+use Rattle.std.proofs.Common.{◌≡◌, ◌<◌, ◌≤◌, ◌+◌, ◌*◌, ◌^◌, ◌∙◌, ◌++◌, ℕ, zero, suc, Bool, true, false, not, List, [], ◌∷◌, Option, None, Some, filter, length, map, refl, sym, ap, subst, arith, append_assoc}
 use Rattle.std.specs.Prelude.{◌%◌, Ok, Err, Result, flat_map, if◌then◌else◌, is_some, nat_le, nat_lt}
-use Rattle.std.specs.List.{All, range_with_len, repeat}
+use Rattle.std.specs.List.{All, range_with_len}
 use Rattle.std.proofs.lemmas.Bool.{cond-false, cond-true, le-ltb, not_from_false, not_from_true, or_from}
 use Rattle.std.proofs.lemmas.List.{append-nil, map-append}
 use Rattle.std.proofs.lemmas.List.Elements.{All-append, All-cons, All-head, All-map, All-nil, All-push, All-tail, All-weaker}
@@ -23,8 +23,7 @@ use Rattle.generated_events.specs.declared.generator.TheConstants.{MAX_GENERATED
 use Rattle.desk.specs.declared.reply.Refusal.{Refusal}
 use Rattle.desk.specs.Asked.{asked}
 use Rattle.desk.specs.State.{Merge, Query, State, named, with_live}
-use Rattle.desk.specs.Step.{add_step, delete_step, is_full, is_live, merge_step, open_step, query_step, step, turn_step}
-use Rattle.desk.specs.Told as told
+use Rattle.desk.specs.Step.{is_full, is_live, merge_step, open_step, query_step, step, turn_step}
 use Rattle.desk.specs.Told.{Told}
 use Rattle.desk.specs.declared.query.TheConstants.{MAX_QUERIES}
 use Rattle.smoothing.specs.declared.rule.RuleKind.{RuleKind}

@@ -19,19 +19,21 @@ use Rattle.holdings.specs.declared.limits.Limits.{Limits}
 use Rattle.repository.specs.RealLimits.{AreReal, StandsFor}
 use Rattle.repository.specs.Stands.{Collection, empty_collection}
 use Rattle.collection_commands.specs.Creation.{IsMade}
+use Rattle.collection_commands.proofs.CauseLemmas.{of-more, undamaged-exists}
 use Rattle.generated_events.specs.Documents.{kept_documents}
 use Rattle.generated_events.specs.Events.{last_event}
 use Rattle.generated_events.specs.declared.generator.TheConstants.{MAX_GENERATED}
 use Rattle.desk.specs.State.{State}
 use Rattle.desk.specs.Step.{step}
-use Rattle.indri_app.specs.Faults.{IsGenFault, IsSilentFault}
-use Rattle.indri_app.specs.Generated.{AreGenPieces, MakingPiece, created, gen_items, gen_pieces, made_state, new_state, silent, silent_pieces}
+use Rattle.indri_app.specs.Faults.{IsGenFault, IsSilentFault, gen_causes, silent_causes}
+use Rattle.indri_app.specs.Generated.{MakingPiece, created, gen_items, gen_pieces, made_state, new_state, silent, silent_pieces}
 use Rattle.indri_app.specs.GeneratedTexts.{gen_text, summary_text, told_lines}
 use Rattle.indri_app.specs.Generation.{IsGenBroken, IsGenerated, IsMadeWith, StandsSome, StopsSome}
 use Rattle.indri_app.specs.Items.{pieces_of, state_behind_all}
 use Rattle.indri_app.specs.Opened.{IsWant}
 use Rattle.indri_app.specs.Sessions.{begun}
 use Rattle.indri_app.proofs.Created.{are-real, real_limits}
+use Rattle.indri_app.proofs.Ended.{damage-not_want}
 use Rattle.indri_app.proofs.GeneratedLive.{made-live}
 use Rattle.indri_app.proofs.SilentPieces.{Leaves-into, along-made, along-more, finished-silent, silent-text, stopped-silent}
 
@@ -47,14 +49,7 @@ text-made n limits kind s text real few is made =
 -- ---- faults
 
 pub gen-of_silent : (why : CommandFault) → IsSilentFault why → IsGenFault why
-gen-of_silent command.Read h = h
-gen-of_silent command.Write h = absurd h
-gen-of_silent command.Store h = tt
-gen-of_silent (command.Malformed f p place) h = tt
-gen-of_silent (command.Missing f) h = tt
-gen-of_silent command.NoRepository h = h
-gen-of_silent command.Exists h = tt
-gen-of_silent command.Memory h = tt
+gen-of_silent = of-more silent_causes gen_causes refl
 
 pub gen-of_items : (e : Fault) → (e ≡ fault.Read → ⊥) → IsGenFault (of_items e)
 gen-of_items fault.Read unread = unread refl
@@ -84,30 +79,10 @@ write-of_items fault.Read e = absurd cc
 write-of_items fault.Write e = refl
 write-of_items fault.Memory e = absurd cc
 
-want-undamaged : (why : CommandFault) → IsWant why → IsDamage why → ⊥
-want-undamaged command.Read h d = d
-want-undamaged command.Write h d = d
-want-undamaged command.Store h d = d
-want-undamaged (command.Malformed f p place) h d = h
-want-undamaged (command.Missing f) h d = h
-want-undamaged command.NoRepository h d = d
-want-undamaged command.Exists h d = d
-want-undamaged command.Memory h d = d
-
-exists-undamaged : (why : CommandFault) → IsExistsFault why → IsDamage why → ⊥
-exists-undamaged command.Read h d = d
-exists-undamaged command.Write h d = d
-exists-undamaged command.Store h d = d
-exists-undamaged (command.Malformed f p place) h d = h
-exists-undamaged (command.Missing f) h d = h
-exists-undamaged command.NoRepository h d = d
-exists-undamaged command.Exists h d = d
-exists-undamaged command.Memory h d = d
-
 -- whether there is a manifest or none
 pub either-undamaged : (o : Option (List ℕ)) (why : CommandFault) → (o ≡ None → IsWant why) → (is_some o ≡ true → IsExistsFault why) → IsDamage why → ⊥
-either-undamaged None why want exists d = want-undamaged why (want refl) d
-either-undamaged (Some bytes) why want exists d = exists-undamaged why (exists refl) d
+either-undamaged None why want exists d = damage-not_want why d (want refl)
+either-undamaged (Some bytes) why want exists d = undamaged-exists why (exists refl) d
 
 -- ---- the files
 

@@ -14,9 +14,10 @@ use Rattle.repository.specs.Names.{manifest_name}
 use Rattle.repository.specs.Stands.{empty_collection, empty_manifest}
 use Rattle.collection_commands.specs.Creation.{IsMade}
 use Rattle.collection_commands.proofs.CreateLemmas.{made-either}
-use Rattle.indri_app.specs.Faults.{IsSilentFault}
+use Rattle.collection_commands.proofs.CauseLemmas.{as-causes, exists_causes, of-more}
+use Rattle.indri_app.specs.Faults.{IsSilentFault, silent_causes}
 use Rattle.indri_app.specs.Generated.{created}
-use Rattle.indri_app.specs.Opened.{IsFileFault}
+use Rattle.indri_app.specs.Opened.{IsFileFault, file_causes}
 use Rattle.indri_app.proofs.SilentPieces.{Leaves-into}
 
 -- ---- faults
@@ -27,12 +28,6 @@ exists-of (files.Missing f) h = absurd h
 exists-of files.Store h = tt
 exists-of files.Memory h = tt
 
-pub file-of : (why : SegFault) → IsFileFault (of_files why)
-file-of (files.Malformed f p place) = tt
-file-of (files.Missing f) = tt
-file-of files.Store = tt
-file-of files.Memory = tt
-
 pub not-exists : (why : SegFault) → of_files why ≡ command.Exists → ⊥
 not-exists (files.Malformed f p place) e = absurd cc
 not-exists (files.Missing f) e = absurd cc
@@ -40,24 +35,10 @@ not-exists files.Store e = absurd cc
 not-exists files.Memory e = absurd cc
 
 pub silent-of_exists : (why : CommandFault) → IsExistsFault why → IsSilentFault why
-silent-of_exists command.Read h = h
-silent-of_exists command.Write h = h
-silent-of_exists command.Store h = tt
-silent-of_exists (command.Malformed f p place) h = absurd h
-silent-of_exists (command.Missing f) h = absurd h
-silent-of_exists command.NoRepository h = h
-silent-of_exists command.Exists h = tt
-silent-of_exists command.Memory h = tt
+silent-of_exists why h = of-more exists_causes silent_causes refl why ((as-causes why).exists h)
 
 pub silent-of_file : (why : CommandFault) → IsFileFault why → IsSilentFault why
-silent-of_file command.Read h = h
-silent-of_file command.Write h = h
-silent-of_file command.Store h = tt
-silent-of_file (command.Malformed f p place) h = tt
-silent-of_file (command.Missing f) h = tt
-silent-of_file command.NoRepository h = h
-silent-of_file command.Exists h = absurd h
-silent-of_file command.Memory h = tt
+silent-of_file = of-more file_causes silent_causes refl
 
 pub file-err : {A : Type 0} (r : Result A CommandFault) → IfErr r IsFileFault → IsErrOf r command.Exists → ⊥
 file-err r only is = subst (λ x. IfErr x IsFileFault) is only

@@ -12,7 +12,8 @@ use Rattle.manifest.specs.declared.manifest.Manifest.{Manifest}
 use Rattle.repository.specs.Names.{manifest_name}
 use Rattle.repository.specs.Opening.{IsOpeningFault, of_all, of_entry, of_manifest, of_outside}
 use Rattle.repository.specs.Stands.{HasManifest}
-use Rattle.indri_app.specs.Opened.{IsAbsentFault, IsOpenFault, IsWant}
+use Rattle.collection_commands.proofs.CauseLemmas.{of-more}
+use Rattle.indri_app.specs.Opened.{IsAbsentFault, IsFileFault, IsOpenFault, IsWant, absent_causes, file_causes, open_causes, want_causes}
 
 pub want-of : (why : SegFault) → IsOutside why → IsWant (of_files why)
 want-of (files.Malformed f p place) h = absurd h
@@ -21,16 +22,16 @@ want-of files.Store h = tt
 want-of files.Memory h = tt
 
 absent-of : (why : SegFault) → IsOutside why → IsAbsentFault (of_files why)
-absent-of (files.Malformed f p place) h = absurd h
-absent-of (files.Missing f) h = absurd h
-absent-of files.Store h = tt
-absent-of files.Memory h = tt
+absent-of why h = of-more want_causes absent_causes refl (of_files why) (want-of why h)
+
+pub file-of : (why : SegFault) → IsFileFault (of_files why)
+file-of (files.Malformed f p place) = tt
+file-of (files.Missing f) = tt
+file-of files.Store = tt
+file-of files.Memory = tt
 
 pub open-of : (why : SegFault) → IsOpenFault (of_files why)
-open-of (files.Malformed f p place) = tt
-open-of (files.Missing f) = tt
-open-of files.Store = tt
-open-of files.Memory = tt
+open-of why = of-more file_causes open_causes refl (of_files why) (file-of why)
 
 pub store-of_files : (why : SegFault) → of_files why ≡ fault.Store → why ≡ files.Store
 store-of_files (files.Malformed f p place) e = absurd cc

@@ -1,5 +1,5 @@
 -- A run that is over before it has looked at a file.
-use Rattle.std.proofs.Common.{◌≡◌, ◌∙◌, inl, inr, ℕ, List, [], Option, None, Some, refl, subst}
+use Rattle.std.proofs.Common.{◌≡◌, inl, inr, ℕ, List, [], Option, None, Some, refl, subst}
 use Rattle.std.specs.Option.{IfSome}
 use Rattle.store_ends.specs.Files.{Files}
 use Rattle.command_words.specs.Table.{Asks, scan}

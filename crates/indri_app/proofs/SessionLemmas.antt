@@ -1,11 +1,10 @@
 -- A run of `session`.
-use Rattle.std.proofs.Common.{◌≡◌, ◌≤◌, inl, inr, ℕ, Bool, List, Option, None, Some, Result, Ok, Err, refl, subst}
+use Rattle.std.proofs.Common.{◌≡◌, ◌≤◌, inl, inr, ℕ, Bool, List, Option, None, Some, Result, Ok, Err, refl}
 use Rattle.std.specs.Prelude.{IfErr, OnOk}
 use Rattle.std.specs.List.{AllZip}
 use Rattle.std.specs.Option.{IfSome}
 use Rattle.store_ends.specs.Files.{Files}
 use Rattle.command_words.specs.Table.{session}
-use Rattle.command_pieces.specs.CommandFaults.{IsDamage}
 use Rattle.command_pieces.specs.declared.command_fault.CommandFault.{CommandFault}
 use Rattle.command_pieces.specs.declared.command_fault.CommandFault.TheVariants as fault
 use Rattle.holdings.specs.declared.limits.Limits.{Limits}
@@ -15,44 +14,14 @@ use Rattle.repository.specs.Stands.{Collection, IsPriorListed, Prior}
 use Rattle.repository.specs.States.{State}
 use Rattle.script_reader.specs.Items.{items}
 use Rattle.smoothing.specs.declared.rule.RuleKind.TheVariants.{Dirichlet}
-use Rattle.indri_app.specs.Faults.{IsSessionFault}
 use Rattle.indri_app.specs.Orders.{AreTrue}
 use Rattle.indri_app.specs.Sessions.{Grows, begun}
 use Rattle.indri_app.specs.Asked.{IsIntactWithPriors}
-use Rattle.indri_app.specs.Changes.{IsFoundFirst, IsOverFault}
+use Rattle.indri_app.specs.Changes.{IsOverFault}
 use Rattle.indri_app.specs.Command.{ShowsInOrder}
 use Rattle.indri_app.specs.Runs.{IsAllDone, IsEnded, IsUntouched, TellsDamage}
 use Rattle.indri_app.specs.declared.status.Status.{Status}
 use Rattle.indri_app.proofs.Ended.{absent-ended, all-not_closed, damage-first, exists-not_ended, refused-not_ended, usage-not_ended}
-
-session-over_one : (why : CommandFault) → IsSessionFault why → IsOverFault why
-session-over_one fault.Read is = tt
-session-over_one fault.Write is = tt
-session-over_one fault.Store is = tt
-session-over_one (fault.Malformed f p place) is = tt
-session-over_one (fault.Missing f) is = tt
-session-over_one fault.NoRepository is = absurd is
-session-over_one fault.Exists is = absurd is
-session-over_one fault.Memory is = tt
-
-pub session-over : (answer : Result Bool CommandFault) → IfErr answer IsSessionFault → IfErr answer IsOverFault
-session-over (Ok refused) is = tt
-session-over (Err why) is = session-over_one why is
-
-pub session-not_absent : (answer : Result Bool CommandFault) → IfErr answer IsSessionFault → answer ≡ Err fault.NoRepository → ⊥
-session-not_absent answer is e = subst (λ (r : Result Bool CommandFault). IfErr r IsSessionFault) e is
-
--- what is found first by an open repository is damage
-pub undamaged-late : (answer : Result Bool CommandFault) → IfErr answer IsSessionFault → IfErr answer (λ why. IsDamage why → ⊥) → IfErr answer (λ why. IsFoundFirst why → ⊥)
-undamaged-late (Ok refused) is never = tt
-undamaged-late (Err fault.Read) is never = λ first. first
-undamaged-late (Err fault.Write) is never = λ first. first
-undamaged-late (Err fault.Store) is never = λ first. first
-undamaged-late (Err (fault.Malformed f p place)) is never = never
-undamaged-late (Err (fault.Missing f)) is never = never
-undamaged-late (Err fault.NoRepository) is never = absurd is
-undamaged-late (Err fault.Exists) is never = absurd is
-undamaged-late (Err fault.Memory) is never = λ first. first
 
 -- its status says that all was done
 pub all-ended : (P : Type 0) (answer : Result Bool CommandFault) (s : Status) (mid now : Option (List ℕ)) (b z : ℕ) → OnOk answer P → IsEnded answer s mid now b z → IsAllDone s → P

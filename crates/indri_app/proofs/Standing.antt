@@ -8,7 +8,7 @@ use Rattle.ri_base.specs.declared.seg_fault.SegFault.TheVariants as files
 use Rattle.store_ends.specs.Files.{Files, Leaves}
 use Rattle.store_ends.proofs.Files.{Leaves-same, Leaves-then}
 use Rattle.command_pieces.specs.CommandFaults.{IsBrokenBy, IsDamage, of_files, of_items}
-use Rattle.command_pieces.specs.Pieces.{Finished, Piece, StandsAlong, StoppedBetween, Writes, WritesFront, kept_behind, text_of}
+use Rattle.command_pieces.specs.Pieces.{Finished, Piece, StandsAlong, StoppedBetween, WritesFront, kept_behind, text_of}
 use Rattle.command_pieces.specs.Written.{AllWritten, Plain}
 use Rattle.command_pieces.specs.declared.command_fault.CommandFault.{CommandFault}
 use Rattle.command_pieces.specs.declared.command_fault.CommandFault.TheVariants as command
@@ -20,9 +20,13 @@ use Rattle.repository.specs.RealLimits.{StandsFor}
 use Rattle.repository.specs.Stands.{Collection}
 use Rattle.script_reader.specs.declared.item.Item.{Item}
 use Rattle.desk.specs.State.{State}
-use Rattle.indri_app.specs.Faults.{IsItemFault, IsSessionFault}
+use Rattle.collection_commands.proofs.CauseLemmas.{of-more}
+use Rattle.collection_commands.specs.Merging.{merge_causes}
+use Rattle.indri_app.specs.Faults.{IsItemFault, IsSessionFault, session_causes}
 use Rattle.indri_app.specs.Items.{item_piece, item_reply, kept_by}
+use Rattle.indri_app.specs.Opened.{file_causes}
 use Rattle.indri_app.specs.Sessions.{Grows}
+use Rattle.indri_app.proofs.OpeningLemmas.{file-of}
 
 behind-one : (kept : Collection) (p : Piece Collection) → unwrap_or p.flushes kept ≡ kept_behind kept (p ∷ [])
 unfolding kept_behind
@@ -90,10 +94,7 @@ grows-unwritten fault.Memory p before now read write memory = grows-none before 
 -- ---- which faults there are
 
 pub files-only : (e : SegFault) → IsItemFault (of_files e)
-files-only (files.Malformed file part place) = tt
-files-only (files.Missing file) = tt
-files-only files.Store = tt
-files-only files.Memory = tt
+files-only e = of-more file_causes merge_causes refl (of_files e) (file-of e)
 
 pub items-only : (e : Fault) → (e ≡ fault.Read → ⊥) → IsItemFault (of_items e)
 items-only fault.Read read = absurd (read refl)
@@ -101,14 +102,7 @@ items-only fault.Write read = tt
 items-only fault.Memory read = tt
 
 pub item-only : (e : CommandFault) → IsItemFault e → IsSessionFault e
-item-only command.Read only = tt
-item-only command.Write only = tt
-item-only command.Store only = tt
-item-only (command.Malformed file part place) only = tt
-item-only (command.Missing file) only = tt
-item-only command.NoRepository only = absurd only
-item-only command.Exists only = absurd only
-item-only command.Memory only = tt
+item-only = of-more merge_causes session_causes refl
 
 -- ---- no file is to blame
 

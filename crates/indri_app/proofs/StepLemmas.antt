@@ -1,19 +1,15 @@
 -- What a step leaves as it was, and what it is as an item.
-use Rattle.std.proofs.Common.{◌≡◌, ◌⊎◌, inl, inr, ℕ, Bool, true, false, List, Option, None, Some, Result, Ok, Err, refl, sym, ap, subst, ◌∙◌, true≢false}
-use Rattle.std.specs.Prelude.{nat_le, nat_lt, is_some, length, slice_get, unwrap_or, ◌+◌, ◌-◌, if◌then◌else◌}
+use Rattle.std.proofs.Common.{◌≡◌, ◌⊎◌, inl, inr, ℕ, Bool, true, false, List, Option, None, Some, refl, sym, ap, subst, ◌∙◌, true≢false}
+use Rattle.std.specs.Prelude.{unwrap_or, if◌then◌else◌}
 use Rattle.store_ends.specs.Files.{Files, Leaves}
 use Rattle.store_ends.proofs.Files.{Leaves-same, Leaves-then}
-use Rattle.ri_base.specs.Expression.{ExprTree}
-use Rattle.query_check.specs.Check.{CheckedTree}
 use Rattle.belief_nodes.specs.Priors.{Prior}
-use Rattle.holdings.specs.declared.limits.Limits.{Limits}
 use Rattle.refusals.specs.Lines.{refusal_piece}
 use Rattle.refusals.specs.declared.refusal.Refusal.TheVariants.{Document, Input}
 use Rattle.repository.specs.RealLimits.{AreReal, StandsFor}
 use Rattle.repository.specs.Stands.{Collection, Stands}
 use Rattle.repository.specs.Writes.{IsEither}
-use Rattle.repository.proofs.RealLemmas.{either-for, stands-for}
-use Rattle.desk.specs.Priors.{names_with}
+use Rattle.repository.proofs.RealLemmas.{stands-for}
 use Rattle.script_reader.specs.State.{is_end}
 use Rattle.script_reader.specs.declared.item.Item.{Item}
 use Rattle.script_reader.specs.declared.item.Item.TheVariants as item
@@ -22,94 +18,31 @@ use Rattle.tokens.specs.declared.document.TokenRefusal.{TokenRefusal}
 use Rattle.trec_reader.specs.declared.refusal.TrecRefusal.{TrecRefusal}
 use Rattle.session_events.specs.declared.event.Event.{Event}
 use Rattle.session_events.specs.declared.event.Event.TheVariants as event
-use Rattle.desk.specs.declared.reply.Refusal.{Refusal}
 use Rattle.desk.specs.declared.reply.Reply.{Reply}
-use Rattle.desk.specs.Answers.{Entry}
-use Rattle.desk.specs.Asked.{asked, scanned}
 use Rattle.desk.specs.Backed.{IsDeskBacked, Keeps, state_of}
 use Rattle.desk.specs.Orders.{IsTrueOf, IsTrueReply}
 use Rattle.desk.specs.Plugs.{ArePlugs}
 use Rattle.desk.specs.Points as points
 use Rattle.desk.specs.Queries.{priors_in}
-use Rattle.desk.specs.State.{Merge, Query, State, collection_of, named}
-use Rattle.desk.specs.Step.{answer_of, close_step, explain_step, is_full, is_live, merge_step, open_step, query_step, ranked, scan_step, show_step, step, turn_step}
+use Rattle.desk.specs.State.{Query, State, collection_of, named}
+use Rattle.desk.specs.Step.{step}
 use Rattle.desk.specs.Told as told
 use Rattle.desk.specs.Told.{Shows, Told, is_flush_point}
-use Rattle.desk.specs.declared.query.TheConstants.{MAX_QUERIES}
-use Rattle.indri_app.specs.Items.{item_flushes, item_reply, kept_by, state_behind, unread_reply}
+use Rattle.desk.proofs.Staying.{step-stays}
+use Rattle.indri_app.specs.Items.{IsNoEvent, item_flushes, item_reply, kept_by, state_behind, unread_reply}
 use Rattle.indri_app.specs.Orders.{IsTrueItem, IsTrueTold}
 use Rattle.indri_app.specs.Sessions.{IsUnderWay}
 use Rattle.indri_app.specs.ToldTexts.{told_reply}
 use Rattle.indri_app.proofs.TextLemmas.{hits-text}
 
--- ---- the limits and the priors stay
-
-abbrev Stay : State → State × Told → Type 0
-Stay s r = (r.0.limits ≡ s.limits) × (r.0.priors ≡ s.priors)
-
-if-stay : (s : State) (b : Bool) (x y : State × Told) → Stay s x → Stay s y → Stay s (if b then x else y)
-if-stay s true x y a b = a
-if-stay s false x y a b = b
-
-merge-stay : (s : State) (o : Option Merge) → Stay s (merge_step s o)
-merge-stay s None = (refl, refl)
-merge-stay s (Some m) = (refl, refl)
-
-turn-stay : (s : State) (n : ℕ) (o : Option Merge) → Stay s (turn_step s n o)
-turn-stay s n None = (refl, refl)
-turn-stay s n (Some m) = if-stay s (nat_lt (m.credit + n) m.size) _ _ (refl, refl) (refl, refl)
-
-open-stay : (s : State) (name : List ℕ) (k : ℕ) (o : Result CheckedTree Refusal) → Stay s (open_step s name k o)
-open-stay s name k (Err why) = (refl, refl)
-open-stay s name k (Ok q) = if-stay s (is_some (named name s.queries)) _ _ (refl, refl) (if-stay s (nat_le MAX_QUERIES (length s.queries)) _ _ (refl, refl) (refl, refl))
-
-query-stay : (s : State) (name : List ℕ) (n : ℕ) (o : Option Query) → Stay s (query_step s name n o)
-query-stay s name n None = (refl, refl)
-query-stay s name n (Some q) = (refl, refl)
-
-show-stay : (s : State) (name : List ℕ) (o : Option Query) → Stay s (show_step s name o)
-show-stay s name None = (refl, refl)
-show-stay s name (Some q) = if-stay s (nat_lt q.credit (length q.live)) _ _ (refl, refl) (refl, refl)
-
-ranked-stay : (s : State) (name : List ℕ) (rank : ℕ) (q : Query) (o : Option Entry) → Stay s (ranked s name rank q o)
-ranked-stay s name rank q None = (refl, refl)
-ranked-stay s name rank q (Some e) = (refl, refl)
-
-explain-stay : (s : State) (name : List ℕ) (rank : ℕ) (o : Option Query) → Stay s (explain_step s name rank o)
-explain-stay s name rank None = (refl, refl)
-explain-stay s name rank (Some q) = if-stay s (nat_lt q.credit (length q.live)) _ _ (refl, refl) (ranked-stay s name rank q (slice_get (answer_of s q) (rank - 1)))
-
-close-stay : (s : State) (name : List ℕ) (o : Option Query) → Stay s (close_step s name o)
-close-stay s name None = (refl, refl)
-close-stay s name (Some q) = (refl, refl)
-
-scan-stay : (s : State) (o : Result ExprTree Refusal) → Stay s (scan_step s o)
-scan-stay s (Err why) = (refl, refl)
-scan-stay s (Ok x) = (refl, refl)
-
-step-stay : (s : State) (e : Event) → Stay s (step s e)
-unfolding step
-step-stay s (event.Document d) = if-stay s (is_live d.docno s.live) _ _ (refl, refl) (if-stay s (is_full s d) _ _ (refl, refl) (refl, refl))
-step-stay s (event.Delete docno) = if-stay s (is_live docno s.live) _ _ (refl, refl) (refl, refl)
-step-stay s event.Flush = (refl, refl)
-step-stay s event.Merge = merge-stay s s.merge
-step-stay s (event.Turn docs) = turn-stay s docs s.merge
-step-stay s (event.Open name k text) = open-stay s name k (asked (names_with s.priors) text)
-step-stay s (event.Step name docs) = query-stay s name docs (named name s.queries)
-step-stay s (event.Show name) = show-stay s name (named name s.queries)
-step-stay s (event.Explain name rank) = explain-stay s name rank (named name s.queries)
-step-stay s (event.Scan text) = scan-stay s (scanned text)
-step-stay s (event.Close name) = close-stay s name (named name s.queries)
-step-stay s event.End = (refl, refl)
-
 -- ---- a session goes on behind a step
 
 module _ (before after : Option Files) (old new : Keeps) (plugs : List Prior) (e : Event) (is : state_of after new ≡ (step (state_of before old) e).0) where
   limits-stay : new.repository.held.limits ≡ old.repository.held.limits
-  limits-stay = ap (λ (s : State). s.limits) is ∙ (step-stay (state_of before old) e).0
+  limits-stay = ap (λ (s : State). s.limits) is ∙ (step-stays (state_of before old) e).limits
 
   priors-stay : priors_in after new.repository.priors ≡ priors_in before old.repository.priors
-  priors-stay = ap (λ (s : State). s.priors) is ∙ (step-stay (state_of before old) e).1
+  priors-stay = ap (λ (s : State). s.priors) is ∙ (step-stays (state_of before old) e).priors
 
   pub goes-on : (kept now : Collection) → IsUnderWay before old plugs kept → IsDeskBacked after new → StandsFor now after → IsUnderWay after new plugs now
   goes-on kept now way backed stands = record {
@@ -145,16 +78,27 @@ module _ (before : Option Files) (old : Keeps) (plugs : List Prior) (kept : Coll
   pub stands-step : (f : Option Files) → Stands old.repository.held.limits f (points.kept_behind kept (step (state_of before old) e)) → StandsFor (kept_by kept (state_of before old) (item.Event e)) f
   stands-step f stands = subst (λ k. StandsFor k f) (kept-step kept (state_of before old) e) (stands-for old.repository.held.limits _ f way.real stands)
 
-  pub either-step : (f : Option Files) → IsEither old.repository.held.limits kept (points.kept_behind kept (step (state_of before old) e)) f → StandsFor kept f ⊎ StandsFor (kept_by kept (state_of before old) (item.Event e)) f
+  either-step : (f : Option Files) → IsEither old.repository.held.limits kept (points.kept_behind kept (step (state_of before old) e)) f → StandsFor kept f ⊎ StandsFor (kept_by kept (state_of before old) (item.Event e)) f
   either-step f either = elim either [
     | inl same ↦ inl (stands-for old.repository.held.limits kept f way.real same)
     | inr new ↦ inr (stands-step f new)
   ]
 
-  pub stops-step : (past since : ℕ → Files → Type 0) → Leaves past since (IsEither old.repository.held.limits kept (points.kept_behind kept (step (state_of before old) e)))
+  stops-step : (past since : ℕ → Files → Type 0) → Leaves past since (IsEither old.repository.held.limits kept (points.kept_behind kept (step (state_of before old) e)))
       → Leaves past since (λ f. StandsFor kept f ⊎ StandsFor (kept_by kept (state_of before old) (item.Event e)) f)
   stops-step past since leaves = Leaves-then past past since (λ f. StandsFor kept f ⊎ StandsFor (kept_by kept (state_of before old) (item.Event e)) f)
       (IsEither old.repository.held.limits kept (points.kept_behind kept (step (state_of before old) e))) (Leaves-same past _) leaves (λ f either. either-step f either)
+
+  -- what is said of any collection that the files stand for
+  pub now-step : (f : Option Files)
+      → ((k : Collection) → IsDeskBacked before old → Stands old.repository.held.limits before k → IsEither old.repository.held.limits k (points.kept_behind k (step (state_of before old) e)) f)
+      → StandsFor kept f ⊎ StandsFor (kept_by kept (state_of before old) (item.Event e)) f
+  now-step f now = either-step f (now kept way.backed stands-under)
+
+  pub left-step : (past since : ℕ → Files → Type 0)
+      → ((k : Collection) → IsDeskBacked before old → Stands old.repository.held.limits before k → Leaves past since (IsEither old.repository.held.limits k (points.kept_behind k (step (state_of before old) e))))
+      → Leaves past since (λ f. StandsFor kept f ⊎ StandsFor (kept_by kept (state_of before old) (item.Event e)) f)
+  left-step past since stops = stops-step past since (stops kept way.backed stands-under)
 
 -- ---- what is shown is in a true order
 
@@ -195,11 +139,11 @@ true-step s event.End r shows holds = tt
 
 -- ---- what is no event
 
-abbrev pub IsNoEvent : Item → Type 0
-IsNoEvent (item.Event e) = ⊥
-IsNoEvent (item.Unread kind place) = Unit {0}
-IsNoEvent (item.Trec why) = Unit {0}
-IsNoEvent (item.Token why) = Unit {0}
+pub no-event : (i : Item) → ((e : Event) → i ≡ item.Event e → ⊥) → IsNoEvent i
+no-event (item.Event e) not = not e refl
+no-event (item.Unread kind place) not = tt
+no-event (item.Trec why) not = tt
+no-event (item.Token why) not = tt
 
 pub none-state : (s : State) (i : Item) → IsNoEvent i → s ≡ state_behind s i
 unfolding state_behind

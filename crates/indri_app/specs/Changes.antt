@@ -1,7 +1,8 @@
 -- The commands that change a repository, and why one of them is broken off.
+use Rattle.std.specs.Prelude.{List, [], ◌∷◌}
 use Rattle.command_words.specs.Table.{Asks, add, delete, merge, prior}
 use Rattle.command_pieces.specs.declared.command_fault.CommandFault.{CommandFault}
-use Rattle.command_pieces.specs.declared.command_fault.CommandFault.TheVariants.{Exists, Malformed, Memory, Missing, NoRepository, Read, Store, Write}
+use Rattle.collection_commands.specs.FaultCauses.{Cause, IsOf, absent, damaged, memory, present, read, store, write}
 use Rattle.indri_app.specs.declared.changing.Change.{Change}
 use Rattle.indri_app.specs.declared.changing.Change.TheVariants.{Add, Delete, Merge, Prior}
 
@@ -13,34 +14,15 @@ told_change Merge = merge
 told_change (Prior name) = prior name
 
 -- an end is to blame, or memory, or the files at entry
+abbrev pub over_causes : List Cause
+over_causes = read ∷ write ∷ store ∷ damaged ∷ absent ∷ memory ∷ []
+
 abbrev pub IsOverFault : CommandFault → Type 0
-IsOverFault Read = Unit {0}
-IsOverFault Write = Unit {0}
-IsOverFault Store = Unit {0}
-IsOverFault (Malformed file part place) = Unit {0}
-IsOverFault (Missing file) = Unit {0}
-IsOverFault NoRepository = Unit {0}
-IsOverFault Exists = ⊥
-IsOverFault Memory = Unit {0}
+IsOverFault = IsOf over_causes
 
 -- it is found before anything is done
-abbrev pub IsFoundFirst : CommandFault → Type 0
-IsFoundFirst Read = ⊥
-IsFoundFirst Write = ⊥
-IsFoundFirst Store = ⊥
-IsFoundFirst (Malformed file part place) = Unit {0}
-IsFoundFirst (Missing file) = Unit {0}
-IsFoundFirst NoRepository = Unit {0}
-IsFoundFirst Exists = Unit {0}
-IsFoundFirst Memory = ⊥
+abbrev pub first_causes : List Cause
+first_causes = damaged ∷ absent ∷ present ∷ []
 
--- a repository is open, so there is a manifest
-abbrev pub IsWorkFault : CommandFault → Type 0
-IsWorkFault Read = Unit {0}
-IsWorkFault Write = Unit {0}
-IsWorkFault Store = Unit {0}
-IsWorkFault (Malformed file part place) = Unit {0}
-IsWorkFault (Missing file) = Unit {0}
-IsWorkFault NoRepository = ⊥
-IsWorkFault Exists = ⊥
-IsWorkFault Memory = Unit {0}
+abbrev pub IsFoundFirst : CommandFault → Type 0
+IsFoundFirst = IsOf first_causes

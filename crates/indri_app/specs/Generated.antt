@@ -1,7 +1,6 @@
 -- What `gen` does: a new repository is made, a generated collection is made in it and asked, and what is shown then is written.
 use Rattle.std.specs.Prelude.{◌≡◌, ℕ, false, List, [], ◌∷◌, ◌++◌, Option, Some, map, option_map}
-use Rattle.store_ends.specs.Files.{Files, Leaves}
-use Rattle.command_pieces.specs.Pieces.{Finished, Piece, StandsAlong}
+use Rattle.command_pieces.specs.Pieces.{Piece}
 use Rattle.command_pieces.specs.Written.{told_piece, with_flush, without_flush}
 use Rattle.command_words.specs.declared.words.TheConstants.{DEFAULT_MU}
 use Rattle.smoothing.specs.declared.rule.RuleKind.TheVariants.{Dirichlet}

@@ -19,6 +19,13 @@ unread_name BadEvent = codes "BadEvent"
 unread_name LineTooLong = codes "LineTooLong"
 unread_name ShortAdd = codes "ShortAdd"
 
+-- it asks for nothing of the desk
+abbrev pub IsNoEvent : Item → Type 0
+IsNoEvent (Event e) = ⊥
+IsNoEvent (Unread kind place) = Unit {0}
+IsNoEvent (Trec why) = Unit {0}
+IsNoEvent (Token why) = Unit {0}
+
 -- what is written of what is no event
 abbrev pub unread_reply : unread.Unread → ℕ → Plain
 unread_reply kind place = refused_piece (placed_line (unread_name kind) place)

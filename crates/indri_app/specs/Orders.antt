@@ -1,5 +1,5 @@
 -- What the order of the results claims that a session shows: nothing of keys, but of the beliefs behind them.
-use Rattle.std.specs.Prelude.{◌≡◌, ⊤, ℕ, List, [], ◌∷◌, Option, None, Some, map}
+use Rattle.std.specs.Prelude.{◌≡◌, ⊤, ℕ, List, [], ◌∷◌, Option, Some, map}
 use Rattle.ri_base.specs.declared.hit.Hit.{Hit}
 use Rattle.ranked_output.specs.Texts.{lines_of, lines_text}
 use Rattle.true_order.specs.TrueOrder.{IsTrueOrder}

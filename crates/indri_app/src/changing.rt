@@ -11,7 +11,8 @@ ghost use Rattle.repository.specs.Stands.{Collection};
 ghost use Rattle.collection_commands.specs.Ahead.{IsAhead};
 ghost use Rattle.collection_commands.specs.Merging.{IsMergeFault, merge_pieces};
 ghost use Rattle.indri_app.specs.Asked.{IsIntact};
-ghost use Rattle.indri_app.specs.Changes.{IsFoundFirst, IsOverFault, IsWorkFault, told_change};
+ghost use Rattle.indri_app.specs.Changes.{IsFoundFirst, IsOverFault, told_change};
+ghost use Rattle.indri_app.specs.Faults.{IsSessionFault};
 ghost use Rattle.indri_app.specs.Opened.{IsAbsentFault};
 ghost use Rattle.indri_app.specs.Runs.{IsBegun, IsDone, StopsAlong};
 
@@ -92,7 +93,7 @@ fn change_repository<S: Source, K: Sink, T: Store>(
     ensures honest { (c : Collection) → IsAhead (T.files store.old) repository c c → IfErr result (λ why. IsDamage why → ⊥) }
     ensures damage { IfErr result (λ why. IsDamage why
         → IsQuiet T.files T.layers T.clock T.since T.longest T.held store.old store.new × (source.new ≡ source.old) × (K.taken sink.new ≡ K.taken sink.old)) }
-    ensures only { IfErr result IsWorkFault }
+    ensures only { IfErr result IsSessionFault }
     ensures goes_on { GoesOn T.layers T.clock T.longest T.held store.old store.new }
     ensures layers { S.layers source.new ≡ S.layers source.old }
     ensures held { S.held source.new ≡ S.held source.old }

@@ -1,5 +1,5 @@
 // One item of a session.
-ghost use Rattle.std.specs.Prelude.{◌≡◌, ◌≤◌, ◌⊎◌, ◌∷◌, [], Err, Some, true, false, length, map, IfErr, IfOk, IsErrOf, OnOk};
+ghost use Rattle.std.specs.Prelude.{◌≡◌, ◌≤◌, ◌⊎◌, ◌∷◌, [], Err, Some, false, length, map, IfErr, IfOk, IsErrOf, OnOk};
 ghost use Rattle.ri_base.specs.Faults.{IsOutside};
 ghost use Rattle.ri_ends.specs.Causes.{Rose};
 ghost use Rattle.store_ends.specs.Files.{GoesOn, Leaves};
@@ -14,8 +14,9 @@ ghost use Rattle.desk.specs.Replied.{IsReply, reply_piece};
 ghost use Rattle.script_reader.specs.Held.{IsItem};
 ghost use Rattle.script_reader.specs.State.{is_end};
 ghost use Rattle.desk.specs.Backed.{IsUsable, state_of};
+ghost use Rattle.desk.specs.State.{State};
 ghost use Rattle.indri_app.specs.Faults.{IsItemFault};
-ghost use Rattle.indri_app.specs.Items.{item_piece, item_reply, kept_by, state_behind, unread_name, unread_reply};
+ghost use Rattle.indri_app.specs.Items.{IsNoEvent, item_piece, item_reply, kept_by, state_behind, unread_name, unread_reply};
 ghost use Rattle.indri_app.specs.Orders.{IsTrueItem};
 ghost use Rattle.indri_app.specs.Sessions.{Grows, IsUnderWay};
 
@@ -60,6 +61,20 @@ fn tell_refusal(alloc: Global, refusal: &Refusal) -> Result<Piece, SegFault>
     match reply_of(alloc, refusal) {
         Ok(piece) => Ok(piece),
         Err(_) => Err(SegFault::Memory),
+    }
+}
+
+/// Says what is said of an item that is no event.
+fn tell_other(alloc: Global, item: Item) -> Result<Piece, SegFault>
+    requires { IsNoEvent item }
+    ensures piece { IfOk result (λ piece. (s : State) → piece ≡ item_reply s item) }
+    ensures only { IfErr result (λ fault. fault ≡ SegFault.Memory) }
+{
+    match item {
+        Item::Unread { kind, place } => tell_unread(alloc, kind, place),
+        Item::Trec(refusal) => tell_refusal(alloc, &Refusal::Input(refusal)),
+        Item::Token(refusal) => tell_refusal(alloc, &Refusal::Document(refusal)),
+        Item::Event(_) => unreachable!(),
     }
 }
 
@@ -149,9 +164,7 @@ fn do_item<F: Fn(u32, u32, u64, u64) -> Fraction, T: Store>(
 {
     match item {
         Item::Event(event) => do_event(alloc, desk, event, store, plugs),
-        Item::Unread { kind, place } => tell_unread(alloc, kind, place),
-        Item::Trec(refusal) => tell_refusal(alloc, &Refusal::Input(refusal)),
-        Item::Token(refusal) => tell_refusal(alloc, &Refusal::Document(refusal)),
+        other => tell_other(alloc, other),
     }
 }
 

@@ -1,13 +1,8 @@
 use Rattle.std.proofs.Common.{◌≡◌, ap, Err}
-use Rattle.store_ends.specs.Files.{Leaves}
 use Rattle.trec_reader.specs.Read.{read}
-use Rattle.command_pieces.specs.CommandFaults.{IsBrokenBy}
-use Rattle.command_pieces.specs.Pieces.{Finished, StandsAlong}
 use Rattle.command_pieces.specs.declared.command_fault.CommandFault.TheVariants as command
 use Rattle.document_handlers.specs.Work.{adding, behind_all, input_pieces}
-use Rattle.repository.specs.RealLimits.{StandsFor}
-use Rattle.collection_commands.specs.Flushing.{flush_pieces}
-use Rattle.collection_commands.proofs.ChangeLemmas.{changed-broken, changed-finished, changed-refused, changed-stops, for-some, some-quiet, unchanged-broken}
+use Rattle.collection_commands.proofs.ChangeLemmas.{changed-refused, flushed-broken, flushed-finished, flushed-stops, unchanged-broken, unchanged-stops}
 use Rattle.collection_commands.proofs.FaultLemmas.{change_items, items_any, items_read, items_store, items_write}
 use Rattle.indri_app.specs.Command.{collection_in}
 use Rattle.indri_app.proofs.AddingLemmas.{added-ahead}
@@ -26,7 +21,7 @@ pub returns-in-Err-clause-stops : goal.returns-in-Err-clause-stops
 returns-in-Err-clause-stops g c = λ k ahead.
     let told = g.T.Store.files c.args.store.now in
     let limits = c.args.repository.held.limits in
-    changed-stops (λ bytes. input_pieces (adding told limits k) (read bytes)) (λ bytes. collection_in k (behind_all (adding told limits k) (read bytes).0)) k _ _ _ (some-quiet (λ bytes. collection_in k (behind_all (adding told limits k) (read bytes).0)) k _ _)
+    unchanged-stops (λ bytes. input_pieces (adding told limits k) (read bytes)) (λ bytes. collection_in k (behind_all (adding told limits k) (read bytes).0)) k _ _
 
 pub returns-in-Err-clause-only : goal.returns-in-Err-clause-only
 returns-in-Err-clause-only g c = items_any c.in-Err.fault _ c.of_items.ensures
@@ -54,9 +49,7 @@ returns-in-Ok-commit-clause-finished g c = λ k ahead.
     let limits = c.args.repository.held.limits in
     let does = c.new-adder.ensures.does told k ahead.reads ahead.backed in
     let there = added-ahead told limits k c.take_documents.new.handler.repository c.into_repository-repository.result _ (c.in-Ok.ensures.behind _ does) (λ d h. c.into_repository-repository.ensures.reads told limits d h) ahead.real ahead.stands in
-    changed-finished (λ bytes. input_pieces (adding told limits k) (read bytes)) (λ bytes. collection_in k (behind_all (adding told limits k) (read bytes).0)) k _ _ _ _ told _ (c.in-Ok.ensures.finished _ does) ahead.stands
-    (for-some (λ d. Finished StandsFor k (flush_pieces d) (g.K.Sink.taken c.take_documents.new.sink) (g.K.Sink.taken c.commit.new.sink) (g.T.Store.files c.commit.new.store)) (λ bytes. collection_in k (behind_all (adding told limits k) (read bytes).0)) told c.into_repository-repository.result k _ there
-    (λ d is. c.in-Ok-commit.ensures.finished k d is))
+    flushed-finished (λ bytes. input_pieces (adding told limits k) (read bytes)) (λ bytes. collection_in k (behind_all (adding told limits k) (read bytes).0)) k told c.into_repository-repository.result _ _ _ _ _ there (c.in-Ok.ensures.finished _ does) ahead.stands c.in-Ok-commit.ensures.finished
 
 pub returns-in-Ok-commit-clause-stops : goal.returns-in-Ok-commit-clause-stops
 returns-in-Ok-commit-clause-stops g c = λ k ahead.
@@ -64,9 +57,7 @@ returns-in-Ok-commit-clause-stops g c = λ k ahead.
     let limits = c.args.repository.held.limits in
     let does = c.new-adder.ensures.does told k ahead.reads ahead.backed in
     let there = added-ahead told limits k c.take_documents.new.handler.repository c.into_repository-repository.result _ (c.in-Ok.ensures.behind _ does) (λ d h. c.into_repository-repository.ensures.reads told limits d h) ahead.real ahead.stands in
-    changed-stops (λ bytes. input_pieces (adding told limits k) (read bytes)) (λ bytes. collection_in k (behind_all (adding told limits k) (read bytes).0)) k _ _ _
-    (for-some (λ d. Leaves (g.T.Store.since c.args.store.now) (g.T.Store.since c.commit.new.store) (StandsAlong StandsFor k (flush_pieces d))) (λ bytes. collection_in k (behind_all (adding told limits k) (read bytes).0)) told c.into_repository-repository.result k _ there
-    (λ d is. c.commit.ensures.stops k d is))
+    flushed-stops (λ bytes. input_pieces (adding told limits k) (read bytes)) (λ bytes. collection_in k (behind_all (adding told limits k) (read bytes).0)) k told c.into_repository-repository.result _ _ _ there c.commit.ensures.stops
 
 -- the flush is broken off
 
@@ -76,9 +67,7 @@ returns-clause-broken g c = λ k ahead.
     let limits = c.args.repository.held.limits in
     let does = c.new-adder.ensures.does told k ahead.reads ahead.backed in
     let there = added-ahead told limits k c.take_documents.new.handler.repository c.into_repository-repository.result _ (c.in-Ok.ensures.behind _ does) (λ d h. c.into_repository-repository.ensures.reads told limits d h) ahead.real ahead.stands in
-    changed-broken (λ bytes. input_pieces (adding told limits k) (read bytes)) (λ bytes. collection_in k (behind_all (adding told limits k) (read bytes).0)) k c.in-Err-commit.fault _ _ _ _ told _ (c.in-Ok.ensures.finished _ does) ahead.stands
-    (for-some (λ d. IsBrokenBy c.in-Err-commit.fault StandsFor k (flush_pieces d) (g.K.Sink.taken c.take_documents.new.sink) (g.K.Sink.taken c.commit.new.sink) (g.T.Store.files c.commit.new.store)) (λ bytes. collection_in k (behind_all (adding told limits k) (read bytes).0)) told c.into_repository-repository.result k _ there
-    (λ d is. c.in-Err-commit.ensures.broken k d is))
+    flushed-broken (λ bytes. input_pieces (adding told limits k) (read bytes)) (λ bytes. collection_in k (behind_all (adding told limits k) (read bytes).0)) k c.in-Err-commit.fault told c.into_repository-repository.result _ _ _ _ _ there (c.in-Ok.ensures.finished _ does) ahead.stands c.in-Err-commit.ensures.broken
 
 pub returns-clause-only : goal.returns-clause-only
 returns-clause-only g c = change_items c.in-Err-commit.fault c.in-Err-commit.ensures.only
@@ -89,6 +78,4 @@ returns-clause-stops g c = λ k ahead.
     let limits = c.args.repository.held.limits in
     let does = c.new-adder.ensures.does told k ahead.reads ahead.backed in
     let there = added-ahead told limits k c.take_documents.new.handler.repository c.into_repository-repository.result _ (c.in-Ok.ensures.behind _ does) (λ d h. c.into_repository-repository.ensures.reads told limits d h) ahead.real ahead.stands in
-    changed-stops (λ bytes. input_pieces (adding told limits k) (read bytes)) (λ bytes. collection_in k (behind_all (adding told limits k) (read bytes).0)) k _ _ _
-    (for-some (λ d. Leaves (g.T.Store.since c.args.store.now) (g.T.Store.since c.commit.new.store) (StandsAlong StandsFor k (flush_pieces d))) (λ bytes. collection_in k (behind_all (adding told limits k) (read bytes).0)) told c.into_repository-repository.result k _ there
-    (λ d is. c.commit.ensures.stops k d is))
+    flushed-stops (λ bytes. input_pieces (adding told limits k) (read bytes)) (λ bytes. collection_in k (behind_all (adding told limits k) (read bytes).0)) k told c.into_repository-repository.result _ _ _ there c.commit.ensures.stops

@@ -5,7 +5,9 @@ use Rattle.repository.specs.RealLimits.{StandsFor}
 use Rattle.collection_commands.specs.Ahead.{IsAhead}
 use Rattle.indri_app.specs.Opened.{IsOpenFault}
 use Rattle.indri_app.specs.Changes.{told_change}
-use Rattle.indri_app.proofs.ChangingLemmas.{goes-behind, on-any, open-over, quiet-goes_on, want-late, work-first, work-not_absent, work-not_first, work-over}
+use Rattle.desk.proofs.EventExits.{quiet-on}
+use Rattle.indri_app.proofs.Beginning.{behind-on}
+use Rattle.indri_app.proofs.ChangingLemmas.{on-any, open-over, session-first, session-not_absent, session-over, undamaged-late, want-late}
 use Rattle.indri_app.proofs.Closing.{stops-behind, stops-none, want-begun-some}
 use Rattle.indri_app.proofs.Ended.{rose-earlier}
 use Rattle.indri_app.proofs.changing.change_files.Goals as goal
@@ -32,16 +34,16 @@ pub returns-in-Ok-clause-honest : goal.returns-in-Ok-clause-honest
 returns-in-Ok-clause-honest g c = λ k stands.
     let same = c.open_repository.ensures.quiet.same_files in
     let work = c.change_repository.ensures in
-    work-not_first c.change_repository.result work.only (work.honest k (subst (λ f. IsAhead f c.in-Ok.repository k k) (sym same) (c.in-Ok.ensures.opened k stands)))
+    undamaged-late c.change_repository.result work.only (work.honest k (subst (λ f. IsAhead f c.in-Ok.repository k k) (sym same) (c.in-Ok.ensures.opened k stands)))
 
 pub returns-in-Ok-clause-first : goal.returns-in-Ok-clause-first
 returns-in-Ok-clause-first g c =
     let work = c.change_repository.ensures in
     let quiet = IsQuiet-then g.T.Store.files g.T.Store.layers g.T.Store.clock g.T.Store.since g.T.Store.longest g.T.Store.held g.T.Store.faults _ _ _ c.open_repository.ensures.quiet in
-    work-first _ _ c.change_repository.result (λ same. (quiet same.0, same.1, same.2)) work.only work.damage
+    session-first _ _ c.change_repository.result (λ same. (quiet same.0, same.1, same.2)) work.only work.damage
 
 pub returns-in-Ok-clause-absent : goal.returns-in-Ok-clause-absent
-returns-in-Ok-clause-absent g c = λ f told e. absurd (work-not_absent c.change_repository.result c.change_repository.ensures.only e)
+returns-in-Ok-clause-absent g c = λ f told e. absurd (session-not_absent c.change_repository.result c.change_repository.ensures.only e)
 
 pub returns-in-Ok-clause-without : goal.returns-in-Ok-clause-without
 returns-in-Ok-clause-without g c = λ f told none. absurd (c.in-Ok.ensures.without f told none).0
@@ -50,10 +52,10 @@ pub returns-in-Ok-clause-intact : goal.returns-in-Ok-clause-intact
 returns-in-Ok-clause-intact g c = λ f told. on-any _ c.change_repository.result (c.in-Ok.repository.held.limits, (c.in-Ok.repository, c.in-Ok.ensures.read f told))
 
 pub returns-in-Ok-clause-only : goal.returns-in-Ok-clause-only
-returns-in-Ok-clause-only g c = work-over c.change_repository.result c.change_repository.ensures.only
+returns-in-Ok-clause-only g c = session-over c.change_repository.result c.change_repository.ensures.only
 
 pub returns-in-Ok-clause-goes_on : goal.returns-in-Ok-clause-goes_on
-returns-in-Ok-clause-goes_on g c = goes-behind _ _ _ _ _ _ _ _ _ c.open_repository.ensures.quiet c.change_repository.ensures.goes_on
+returns-in-Ok-clause-goes_on g c = behind-on _ _ _ _ _ _ _ _ _ c.open_repository.ensures.quiet c.change_repository.ensures.goes_on
 
 pub returns-in-Ok-clause-store : goal.returns-in-Ok-clause-store
 returns-in-Ok-clause-store g c = λ e. rose-earlier _ _ _ c.open_repository.ensures.later (c.change_repository.ensures.store e)
@@ -81,7 +83,7 @@ pub returns-in-Err-clause-only : goal.returns-in-Err-clause-only
 returns-in-Err-clause-only g c = open-over c.in-Err.fault c.in-Err.ensures.only
 
 pub returns-in-Err-clause-goes_on : goal.returns-in-Err-clause-goes_on
-returns-in-Err-clause-goes_on g c = quiet-goes_on _ _ _ _ _ _ _ _ c.open_repository.ensures.quiet
+returns-in-Err-clause-goes_on g c = quiet-on _ _ _ _ _ _ _ _ c.open_repository.ensures.quiet
 
 pub returns-in-Err-clause-read : goal.returns-in-Err-clause-read
 returns-in-Err-clause-read g c = λ e. let one : c.in-Err.fault ≡ fault.Read = cc in absurd (subst IsOpenFault one c.in-Err.ensures.only)

@@ -2,7 +2,7 @@ use Rattle.std.proofs.Common.{refl}
 use Rattle.command_words.specs.Table.{add, delete}
 use Rattle.collection_commands.specs.Flushing.{delete_pieces}
 use Rattle.indri_app.specs.Command.{add_pieces}
-use Rattle.indri_app.proofs.ChangingLemmas.{broken-undamaged, damage-unread, items-undamaged, items-work, merge-read, merge-work}
+use Rattle.indri_app.proofs.ChangingLemmas.{broken-undamaged, damage-unread, items-session, items-undamaged, merge-read, merge-session}
 use Rattle.indri_app.proofs.Closing.{begun-by, done-by, merge-begun, merge-done, merge-stops, prior-begun, stops-by}
 use Rattle.indri_app.proofs.changing.change_repository.Goals as goal
 
@@ -55,7 +55,7 @@ pub returns-in-Add-clause-damage : goal.returns-in-Add-clause-damage
 returns-in-Add-clause-damage g c = items-undamaged _ c.add.result c.add.ensures.only
 
 pub returns-in-Add-clause-only : goal.returns-in-Add-clause-only
-returns-in-Add-clause-only g c = items-work c.add.result c.add.ensures.only
+returns-in-Add-clause-only g c = items-session c.add.result c.add.ensures.only
 
 pub returns-in-Delete-clause-honest : goal.returns-in-Delete-clause-honest
 returns-in-Delete-clause-honest g c = λ k ahead. items-undamaged ⊥ c.delete.result c.delete.ensures.only
@@ -64,7 +64,7 @@ pub returns-in-Delete-clause-damage : goal.returns-in-Delete-clause-damage
 returns-in-Delete-clause-damage g c = items-undamaged _ c.delete.result c.delete.ensures.only
 
 pub returns-in-Delete-clause-only : goal.returns-in-Delete-clause-only
-returns-in-Delete-clause-only g c = items-work c.delete.result c.delete.ensures.only
+returns-in-Delete-clause-only g c = items-session c.delete.result c.delete.ensures.only
 
 pub returns-in-Prior-clause-honest : goal.returns-in-Prior-clause-honest
 returns-in-Prior-clause-honest g c = λ k ahead. items-undamaged ⊥ c.set_prior.result c.set_prior.ensures.only
@@ -73,7 +73,7 @@ pub returns-in-Prior-clause-damage : goal.returns-in-Prior-clause-damage
 returns-in-Prior-clause-damage g c = items-undamaged _ c.set_prior.result c.set_prior.ensures.only
 
 pub returns-in-Prior-clause-only : goal.returns-in-Prior-clause-only
-returns-in-Prior-clause-only g c = items-work c.set_prior.result c.set_prior.ensures.only
+returns-in-Prior-clause-only g c = items-session c.set_prior.result c.set_prior.ensures.only
 
 pub returns-in-Merge-clause-done : goal.returns-in-Merge-clause-done
 returns-in-Merge-clause-done g c = λ k ahead.
@@ -92,7 +92,7 @@ pub returns-in-Merge-clause-damage : goal.returns-in-Merge-clause-damage
 returns-in-Merge-clause-damage g c = damage-unread _ _ _ c.merge_documents.result refl c.merge_documents.ensures.damage
 
 pub returns-in-Merge-clause-only : goal.returns-in-Merge-clause-only
-returns-in-Merge-clause-only g c = merge-work c.merge_documents.result c.merge_documents.ensures.only
+returns-in-Merge-clause-only g c = merge-session c.merge_documents.result c.merge_documents.ensures.only
 
 pub returns-in-Merge-clause-read : goal.returns-in-Merge-clause-read
 returns-in-Merge-clause-read g c = λ e. absurd (merge-read c.merge_documents.result c.merge_documents.ensures.only e)

@@ -1,7 +1,6 @@
 use Rattle.std.proofs.Common.{refl, sym, subst}
 use Rattle.repository.specs.RealLimits.{AreReal}
-use Rattle.indri_app.proofs.NewRepository.{file-of}
-use Rattle.indri_app.proofs.OpeningLemmas.{store-of_files, want-of}
+use Rattle.indri_app.proofs.OpeningLemmas.{file-of, store-of_files, want-of}
 use Rattle.indri_app.proofs.creation.open_made.Goals as goal
 
 -- it is open

@@ -1,8 +1,6 @@
 use Rattle.std.proofs.Common.{rules, ◌≡◌, ◌++◌, ◌∷◌, [], ◌∙◌, List, ap, arith, length, map, refl, sym, subst, append-nil, append_assoc}
-use Rattle.store_ends.specs.Files.{Leaves}
 use Rattle.store_ends.proofs.Files.{Leaves-same}
-use Rattle.command_pieces.specs.Pieces.{StandsAlong, kept_behind}
-use Rattle.repository.specs.RealLimits.{StandsFor}
+use Rattle.command_pieces.specs.Pieces.{kept_behind}
 use Rattle.repository.proofs.GoingLemmas.{going-same, going-then}
 use Rattle.generated_events.specs.Left.{events_left}
 use Rattle.script_reader.specs.declared.item.Item.{Item}
@@ -11,7 +9,7 @@ use Rattle.desk.specs.Backed.{state_of}
 use Rattle.indri_app.specs.Generated.{gen_items}
 use Rattle.indri_app.specs.Items.{pieces_of, state_behind_all}
 use Rattle.indri_app.specs.Sessions.{IsUnderWay}
-use Rattle.indri_app.proofs.Following.{Along-here, Along-next, along-all, along-here, along-next, kept-next, kept-start, state-next, state-none}
+use Rattle.indri_app.proofs.Following.{Along-next, along-all, along-next, events-next, kept-next, kept-start, leaves-of, stands-of, state-next, state-none}
 use Rattle.indri_app.proofs.GeneratedLive.{goes-next}
 use Rattle.indri_app.proofs.Standing.{piece-stops}
 use Rattle.indri_app.proofs.filling.do_events.Goals as goal
@@ -88,15 +86,12 @@ pub returns-in-Ok-None-clause-along : goal.returns-in-Ok-None-clause-along
 returns-in-Ok-None-clause-along g c = λ kept way.
     let inv = c.events.invariant in
     let start = state_of (g.T.Store.files c.args.store.now) c.args.desk.now.kept in
-    subst (λ (is : List Item). StandsAlong StandsFor kept (pieces_of start is) (g.T.Store.files c.events.store)) inv.1.followed
-    (along-here kept start inv.0 (map Event (events_left c.events.generator.count c.events.generator.stage)) _ (along-all kept (pieces_of start inv.0) _ (inv.1.way kept way).stands))
+    stands-of kept start inv.0 _ _ inv.1.followed _ (along-all kept (pieces_of start inv.0) _ (inv.1.way kept way).stands)
 
 pub returns-in-Ok-None-clause-stops : goal.returns-in-Ok-None-clause-stops
 returns-in-Ok-None-clause-stops g c = λ kept way.
     let inv = c.events.invariant in
-    let start = state_of (g.T.Store.files c.args.store.now) c.args.desk.now.kept in
-    subst (λ (is : List Item). Leaves (g.T.Store.since c.args.store.now) (g.T.Store.since c.events.store) (StandsAlong StandsFor kept (pieces_of start is))) inv.1.followed
-    (Along-here _ _ kept start inv.0 (map Event (events_left c.events.generator.count c.events.generator.stage)) (inv.1.stops kept way))
+    leaves-of kept (state_of (g.T.Store.files c.args.store.now) c.args.desk.now.kept) inv.0 _ _ inv.1.followed _ _ (inv.1.stops kept way)
 
 -- there is no memory for the next one
 
@@ -104,42 +99,31 @@ pub returns-in-Err-clause-along : goal.returns-in-Err-clause-along
 returns-in-Err-clause-along g c = λ kept way.
     let inv = c.events.invariant in
     let start = state_of (g.T.Store.files c.args.store.now) c.args.desk.now.kept in
-    subst (λ (is : List Item). StandsAlong StandsFor kept (pieces_of start is) (g.T.Store.files c.events.store)) inv.1.followed
-    (along-here kept start inv.0 (map Event (events_left c.events.generator.count c.events.generator.stage)) _ (along-all kept (pieces_of start inv.0) _ (inv.1.way kept way).stands))
+    stands-of kept start inv.0 _ _ inv.1.followed _ (along-all kept (pieces_of start inv.0) _ (inv.1.way kept way).stands)
 
 pub returns-in-Err-clause-stops : goal.returns-in-Err-clause-stops
 returns-in-Err-clause-stops g c = λ kept way.
     let inv = c.events.invariant in
-    let start = state_of (g.T.Store.files c.args.store.now) c.args.desk.now.kept in
-    subst (λ (is : List Item). Leaves (g.T.Store.since c.args.store.now) (g.T.Store.since c.events.store) (StandsAlong StandsFor kept (pieces_of start is))) inv.1.followed
-    (Along-here _ _ kept start inv.0 (map Event (events_left c.events.generator.count c.events.generator.stage)) (inv.1.stops kept way))
+    leaves-of kept (state_of (g.T.Store.files c.args.store.now) c.args.desk.now.kept) inv.0 _ _ inv.1.followed _ _ (inv.1.stops kept way)
 
 -- one isn't done
 
 pub returns-in-Err-do_event-clause-along : goal.returns-in-Err-do_event-clause-along
 returns-in-Err-do_event-clause-along g c = λ kept way.
     let inv = c.events.invariant in
-    let i = Event c.in-Ok-Some.event in
+    let gives = rw c.in-Ok-Some.field-0-is at c.in-Ok-Some.ensures.gives in
     let start = state_of (g.T.Store.files c.args.store.now) c.args.desk.now.kept in
     let here = state_of (g.T.Store.files c.events.store) c.events.desk.kept in
-    let gives = rw c.in-Ok-Some.field-0-is at c.in-Ok-Some.ensures.gives in
-    let left = map Event (events_left c.next_event.new.self.count c.next_event.new.self.stage) in
-    let followed : inv.0 ++ i ∷ left ≡ gen_items c.args.count = ap (λ es. inv.0 ++ map Event es) (sym gives) ∙ inv.1.followed in
-    subst (λ (is : List Item). StandsAlong StandsFor kept (pieces_of start is) (g.T.Store.files c.do_event.new.store)) (append_assoc inv.0 (i ∷ []) left ∙ followed)
-    (along-here kept start (inv.0 ++ i ∷ []) left _ (along-next start here inv.0 i (inv.1.state kept way) kept _ (c.do_event.ensures.now _ (inv.1.way kept way))))
+    stands-of kept start (inv.0 ++ Event c.in-Ok-Some.event ∷ []) _ _ (events-next inv.0 _ c.in-Ok-Some.event _ _ gives inv.1.followed) _ (along-next start here inv.0 (Event c.in-Ok-Some.event) (inv.1.state kept way) kept _ (c.do_event.ensures.now _ (inv.1.way kept way)))
 
 pub returns-in-Err-do_event-clause-stops : goal.returns-in-Err-do_event-clause-stops
 returns-in-Err-do_event-clause-stops g c = λ kept way.
     let inv = c.events.invariant in
-    let i = Event c.in-Ok-Some.event in
+    let gives = rw c.in-Ok-Some.field-0-is at c.in-Ok-Some.ensures.gives in
     let start = state_of (g.T.Store.files c.args.store.now) c.args.desk.now.kept in
     let here = state_of (g.T.Store.files c.events.store) c.events.desk.kept in
-    let gives = rw c.in-Ok-Some.field-0-is at c.in-Ok-Some.ensures.gives in
-    let left = map Event (events_left c.next_event.new.self.count c.next_event.new.self.stage) in
-    let followed : inv.0 ++ i ∷ left ≡ gen_items c.args.count = ap (λ es. inv.0 ++ map Event es) (sym gives) ∙ inv.1.followed in
-    subst (λ (is : List Item). Leaves (g.T.Store.since c.args.store.now) (g.T.Store.since c.do_event.new.store) (StandsAlong StandsFor kept (pieces_of start is))) (append_assoc inv.0 (i ∷ []) left ∙ followed)
-    (Along-here _ _ kept start (inv.0 ++ i ∷ []) left (Along-next start here inv.0 i (inv.1.state kept way) _ _ _ kept (inv.1.stops kept way)
-    (piece-stops (kept_behind kept (pieces_of start inv.0)) here i _ _ (c.do_event.ensures.stops _ (inv.1.way kept way)))))
+    leaves-of kept start (inv.0 ++ Event c.in-Ok-Some.event ∷ []) _ _ (events-next inv.0 _ c.in-Ok-Some.event _ _ gives inv.1.followed) _ _
+    (Along-next start here inv.0 (Event c.in-Ok-Some.event) (inv.1.state kept way) _ _ _ kept (inv.1.stops kept way) (piece-stops (kept_behind kept (pieces_of start inv.0)) here (Event c.in-Ok-Some.event) _ _ (c.do_event.ensures.stops _ (inv.1.way kept way))))
 
 pub returns-in-Err-do_event-clause-honest : goal.returns-in-Err-do_event-clause-honest
 returns-in-Err-do_event-clause-honest g c = λ kept way. c.in-Err-do_event.ensures.honest _ (c.events.invariant.1.way kept way)

@@ -1,4 +1,4 @@
-use Rattle.std.proofs.Common.{◌≡◌, subst, sym}
+use Rattle.std.proofs.Common.{subst, sym}
 use Rattle.store_ends.proofs.Files.{Leaves-none}
 use Rattle.command_pieces.specs.Pieces.{StandsAlong, kept_behind}
 use Rattle.repository.specs.RealLimits.{StandsFor}

@@ -1,4 +1,4 @@
-use Rattle.std.proofs.Common.{ap, Err, refl, subst, sym}
+use Rattle.std.proofs.Common.{ap, Err, refl, subst}
 use Rattle.command_pieces.specs.CommandFaults.{IsDamage}
 use Rattle.indri_app.proofs.Generating.{either-undamaged, gen-broken, gen-finished, gen-of_items, gen-of_silent, items-not_exists, items-not_store, items-undamaged, made-broken, silent-not_write, write-of_items}
 use Rattle.indri_app.proofs.generation.generate.Goals as goal

@@ -3,7 +3,8 @@ use Rattle.indri_app.specs.Generated.{gen_items, new_state}
 use Rattle.indri_app.specs.Items.{pieces_of}
 use Rattle.indri_app.proofs.Ended.{rose-earlier}
 use Rattle.indri_app.proofs.Generating.{stands-created, stands-filled, stops-created, stops-filled}
-use Rattle.indri_app.proofs.NewRepository.{file-of, not-exists, silent-of_file}
+use Rattle.indri_app.proofs.NewRepository.{not-exists, silent-of_file}
+use Rattle.indri_app.proofs.OpeningLemmas.{file-of}
 use Rattle.indri_app.proofs.OpeningLemmas.{store-of_files, want-of}
 use Rattle.indri_app.proofs.SilentPieces.{made-all}
 use Rattle.indri_app.proofs.generation.made_text.Goals as goal
@@ -32,13 +33,11 @@ returns-in-Ok-fill-clause-made g c = λ f told none.
 
 pub returns-in-Ok-fill-clause-along : goal.returns-in-Ok-fill-clause-along
 returns-in-Ok-fill-clause-along g c = λ f told none.
-    let new = c.in-Ok.ensures.new f told none in
-    stands-filled c.args.count f (g.T.Store.since c.args.store.now) (g.T.Store.since c.new_repository.new.store) c.in-Ok.repository.held.limits new.real _ (c.fill.ensures.along new)
+    stands-filled c.args.count f (g.T.Store.since c.args.store.now) (g.T.Store.since c.new_repository.new.store) c.in-Ok.repository.held.limits (c.in-Ok.ensures.new f told none).real _ (c.fill.ensures.along (c.in-Ok.ensures.new f told none))
 
 pub returns-in-Ok-fill-clause-stops : goal.returns-in-Ok-fill-clause-stops
 returns-in-Ok-fill-clause-stops g c = λ f told none.
-    let new = c.in-Ok.ensures.new f told none in
-    stops-filled c.args.count f _ _ c.in-Ok.repository.held.limits new.real _ (c.new_repository.ensures.stops f told none) (c.fill.ensures.stops new)
+    stops-filled c.args.count f _ _ c.in-Ok.repository.held.limits (c.in-Ok.ensures.new f told none).real _ (c.new_repository.ensures.stops f told none) (c.fill.ensures.stops (c.in-Ok.ensures.new f told none))
 
 pub returns-in-Ok-fill-clause-exists : goal.returns-in-Ok-fill-clause-exists
 returns-in-Ok-fill-clause-exists g c = λ f told there. let no = c.in-Ok.ensures.exists f told there in absurd no.1
@@ -47,13 +46,11 @@ returns-in-Ok-fill-clause-exists g c = λ f told there. let no = c.in-Ok.ensures
 
 pub returns-in-Err-fill-clause-along : goal.returns-in-Err-fill-clause-along
 returns-in-Err-fill-clause-along g c = λ f told none.
-    let new = c.in-Ok.ensures.new f told none in
-    stands-filled c.args.count f (g.T.Store.since c.args.store.now) (g.T.Store.since c.new_repository.new.store) c.in-Ok.repository.held.limits new.real _ (c.fill.ensures.along new)
+    stands-filled c.args.count f (g.T.Store.since c.args.store.now) (g.T.Store.since c.new_repository.new.store) c.in-Ok.repository.held.limits (c.in-Ok.ensures.new f told none).real _ (c.fill.ensures.along (c.in-Ok.ensures.new f told none))
 
 pub returns-in-Err-fill-clause-stops : goal.returns-in-Err-fill-clause-stops
 returns-in-Err-fill-clause-stops g c = λ f told none.
-    let new = c.in-Ok.ensures.new f told none in
-    stops-filled c.args.count f _ _ c.in-Ok.repository.held.limits new.real _ (c.new_repository.ensures.stops f told none) (c.fill.ensures.stops new)
+    stops-filled c.args.count f _ _ c.in-Ok.repository.held.limits (c.in-Ok.ensures.new f told none).real _ (c.new_repository.ensures.stops f told none) (c.fill.ensures.stops (c.in-Ok.ensures.new f told none))
 
 pub returns-in-Err-fill-clause-honest : goal.returns-in-Err-fill-clause-honest
 returns-in-Err-fill-clause-honest g c = λ f told none. rw c.of_files.ensures (want-of c.in-Err-fill.fault (c.in-Err-fill.ensures.honest (c.in-Ok.ensures.new f told none)))

@@ -1,8 +1,8 @@
-use Rattle.std.proofs.Common.{rules, ◌≡◌, ◌∙◌, [], ◌∷◌, ◌++◌, List, length, map, refl, subst, sym, arith, true≢false}
+use Rattle.std.proofs.Common.{rules, ◌≡◌, ◌∙◌, [], ◌∷◌, ◌++◌, List, refl, subst, sym, arith, true≢false}
 use Rattle.store_ends.specs.Files.{Leaves}
 use Rattle.store_ends.proofs.Files.{Leaves-same}
 use Rattle.command_pieces.specs.CommandFaults.{IsBrokenBy}
-use Rattle.command_pieces.specs.Pieces.{Finished, StandsAlong, kept_behind, some_refused}
+use Rattle.command_pieces.specs.Pieces.{Finished, StandsAlong, some_refused}
 use Rattle.command_pieces.specs.declared.command_fault.CommandFault.TheVariants as fault
 use Rattle.command_pieces.proofs.Joining.{StoppedBetween-none}
 use Rattle.repository.specs.RealLimits.{StandsFor}
@@ -14,7 +14,7 @@ use Rattle.desk.specs.State.{collection_of}
 use Rattle.indri_app.specs.Items.{pieces_of, state_behind_all}
 use Rattle.indri_app.specs.Orders.{AreTrue}
 use Rattle.indri_app.specs.Sessions.{IsUnderWay}
-use Rattle.indri_app.proofs.Following.{Along-here, Along-next, Finished-next, Finished-start, all-done, broken-next, end-next, followed-more, followed-start, kept-next, kept-start, refused-next, refused-start, some-done, state-next, state-none, stopped-here, true-next, true-start}
+use Rattle.indri_app.proofs.Following.{Along-next, Finished-next, Finished-start, all-done, broken-next, end-next, followed-more, followed-start, kept-next, kept-start, refused-next, refused-start, some-along, some-done, some-stopped, state-next, state-none, true-next, true-start}
 use Rattle.indri_app.proofs.Standing.{broken-honest, grows-none, grows-then, if-all, item-only}
 use Rattle.indri_app.proofs.items.take_items.Goals as goal
 
@@ -129,40 +129,25 @@ returns-in-Ok-None-clause-order g c = λ kept way.
 
 pub returns-in-Ok-None-clause-stops : goal.returns-in-Ok-None-clause-stops
 returns-in-Ok-None-clause-stops g c = λ kept way.
-    let inv = c.items.invariant in
-    let start = state_of (g.T.Store.files c.args.store.now) c.args.desk.now.kept in
-    some-done (λ (is : List Item). Leaves (g.T.Store.since c.args.store.now) (g.T.Store.since c.items.store) (StandsAlong StandsFor kept (pieces_of start is))) inv.0 c.items.reader _ _ inv.1.followed
-    (λ rest. Along-here _ _ kept start inv.0 rest (inv.1.stops kept way))
+    some-along kept (state_of (g.T.Store.files c.args.store.now) c.args.desk.now.kept) c.items.invariant.0 c.items.reader _ _ c.items.invariant.1.followed _ _ (c.items.invariant.1.stops kept way)
 
 -- the source fails, or there is no memory for an item
 
 pub returns-in-Err-Read-clause-broken : goal.returns-in-Err-Read-clause-broken
 returns-in-Err-Read-clause-broken g c = λ kept way.
-    let inv = c.items.invariant in
-    let start = state_of (g.T.Store.files c.args.store.now) c.args.desk.now.kept in
-    some-done (λ (is : List Item). IsBrokenBy fault.Read StandsFor kept (pieces_of start is) (g.K.Sink.taken c.args.sink.now) (g.K.Sink.taken c.items.sink) (g.T.Store.files c.items.store)) inv.0 c.items.reader _ _ inv.1.followed
-    (λ rest. stopped-here kept start inv.0 rest _ _ _ (inv.1.finished kept way))
+    some-stopped kept (state_of (g.T.Store.files c.args.store.now) c.args.desk.now.kept) c.items.invariant.0 c.items.reader _ _ c.items.invariant.1.followed _ _ _ (c.items.invariant.1.finished kept way)
 
 pub returns-in-Err-Read-clause-stops : goal.returns-in-Err-Read-clause-stops
 returns-in-Err-Read-clause-stops g c = λ kept way.
-    let inv = c.items.invariant in
-    let start = state_of (g.T.Store.files c.args.store.now) c.args.desk.now.kept in
-    some-done (λ (is : List Item). Leaves (g.T.Store.since c.args.store.now) (g.T.Store.since c.items.store) (StandsAlong StandsFor kept (pieces_of start is))) inv.0 c.items.reader _ _ inv.1.followed
-    (λ rest. Along-here _ _ kept start inv.0 rest (inv.1.stops kept way))
+    some-along kept (state_of (g.T.Store.files c.args.store.now) c.args.desk.now.kept) c.items.invariant.0 c.items.reader _ _ c.items.invariant.1.followed _ _ (c.items.invariant.1.stops kept way)
 
 pub returns-in-Err-Memory-clause-broken : goal.returns-in-Err-Memory-clause-broken
 returns-in-Err-Memory-clause-broken g c = λ kept way.
-    let inv = c.items.invariant in
-    let start = state_of (g.T.Store.files c.args.store.now) c.args.desk.now.kept in
-    some-done (λ (is : List Item). IsBrokenBy fault.Memory StandsFor kept (pieces_of start is) (g.K.Sink.taken c.args.sink.now) (g.K.Sink.taken c.items.sink) (g.T.Store.files c.items.store)) inv.0 c.items.reader _ _ inv.1.followed
-    (λ rest. stopped-here kept start inv.0 rest _ _ _ (inv.1.finished kept way))
+    some-stopped kept (state_of (g.T.Store.files c.args.store.now) c.args.desk.now.kept) c.items.invariant.0 c.items.reader _ _ c.items.invariant.1.followed _ _ _ (c.items.invariant.1.finished kept way)
 
 pub returns-in-Err-Memory-clause-stops : goal.returns-in-Err-Memory-clause-stops
 returns-in-Err-Memory-clause-stops g c = λ kept way.
-    let inv = c.items.invariant in
-    let start = state_of (g.T.Store.files c.args.store.now) c.args.desk.now.kept in
-    some-done (λ (is : List Item). Leaves (g.T.Store.since c.args.store.now) (g.T.Store.since c.items.store) (StandsAlong StandsFor kept (pieces_of start is))) inv.0 c.items.reader _ _ inv.1.followed
-    (λ rest. Along-here _ _ kept start inv.0 rest (inv.1.stops kept way))
+    some-along kept (state_of (g.T.Store.files c.args.store.now) c.args.desk.now.kept) c.items.invariant.0 c.items.reader _ _ c.items.invariant.1.followed _ _ (c.items.invariant.1.stops kept way)
 
 -- an item is broken off
 
@@ -188,9 +173,8 @@ returns-in-Err-clause-stops g c = λ kept way.
     let gives = rw c.in-Ok-Some.field-0-is at c.in-Ok-Some.ensures.items in
     let start = state_of (g.T.Store.files c.args.store.now) c.args.desk.now.kept in
     let here = state_of (g.T.Store.files c.items.store) c.items.desk.kept in
-    some-done (λ (is : List Item). Leaves (g.T.Store.since c.args.store.now) (g.T.Store.since c.take_item.new.store) (StandsAlong StandsFor kept (pieces_of start is))) (inv.0 ++ i ∷ []) c.next_item.new.self _ _
-    (followed-more inv.0 i c.items.reader c.next_item.new.self _ _ _ inv.1.followed gives)
-    (λ rest. Along-here _ _ kept start (inv.0 ++ i ∷ []) rest (Along-next start here inv.0 i (inv.1.state kept way) _ _ _ kept (inv.1.stops kept way) (c.take_item.ensures.stops _ (inv.1.way kept way))))
+    some-along kept start (inv.0 ++ i ∷ []) c.next_item.new.self _ _ (followed-more inv.0 i c.items.reader c.next_item.new.self _ _ _ inv.1.followed gives) _ _
+    (Along-next start here inv.0 i (inv.1.state kept way) _ _ _ kept (inv.1.stops kept way) (c.take_item.ensures.stops _ (inv.1.way kept way)))
 
 pub returns-in-Err-clause-grows : goal.returns-in-Err-clause-grows
 returns-in-Err-clause-grows g c = grows-then _ _ _ c.items.invariant.1.grows c.take_item.ensures.grows

@@ -5,9 +5,9 @@ use Rattle.indri_app.specs.Opened.{IsOpenFault}
 use Rattle.indri_app.specs.Runs.{IsReplyStatus}
 use Rattle.indri_app.specs.Asked.{IsBrokenOver}
 use Rattle.indri_app.specs.declared.status.Status.TheVariants as status
-use Rattle.indri_app.proofs.AskedRuns.{asked-in_order, asked-needs, asked-not_making, asked-not_scan, asked-runs, asked-tells, damage-not_want, damage-over, intact-of, over-absent, refused-runs, some-of, tells-not, want-runs}
+use Rattle.indri_app.proofs.AskedRuns.{asked-in_order, asked-needs, asked-not_making, asked-not_scan, asked-runs, asked-tells, damage-over, intact-of, over-absent, refused-runs, some-of, tells-not, want-runs}
 use Rattle.indri_app.proofs.Closing.{stops-none}
-use Rattle.indri_app.proofs.Ended.{absent-closed, absent-closed-status, absent-line-closed, damage-closed, done-not_closed-any, exists-closed, exists-line-closed, malformed-closed, read-closed, store-closed, usage-not_closed, write-closed}
+use Rattle.indri_app.proofs.Ended.{absent-closed, absent-closed-status, absent-line-closed, damage-closed, damage-not_want, done-not_closed-any, exists-closed, exists-line-closed, malformed-closed, read-closed, store-closed, usage-not_closed, write-closed}
 use Rattle.indri_app.proofs.program.run_question.Goals as goal
 
 -- it is answered

@@ -1,5 +1,5 @@
 use Rattle.std.proofs.Common.{Err, ap}
-use Rattle.indri_app.proofs.AskingLemmas.{of_files-file}
+use Rattle.indri_app.proofs.OpeningLemmas.{file-of}
 use Rattle.indri_app.proofs.OpeningLemmas.{store-of_files, want-of}
 use Rattle.indri_app.proofs.question.answer_checked.Goals as goal
 
@@ -9,7 +9,7 @@ pub returns-in-Err-clause-honest : goal.returns-in-Err-clause-honest
 returns-in-Err-clause-honest g c = λ backed. rw c.of_files.ensures (want-of c.in-Err.fault (c.in-Err.ensures.honest (c.in-Ok.ensures.stored _ backed)))
 
 pub returns-in-Err-clause-only : goal.returns-in-Err-clause-only
-returns-in-Err-clause-only g c = rw c.of_files.ensures (of_files-file c.in-Err.fault)
+returns-in-Err-clause-only g c = rw c.of_files.ensures (file-of c.in-Err.fault)
 
 pub returns-in-Err-clause-store : goal.returns-in-Err-clause-store
 returns-in-Err-clause-store g c = λ e. let one = store-of_files c.in-Err.fault cc in c.in-Err.ensures.store (ap Err one)

@@ -13,7 +13,8 @@ use Rattle.desk.specs.State.{State, collection_of}
 use Rattle.indri_app.specs.Items.{pieces_of, state_behind_all}
 use Rattle.indri_app.specs.Orders.{AreTrue}
 use Rattle.indri_app.specs.Sessions.{session_pieces}
-use Rattle.indri_app.proofs.Beginning.{ahead-read, begun-all, behind-on, files-fault, merge-none, none-begun, quiet-on, rose-earlier, stops-quiet, stops-read}
+use Rattle.desk.proofs.EventExits.{quiet-on}
+use Rattle.indri_app.proofs.Beginning.{ahead-read, begun-all, behind-on, files-fault, merge-none, none-begun, rose-earlier, stops-quiet, stops-read}
 use Rattle.indri_app.proofs.Standing.{grows-none, outside-honest}
 use Rattle.indri_app.proofs.script.session.Goals as goal
 

@@ -1,17 +1,17 @@
-use Rattle.std.proofs.Common.{◌≡◌, List, refl, sym, subst}
+use Rattle.std.proofs.Common.{◌≡◌, refl, sym, subst}
 use Rattle.command_words.specs.Table as asks
-use Rattle.command_pieces.specs.Pieces.{Piece}
 use Rattle.command_pieces.specs.declared.command_fault.CommandFault.TheVariants as fault
 use Rattle.repository.specs.RealLimits.{StandsFor}
-use Rattle.repository.specs.Stands.{Collection}
 use Rattle.smoothing.specs.declared.rule.RuleKind.TheVariants.{Dirichlet}
 use Rattle.collection_commands.specs.Ahead.{IsAhead}
 use Rattle.indri_app.specs.Sessions.{session_pieces}
 use Rattle.indri_app.specs.Opened.{IsOpenFault}
-use Rattle.indri_app.proofs.ChangingLemmas.{goes-behind, open-over, quiet-goes_on, want-late}
+use Rattle.desk.proofs.EventExits.{quiet-on}
+use Rattle.indri_app.proofs.Beginning.{behind-on}
+use Rattle.indri_app.proofs.ChangingLemmas.{open-over, session-not_absent, session-over, undamaged-late, want-late}
 use Rattle.indri_app.proofs.Closing.{begun-by, done-by, stops-behind, stops-by, stops-none, want-begun-some}
 use Rattle.indri_app.proofs.Ended.{rose-earlier}
-use Rattle.indri_app.proofs.SessionLemmas.{in-order, session-not_absent, session-over, undamaged-late, with-priors}
+use Rattle.indri_app.proofs.SessionLemmas.{in-order, with-priors}
 use Rattle.indri_app.proofs.session.session_files.Goals as goal
 
 -- the repository is open
@@ -75,7 +75,7 @@ pub returns-in-Ok-clause-only : goal.returns-in-Ok-clause-only
 returns-in-Ok-clause-only g c = session-over c.session.result c.session.ensures.only
 
 pub returns-in-Ok-clause-goes_on : goal.returns-in-Ok-clause-goes_on
-returns-in-Ok-clause-goes_on g c = goes-behind _ _ _ _ _ _ _ _ _ c.open_repository.ensures.quiet c.session.ensures.goes_on
+returns-in-Ok-clause-goes_on g c = behind-on _ _ _ _ _ _ _ _ _ c.open_repository.ensures.quiet c.session.ensures.goes_on
 
 pub returns-in-Ok-clause-store : goal.returns-in-Ok-clause-store
 returns-in-Ok-clause-store g c = λ e. rose-earlier _ _ _ c.open_repository.ensures.later (c.session.ensures.store e)
@@ -103,7 +103,7 @@ pub returns-in-Err-clause-only : goal.returns-in-Err-clause-only
 returns-in-Err-clause-only g c = open-over c.in-Err.fault c.in-Err.ensures.only
 
 pub returns-in-Err-clause-goes_on : goal.returns-in-Err-clause-goes_on
-returns-in-Err-clause-goes_on g c = quiet-goes_on _ _ _ _ _ _ _ _ c.open_repository.ensures.quiet
+returns-in-Err-clause-goes_on g c = quiet-on _ _ _ _ _ _ _ _ c.open_repository.ensures.quiet
 
 pub returns-in-Err-clause-read : goal.returns-in-Err-clause-read
 returns-in-Err-clause-read g c = λ e. let one : c.in-Err.fault ≡ fault.Read = cc in absurd (subst IsOpenFault one c.in-Err.ensures.only)

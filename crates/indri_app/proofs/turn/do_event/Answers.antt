@@ -1,4 +1,4 @@
-use Rattle.std.proofs.Common.{◌≡◌, ◌∙◌, ap, not, subst, sym, List, length, map}
+use Rattle.std.proofs.Common.{◌≡◌, ◌∙◌, ap, not, subst, sym, List, length}
 use Rattle.std.proofs.lemmas.List.{length-map}
 use Rattle.std.proofs.lemmas.Result.{IfErr-weaker, IfOk-weaker}
 use Rattle.ri_base.specs.Faults.{IsOutside}
@@ -8,12 +8,11 @@ use Rattle.belief_nodes.specs.Priors.{Prior}
 use Rattle.command_pieces.specs.Written.{Plain}
 use Rattle.desk.specs.Replied.{reply_piece}
 use Rattle.script_reader.specs.declared.item.Item.TheVariants.{Event}
-use Rattle.desk.specs.Backed.{IsUsable, state_of}
-use Rattle.indri_app.specs.Items.{item_reply, kept_by, state_behind}
-use Rattle.indri_app.specs.Orders.{IsTrueItem}
+use Rattle.desk.specs.Backed.{state_of}
+use Rattle.indri_app.specs.Items.{item_reply, kept_by}
 use Rattle.indri_app.specs.Sessions.{IsUnderWay}
 use Rattle.indri_app.proofs.Standing.{on-ok}
-use Rattle.indri_app.proofs.StepLemmas.{either-step, goes-on, reply-step, stands-step, stands-under, state-step, stops-step, true-step}
+use Rattle.indri_app.proofs.StepLemmas.{goes-on, left-step, now-step, reply-step, stands-step, stands-under, state-step, true-step}
 use Rattle.indri_app.proofs.TextLemmas.{shown-piece}
 use Rattle.indri_app.proofs.turn.do_event.Goals as goal
 
@@ -46,16 +45,10 @@ returns-in-Ok-clause-order g c = λ kept way.
     on-ok c.tell_reply.result _ (true-step (state_of (g.T.Store.files c.args.store.now) c.args.desk.now.kept) c.args.event c.in-Ok.reply steps.shows (c.in-Ok.ensures.order way.backed))
 
 pub returns-in-Ok-clause-now : goal.returns-in-Ok-clause-now
-returns-in-Ok-clause-now g c = λ kept way.
-    let before = g.T.Store.files c.args.store.now in
-    let old = c.args.desk.now.kept in
-    either-step before old _ kept c.args.event way _ (c.event.ensures.now kept way.backed (stands-under before old _ kept c.args.event way))
+returns-in-Ok-clause-now g c = λ kept way. now-step (g.T.Store.files c.args.store.now) c.args.desk.now.kept _ kept c.args.event way _ c.event.ensures.now
 
 pub returns-in-Ok-clause-stops : goal.returns-in-Ok-clause-stops
-returns-in-Ok-clause-stops g c = λ kept way.
-    let before = g.T.Store.files c.args.store.now in
-    let old = c.args.desk.now.kept in
-    stops-step before old _ kept c.args.event way _ _ (c.event.ensures.stops kept way.backed (stands-under before old _ kept c.args.event way))
+returns-in-Ok-clause-stops g c = λ kept way. left-step (g.T.Store.files c.args.store.now) c.args.desk.now.kept _ kept c.args.event way _ _ c.event.ensures.stops
 
 pub returns-in-Ok-clause-honest : goal.returns-in-Ok-clause-honest
 returns-in-Ok-clause-honest g c = λ kept way.
@@ -68,16 +61,10 @@ pub returns-in-Ok-clause-nine : goal.returns-in-Ok-clause-nine
 returns-in-Ok-clause-nine g c = sym (length-map c.event.new.plugs _) ∙ ap length c.event.ensures.stay ∙ length-map c.args.plugs.now _ ∙ c.requires.nine
 
 pub returns-in-Err-clause-now : goal.returns-in-Err-clause-now
-returns-in-Err-clause-now g c = λ kept way.
-    let before = g.T.Store.files c.args.store.now in
-    let old = c.args.desk.now.kept in
-    either-step before old _ kept c.args.event way _ (c.event.ensures.now kept way.backed (stands-under before old _ kept c.args.event way))
+returns-in-Err-clause-now g c = λ kept way. now-step (g.T.Store.files c.args.store.now) c.args.desk.now.kept _ kept c.args.event way _ c.event.ensures.now
 
 pub returns-in-Err-clause-stops : goal.returns-in-Err-clause-stops
-returns-in-Err-clause-stops g c = λ kept way.
-    let before = g.T.Store.files c.args.store.now in
-    let old = c.args.desk.now.kept in
-    stops-step before old _ kept c.args.event way _ _ (c.event.ensures.stops kept way.backed (stands-under before old _ kept c.args.event way))
+returns-in-Err-clause-stops g c = λ kept way. left-step (g.T.Store.files c.args.store.now) c.args.desk.now.kept _ kept c.args.event way _ _ c.event.ensures.stops
 
 pub returns-in-Err-clause-honest : goal.returns-in-Err-clause-honest
 returns-in-Err-clause-honest g c = λ kept way. c.in-Err.ensures.honest way.backed

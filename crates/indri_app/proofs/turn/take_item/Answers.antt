@@ -1,4 +1,4 @@
-use Rattle.std.proofs.Common.{◌≡◌, ◌∙◌, Err, ap, refl, sym}
+use Rattle.std.proofs.Common.{◌∙◌, Err, ap, refl}
 use Rattle.desk.specs.Backed.{state_of}
 use Rattle.command_pieces.specs.Written.{Plain}
 use Rattle.indri_app.proofs.Standing.{files-only, grows-all, grows-none, grows-unwritten, items-only, piece-done, piece-refused, piece-stops, piece-unwritten}

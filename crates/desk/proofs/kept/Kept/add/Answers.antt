@@ -13,6 +13,7 @@ use Rattle.desk.proofs.Cases.{answers-ok, step-added}
 use Rattle.desk.proofs.DocumentExits.{add-done, live-told, not-added-refuses, not-added-steps, with_repository}
 use Rattle.desk.proofs.EventExits.{if-ok-all, stays-same}
 use Rattle.desk.proofs.Exits.{accepted-by}
+use Rattle.desk.proofs.Found.{seen}
 use Rattle.desk.proofs.KeptLemmas.{kept-repository, priors-call}
 use Rattle.desk.proofs.kept.Kept.add.Goals as goal
 
@@ -25,7 +26,7 @@ invariant_of-self c = λ usable working.
 pub returns-in-Ok-clause-steps : goal.returns-in-Ok-clause-steps
 returns-in-Ok-clause-steps c = λ told backed.
     let s = c.self.inside in
-    let view : Keeps = record { repository = s.repository; kind = s.kind; queries = s.queries.items; counts = s.counts; cache = s.cache; usable = s.usable } in
+    let view = seen c.self.inside in
     let live = is_live s.repository.held.parts c.args.doc.docno in
     let full = is_full s.repository.held c.args.doc in
     let kept = c.self.invariant (ap (λ (x : Keeps). x.usable) c.self.view_is ∙ c.requires.usable.0) (ap (λ (x : Keeps). x.repository.usable) c.self.view_is ∙ c.requires.usable.1) in
@@ -36,25 +37,22 @@ returns-in-Ok-clause-steps c = λ told backed.
 
 pub returns-in-Ok-clause-refuses : goal.returns-in-Ok-clause-refuses
 returns-in-Ok-clause-refuses c = λ told.
-    let s = c.self.inside in
-    let view : Keeps = record { repository = s.repository; kind = s.kind; queries = s.queries.items; counts = s.counts; cache = s.cache; usable = s.usable } in
-    let live = is_live s.repository.held.parts c.args.doc.docno in
-    let full = is_full s.repository.held c.args.doc in
-    let not = answers-ok live full c.args.doc.docno (subst (λ r. Answers r (answer s.repository.held c.args.doc)) c.in-Ok.is c.add.ensures.answer) in
+    let view = seen c.self.inside in
+    let live = is_live view.repository.held.parts c.args.doc.docno in
+    let full = is_full view.repository.held c.args.doc in
+    let not = answers-ok live full c.args.doc.docno (subst (λ r. Answers r (answer view.repository.held c.args.doc)) c.in-Ok.is c.add.ensures.answer) in
     accepted-by (event.Document c.args.doc) told view c.args.self.now _ c.self.view_is (step-added (state_of told view) c.args.doc (live-told told view c.args.doc.docno ∙ not.0) not.1) refl
 
 pub returns-clause-steps : goal.returns-clause-steps
 returns-clause-steps c = (
-    let s = c.self.inside in
-    let view : Keeps = record { repository = s.repository; kind = s.kind; queries = s.queries.items; counts = s.counts; cache = s.cache; usable = s.usable } in
-    let answers : Answers (Err c.in-Err.refusal) (answer s.repository.held c.args.doc) = subst (λ (r : Result (Unit {0}) AddRefusal). Answers r (answer s.repository.held c.args.doc)) c.in-Err.is c.add.ensures.answer in
+    let view = seen c.self.inside in
+    let answers : Answers (Err c.in-Err.refusal) (answer view.repository.held c.args.doc) = subst (λ (r : Result (Unit {0}) AddRefusal). Answers r (answer view.repository.held c.args.doc)) c.in-Err.is c.add.ensures.answer in
     not-added-steps view c.args.self.now c.add.new.self c.args.doc c.self.view_is c.in-Err.ensures.kept c.not_added.result c.in-Err.refusal c.not_added.ensures answers)
 
 pub returns-clause-refuses : goal.returns-clause-refuses
 returns-clause-refuses c = (
-    let s = c.self.inside in
-    let view : Keeps = record { repository = s.repository; kind = s.kind; queries = s.queries.items; counts = s.counts; cache = s.cache; usable = s.usable } in
-    let answers : Answers (Err c.in-Err.refusal) (answer s.repository.held c.args.doc) = subst (λ (r : Result (Unit {0}) AddRefusal). Answers r (answer s.repository.held c.args.doc)) c.in-Err.is c.add.ensures.answer in
+    let view = seen c.self.inside in
+    let answers : Answers (Err c.in-Err.refusal) (answer view.repository.held c.args.doc) = subst (λ (r : Result (Unit {0}) AddRefusal). Answers r (answer view.repository.held c.args.doc)) c.in-Err.is c.add.ensures.answer in
     not-added-refuses view c.args.self.now c.add.new.self c.args.doc c.self.view_is c.in-Err.ensures.kept c.not_added.result c.in-Err.refusal c.not_added.ensures answers)
 
 pub invariant_of-self-2 : goal.invariant_of-self-2
@@ -65,6 +63,5 @@ invariant_of-self-2 c = λ usable working.
 
 pub returns-clause-unchanged : goal.returns-clause-unchanged
 returns-clause-unchanged c =
-    let s = c.self.inside in
-    let view : Keeps = record { repository = s.repository; kind = s.kind; queries = s.queries.items; counts = s.counts; cache = s.cache; usable = s.usable } in
+    let view = seen c.self.inside in
     if-ok-all c.not_added.result (λ (r : Reply). StaysIfRefused r c.args.self.now (with_repository view c.add.new.self)) (λ r. stays-same r c.args.self.now (with_repository view c.add.new.self) (ap (with_repository view) c.in-Err.ensures.kept ∙ c.self.view_is))

@@ -12,6 +12,7 @@ use Rattle.desk.specs.Backed.{Keeps, state_of}
 use Rattle.desk.proofs.Cases.{step-deleted}
 use Rattle.desk.proofs.DocumentExits.{absent-step, delete-done, err-of, live-there, live-told, ok-of, refused-done, with_repository}
 use Rattle.desk.proofs.Exits.{accepted-by, refused-by}
+use Rattle.desk.proofs.Found.{seen}
 use Rattle.desk.proofs.KeptLemmas.{kept-repository, priors-call}
 use Rattle.desk.proofs.kept.Kept.delete.Goals as goal
 
@@ -23,36 +24,32 @@ invariant_of-self c = λ usable working.
 
 pub returns-then-is_err-clause-steps : goal.returns-then-is_err-clause-steps
 returns-then-is_err-clause-steps c = λ told backed.
-    let s = c.self.inside in
-    let view : Keeps = record { repository = s.repository; kind = s.kind; queries = s.queries.items; counts = s.counts; cache = s.cache; usable = s.usable } in
+    let view = seen c.self.inside in
     let was : is_err c.delete.result ≡ true = sym c.is_err.ensures.value ∙ c.if-is_err.true in
-    let gone : is_live s.repository.held.parts c.args.docno ≡ false = c.delete.ensures.refused.0 was in
-    refused-done told (event.Delete c.args.docno) view c.args.self.now c.delete.new.self (NoSuchDoc c.args.docno) c.self.view_is (err-of c.delete.result (c.delete.new.self ≡ s.repository) was c.delete.ensures.kept) (absent-step told view c.args.docno gone) backed
+    let gone : is_live view.repository.held.parts c.args.docno ≡ false = c.delete.ensures.refused.0 was in
+    refused-done told (event.Delete c.args.docno) view c.args.self.now c.delete.new.self (NoSuchDoc c.args.docno) c.self.view_is (err-of c.delete.result (c.delete.new.self ≡ view.repository) was c.delete.ensures.kept) (absent-step told view c.args.docno gone) backed
 
 pub returns-then-is_err-clause-refuses : goal.returns-then-is_err-clause-refuses
 returns-then-is_err-clause-refuses c = λ told.
-    let s = c.self.inside in
-    let view : Keeps = record { repository = s.repository; kind = s.kind; queries = s.queries.items; counts = s.counts; cache = s.cache; usable = s.usable } in
+    let view = seen c.self.inside in
     let was : is_err c.delete.result ≡ true = sym c.is_err.ensures.value ∙ c.if-is_err.true in
-    let gone : is_live s.repository.held.parts c.args.docno ≡ false = c.delete.ensures.refused.0 was in
+    let gone : is_live view.repository.held.parts c.args.docno ≡ false = c.delete.ensures.refused.0 was in
     refused-by (event.Delete c.args.docno) told view c.args.self.now (NoSuchDoc c.args.docno) c.self.view_is (absent-step told view c.args.docno gone)
 
 pub returns-clause-steps : goal.returns-clause-steps
 returns-clause-steps c = λ told backed.
-    let s = c.self.inside in
-    let view : Keeps = record { repository = s.repository; kind = s.kind; queries = s.queries.items; counts = s.counts; cache = s.cache; usable = s.usable } in
+    let view = seen c.self.inside in
     let kept = c.self.invariant (ap (λ (x : Keeps). x.usable) c.self.view_is ∙ c.requires.usable.0) (ap (λ (x : Keeps). x.repository.usable) c.self.view_is ∙ c.requires.usable.1) in
     let was : is_err c.delete.result ≡ false = sym c.is_err.ensures.value ∙ c.if-is_err.false in
-    let live : is_live s.repository.held.parts c.args.docno ≡ true = live-there c.delete.result (is_live s.repository.held.parts c.args.docno) c.delete.ensures.refused was in
-    delete-done told view c.args.self.now c.delete.new.self c.args.docno c.self.view_is kept.early (ok-of c.delete.result (c.delete.new.self ≡ with_held s.repository (deleted s.repository.held c.args.docno)) was c.delete.ensures.deleted) live
-    (ok-of c.delete.result ((f : Option Files) (k : Collection) → ReadsAs f s.repository k → ReadsAs f c.delete.new.self (without_docno k c.args.docno)) was c.delete.ensures.reads told) (c.delete.ensures.backed told) (c.delete.ensures.merging told) backed
+    let live : is_live view.repository.held.parts c.args.docno ≡ true = live-there c.delete.result (is_live view.repository.held.parts c.args.docno) c.delete.ensures.refused was in
+    delete-done told view c.args.self.now c.delete.new.self c.args.docno c.self.view_is kept.early (ok-of c.delete.result (c.delete.new.self ≡ with_held view.repository (deleted view.repository.held c.args.docno)) was c.delete.ensures.deleted) live
+    (ok-of c.delete.result ((f : Option Files) (k : Collection) → ReadsAs f view.repository k → ReadsAs f c.delete.new.self (without_docno k c.args.docno)) was c.delete.ensures.reads told) (c.delete.ensures.backed told) (c.delete.ensures.merging told) backed
 
 pub returns-clause-refuses : goal.returns-clause-refuses
 returns-clause-refuses c = λ told.
-    let s = c.self.inside in
-    let view : Keeps = record { repository = s.repository; kind = s.kind; queries = s.queries.items; counts = s.counts; cache = s.cache; usable = s.usable } in
+    let view = seen c.self.inside in
     let was : is_err c.delete.result ≡ false = sym c.is_err.ensures.value ∙ c.if-is_err.false in
-    let live : is_live s.repository.held.parts c.args.docno ≡ true = live-there c.delete.result (is_live s.repository.held.parts c.args.docno) c.delete.ensures.refused was in
+    let live : is_live view.repository.held.parts c.args.docno ≡ true = live-there c.delete.result (is_live view.repository.held.parts c.args.docno) c.delete.ensures.refused was in
     accepted-by (event.Delete c.args.docno) told view c.args.self.now _ c.self.view_is (step-deleted (state_of told view) c.args.docno (live-told told view c.args.docno ∙ live)) refl
 
 pub invariant_of-self-2 : goal.invariant_of-self-2
@@ -63,7 +60,6 @@ invariant_of-self-2 c = λ usable working.
 
 pub returns-then-is_err-clause-unchanged : goal.returns-then-is_err-clause-unchanged
 returns-then-is_err-clause-unchanged c =
-    let s = c.self.inside in
-    let view : Keeps = record { repository = s.repository; kind = s.kind; queries = s.queries.items; counts = s.counts; cache = s.cache; usable = s.usable } in
+    let view = seen c.self.inside in
     let was : is_err c.delete.result ≡ true = sym c.is_err.ensures.value ∙ c.if-is_err.true in
-    ap (with_repository view) (err-of c.delete.result (c.delete.new.self ≡ s.repository) was c.delete.ensures.kept) ∙ c.self.view_is
+    ap (with_repository view) (err-of c.delete.result (c.delete.new.self ≡ view.repository) was c.delete.ensures.kept) ∙ c.self.view_is

@@ -4,67 +4,58 @@ use Rattle.desk.specs.Backed.{Keeps, state_of}
 use Rattle.desk.proofs.Cases.{step-ended}
 use Rattle.desk.proofs.EndExits.{broken-now, broken-stops, end-done, end-gone, end-kept, swept-now, swept-stops}
 use Rattle.desk.proofs.Exits.{accepted-by}
+use Rattle.desk.proofs.Found.{seen}
 use Rattle.desk.proofs.KeptLemmas.{kept-closed}
 use Rattle.desk.proofs.kept.Kept.end.Goals as goal
 
 pub returns-in_err-flush-clause-now : goal.returns-in_err-flush-clause-now
 returns-in_err-flush-clause-now g c = λ kept backed stands.
-    let s = c.self.inside in
-    let view : Keeps = record { repository = s.repository; kind = s.kind; queries = s.queries.items; counts = s.counts; cache = s.cache; usable = s.usable } in
+    let view = seen c.self.inside in
     broken-now g.T.Store.files g.T.Store.clock g.T.Store.since c.args.store.now view c.args.self.now c.drop_merge.new.self kept c.self.view_is c.drop_merge.ensures backed stands c.flush.new.store c.flush.ensures.writes (g.met.T.Store.honest c.flush.new.store) (g.met.T.Store.still c.args.store.now) c.flush.ensures.goes_on.later
 
 pub returns-in_err-flush-clause-stops : goal.returns-in_err-flush-clause-stops
 returns-in_err-flush-clause-stops g c = λ kept backed stands.
-    let s = c.self.inside in
-    let view : Keeps = record { repository = s.repository; kind = s.kind; queries = s.queries.items; counts = s.counts; cache = s.cache; usable = s.usable } in
+    let view = seen c.self.inside in
     broken-stops g.T.Store.files g.T.Store.clock g.T.Store.since c.args.store.now view c.args.self.now c.drop_merge.new.self kept c.self.view_is c.drop_merge.ensures backed stands c.flush.new.store c.flush.ensures.writes
 
 pub returns-in_err-sweep-clause-now : goal.returns-in_err-sweep-clause-now
 returns-in_err-sweep-clause-now g c = λ kept backed stands.
-    let s = c.self.inside in
-    let view : Keeps = record { repository = s.repository; kind = s.kind; queries = s.queries.items; counts = s.counts; cache = s.cache; usable = s.usable } in
+    let view = seen c.self.inside in
     swept-now g.T.Store.files g.T.Store.clock g.T.Store.since c.args.store.now view c.args.self.now c.drop_merge.new.self kept c.self.view_is c.drop_merge.ensures backed stands c.flush.new.store c.flush.ensures.writes c.flush.new.self c.in_ok-flush.ensures.wrote c.in_ok-flush.ensures.saved c.sweep.new.store c.sweep.ensures.writes (g.met.T.Store.honest c.sweep.new.store) (g.met.T.Store.still c.flush.new.store) c.sweep.ensures.goes_on.later
 
 pub returns-in_err-sweep-clause-stops : goal.returns-in_err-sweep-clause-stops
 returns-in_err-sweep-clause-stops g c = λ kept backed stands.
-    let s = c.self.inside in
-    let view : Keeps = record { repository = s.repository; kind = s.kind; queries = s.queries.items; counts = s.counts; cache = s.cache; usable = s.usable } in
+    let view = seen c.self.inside in
     swept-stops g.T.Store.files g.T.Store.clock g.T.Store.since c.args.store.now view c.args.self.now c.drop_merge.new.self kept c.self.view_is c.drop_merge.ensures backed stands c.flush.new.store c.flush.ensures.writes c.flush.new.self c.in_ok-flush.ensures.wrote c.in_ok-flush.ensures.saved c.sweep.new.store c.sweep.ensures.writes
 
 pub returns-clause-now : goal.returns-clause-now
 returns-clause-now g c = λ kept backed stands.
-    let s = c.self.inside in
-    let view : Keeps = record { repository = s.repository; kind = s.kind; queries = s.queries.items; counts = s.counts; cache = s.cache; usable = s.usable } in
+    let view = seen c.self.inside in
     swept-now g.T.Store.files g.T.Store.clock g.T.Store.since c.args.store.now view c.args.self.now c.drop_merge.new.self kept c.self.view_is c.drop_merge.ensures backed stands c.flush.new.store c.flush.ensures.writes c.flush.new.self c.in_ok-flush.ensures.wrote c.in_ok-flush.ensures.saved c.sweep.new.store c.sweep.ensures.writes (g.met.T.Store.honest c.sweep.new.store) (g.met.T.Store.still c.flush.new.store) c.sweep.ensures.goes_on.later
 
 pub returns-clause-stops : goal.returns-clause-stops
 returns-clause-stops g c = λ kept backed stands.
-    let s = c.self.inside in
-    let view : Keeps = record { repository = s.repository; kind = s.kind; queries = s.queries.items; counts = s.counts; cache = s.cache; usable = s.usable } in
+    let view = seen c.self.inside in
     swept-stops g.T.Store.files g.T.Store.clock g.T.Store.since c.args.store.now view c.args.self.now c.drop_merge.new.self kept c.self.view_is c.drop_merge.ensures backed stands c.flush.new.store c.flush.ensures.writes c.flush.new.self c.in_ok-flush.ensures.wrote c.in_ok-flush.ensures.saved c.sweep.new.store c.sweep.ensures.writes
 
 pub returns-clause-steps : goal.returns-clause-steps
 returns-clause-steps g c = λ backed.
-    let s = c.self.inside in
-    let view : Keeps = record { repository = s.repository; kind = s.kind; queries = s.queries.items; counts = s.counts; cache = s.cache; usable = s.usable } in
+    let view = seen c.self.inside in
     end-done (g.T.Store.files c.args.store.now) (g.T.Store.files c.flush.new.store) (g.T.Store.files c.sweep.new.store) view c.args.self.now c.drop_merge.new.self c.flush.new.self c.sweep.new.self c.self.view_is c.drop_merge.ensures c.in_ok-flush.ensures.wrote c.in_ok-flush.ensures.saved c.in_ok-sweep.ensures.wrote c.in_ok-sweep.ensures.saved c.clear.new.self.items c.in_ok-self-inside.field-0 c.live_count.result c.clear.ensures.items c.in_ok-self-inside.ensures (c.live_count.ensures (g.T.Store.files c.sweep.new.store)) backed
 
 pub returns-clause-refuses : goal.returns-clause-refuses
 returns-clause-refuses g c = λ told.
-    let s = c.self.inside in
-    let view : Keeps = record { repository = s.repository; kind = s.kind; queries = s.queries.items; counts = s.counts; cache = s.cache; usable = s.usable } in
+    let view = seen c.self.inside in
     accepted-by event.End told view c.args.self.now _ c.self.view_is (step-ended (state_of told view)) refl
 
 pub returns-clause-done : goal.returns-clause-done
 returns-clause-done g c = λ kept backed stands.
-    let s = c.self.inside in
-    let view : Keeps = record { repository = s.repository; kind = s.kind; queries = s.queries.items; counts = s.counts; cache = s.cache; usable = s.usable } in
+    let view = seen c.self.inside in
     end-kept (g.T.Store.files c.args.store.now) (g.T.Store.files c.flush.new.store) (g.T.Store.files c.sweep.new.store) view c.args.self.now c.drop_merge.new.self c.flush.new.self c.sweep.new.self c.self.view_is c.drop_merge.ensures c.in_ok-flush.ensures.wrote c.in_ok-flush.ensures.saved c.in_ok-sweep.ensures.wrote c.in_ok-sweep.ensures.saved kept backed
 
 pub returns-clause-swept : goal.returns-clause-swept
 returns-clause-swept g c = (
-    let s = c.self.inside in
-    let view : Keeps = record { repository = s.repository; kind = s.kind; queries = s.queries.items; counts = s.counts; cache = s.cache; usable = s.usable } in
+    let view = seen c.self.inside in
     end-gone (g.T.Store.files c.args.store.now) (g.T.Store.files c.flush.new.store) (g.T.Store.files c.sweep.new.store) view c.args.self.now c.drop_merge.new.self c.flush.new.self c.sweep.new.self c.self.view_is c.drop_merge.ensures c.in_ok-flush.ensures.wrote c.in_ok-flush.ensures.saved c.in_ok-sweep.ensures.wrote c.in_ok-sweep.ensures.saved c.in_ok-sweep.ensures.gone)
 
 pub invariant_of-self : goal.invariant_of-self

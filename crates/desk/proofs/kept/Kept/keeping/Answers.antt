@@ -1,12 +1,13 @@
 use Rattle.std.proofs.Common.{◌≡◌, ◌∙◌, Option, sym}
 use Rattle.store_ends.specs.Files.{Files}
+use Rattle.disk_index.specs.QuietLaws.{IsQuiet-same}
 use Rattle.desk.specs.declared.reply.Reply.{Reply}
 use Rattle.desk.specs.Backed.{IsDeskBacked, Steps, state_of}
 use Rattle.desk.specs.Orders.{IsTrueReply}
 use Rattle.desk.specs.Points.{is_inside}
 use Rattle.desk.specs.Step.{step}
 use Rattle.desk.specs.Told.{RefusesAs, reply_early, told_early}
-use Rattle.desk.proofs.EventExits.{early-by, if-ok-all, if-ok-map, never-store, no-clash, outside-memory, quiet-same, true-reading}
+use Rattle.desk.proofs.EventExits.{early-by, if-ok-all, if-ok-map, never-store, no-clash, outside-memory, true-reading}
 use Rattle.desk.proofs.kept.Kept.keeping.Goals as goal
 
 pub returns-then-is_inside-clause-steps : goal.returns-then-is_inside-clause-steps
@@ -20,7 +21,7 @@ returns-then-is_inside-clause-early g c = if-ok-map c.inside.result (λ (r : Rep
     (λ r refused told. early-by r (step (state_of told c.args.self.now) c.args.event).1 (refused told)) c.inside.ensures.refuses
 
 pub returns-then-is_inside-clause-quiet : goal.returns-then-is_inside-clause-quiet
-returns-then-is_inside-clause-quiet g c = quiet-same g.T.Store.files g.T.Store.layers g.T.Store.clock g.T.Store.since g.T.Store.longest g.T.Store.held c.args.store.now
+returns-then-is_inside-clause-quiet g c = IsQuiet-same g.T.Store.files g.T.Store.layers g.T.Store.clock g.T.Store.since g.T.Store.longest g.T.Store.held g.T.Store.faults c.args.store.now
 
 pub returns-then-is_inside-clause-honest : goal.returns-then-is_inside-clause-honest
 returns-then-is_inside-clause-honest g c = λ backed. outside-memory c.inside.result c.inside.ensures.memory

@@ -15,6 +15,7 @@ use Rattle.desk.specs.Keeping.{AsksFor}
 use Rattle.desk.specs.Step.{open_step, step}
 use Rattle.desk.specs.Told.{RefusesAs}
 use Rattle.desk.proofs.Exits.{refused-by, refused-here}
+use Rattle.desk.proofs.Found.{seen}
 use Rattle.desk.proofs.OpenExits.{open-asked, refuses-asked, steps-asked}
 use Rattle.desk.proofs.kept.Kept.open.Goals as goal
 
@@ -37,9 +38,8 @@ open_checked-requires-clause-asks g c =
 pub returns-in-Err-Refused-clause-steps : goal.returns-in-Err-Refused-clause-steps
 returns-in-Err-Refused-clause-steps g c = λ backed.
     let told = g.T.Store.files c.args.store.now in
-    let s = c.self.inside in
-    let view : Keeps = record { repository = s.repository; kind = s.kind; queries = s.queries.items; counts = s.counts; cache = s.cache; usable = s.usable } in
-    let own : c.deref.result.now ≡ map (λ (e : PriorEntry). e.name) s.repository.priors = c.deref.ensures.value ∙ c.in_ok-names.ensures ∙ ap (map (λ (e : PriorEntry). e.name)) c.priors.ensures.list in
+    let view = seen c.self.inside in
+    let own : c.deref.result.now ≡ map (λ (e : PriorEntry). e.name) view.repository.priors = c.deref.ensures.value ∙ c.in_ok-names.ensures ∙ ap (map (λ (e : PriorEntry). e.name)) c.priors.ensures.list in
     let why = c.in-Err-Refused.refusal in
     let taken : IsNotTaken (asked c.deref.result.now c.as_slice.result.now) (not_taken.Refused why) = subst (λ (n : NotTaken). IsNotTaken (asked c.deref.result.now c.as_slice.result.now) n) c.in-Err-Refused.field-0-is c.in-Err-Refused.ensures.refused in
     let is : asked c.deref.result.now c.args.text.now ≡ Err why = ap (asked c.deref.result.now) (sym c.as_slice.ensures) ∙ taken in
@@ -47,9 +47,8 @@ returns-in-Err-Refused-clause-steps g c = λ backed.
 
 pub returns-in-Err-Refused-clause-refuses : goal.returns-in-Err-Refused-clause-refuses
 returns-in-Err-Refused-clause-refuses g c = λ told.
-    let s = c.self.inside in
-    let view : Keeps = record { repository = s.repository; kind = s.kind; queries = s.queries.items; counts = s.counts; cache = s.cache; usable = s.usable } in
-    let own : c.deref.result.now ≡ map (λ (e : PriorEntry). e.name) s.repository.priors = c.deref.ensures.value ∙ c.in_ok-names.ensures ∙ ap (map (λ (e : PriorEntry). e.name)) c.priors.ensures.list in
+    let view = seen c.self.inside in
+    let own : c.deref.result.now ≡ map (λ (e : PriorEntry). e.name) view.repository.priors = c.deref.ensures.value ∙ c.in_ok-names.ensures ∙ ap (map (λ (e : PriorEntry). e.name)) c.priors.ensures.list in
     let why = c.in-Err-Refused.refusal in
     let taken : IsNotTaken (asked c.deref.result.now c.as_slice.result.now) (not_taken.Refused why) = subst (λ (n : NotTaken). IsNotTaken (asked c.deref.result.now c.as_slice.result.now) n) c.in-Err-Refused.field-0-is c.in-Err-Refused.ensures.refused in
     let is : asked c.deref.result.now c.args.text.now ≡ Err why = ap (asked c.deref.result.now) (sym c.as_slice.ensures) ∙ taken in
@@ -59,9 +58,8 @@ pub returns-in-Ok-clause-steps : goal.returns-in-Ok-clause-steps
 returns-in-Ok-clause-steps g c =
     let told = g.T.Store.files c.args.store.now in
     let after = g.T.Store.files c.open_checked.new.store in
-    let s = c.self.inside in
-    let view : Keeps = record { repository = s.repository; kind = s.kind; queries = s.queries.items; counts = s.counts; cache = s.cache; usable = s.usable } in
-    let own : c.deref.result.now ≡ map (λ (e : PriorEntry). e.name) s.repository.priors = c.deref.ensures.value ∙ c.in_ok-names.ensures ∙ ap (map (λ (e : PriorEntry). e.name)) c.priors.ensures.list in
+    let view = seen c.self.inside in
+    let own : c.deref.result.now ≡ map (λ (e : PriorEntry). e.name) view.repository.priors = c.deref.ensures.value ∙ c.in_ok-names.ensures ∙ ap (map (λ (e : PriorEntry). e.name)) c.priors.ensures.list in
     let q = whole_checked c.in-Ok.checked in
     let is : asked c.deref.result.now c.args.text.now ≡ Ok q = ap (asked c.deref.result.now) (sym c.as_slice.ensures) ∙ c.in-Ok.ensures.read in
     IfOk-weaker c.open_checked.result (λ y. IsDeskBacked told c.args.self.now → StepsTo (open_step (state_of told c.args.self.now) c.args.name c.args.k (Ok q)) after c.open_checked.new.self y)
@@ -71,9 +69,8 @@ returns-in-Ok-clause-steps g c =
 
 pub returns-in-Ok-clause-refuses : goal.returns-in-Ok-clause-refuses
 returns-in-Ok-clause-refuses g c =
-    let s = c.self.inside in
-    let view : Keeps = record { repository = s.repository; kind = s.kind; queries = s.queries.items; counts = s.counts; cache = s.cache; usable = s.usable } in
-    let own : c.deref.result.now ≡ map (λ (e : PriorEntry). e.name) s.repository.priors = c.deref.ensures.value ∙ c.in_ok-names.ensures ∙ ap (map (λ (e : PriorEntry). e.name)) c.priors.ensures.list in
+    let view = seen c.self.inside in
+    let own : c.deref.result.now ≡ map (λ (e : PriorEntry). e.name) view.repository.priors = c.deref.ensures.value ∙ c.in_ok-names.ensures ∙ ap (map (λ (e : PriorEntry). e.name)) c.priors.ensures.list in
     let q = whole_checked c.in-Ok.checked in
     let is : asked c.deref.result.now c.args.text.now ≡ Ok q = ap (asked c.deref.result.now) (sym c.as_slice.ensures) ∙ c.in-Ok.ensures.read in
     IfOk-weaker c.open_checked.result (λ y. (told : Option Files) → RefusesAs y (open_step (state_of told c.args.self.now) c.args.name c.args.k (Ok q)).1)

@@ -1,6 +1,6 @@
 use Rattle.std.proofs.Common.{◌≡◌, ◌∙◌, ◌<◌, ◌++◌, ◌∷◌, [], ap, arith, false, true, length, map, refl, rules, subst, sym, List}
 use Rattle.std.specs.Prelude.{is_some, nat_le}
-use Rattle.std.specs.List.{All, position}
+use Rattle.std.specs.List.{All}
 use Rattle.std.proofs.lemmas.Bool.{le-leb, lt-leb}
 use Rattle.std.proofs.lemmas.Result.{err_from_is_err_and}
 use Rattle.ri_base.specs.Documents.{Document}
@@ -17,120 +17,96 @@ use Rattle.desk.specs.Keeping.{AreKept, AsksFor, IsOpen}
 use Rattle.desk.specs.declared.query.OpenQuery.{OpenQuery}
 use Rattle.desk.specs.declared.query.TheConstants.{MAX_QUERIES}
 use Rattle.desk.proofs.CacheLemmas.{cache-read, listed-now}
-use Rattle.desk.proofs.Closing.{priors-closed}
-use Rattle.desk.proofs.KeptLemmas.{kept-counts, kept-pushed, kept-repository}
-use Rattle.desk.proofs.Naming.{is_named}
-use Rattle.desk.proofs.OpenExits.{IsNewSearch, full-refused, open-accepted-by, open-done, open-new, open-refusal, open-refused-by, taken-refused}
+use Rattle.desk.proofs.Closing.{priors-closed, snapped-kept, summed-kept}
+use Rattle.desk.proofs.Found.{found-as, seen}
+use Rattle.desk.proofs.KeptLemmas.{kept-pushed}
+use Rattle.desk.proofs.OpenExits.{full-refused, new-search, open-accepted-by, open-done, open-new, open-refusal, open-refused-by, taken-refused}
 use Rattle.desk.proofs.kept.Kept.open_checked.Goals as goal
 
 pub returns-then-is_some-clause-steps : goal.returns-then-is_some-clause-steps
 returns-then-is_some-clause-steps g c = λ backed.
     let told = g.T.Store.files c.args.store.now in
-    let s = c.self.inside in
-    let name = c.args.name in
-    let view : Keeps = record { repository = s.repository; kind = s.kind; queries = s.queries.items; counts = s.counts; cache = s.cache; usable = s.usable } in
-    let taken : is_some (position (is_named name) s.queries.items) ≡ true = ap (λ (x : Keeps). is_some (position (is_named name) x.queries)) c.self.view_is ∙ ap is_some (sym c.find.ensures) ∙ sym c.is_some.ensures ∙ c.if-is_some.true in
-    open-refusal told view c.args.self.now name c.args.k (whole_checked c.args.checked) (NameTaken name) c.self.view_is (taken-refused told view name c.args.k (whole_checked c.args.checked) taken) backed
+    let view = seen c.self.inside in
+    let taken = found-as view c.args.self.now c.args.name c.self.view_is true (ap is_some (sym c.find.ensures) ∙ sym c.is_some.ensures ∙ c.if-is_some.true) in
+    open-refusal told view c.args.self.now c.args.name c.args.k (whole_checked c.args.checked) (NameTaken c.args.name) c.self.view_is (taken-refused told view c.args.name c.args.k (whole_checked c.args.checked) taken) backed
 
 pub returns-then-is_some-clause-refuses : goal.returns-then-is_some-clause-refuses
 returns-then-is_some-clause-refuses g c = λ told.
-    let s = c.self.inside in
-    let name = c.args.name in
-    let view : Keeps = record { repository = s.repository; kind = s.kind; queries = s.queries.items; counts = s.counts; cache = s.cache; usable = s.usable } in
-    let taken : is_some (position (is_named name) s.queries.items) ≡ true = ap (λ (x : Keeps). is_some (position (is_named name) x.queries)) c.self.view_is ∙ ap is_some (sym c.find.ensures) ∙ sym c.is_some.ensures ∙ c.if-is_some.true in
-    open-refused-by told view c.args.self.now name c.args.k (whole_checked c.args.checked) (NameTaken name) c.self.view_is (taken-refused told view name c.args.k (whole_checked c.args.checked) taken)
+    let view = seen c.self.inside in
+    let taken = found-as view c.args.self.now c.args.name c.self.view_is true (ap is_some (sym c.find.ensures) ∙ sym c.is_some.ensures ∙ c.if-is_some.true) in
+    open-refused-by told view c.args.self.now c.args.name c.args.k (whole_checked c.args.checked) (NameTaken c.args.name) c.self.view_is (taken-refused told view c.args.name c.args.k (whole_checked c.args.checked) taken)
 
 pub returns-then-len-ge-MAX_QUERIES-clause-steps : goal.returns-then-len-ge-MAX_QUERIES-clause-steps
 returns-then-len-ge-MAX_QUERIES-clause-steps g c = λ backed.
     let told = g.T.Store.files c.args.store.now in
     let s = c.self.inside in
-    let name = c.args.name in
-    let view : Keeps = record { repository = s.repository; kind = s.kind; queries = s.queries.items; counts = s.counts; cache = s.cache; usable = s.usable } in
-    let free : is_some (position (is_named name) s.queries.items) ≡ false = ap (λ (x : Keeps). is_some (position (is_named name) x.queries)) c.self.view_is ∙ ap is_some (sym c.find.ensures) ∙ sym c.is_some.ensures ∙ c.if-is_some.false in
+    let view = seen c.self.inside in
+    let free = found-as view c.args.self.now c.args.name c.self.view_is false (ap is_some (sym c.find.ensures) ∙ sym c.is_some.ensures ∙ c.if-is_some.false) in
     let full : nat_le MAX_QUERIES (length s.queries.items) ≡ true = le-leb MAX_QUERIES (length s.queries.items) (omega (arith, c.len.ensures, c.if-len-ge-MAX_QUERIES.true)) in
-    open-refusal told view c.args.self.now name c.args.k (whole_checked c.args.checked) (DeskFull name) c.self.view_is (full-refused told view name c.args.k (whole_checked c.args.checked) free full) backed
+    open-refusal told view c.args.self.now c.args.name c.args.k (whole_checked c.args.checked) (DeskFull c.args.name) c.self.view_is (full-refused told view c.args.name c.args.k (whole_checked c.args.checked) free full) backed
 
 pub returns-then-len-ge-MAX_QUERIES-clause-refuses : goal.returns-then-len-ge-MAX_QUERIES-clause-refuses
 returns-then-len-ge-MAX_QUERIES-clause-refuses g c = λ told.
     let s = c.self.inside in
-    let name = c.args.name in
-    let view : Keeps = record { repository = s.repository; kind = s.kind; queries = s.queries.items; counts = s.counts; cache = s.cache; usable = s.usable } in
-    let free : is_some (position (is_named name) s.queries.items) ≡ false = ap (λ (x : Keeps). is_some (position (is_named name) x.queries)) c.self.view_is ∙ ap is_some (sym c.find.ensures) ∙ sym c.is_some.ensures ∙ c.if-is_some.false in
+    let view = seen c.self.inside in
+    let free = found-as view c.args.self.now c.args.name c.self.view_is false (ap is_some (sym c.find.ensures) ∙ sym c.is_some.ensures ∙ c.if-is_some.false) in
     let full : nat_le MAX_QUERIES (length s.queries.items) ≡ true = le-leb MAX_QUERIES (length s.queries.items) (omega (arith, c.len.ensures, c.if-len-ge-MAX_QUERIES.true)) in
-    open-refused-by told view c.args.self.now name c.args.k (whole_checked c.args.checked) (DeskFull name) c.self.view_is (full-refused told view name c.args.k (whole_checked c.args.checked) free full)
+    open-refused-by told view c.args.self.now c.args.name c.args.k (whole_checked c.args.checked) (DeskFull c.args.name) c.self.view_is (full-refused told view c.args.name c.args.k (whole_checked c.args.checked) free full)
 
 pub invariant_of-self : goal.invariant_of-self
 invariant_of-self g c =
     λ usable there.
     let s = c.self.inside in
-    let priors = priors-closed c.snapshot.result s.repository c.snapshot.new.self c.snapshot.ensures.closed c.snapshot.ensures.left in
-    let was = kept-repository s.repository c.snapshot.new.self s.queries.items s.counts priors (c.self.invariant usable (sym c.snapshot.ensures.usable ∙ there)) in
-    was
+    snapped-kept c.snapshot.result s.repository c.snapshot.new.self s.queries.items s.counts c.snapshot.ensures.closed c.snapshot.ensures.left (c.self.invariant usable (sym c.snapshot.ensures.usable ∙ there))
 
 pub invariant_of-self-in_err-stats : goal.invariant_of-self-in_err-stats
 invariant_of-self-in_err-stats g c =
     λ usable there.
     let s = c.self.inside in
-    let priors = priors-closed c.snapshot.result s.repository c.snapshot.new.self c.snapshot.ensures.closed c.snapshot.ensures.left in
-    let was = kept-repository s.repository c.snapshot.new.self s.queries.items s.counts priors (c.self.invariant usable (sym c.snapshot.ensures.usable ∙ there)) in
-    kept-counts c.snapshot.new.self s.queries.items s.counts c.all_stats.new.counts c.all_stats.ensures.adds was
+    summed-kept c.snapshot.result s.repository c.snapshot.new.self s.queries.items s.counts c.all_stats.new.counts c.snapshot.ensures.closed c.snapshot.ensures.left c.all_stats.ensures.adds (c.self.invariant usable (sym c.snapshot.ensures.usable ∙ there))
 
 pub invariant_of-self-in_err-search : goal.invariant_of-self-in_err-search
 invariant_of-self-in_err-search g c =
     λ usable there.
     let s = c.self.inside in
-    let priors = priors-closed c.snapshot.result s.repository c.snapshot.new.self c.snapshot.ensures.closed c.snapshot.ensures.left in
-    let was = kept-repository s.repository c.snapshot.new.self s.queries.items s.counts priors (c.self.invariant usable (sym c.snapshot.ensures.usable ∙ there)) in
-    kept-counts c.snapshot.new.self s.queries.items s.counts c.all_stats.new.counts c.all_stats.ensures.adds was
+    summed-kept c.snapshot.result s.repository c.snapshot.new.self s.queries.items s.counts c.all_stats.new.counts c.snapshot.ensures.closed c.snapshot.ensures.left c.all_stats.ensures.adds (c.self.invariant usable (sym c.snapshot.ensures.usable ∙ there))
 
 pub invariant_of-self-in_err-told : goal.invariant_of-self-in_err-told
 invariant_of-self-in_err-told g c =
     λ usable there.
     let s = c.self.inside in
-    let priors = priors-closed c.snapshot.result s.repository c.snapshot.new.self c.snapshot.ensures.closed c.snapshot.ensures.left in
-    let was = kept-repository s.repository c.snapshot.new.self s.queries.items s.counts priors (c.self.invariant usable (sym c.snapshot.ensures.usable ∙ there)) in
-    kept-counts c.snapshot.new.self s.queries.items s.counts c.all_stats.new.counts c.all_stats.ensures.adds was
+    summed-kept c.snapshot.result s.repository c.snapshot.new.self s.queries.items s.counts c.all_stats.new.counts c.snapshot.ensures.closed c.snapshot.ensures.left c.all_stats.ensures.adds (c.self.invariant usable (sym c.snapshot.ensures.usable ∙ there))
 
 pub invariant_of-self-in_err-map_err : goal.invariant_of-self-in_err-map_err
 invariant_of-self-in_err-map_err g c =
     λ usable there.
     let s = c.self.inside in
-    let priors = priors-closed c.snapshot.result s.repository c.snapshot.new.self c.snapshot.ensures.closed c.snapshot.ensures.left in
-    let was = kept-repository s.repository c.snapshot.new.self s.queries.items s.counts priors (c.self.invariant usable (sym c.snapshot.ensures.usable ∙ there)) in
     let same : c.push.new.self.items ≡ s.queries.items = search rules in
-    subst (λ (qs : List OpenQuery). AreKept c.snapshot.new.self qs c.all_stats.new.counts) (sym same) (kept-counts c.snapshot.new.self s.queries.items s.counts c.all_stats.new.counts c.all_stats.ensures.adds was)
+    subst (λ (qs : List OpenQuery). AreKept c.snapshot.new.self qs c.all_stats.new.counts) (sym same) (summed-kept c.snapshot.result s.repository c.snapshot.new.self s.queries.items s.counts c.all_stats.new.counts c.snapshot.ensures.closed c.snapshot.ensures.left c.all_stats.ensures.adds (c.self.invariant usable (sym c.snapshot.ensures.usable ∙ there)))
 
 pub invariant_of-self-2 : goal.invariant_of-self-2
 invariant_of-self-2 g c =
     λ usable there.
     let s = c.self.inside in
     let priors = priors-closed c.snapshot.result s.repository c.snapshot.new.self c.snapshot.ensures.closed c.snapshot.ensures.left in
-    let was = kept-repository s.repository c.snapshot.new.self s.queries.items s.counts priors (c.self.invariant usable (sym c.snapshot.ensures.usable ∙ there)) in
     let name = c.args.name in
     let few : length s.queries.items < MAX_QUERIES = omega (arith, c.len.ensures, c.if-len-ge-MAX_QUERIES.false) in
     let q : OpenQuery = record { name = c.args.name; search = c.in_ok-search.search } in
     let snapshot = c.in_ok-snapshot.snapshot in
     let stats = c.deref-2.result.now in
-    let new : IsNewSearch snapshot c.args.checked stats c.args.k q.search = record {
-      snapshot_is = c.in_ok-search.ensures.snapshot;
-      checked_is = c.in_ok-search.ensures.checked;
-      network_is = c.in_ok-search.ensures.network;
-      most_is = c.in_ok-search.ensures.most;
-      credit_is = c.in_ok-search.ensures.credit;
-      usable_is = c.in_ok-search.ensures.usable;
-    } in
+    let made = c.in_ok-search.ensures in
+    let new = new-search snapshot c.args.checked stats c.args.k q.search made.snapshot made.checked made.network made.most made.credit made.usable in
     let asks = subst (λ (x : Keeps). All (AsksFor (length x.repository.priors)) (whole_checked c.args.checked).leaves) (sym c.self.view_is) c.requires.asks in
     let one : IsOpen (length c.snapshot.new.self.priors) q = open-new (length c.snapshot.new.self.priors) name snapshot c.args.checked stats c.args.k q new c.in_ok-snapshot.ensures.distinct c.requires.k.1
     (subst (λ n. All (AsksFor n) (whole_checked c.args.checked).leaves) (sym (ap length priors)) asks) in
     let pushed : c.push.new.self.items ≡ s.queries.items ++ q ∷ [] = search rules in
     subst (λ (qs : List OpenQuery). AreKept c.snapshot.new.self qs c.all_stats.new.counts) (sym pushed)
-    (kept-pushed c.snapshot.new.self s.queries.items c.all_stats.new.counts q few one (kept-counts c.snapshot.new.self s.queries.items s.counts c.all_stats.new.counts c.all_stats.ensures.adds was))
+    (kept-pushed c.snapshot.new.self s.queries.items c.all_stats.new.counts q few one (summed-kept c.snapshot.result s.repository c.snapshot.new.self s.queries.items s.counts c.all_stats.new.counts c.snapshot.ensures.closed c.snapshot.ensures.left c.all_stats.ensures.adds (c.self.invariant usable (sym c.snapshot.ensures.usable ∙ there))))
 
 pub returns-in_err-stats-clause-honest : goal.returns-in_err-stats-clause-honest
 returns-in_err-stats-clause-honest g c = λ backed.
     let told = g.T.Store.files c.args.store.now in
-    let s = c.self.inside in
-    let view : Keeps = record { repository = s.repository; kind = s.kind; queries = s.queries.items; counts = s.counts; cache = s.cache; usable = s.usable } in
+    let view = seen c.self.inside in
     let b : IsDeskBacked told view = subst (IsDeskBacked told) (sym c.self.view_is) backed in
     let p = err_from_is_err_and c.from_residual-in_err-stats.result c.from_residual-in_err-stats.ensures.1 in
     rw (p.1, p.2) (c.in_err-stats.ensures.honest (c.in_ok-snapshot.ensures.stored told b.repository) b.cache.backed)
@@ -141,20 +117,14 @@ returns-clause-steps g c = λ backed.
     let after = g.T.Store.files c.all_stats.new.store in
     let s = c.self.inside in
     let name = c.args.name in
-    let view : Keeps = record { repository = s.repository; kind = s.kind; queries = s.queries.items; counts = s.counts; cache = s.cache; usable = s.usable } in
-    let free : is_some (position (is_named name) s.queries.items) ≡ false = ap (λ (x : Keeps). is_some (position (is_named name) x.queries)) c.self.view_is ∙ ap is_some (sym c.find.ensures) ∙ sym c.is_some.ensures ∙ c.if-is_some.false in
+    let view = seen c.self.inside in
+    let free = found-as view c.args.self.now name c.self.view_is false (ap is_some (sym c.find.ensures) ∙ sym c.is_some.ensures ∙ c.if-is_some.false) in
     let room : nat_le MAX_QUERIES (length s.queries.items) ≡ false = lt-leb MAX_QUERIES (length s.queries.items) (omega (arith, c.len.ensures, c.if-len-ge-MAX_QUERIES.false)) in
     let q : OpenQuery = record { name = c.args.name; search = c.in_ok-search.search } in
     let snapshot = c.in_ok-snapshot.snapshot in
     let stats = c.deref-2.result.now in
-    let new : IsNewSearch snapshot c.args.checked stats c.args.k q.search = record {
-      snapshot_is = c.in_ok-search.ensures.snapshot;
-      checked_is = c.in_ok-search.ensures.checked;
-      network_is = c.in_ok-search.ensures.network;
-      most_is = c.in_ok-search.ensures.most;
-      credit_is = c.in_ok-search.ensures.credit;
-      usable_is = c.in_ok-search.ensures.usable;
-    } in
+    let made = c.in_ok-search.ensures in
+    let new = new-search snapshot c.args.checked stats c.args.k q.search made.snapshot made.checked made.network made.most made.credit made.usable in
     let documents = c.in_ok-snapshot.ensures.documents told in
     let wide : c.from-live.result ≡ c.live_count.result = search rules in
     let pushed : c.push.new.self.items ≡ s.queries.items ++ q ∷ [] = search rules in
@@ -171,8 +141,7 @@ returns-clause-steps g c = λ backed.
 pub returns-clause-refuses : goal.returns-clause-refuses
 returns-clause-refuses g c = λ told.
     let s = c.self.inside in
-    let name = c.args.name in
-    let view : Keeps = record { repository = s.repository; kind = s.kind; queries = s.queries.items; counts = s.counts; cache = s.cache; usable = s.usable } in
-    let free : is_some (position (is_named name) s.queries.items) ≡ false = ap (λ (x : Keeps). is_some (position (is_named name) x.queries)) c.self.view_is ∙ ap is_some (sym c.find.ensures) ∙ sym c.is_some.ensures ∙ c.if-is_some.false in
+    let view = seen c.self.inside in
+    let free = found-as view c.args.self.now c.args.name c.self.view_is false (ap is_some (sym c.find.ensures) ∙ sym c.is_some.ensures ∙ c.if-is_some.false) in
     let room : nat_le MAX_QUERIES (length s.queries.items) ≡ false = lt-leb MAX_QUERIES (length s.queries.items) (omega (arith, c.len.ensures, c.if-len-ge-MAX_QUERIES.false)) in
-    open-accepted-by told view c.args.self.now name c.args.k (whole_checked c.args.checked) c.self.view_is free room
+    open-accepted-by told view c.args.self.now c.args.name c.args.k (whole_checked c.args.checked) c.self.view_is free room

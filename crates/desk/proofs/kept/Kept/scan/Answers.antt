@@ -13,9 +13,9 @@ use Rattle.desk.specs.declared.asking.NotTaken.{NotTaken}
 use Rattle.desk.specs.declared.asking.NotTaken.TheVariants as not_taken
 use Rattle.desk.proofs.CacheLemmas.{cache-read, listed-now}
 use Rattle.desk.proofs.Cases.{scan-fault, scan-found}
-use Rattle.desk.proofs.Closing.{priors-closed}
+use Rattle.desk.proofs.Closing.{snapped-kept}
 use Rattle.desk.proofs.Exits.{accepted-by, refused-exit, refused-so}
-use Rattle.desk.proofs.KeptLemmas.{kept-repository}
+use Rattle.desk.proofs.Found.{seen}
 use Rattle.desk.proofs.ReadingExits.{scan-done}
 use Rattle.desk.proofs.kept.Kept.scan.Goals as goal
 
@@ -38,49 +38,46 @@ pub invariant_of-self : goal.invariant_of-self
 invariant_of-self g c =
     λ usable there.
     let s = c.self.inside in
-    kept-repository s.repository c.snapshot.new.self s.queries.items s.counts (priors-closed c.snapshot.result s.repository c.snapshot.new.self c.snapshot.ensures.closed c.snapshot.ensures.left) (c.self.invariant usable (sym c.snapshot.ensures.usable ∙ there))
+    snapped-kept c.snapshot.result s.repository c.snapshot.new.self s.queries.items s.counts c.snapshot.ensures.closed c.snapshot.ensures.left (c.self.invariant usable (sym c.snapshot.ensures.usable ∙ there))
 
 pub invariant_of-self-2 : goal.invariant_of-self-2
 invariant_of-self-2 g c =
     λ usable there.
     let s = c.self.inside in
-    kept-repository s.repository c.snapshot.new.self s.queries.items s.counts (priors-closed c.snapshot.result s.repository c.snapshot.new.self c.snapshot.ensures.closed c.snapshot.ensures.left) (c.self.invariant usable (sym c.snapshot.ensures.usable ∙ there))
+    snapped-kept c.snapshot.result s.repository c.snapshot.new.self s.queries.items s.counts c.snapshot.ensures.closed c.snapshot.ensures.left (c.self.invariant usable (sym c.snapshot.ensures.usable ∙ there))
 
 pub invariant_of-self-in_err-lines : goal.invariant_of-self-in_err-lines
 invariant_of-self-in_err-lines g c =
     λ usable there.
     let s = c.self.inside in
-    kept-repository s.repository c.snapshot.new.self s.queries.items s.counts (priors-closed c.snapshot.result s.repository c.snapshot.new.self c.snapshot.ensures.closed c.snapshot.ensures.left) (c.self.invariant usable (sym c.snapshot.ensures.usable ∙ there))
+    snapped-kept c.snapshot.result s.repository c.snapshot.new.self s.queries.items s.counts c.snapshot.ensures.closed c.snapshot.ensures.left (c.self.invariant usable (sym c.snapshot.ensures.usable ∙ there))
 
 pub returns-clause-steps : goal.returns-clause-steps
 returns-clause-steps g c = λ backed.
     let told = g.T.Store.files c.args.store.now in
     let after = g.T.Store.files c.scan.new.store in
-    let s = c.self.inside in
-    let view : Keeps = record { repository = s.repository; kind = s.kind; queries = s.queries.items; counts = s.counts; cache = s.cache; usable = s.usable } in
+    let view = seen c.self.inside in
     let text = c.args.text.now in
     let x = expr_tree c.in-Ok.expr in
     let parts = c.parts.result.now in
     let own : parts ≡ c.in_ok-snapshot.snapshot = c.parts.ensures.parts in
     let is : scanned text ≡ Ok x = ap scanned (sym c.as_slice.ensures) ∙ c.in-Ok.ensures.read in
-    let numbers : part_numbers parts ≡ part_numbers s.repository.held.parts.closed = ap part_numbers own ∙ c.in_ok-snapshot.ensures.numbers in
+    let numbers : part_numbers parts ≡ part_numbers view.repository.held.parts.closed = ap part_numbers own ∙ c.in_ok-snapshot.ensures.numbers in
     scan-done told after view c.args.self.now c.snapshot.new.self text x c.in_ok-lines.lines c.scan.new.cache c.self.view_is c.in_ok-snapshot.ensures.closed c.in_ok-lines.ensures.reads.quiet.same_files is
     (λ b. c.in_ok-lines.ensures.exact (subst (λ (ms : List Marked). AreBacked told ms) (sym own) (c.in_ok-snapshot.ensures.stored told b.repository)) b.cache.backed
     ∙ ap (λ (ms : List Marked). extents_in x (snapshots.live told ms)) own ∙ ap (extents_in x) (c.in_ok-snapshot.ensures.documents told))
-    (λ b. cache-read told s.repository parts s.cache c.scan.new.cache (listed-now s.repository parts numbers) c.in_ok-lines.ensures.reads.cache b.cache) backed
+    (λ b. cache-read told view.repository parts view.cache c.scan.new.cache (listed-now view.repository parts numbers) c.in_ok-lines.ensures.reads.cache b.cache) backed
 
 pub returns-clause-refuses : goal.returns-clause-refuses
 returns-clause-refuses g c = λ told.
-    let s = c.self.inside in
-    let view : Keeps = record { repository = s.repository; kind = s.kind; queries = s.queries.items; counts = s.counts; cache = s.cache; usable = s.usable } in
+    let view = seen c.self.inside in
     let is : scanned c.args.text.now ≡ Ok (expr_tree c.in-Ok.expr) = ap scanned (sym c.as_slice.ensures) ∙ c.in-Ok.ensures.read in
     accepted-by (event.Scan c.args.text.now) told view c.args.self.now _ c.self.view_is (scan-found (state_of told view) c.args.text.now (expr_tree c.in-Ok.expr) is) refl
 
 pub returns-in_err-lines-clause-honest : goal.returns-in_err-lines-clause-honest
 returns-in_err-lines-clause-honest g c = λ backed.
     let told = g.T.Store.files c.args.store.now in
-    let s = c.self.inside in
-    let view : Keeps = record { repository = s.repository; kind = s.kind; queries = s.queries.items; counts = s.counts; cache = s.cache; usable = s.usable } in
+    let view = seen c.self.inside in
     let b : IsDeskBacked told view = subst (IsDeskBacked told) (sym c.self.view_is) backed in
     let p = err_from_is_err_and c.from_residual-in_err-lines.result c.from_residual-in_err-lines.ensures.1 in
     rw (p.1, p.2) (c.in_err-lines.ensures.honest (subst (λ (ms : List Marked). AreBacked told ms) (sym c.parts.ensures.parts) (c.in_ok-snapshot.ensures.stored told b.repository)) b.cache.backed)

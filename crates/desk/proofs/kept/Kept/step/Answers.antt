@@ -1,4 +1,4 @@
-use Rattle.std.proofs.Common.{◌≡◌, ◌∙◌, ◌≤◌, ap, get_or, length, refl, subst, sym, None, Some, Option, set}
+use Rattle.std.proofs.Common.{◌≡◌, ◌∙◌, ◌≤◌, ap, get_or, length, refl, subst, sym, Some, Option, set}
 use Rattle.std.specs.Prelude.{is_ok}
 use Rattle.std.specs.List.{position}
 use Rattle.store_ends.specs.Files.{Files}
@@ -12,49 +12,39 @@ use Rattle.desk.specs.Queries.{IsCacheKept, IsQueryBacked, query_of}
 use Rattle.desk.proofs.CacheLemmas.{cache-read}
 use Rattle.desk.proofs.Cases.{step-noname, step-stepped}
 use Rattle.desk.proofs.Exits.{accepted-by, of-now, refused-by, refused-here}
-use Rattle.desk.proofs.Found.{open-of, place-of}
+use Rattle.desk.proofs.Found.{backed-of, none-found, open-of, place-of, seen}
 use Rattle.desk.proofs.KeptLemmas.{asks-nine, kept-set, open-on}
 use Rattle.desk.proofs.NamedExits.{step-exit, with_search}
-use Rattle.desk.proofs.Naming.{at-place, found-place, is_named, named-here, named-none}
+use Rattle.desk.proofs.Naming.{at-place, found-place, is_named, named-here}
 use Rattle.desk.proofs.QueryLemmas.{plugs-moved}
 use Rattle.desk.proofs.kept.Kept.step.Goals as goal
 
 pub returns-in_default-clause-steps : goal.returns-in_default-clause-steps
 returns-in_default-clause-steps g c = λ backed are.
     let told = g.T.Store.files c.args.store.now in
-    let s = c.self.inside in
-    let name = c.args.name in
-    let view : Keeps = record { repository = s.repository; kind = s.kind; queries = s.queries.items; counts = s.counts; cache = s.cache; usable = s.usable } in
-    let none : position (is_named name) s.queries.items ≡ None = ap (λ (x : Keeps). position (is_named name) x.queries) c.self.view_is ∙ sym c.find.ensures ∙ c.in_default.is in
-    refused-here (event.Step name c.args.docs) told view c.args.self.now (NoSuchName name) c.self.view_is (step-noname (state_of told view) name c.args.docs (named-none told name s.queries.items none)) backed
+    let view = seen c.self.inside in
+    refused-here (event.Step c.args.name c.args.docs) told view c.args.self.now (NoSuchName c.args.name) c.self.view_is (step-noname (state_of told view) c.args.name c.args.docs (none-found view c.args.self.now c.args.name c.self.view_is told (sym c.find.ensures ∙ c.in_default.is))) backed
 
 pub returns-in_default-clause-refuses : goal.returns-in_default-clause-refuses
 returns-in_default-clause-refuses g c = λ told.
-    let s = c.self.inside in
-    let name = c.args.name in
-    let view : Keeps = record { repository = s.repository; kind = s.kind; queries = s.queries.items; counts = s.counts; cache = s.cache; usable = s.usable } in
-    let none : position (is_named name) s.queries.items ≡ None = ap (λ (x : Keeps). position (is_named name) x.queries) c.self.view_is ∙ sym c.find.ensures ∙ c.in_default.is in
-    refused-by (event.Step name c.args.docs) told view c.args.self.now (NoSuchName name) c.self.view_is (step-noname (state_of told view) name c.args.docs (named-none told name s.queries.items none))
+    let view = seen c.self.inside in
+    refused-by (event.Step c.args.name c.args.docs) told view c.args.self.now (NoSuchName c.args.name) c.self.view_is (step-noname (state_of told view) c.args.name c.args.docs (none-found view c.args.self.now c.args.name c.self.view_is told (sym c.find.ensures ∙ c.in_default.is)))
 
 pub advance-requires-clause-usable : goal.advance-requires-clause-usable
 advance-requires-clause-usable g c =
-    let s = c.self.inside in
     let name = c.args.name in
-    let view : Keeps = record { repository = s.repository; kind = s.kind; queries = s.queries.items; counts = s.counts; cache = s.cache; usable = s.usable } in
+    let view = seen c.self.inside in
     let q = c.index_mut.result.now in
-    let place = place-of view c.args.self.now name c.in-Some.place q c.self.view_is (sym c.find.ensures ∙ c.in-Some.is) in
     let was = open-of view c.args.self.now name c.in-Some.place q c.self.view_is (sym c.find.ensures ∙ c.in-Some.is) c.index_mut.ensures.value c.self.invariant c.requires.usable in
     was.usable
 
 pub advance-requires-clause-plugs : goal.advance-requires-clause-plugs
 advance-requires-clause-plugs g c =
-    let s = c.self.inside in
     let name = c.args.name in
-    let view : Keeps = record { repository = s.repository; kind = s.kind; queries = s.queries.items; counts = s.counts; cache = s.cache; usable = s.usable } in
+    let view = seen c.self.inside in
     let q = c.index_mut.result.now in
-    let place = place-of view c.args.self.now name c.in-Some.place q c.self.view_is (sym c.find.ensures ∙ c.in-Some.is) in
     let was = open-of view c.args.self.now name c.in-Some.place q c.self.view_is (sym c.find.ensures ∙ c.in-Some.is) c.index_mut.ensures.value c.self.invariant c.requires.usable in
-    asks-nine (length s.repository.priors) (length c.args.plugs.now) (network_tree q.search.network).leaves
+    asks-nine (length view.repository.priors) (length c.args.plugs.now) (network_tree q.search.network).leaves
     (c.priors-few.ensures.few (ap (λ (x : Keeps). x.repository.usable) c.self.view_is ∙ c.requires.usable.1)) c.requires.nine was.priors
 
 pub invariant_of-self : goal.invariant_of-self
@@ -75,47 +65,43 @@ pub returns-in-Ok-clause-steps : goal.returns-in-Ok-clause-steps
 returns-in-Ok-clause-steps g c = λ backed are.
     let told = g.T.Store.files c.args.store.now in
     let after = g.T.Store.files c.advance.new.store in
-    let s = c.self.inside in
     let name = c.args.name in
-    let view : Keeps = record { repository = s.repository; kind = s.kind; queries = s.queries.items; counts = s.counts; cache = s.cache; usable = s.usable } in
+    let view = seen c.self.inside in
     let q = c.index_mut.result.now in
     let place = place-of view c.args.self.now name c.in-Some.place q c.self.view_is (sym c.find.ensures ∙ c.in-Some.is) in
     let was = open-of view c.args.self.now name c.in-Some.place q c.self.view_is (sym c.find.ensures ∙ c.in-Some.is) c.index_mut.ensures.value c.self.invariant c.requires.usable in
-    let few : length s.repository.priors ≤ 8 = c.priors-few.ensures.few (ap (λ (x : Keeps). x.repository.usable) c.self.view_is ∙ c.requires.usable.1) in
+    let few : length view.repository.priors ≤ 8 = c.priors-few.ensures.few (ap (λ (x : Keeps). x.repository.usable) c.self.view_is ∙ c.requires.usable.1) in
     let new = c.advance.new.self in
     let cache = c.advance.new.cache in
     let same : after ≡ told = c.advance.ensures.quiet.same_files in
-    let kind : c.args.rule.now.kind ≡ s.kind = c.requires.kind ∙ sym (ap (λ (x : Keeps). x.kind) c.self.view_is) in
+    let kind : c.args.rule.now.kind ≡ view.kind = c.requires.kind ∙ sym (ap (λ (x : Keeps). x.kind) c.self.view_is) in
     of-now told view c.args.self.now
-    (λ (x : Keeps). Steps (event.Step name c.args.docs) told after x (with_search view (set s.queries.items c.in-Some.place new) cache) (reply.Stepped name c.in-Ok.credit c.in-Ok.live)) c.self.view_is
+    (λ (x : Keeps). Steps (event.Step name c.args.docs) told after x (with_search view (set view.queries c.in-Some.place new) cache) (reply.Stepped name c.in-Ok.credit c.in-Ok.live)) c.self.view_is
     (λ b.
-    let query : IsQueryBacked told s.repository s.kind q = at-place (IsQueryBacked told s.repository s.kind) s.queries.items c.in-Some.place q place.within c.index_mut.ensures.value b.queries in
-    let own : IsQueryBacked told s.repository c.args.rule.now.kind q = subst (λ k. IsQueryBacked told s.repository k q) (sym kind) query in
-    let now : IsQueryBacked after s.repository s.kind new =
-    subst (λ k. IsQueryBacked after s.repository k new) kind
-    (c.in-Ok.ensures.backed s.repository few was.priors (plugs-moved told view c.args.self.now _ c.self.view_is are) b.cache.backed own) in
-    let blocks : IsCacheKept after s.repository cache = subst (λ (f : Option Files). IsCacheKept f s.repository cache) (sym same) (cache-read told s.repository q.search.snapshot s.cache cache query.listed c.advance.ensures.cache b.cache) in
+    let query = backed-of view c.args.self.now name c.in-Some.place q c.self.view_is (sym c.find.ensures ∙ c.in-Some.is) told c.index_mut.ensures.value b in
+    let own : IsQueryBacked told view.repository c.args.rule.now.kind q = subst (λ k. IsQueryBacked told view.repository k q) (sym kind) query in
+    let now : IsQueryBacked after view.repository view.kind new =
+    subst (λ k. IsQueryBacked after view.repository k new) kind
+    (c.in-Ok.ensures.backed view.repository few was.priors (plugs-moved told view c.args.self.now _ c.self.view_is are) b.cache.backed own) in
+    let blocks : IsCacheKept after view.repository cache = subst (λ (f : Option Files). IsCacheKept f view.repository cache) (sym same) (cache-read told view.repository q.search.snapshot view.cache cache query.listed c.advance.ensures.cache b.cache) in
     step-exit told view name c.in-Some.place q place c.index_mut.ensures.value after c.args.docs c.in-Ok.credit c.in-Ok.live new cache same (c.in-Ok.ensures.query told) now blocks (c.in-Ok.ensures.credit told) (c.in-Ok.ensures.live told) b)
     backed
 
 pub returns-in-Ok-clause-refuses : goal.returns-in-Ok-clause-refuses
 returns-in-Ok-clause-refuses g c = λ told.
-    let s = c.self.inside in
     let name = c.args.name in
-    let view : Keeps = record { repository = s.repository; kind = s.kind; queries = s.queries.items; counts = s.counts; cache = s.cache; usable = s.usable } in
+    let view = seen c.self.inside in
     let q = c.index_mut.result.now in
     let place = place-of view c.args.self.now name c.in-Some.place q c.self.view_is (sym c.find.ensures ∙ c.in-Some.is) in
-    accepted-by (event.Step name c.args.docs) told view c.args.self.now _ c.self.view_is (step-stepped (state_of told view) name c.args.docs (query_of told q) (named-here told name s.queries.items c.in-Some.place q place c.index_mut.ensures.value)) refl
+    accepted-by (event.Step name c.args.docs) told view c.args.self.now _ c.self.view_is (step-stepped (state_of told view) name c.args.docs (query_of told q) (named-here told name view.queries c.in-Some.place q place c.index_mut.ensures.value)) refl
 
 pub returns-in-Err-clause-honest : goal.returns-in-Err-clause-honest
 returns-in-Err-clause-honest g c = λ backed.
     let told = g.T.Store.files c.args.store.now in
-    let s = c.self.inside in
     let name = c.args.name in
-    let view : Keeps = record { repository = s.repository; kind = s.kind; queries = s.queries.items; counts = s.counts; cache = s.cache; usable = s.usable } in
+    let view = seen c.self.inside in
     let q = c.index_mut.result.now in
-    let place = place-of view c.args.self.now name c.in-Some.place q c.self.view_is (sym c.find.ensures ∙ c.in-Some.is) in
     let b : IsDeskBacked told view = subst (IsDeskBacked told) (sym c.self.view_is) backed in
-    let query : IsQueryBacked told s.repository s.kind q = at-place (IsQueryBacked told s.repository s.kind) s.queries.items c.in-Some.place q place.within c.index_mut.ensures.value b.queries in
-    let kind : c.args.rule.now.kind ≡ s.kind = c.requires.kind ∙ sym (ap (λ (x : Keeps). x.kind) c.self.view_is) in
-    c.in-Err.ensures.honest s.repository (subst (λ k. IsQueryBacked told s.repository k q) (sym kind) query) b.cache.backed
+    let query = backed-of view c.args.self.now name c.in-Some.place q c.self.view_is (sym c.find.ensures ∙ c.in-Some.is) told c.index_mut.ensures.value b in
+    let kind : c.args.rule.now.kind ≡ view.kind = c.requires.kind ∙ sym (ap (λ (x : Keeps). x.kind) c.self.view_is) in
+    c.in-Err.ensures.honest view.repository (subst (λ k. IsQueryBacked told view.repository k q) (sym kind) query) b.cache.backed

@@ -12,6 +12,7 @@ use Rattle.desk.specs.Keeping.{StaysIfRefused}
 use Rattle.desk.specs.Step.{step}
 use Rattle.desk.specs.Told.{RefusesAs}
 use Rattle.desk.proofs.Exits.{of-now, refused-by, refused-exit}
+use Rattle.desk.proofs.Found.{seen}
 use Rattle.desk.proofs.KeptLemmas.{kept-repository, priors-turned}
 use Rattle.desk.proofs.MergeExits.{with_merged}
 use Rattle.desk.proofs.TurnExits.{nomerge-kept, nomerge-step, none-below, same-below, turn-form, turn-honest, turn-kept, turn-now, turn-refuses, turn-stays, turn-steps, turn-stops}
@@ -19,23 +20,20 @@ use Rattle.desk.proofs.kept.Kept.turn.Goals as goal
 
 pub returns-then-not-merge_open-clause-steps : goal.returns-then-not-merge_open-clause-steps
 returns-then-not-merge_open-clause-steps g c = λ backed.
-    let s = c.self.inside in
-    let view : Keeps = record { repository = s.repository; kind = s.kind; queries = s.queries.items; counts = s.counts; cache = s.cache; usable = s.usable } in
-    let none : is_some s.repository.merge ≡ false = sym c.merge_open.ensures ∙ c.if-not-merge_open.true in
+    let view = seen c.self.inside in
+    let none : is_some view.repository.merge ≡ false = sym c.merge_open.ensures ∙ c.if-not-merge_open.true in
     of-now (g.T.Store.files c.args.store.now) view c.args.self.now (λ (x : Keeps). Steps (event.Turn c.args.docs) (g.T.Store.files c.args.store.now) (g.T.Store.files c.args.store.now) x x (reply.Refused NoMerge)) c.self.view_is (λ inside. refused-exit (event.Turn c.args.docs) (g.T.Store.files c.args.store.now) view NoMerge (nomerge-step (g.T.Store.files c.args.store.now) view c.args.docs none) inside) backed
 
 pub returns-then-not-merge_open-clause-refuses : goal.returns-then-not-merge_open-clause-refuses
 returns-then-not-merge_open-clause-refuses g c = λ told.
-    let s = c.self.inside in
-    let view : Keeps = record { repository = s.repository; kind = s.kind; queries = s.queries.items; counts = s.counts; cache = s.cache; usable = s.usable } in
-    let none : is_some s.repository.merge ≡ false = sym c.merge_open.ensures ∙ c.if-not-merge_open.true in
+    let view = seen c.self.inside in
+    let none : is_some view.repository.merge ≡ false = sym c.merge_open.ensures ∙ c.if-not-merge_open.true in
     refused-by (event.Turn c.args.docs) told view c.args.self.now NoMerge c.self.view_is (nomerge-step told view c.args.docs none)
 
 pub returns-then-not-merge_open-clause-done : goal.returns-then-not-merge_open-clause-done
 returns-then-not-merge_open-clause-done g c = λ kept backed stands.
-    let s = c.self.inside in
-    let view : Keeps = record { repository = s.repository; kind = s.kind; queries = s.queries.items; counts = s.counts; cache = s.cache; usable = s.usable } in
-    let none : is_some s.repository.merge ≡ false = sym c.merge_open.ensures ∙ c.if-not-merge_open.true in
+    let view = seen c.self.inside in
+    let none : is_some view.repository.merge ≡ false = sym c.merge_open.ensures ∙ c.if-not-merge_open.true in
     nomerge-kept (g.T.Store.files c.args.store.now) view c.args.self.now c.args.docs kept c.self.view_is none stands
 
 pub returns-then-not-merge_open-clause-now : goal.returns-then-not-merge_open-clause-now
@@ -46,67 +44,59 @@ returns-then-not-merge_open-clause-stops g c = λ kept backed stands. Leaves-sam
 
 pub returns-in_err-turned-clause-now : goal.returns-in_err-turned-clause-now
 returns-in_err-turned-clause-now g c = λ kept backed stands.
-    let s = c.self.inside in
-    let view : Keeps = record { repository = s.repository; kind = s.kind; queries = s.queries.items; counts = s.counts; cache = s.cache; usable = s.usable } in
-    let some : is_some s.repository.merge ≡ true = sym c.merge_open.ensures ∙ c.if-not-merge_open.false in
+    let view = seen c.self.inside in
+    let some : is_some view.repository.merge ≡ true = sym c.merge_open.ensures ∙ c.if-not-merge_open.false in
     turn-now g.T.Store.files g.T.Store.clock g.T.Store.since c.args.store.now c.merge_turn.new.store view c.args.self.now c.args.docs kept c.self.view_is some
-    (same-below g.T.Store.files g.T.Store.layers g.T.Store.clock g.T.Store.since g.T.Store.longest g.T.Store.held c.args.store.now c.merge_turn.new.store s.repository.merge c.args.docs c.merge_turn.ensures.quiet)
-    (none-below g.T.Store.files g.T.Store.layers g.T.Store.clock g.T.Store.since g.T.Store.longest g.T.Store.held c.args.store.now c.merge_turn.new.store s.repository.merge c.args.docs c.merge_turn.ensures.quiet) c.merge_turn.ensures.stay c.merge_turn.ensures.stops backed stands (g.met.T.Store.honest c.merge_turn.new.store) (g.met.T.Store.still c.args.store.now) c.merge_turn.ensures.goes_on.later
+    (same-below g.T.Store.files g.T.Store.layers g.T.Store.clock g.T.Store.since g.T.Store.longest g.T.Store.held c.args.store.now c.merge_turn.new.store view.repository.merge c.args.docs c.merge_turn.ensures.quiet)
+    (none-below g.T.Store.files g.T.Store.layers g.T.Store.clock g.T.Store.since g.T.Store.longest g.T.Store.held c.args.store.now c.merge_turn.new.store view.repository.merge c.args.docs c.merge_turn.ensures.quiet) c.merge_turn.ensures.stay c.merge_turn.ensures.stops backed stands (g.met.T.Store.honest c.merge_turn.new.store) (g.met.T.Store.still c.args.store.now) c.merge_turn.ensures.goes_on.later
 
 pub returns-in_err-turned-clause-stops : goal.returns-in_err-turned-clause-stops
 returns-in_err-turned-clause-stops g c = λ kept backed stands.
-    let s = c.self.inside in
-    let view : Keeps = record { repository = s.repository; kind = s.kind; queries = s.queries.items; counts = s.counts; cache = s.cache; usable = s.usable } in
-    let some : is_some s.repository.merge ≡ true = sym c.merge_open.ensures ∙ c.if-not-merge_open.false in
+    let view = seen c.self.inside in
+    let some : is_some view.repository.merge ≡ true = sym c.merge_open.ensures ∙ c.if-not-merge_open.false in
     turn-stops g.T.Store.files g.T.Store.clock g.T.Store.since c.args.store.now c.merge_turn.new.store view c.args.self.now c.args.docs kept c.self.view_is some
-    (same-below g.T.Store.files g.T.Store.layers g.T.Store.clock g.T.Store.since g.T.Store.longest g.T.Store.held c.args.store.now c.merge_turn.new.store s.repository.merge c.args.docs c.merge_turn.ensures.quiet)
-    (none-below g.T.Store.files g.T.Store.layers g.T.Store.clock g.T.Store.since g.T.Store.longest g.T.Store.held c.args.store.now c.merge_turn.new.store s.repository.merge c.args.docs c.merge_turn.ensures.quiet) c.merge_turn.ensures.stay c.merge_turn.ensures.stops backed stands
+    (same-below g.T.Store.files g.T.Store.layers g.T.Store.clock g.T.Store.since g.T.Store.longest g.T.Store.held c.args.store.now c.merge_turn.new.store view.repository.merge c.args.docs c.merge_turn.ensures.quiet)
+    (none-below g.T.Store.files g.T.Store.layers g.T.Store.clock g.T.Store.since g.T.Store.longest g.T.Store.held c.args.store.now c.merge_turn.new.store view.repository.merge c.args.docs c.merge_turn.ensures.quiet) c.merge_turn.ensures.stay c.merge_turn.ensures.stops backed stands
 
 pub returns-clause-now : goal.returns-clause-now
 returns-clause-now g c = λ kept backed stands.
-    let s = c.self.inside in
-    let view : Keeps = record { repository = s.repository; kind = s.kind; queries = s.queries.items; counts = s.counts; cache = s.cache; usable = s.usable } in
-    let some : is_some s.repository.merge ≡ true = sym c.merge_open.ensures ∙ c.if-not-merge_open.false in
+    let view = seen c.self.inside in
+    let some : is_some view.repository.merge ≡ true = sym c.merge_open.ensures ∙ c.if-not-merge_open.false in
     turn-now g.T.Store.files g.T.Store.clock g.T.Store.since c.args.store.now c.merge_turn.new.store view c.args.self.now c.args.docs kept c.self.view_is some
-    (same-below g.T.Store.files g.T.Store.layers g.T.Store.clock g.T.Store.since g.T.Store.longest g.T.Store.held c.args.store.now c.merge_turn.new.store s.repository.merge c.args.docs c.merge_turn.ensures.quiet)
-    (none-below g.T.Store.files g.T.Store.layers g.T.Store.clock g.T.Store.since g.T.Store.longest g.T.Store.held c.args.store.now c.merge_turn.new.store s.repository.merge c.args.docs c.merge_turn.ensures.quiet) c.merge_turn.ensures.stay c.merge_turn.ensures.stops backed stands (g.met.T.Store.honest c.merge_turn.new.store) (g.met.T.Store.still c.args.store.now) c.merge_turn.ensures.goes_on.later
+    (same-below g.T.Store.files g.T.Store.layers g.T.Store.clock g.T.Store.since g.T.Store.longest g.T.Store.held c.args.store.now c.merge_turn.new.store view.repository.merge c.args.docs c.merge_turn.ensures.quiet)
+    (none-below g.T.Store.files g.T.Store.layers g.T.Store.clock g.T.Store.since g.T.Store.longest g.T.Store.held c.args.store.now c.merge_turn.new.store view.repository.merge c.args.docs c.merge_turn.ensures.quiet) c.merge_turn.ensures.stay c.merge_turn.ensures.stops backed stands (g.met.T.Store.honest c.merge_turn.new.store) (g.met.T.Store.still c.args.store.now) c.merge_turn.ensures.goes_on.later
 
 pub returns-clause-stops : goal.returns-clause-stops
 returns-clause-stops g c = λ kept backed stands.
-    let s = c.self.inside in
-    let view : Keeps = record { repository = s.repository; kind = s.kind; queries = s.queries.items; counts = s.counts; cache = s.cache; usable = s.usable } in
-    let some : is_some s.repository.merge ≡ true = sym c.merge_open.ensures ∙ c.if-not-merge_open.false in
+    let view = seen c.self.inside in
+    let some : is_some view.repository.merge ≡ true = sym c.merge_open.ensures ∙ c.if-not-merge_open.false in
     turn-stops g.T.Store.files g.T.Store.clock g.T.Store.since c.args.store.now c.merge_turn.new.store view c.args.self.now c.args.docs kept c.self.view_is some
-    (same-below g.T.Store.files g.T.Store.layers g.T.Store.clock g.T.Store.since g.T.Store.longest g.T.Store.held c.args.store.now c.merge_turn.new.store s.repository.merge c.args.docs c.merge_turn.ensures.quiet)
-    (none-below g.T.Store.files g.T.Store.layers g.T.Store.clock g.T.Store.since g.T.Store.longest g.T.Store.held c.args.store.now c.merge_turn.new.store s.repository.merge c.args.docs c.merge_turn.ensures.quiet) c.merge_turn.ensures.stay c.merge_turn.ensures.stops backed stands
+    (same-below g.T.Store.files g.T.Store.layers g.T.Store.clock g.T.Store.since g.T.Store.longest g.T.Store.held c.args.store.now c.merge_turn.new.store view.repository.merge c.args.docs c.merge_turn.ensures.quiet)
+    (none-below g.T.Store.files g.T.Store.layers g.T.Store.clock g.T.Store.since g.T.Store.longest g.T.Store.held c.args.store.now c.merge_turn.new.store view.repository.merge c.args.docs c.merge_turn.ensures.quiet) c.merge_turn.ensures.stay c.merge_turn.ensures.stops backed stands
 
 pub returns-in_err-turned-clause-honest : goal.returns-in_err-turned-clause-honest
 returns-in_err-turned-clause-honest g c = λ backed.
-    let s = c.self.inside in
-    let view : Keeps = record { repository = s.repository; kind = s.kind; queries = s.queries.items; counts = s.counts; cache = s.cache; usable = s.usable } in
+    let view = seen c.self.inside in
     let p = err_from_is_err_and c.from_residual.result c.from_residual.ensures.1 in
     rw (p.1, p.2) (turn-honest (g.T.Store.files c.args.store.now) view c.args.self.now c.in_err-turned.field-0.0 c.self.view_is c.in_err-turned.ensures.honest backed)
 
 pub returns-clause-steps : goal.returns-clause-steps
 returns-clause-steps g c = λ backed.
-    let s = c.self.inside in
-    let view : Keeps = record { repository = s.repository; kind = s.kind; queries = s.queries.items; counts = s.counts; cache = s.cache; usable = s.usable } in
+    let view = seen c.self.inside in
     subst (λ (x : Reply). Steps (event.Turn c.args.docs) (g.T.Store.files c.args.store.now) (g.T.Store.files c.merge_turn.new.store) c.args.self.now (with_merged view c.merge_turn.new.self c.merge_turn.new.cache) x) (sym c.turned_reply.ensures)
     (turn-steps (g.T.Store.files c.args.store.now) (g.T.Store.files c.merge_turn.new.store) view c.args.self.now c.args.docs c.merge_turn.new.self c.merge_turn.new.cache c.live_count.result c.self.view_is
-    (same-below g.T.Store.files g.T.Store.layers g.T.Store.clock g.T.Store.since g.T.Store.longest g.T.Store.held c.args.store.now c.merge_turn.new.store s.repository.merge c.args.docs c.merge_turn.ensures.quiet) c.in_ok-turned.turned c.in_ok-turned.ensures.turned c.in_ok-turned.ensures.state c.in_ok-turned.ensures.over c.merge_turn.ensures.stay c.merge_turn.ensures.cache (c.live_count.ensures (g.T.Store.files c.merge_turn.new.store)) backed)
+    (same-below g.T.Store.files g.T.Store.layers g.T.Store.clock g.T.Store.since g.T.Store.longest g.T.Store.held c.args.store.now c.merge_turn.new.store view.repository.merge c.args.docs c.merge_turn.ensures.quiet) c.in_ok-turned.turned c.in_ok-turned.ensures.turned c.in_ok-turned.ensures.state c.in_ok-turned.ensures.over c.merge_turn.ensures.stay c.merge_turn.ensures.cache (c.live_count.ensures (g.T.Store.files c.merge_turn.new.store)) backed)
 
 pub returns-clause-done : goal.returns-clause-done
 returns-clause-done g c = λ kept backed stands.
-    let s = c.self.inside in
-    let view : Keeps = record { repository = s.repository; kind = s.kind; queries = s.queries.items; counts = s.counts; cache = s.cache; usable = s.usable } in
+    let view = seen c.self.inside in
     turn-kept (g.T.Store.files c.args.store.now) (g.T.Store.files c.merge_turn.new.store) view c.args.self.now c.args.docs c.merge_turn.new.self c.merge_turn.new.cache c.live_count.result c.self.view_is
-    (same-below g.T.Store.files g.T.Store.layers g.T.Store.clock g.T.Store.since g.T.Store.longest g.T.Store.held c.args.store.now c.merge_turn.new.store s.repository.merge c.args.docs c.merge_turn.ensures.quiet) c.in_ok-turned.turned c.in_ok-turned.ensures.turned c.in_ok-turned.ensures.state c.in_ok-turned.ensures.over kept backed stands
+    (same-below g.T.Store.files g.T.Store.layers g.T.Store.clock g.T.Store.since g.T.Store.longest g.T.Store.held c.args.store.now c.merge_turn.new.store view.repository.merge c.args.docs c.merge_turn.ensures.quiet) c.in_ok-turned.turned c.in_ok-turned.ensures.turned c.in_ok-turned.ensures.state c.in_ok-turned.ensures.over kept backed stands
 
 pub returns-clause-refuses : goal.returns-clause-refuses
 returns-clause-refuses g c = λ told.
-    let s = c.self.inside in
-    let view : Keeps = record { repository = s.repository; kind = s.kind; queries = s.queries.items; counts = s.counts; cache = s.cache; usable = s.usable } in
-    let some : is_some s.repository.merge ≡ true = sym c.merge_open.ensures ∙ c.if-not-merge_open.false in
+    let view = seen c.self.inside in
+    let some : is_some view.repository.merge ≡ true = sym c.merge_open.ensures ∙ c.if-not-merge_open.false in
     subst (λ (x : Reply). RefusesAs x (step (state_of told c.args.self.now) (event.Turn c.args.docs)).1) (sym c.turned_reply.ensures) (turn-refuses told view c.args.self.now c.args.docs c.live_count.result c.in_ok-turned.turned c.self.view_is some)
 
 pub returns-clause-form : goal.returns-clause-form

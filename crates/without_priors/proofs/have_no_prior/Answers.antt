@@ -6,7 +6,7 @@ use Rattle.std.proofs.lemmas.List.Elements.{All-map, All-more}
 use Rattle.query_check.specs.Leaves.{leaf_tree}
 use Rattle.query_check.specs.declared.leaf_kind.LeafKind.{LeafKind}
 use Rattle.belief_nodes.specs.Leaves.{HasPrior}
-use Rattle.file_counts.proofs.queries.have_no_prior.Goals as goal
+use Rattle.without_priors.proofs.have_no_prior.Goals as goal
 
 pub loop-leaf-preserved : goal.loop-leaf-preserved
 loop-leaf-preserved c =

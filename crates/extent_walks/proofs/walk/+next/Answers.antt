@@ -356,12 +356,10 @@ first_chain-index-requires t c =
     let inside = is_inside c.loop-i.all.items c.args.all.now.items inv.same c.loop-i-test.true inv.inside in
     omega (arith, inside, inv.searched.count, c.loop-i.reach.lows.ok.0)
 
-
 pub first_chain-next_of_one-requires : goal.first_chain-next_of_one-requires
 first_chain-next_of_one-requires t c =
     let inv = c.loop-i.invariant in
     (omega (arith, c.decreases, ap depths inv.same), (inv.kept, omega (arith, inv.inside, c.loop-i-test.true)))
-
 
 pub first_chain-returns-in_default-clause-next : goal.first_chain-returns-in_default-clause-next
 first_chain-returns-in_default-clause-next t c =
@@ -370,11 +368,9 @@ first_chain-returns-in_default-clause-next t c =
     IsNext-no_chain c.args.n (plans c.args.all.now.items) c.args.low c.loop-i.i (c.loop-i.i - 1) c.loop-i.end c.loop-i.reach.lows.items inv.searched inside
     (next_at c.loop-i.all.items c.args.all.now.items inv.same (c.loop-i.i - 1) inv.searched inside c.index.ensures c.in_default.ensures.next)
 
-
 pub first_chain-returns-in_default-clause-reached : goal.first_chain-returns-in_default-clause-reached
 first_chain-returns-in_default-clause-reached t c =
     IsReached-searched c.args.n (plans c.args.all.now.items) c.args.low c.loop-i.i c.loop-i.end c.loop-i.reach c.loop-i.invariant.from c.loop-i.invariant.searched
-
 
 pub first_chain-loop-i-preserved-then-i-len : goal.first_chain-loop-i-preserved-then-i-len
 first_chain-loop-i-preserved-then-i-len t c =
@@ -390,7 +386,6 @@ first_chain-loop-i-preserved-then-i-len t c =
       searched = rw c.end-end.ensures.end (IsSearched-last here last);
     }
 
-
 pub first_chain-index-requires-in-loop-i : goal.first_chain-index-requires-in-loop-i
 first_chain-index-requires-in-loop-i t c =
     let inv = c.loop-i.invariant in
@@ -399,7 +394,6 @@ first_chain-index-requires-in-loop-i t c =
     let more_of : c.loop-i.i - 1 + 1 < plans_count (plans c.args.all.now.items) = omega (arith, inside, c.if-i-len.false, c.len.ensures, c.next_of_one.new.all.ok.0, plans_count-is c.next_of_one.new.all.items, ap plans_count same) in
     omega (arith, more_of, inv.searched.count, c.loop-i.reach.lows.ok.0)
 
-
 pub first_chain-next_of_one-requires-in-loop-i : goal.first_chain-next_of_one-requires-in-loop-i
 first_chain-next_of_one-requires-in-loop-i t c =
     let inv = c.loop-i.invariant in
@@ -407,7 +401,6 @@ first_chain-next_of_one-requires-in-loop-i t c =
     let same = c.next_of_one.ensures.same ∙ inv.same in
     let more_of : c.loop-i.i - 1 + 1 < plans_count (plans c.args.all.now.items) = omega (arith, inside, c.if-i-len.false, c.len.ensures, c.next_of_one.new.all.ok.0, plans_count-is c.next_of_one.new.all.items, ap plans_count same) in
     (omega (arith, c.decreases, ap depths same), (c.next_of_one.ensures.kept, omega (arith, more_of, plans_count-is c.next_of_one.new.all.items, ap plans_count same)))
-
 
 pub first_chain-returns-in_default-next_of_one-clause-next : goal.first_chain-returns-in_default-next_of_one-clause-next
 first_chain-returns-in_default-next_of_one-clause-next t c =
@@ -418,11 +411,9 @@ first_chain-returns-in_default-next_of_one-clause-next t c =
     IsNext-no_chain c.args.n (plans c.args.all.now.items) c.args.low c.loop-i.i (c.loop-i.i - 1 + 1) c.loop-i.end c.loop-i.reach.lows.items inv.searched more_of
     (next_at c.next_of_one.new.all.items c.args.all.now.items same (c.loop-i.i - 1 + 1) inv.searched more_of c.index-in-loop-i.ensures c.in_default-next_of_one.ensures.next)
 
-
 pub first_chain-returns-in_default-next_of_one-clause-reached : goal.first_chain-returns-in_default-next_of_one-clause-reached
 first_chain-returns-in_default-next_of_one-clause-reached t c =
     IsReached-searched c.args.n (plans c.args.all.now.items) c.args.low c.loop-i.i c.loop-i.end c.loop-i.reach c.loop-i.invariant.from c.loop-i.invariant.searched
-
 
 pub first_chain-index_mut-requires : goal.first_chain-index_mut-requires
 first_chain-index_mut-requires t c =
@@ -431,7 +422,6 @@ first_chain-index_mut-requires t c =
     let same = c.next_of_one.ensures.same ∙ inv.same in
     let more_of : c.loop-i.i - 1 + 1 < plans_count (plans c.args.all.now.items) = omega (arith, inside, c.if-i-len.false, c.len.ensures, c.next_of_one.new.all.ok.0, plans_count-is c.next_of_one.new.all.items, ap plans_count same) in
     omega (arith, more_of, inv.searched.count, c.loop-i.reach.lows.ok.0)
-
 
 pub first_chain-loop-i-smaller-then-begin-end : goal.first_chain-loop-i-smaller-then-begin-end
 first_chain-loop-i-smaller-then-begin-end t c =
@@ -444,7 +434,6 @@ first_chain-loop-i-smaller-then-begin-end t c =
     let early : c.in-Some-next_of_one.y.begin < c.in-Some.x.end = omega (arith, c.if-begin-end.true, c.begin.ensures.begin, c.end.ensures.end) in
     let falls = room-early here behind early (omega (arith, c.end.ensures.end, c.end.type_inv)) in
     rw c.end-then-begin-end.ensures.end (omega (arith, falls, c.loop-i-test.true))
-
 
 pub first_chain-loop-i-preserved-then-begin-end : goal.first_chain-loop-i-preserved-then-begin-end
 first_chain-loop-i-preserved-then-begin-end t c =
@@ -464,13 +453,11 @@ first_chain-loop-i-preserved-then-begin-end t c =
       searched = rw c.end-then-begin-end.ensures.end (IsSearched-early here behind early);
     }
 
-
 pub first_chain-index_mut-requires-then-from : goal.first_chain-index_mut-requires-then-from
 first_chain-index_mut-requires-then-from t c =
     let inv = c.loop-i.invariant in
     let inside = is_inside c.loop-i.all.items c.args.all.now.items inv.same c.loop-i-test.true inv.inside in
     omega (arith, inside, inv.searched.count, c.loop-i.reach.lows.ok.0)
-
 
 pub first_chain-loop-i-smaller-then-from : goal.first_chain-loop-i-smaller-then-from
 first_chain-loop-i-smaller-then-from t c =
@@ -482,7 +469,6 @@ first_chain-loop-i-smaller-then-from t c =
     record { more_of = more_of; next = next_at c.next_of_one.new.all.items c.args.all.now.items same (c.loop-i.i - 1 + 1) inv.searched more_of c.index-in-loop-i.ensures c.in-Some-next_of_one.ensures.next } in
     let falls = room-far here behind (omega (arith, c.begin-then-from.ensures.begin, c.begin-then-from.type_inv)) in
     rw c.begin-then-from.ensures.begin (omega (arith, falls, c.loop-i-test.true))
-
 
 pub first_chain-loop-i-preserved-then-from : goal.first_chain-loop-i-preserved-then-from
 first_chain-loop-i-preserved-then-from t c =
@@ -502,7 +488,6 @@ first_chain-loop-i-preserved-then-from t c =
       searched = rw c.begin-then-from.ensures.begin (IsSearched-far here behind far);
     }
 
-
 pub first_chain-loop-i-preserved : goal.first_chain-loop-i-preserved
 first_chain-loop-i-preserved t c =
     let inv = c.loop-i.invariant in
@@ -521,7 +506,6 @@ first_chain-loop-i-preserved t c =
       from = inv.from;
       searched = IsSearched-follows here behind after near;
     }
-
 
 pub first_chain-index-requires-2 : goal.first_chain-index-requires-2
 first_chain-index-requires-2 t c =

@@ -10,3 +10,4 @@ pub mod RankingLemmas
 pub mod SkippingLemmas
 pub mod SquaresLemmas
 pub mod WindowLemmas
+pub mod WithinLemmas

@@ -73,7 +73,7 @@ pub cost-sum : (network : NetworkTree) (m n : ℕ) → early_cost network (m + n
 cost-sum network m n = omega arith
 
 module _ (kind : RuleKind) (priors : List Prior) (filters : List FilterTree) (network : NetworkTree) where
-  abbrev spent_on : List Document → ℕ
+  abbrev pub spent_on : List Document → ℕ
   spent_on ds = early_cost network (length (candidates kind priors filters network ds))
 
   -- the squarings of some documents' candidates, and then those of others'
@@ -82,6 +82,19 @@ module _ (kind : RuleKind) (priors : List Prior) (filters : List FilterTree) (ne
       let both : length (candidates kind priors filters network (docs ++ more)) ≡ length (candidates kind priors filters network docs) + length (candidates kind priors filters network more) =
       ap length (candidates-append kind priors filters network docs more) ∙ length-append (candidates kind priors filters network docs) (candidates kind priors filters network more) in
       ap (early_cost network) both ∙ cost-sum network (length (candidates kind priors filters network docs)) (length (candidates kind priors filters network more))
+
+  -- of some documents no more than of these and others
+  pub cost-front : (front rest all : List Document) → all ≡ front ++ rest → spent_on front ≤ spent_on all
+  cost-front front rest all is = let e : spent_on all ≡ spent_on (front ++ rest) = ap spent_on is in let both = cost-append front rest in omega (arith, e, both)
+
+  -- of a live document more
+  pub cost-live : (docs : List Document) (marks : List Bool) (i : ℕ) → i < length docs → length marks ≡ length docs → get_or marks i false ≡ false
+      → spent_on (unmarked (take (i + 1) docs) marks) ≡ spent_on (unmarked (take i docs) marks) + spent_on (document_at docs i ∷ [])
+  cost-live docs marks i lt whole live =
+      let d : List Document = document_at docs i ∷ [] in
+      let seen : List Document = unmarked (take i docs) marks in
+      let same : unmarked (take (i + 1) docs) marks ≡ seen ++ d = unmarked-more docs marks i lt whole ∙ ap (λ (b : Bool). seen ++ cond b [] d) live in
+      ap spent_on same ∙ cost-append seen d
 
   -- ---- documents behind others
 

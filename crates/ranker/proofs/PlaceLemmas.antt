@@ -23,7 +23,7 @@ use Rattle.ranker.proofs.PassedLemmas.{cost-append, unmarked-ids}
 
 -- ---- documents before a place stand before all others
 
-unmarked-front : {A : Type 0} (xs : List A) (marks : List Bool) (i : ℕ) → (rest : List A) × (unmarked xs marks ≡ unmarked (take i xs) marks ++ rest)
+pub unmarked-front : {A : Type 0} (xs : List A) (marks : List Bool) (i : ℕ) → (rest : List A) × (unmarked xs marks ≡ unmarked (take i xs) marks ++ rest)
 unmarked-front xs marks zero = (unmarked xs marks, refl)
 unmarked-front [] marks (suc i) = ([], refl)
 unmarked-front (x ∷ xs) [] (suc i) = ([], refl)
@@ -34,7 +34,7 @@ unmarked-front {A} (x ∷ xs) (false ∷ marks) (suc i) = let h = unmarked-front
 abbrev pub before : Option Files → List Marked → ℕ → ℕ → List Document
 before told parts part id = live told (take part parts) ++ live_before told (part_at parts part) id
 
-live-front : (told : Option Files) (parts : List Marked) (part id : ℕ) → (rest : List Document) × (live told parts ≡ before told parts part id ++ rest)
+pub live-front : (told : Option Files) (parts : List Marked) (part id : ℕ) → (rest : List Document) × (live told parts ≡ before told parts part id ++ rest)
 live-front told [] zero id = unmarked-front (reads told (InMemory [])) [] id
 live-front told [] (suc part) id = unmarked-front (reads told (InMemory [])) [] id
 live-front told (m ∷ parts) zero id =
@@ -65,7 +65,7 @@ passed-all told parts at same =
 
 -- ---- from part to part
 
-live-next : (told : Option Files) (parts : List Marked) (part : ℕ) → part < length parts → live told (take (part + 1) parts) ≡ live told (take part parts) ++ live_in told (part_at parts part)
+pub live-next : (told : Option Files) (parts : List Marked) (part : ℕ) → part < length parts → live told (take (part + 1) parts) ≡ live told (take part parts) ++ live_in told (part_at parts part)
 live-next told parts part lt =
     let none : Marked = record { source = InMemory []; marks = [] } in
     let m : Marked = part_at parts part in

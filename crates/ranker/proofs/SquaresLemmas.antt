@@ -47,18 +47,16 @@ module _ (network : NetworkTree) where
 
   -- the late squarings of what was offered are those of the candidates
   pub late_spent : (kind : RuleKind) (priors : List Prior) (filters : List FilterTree) (docs : List Document) (most : ℕ) (was : Held) (kept : KeptEntries) (before after : ℕ) → was ≡ Open kept → AreEntries network kept
-      → ((all : List (Entry Window)) → WereOffered all kept → after ≡ before + (LAST - FIRST) * length network.leaves * length (in_question kept.scale kept.most all))
+      → ((all : List (Entry Window)) → WereOffered all kept → after ≤ before + (LAST - FIRST) * length network.leaves * length (in_question kept.scale kept.most all))
       → IsHeld kind priors filters network docs most was → after ≤ before + late_cost network most (candidates kind priors filters network docs)
   late_spent kind priors filters docs most was kept before after is entries cost h =
       let held : HoldsFirst kind priors filters network docs most kept = subst (λ (x : Held). IsHeld kind priors filters network docs most x) is h in
       let cs : List Candidate = candidates kind priors filters network docs in
-      let taken : after ≡ before + (LAST - FIRST) * length network.leaves * length (in_question kept.scale kept.most (map (early_of network) held.rows)) = cost (map (early_of network) held.rows) held.offered in
+      let taken : after ≤ before + (LAST - FIRST) * length network.leaves * length (in_question kept.scale kept.most (map (early_of network) held.rows)) = cost (map (early_of network) held.rows) held.offered in
       let named : map (early_of network) held.rows ≡ map (entry_by network) cs = rows_by held.rows ∙ ap (map (entry_by network)) held.all in
-      let exact : after ≡ before + late_cost network most cs =
-      subst (λ n. after ≡ before + (LAST - FIRST) * length network.leaves * length (in_question n most (map (entry_by network) cs))) entries.scaled
-      (subst (λ n. after ≡ before + (LAST - FIRST) * length network.leaves * length (in_question kept.scale n (map (entry_by network) cs))) held.room
-      (subst (λ (xs : List (Entry Window)). after ≡ before + (LAST - FIRST) * length network.leaves * length (in_question kept.scale kept.most xs)) named taken)) in
-      omega (arith, exact)
+      subst (λ n. after ≤ before + (LAST - FIRST) * length network.leaves * length (in_question n most (map (entry_by network) cs))) entries.scaled
+      (subst (λ n. after ≤ before + (LAST - FIRST) * length network.leaves * length (in_question kept.scale n (map (entry_by network) cs))) held.room
+      (subst (λ (xs : List (Entry Window)). after ≤ before + (LAST - FIRST) * length network.leaves * length (in_question kept.scale kept.most xs)) named taken))
 
   -- ---- steps
 
@@ -80,3 +78,21 @@ module _ (network : NetworkTree) where
     pub squares_end : (was now : Bool) (old new : List Candidate) (a b d : ℕ) → was ≡ true → now ≡ false → b + early_cost network (length old) ≤ a + early_cost network (length new) → d ≤ b + late_cost network most new
         → d + spent network most was old ≤ a + spent network most now new
     squares_end was now old new a b d more ended le late = let x = spent_open was old more in let y = spent_ended now new ended in omega (arith, x, y, le, late)
+
+    -- by all candidates, of which those before a place are a front
+    pub squares_whole : (was : Bool) (old front all : List Candidate) (a b : ℕ) → was ≡ true → b + early_cost network (length old) ≤ a + early_cost network (length front) → early_cost network (length front) ≤ early_cost network (length all)
+        → b + spent network most was old ≤ a + spent network most false all
+    squares_whole was old front all a b more le less = let x = spent_open was old more in let y = spent_ended false all refl in omega (arith, x, y, le, less)
+
+    -- by all candidates, which have all been met
+    pub squares_met : (was : Bool) (old met all : List Candidate) (a b d : ℕ) → was ≡ true → met ≡ all → b + early_cost network (length old) ≤ a + early_cost network (length met) → d ≤ b + late_cost network most met
+        → d + spent network most was old ≤ a + spent network most false all
+    squares_met was old met all a b d more same le late =
+        let whole = squares_end was false old met a b d more refl le late in
+        subst (λ (cs : List Candidate). d + spent network most was old ≤ a + spent network most false cs) same whole
+
+    -- where it has ended before
+    pub squares_ended : (was : Bool) (old all : List Candidate) (a : ℕ) → was ≡ false → old ≡ all → a + spent network most was old ≤ a + spent network most false all
+    squares_ended was old all a ended same =
+        let e : spent network most was old ≡ spent network most false all = ap (λ (b : Bool). spent network most b old) ended ∙ ap (spent network most false) same in
+        omega (arith, e)

@@ -80,9 +80,14 @@ counted kept squares = record { kept = kept; squares = squares }
 abbrev pub early_cost : NetworkTree → ℕ → ℕ
 early_cost network count = FIRST * length network.leaves * count
 
+-- no more squarings were done than those of the candidates of the new documents that the old ones don't have
+abbrev pub SpendsWithin : RuleKind → List Prior → List FilterTree → NetworkTree → List Document → List Document → ℕ → ℕ → Type 0
+SpendsWithin kind priors filters network old new before now =
+    now + early_cost network (length (candidates kind priors filters network old)) ≤ before + early_cost network (length (candidates kind priors filters network new))
+
 -- Behind any documents: where the first candidates of these and the old ones were held, those of these and the new ones are held now. No
--- more squarings were done than those of the candidates of the new ones that the old ones don't have.
+-- more squarings were done than those of the new candidates.
 pub record Advances (kind : RuleKind) (priors : List Prior) (filters : List FilterTree) (network : NetworkTree) (old new : List Document) (was now : Counted) : Type 0 where
   pub step : (before : List Document) (most : ℕ)
       → HoldsFirst kind priors filters network (before ++ old) most was.kept → HoldsFirst kind priors filters network (before ++ new) most now.kept
-  pub cost : now.squares + early_cost network (length (candidates kind priors filters network old)) ≤ was.squares + early_cost network (length (candidates kind priors filters network new))
+  pub cost : SpendsWithin kind priors filters network old new was.squares now.squares

@@ -1,5 +1,5 @@
 -- What a search keeps between its steps.
-use Rattle.std.specs.Prelude.{◌≡◌, ℕ, List, Option, map}
+use Rattle.std.specs.Prelude.{◌≡◌, ℕ, false, List, Option, map}
 use Rattle.ri_base.specs.Documents.{Document}
 use Rattle.ri_base.specs.Query.{FilterTree, filter_tree}
 use Rattle.ri_base.specs.declared.hit.Hit.{Hit}
@@ -43,3 +43,7 @@ pub record IsSameSearch (old new : Search) : Type 0 where
 -- what the search has spent on squarings, by the documents that it has passed
 abbrev pub spent_by : RuleKind → List Prior → Option Files → Search → ℕ
 spent_by kind priors told s = spent (network_tree s.network) s.most (is_open s.held) (candidates kind priors (filters_of s) (network_tree s.network) (passed told s.snapshot s.at))
+
+-- what it spends on squarings in the whole, by all its documents
+abbrev pub whole_cost : RuleKind → List Prior → Option Files → Search → ℕ
+whole_cost kind priors told s = spent (network_tree s.network) s.most false (candidates kind priors (filters_of s) (network_tree s.network) (searched told s))

@@ -11,7 +11,7 @@ ghost use Rattle.belief_nodes.specs.Network.{network_tree};
 ghost use Rattle.disk_index.specs.Snapshots.{unmarked};
 ghost use Rattle.range_masks.specs.May.{query_may};
 ghost use Rattle.document_scoring.specs.Candidates.{candidates};
-ghost use Rattle.ranker.specs.First.{Advances, HoldsFirst, counted, early_cost};
+ghost use Rattle.ranker.specs.First.{Advances, HoldsFirst, SpendsWithin, counted, early_cost};
 ghost use Rattle.ranker.specs.Passed.{live_ids};
 ghost use Rattle.ranker.specs.Windows.{KeepsWindows};
 
@@ -47,7 +47,7 @@ fn offer_document<P: Postings, F: Fn(u32, u32, u64, u64) -> Fraction, L: Ledger>
         → HoldsFirst rule.now.kind (map (λ plug. meaning plug) plugs.old) (map filter_tree filters.now) (network_tree network.now) docs most first.old
         → HoldsFirst rule.now.kind (map (λ plug. meaning plug) plugs.old) (map filter_tree filters.now) (network_tree network.now) (docs ++ document_at (P.documents part.old) id ∷ []) most first.new) }
     ensures windows { OnOk result (KeepsWindows (network_tree network.now) (document_at (P.documents part.old) id ∷ []) first.old first.new) }
-    ensures cost { P.sound part.old → OnOk result (squares.new ≤ squares.old + early_cost (network_tree network.now) (length (candidates rule.now.kind (map (λ plug. meaning plug) plugs.old) (map filter_tree filters.now) (network_tree network.now) (document_at (P.documents part.old) id ∷ [])))) }
+    ensures cost { P.sound part.old → squares.new ≤ squares.old + early_cost (network_tree network.now) (length (candidates rule.now.kind (map (λ plug. meaning plug) plugs.old) (map filter_tree filters.now) (network_tree network.now) (document_at (P.documents part.old) id ∷ []))) }
     ensures stay { map (λ plug. meaning plug) plugs.new ≡ map (λ plug. meaning plug) plugs.old }
     ensures honest { P.sound part.old → IfErr result IsOutside }
     ensures store { result ≡ Err SegFault.Store → Rose (P.faults part.old) (P.faults part.new) }
@@ -83,6 +83,9 @@ pub fn pass_document<P: Postings, F: Fn(u32, u32, u64, u64) -> Fraction, L: Ledg
         → (may_have ≡ false → query_may (map filter_tree filters.now) (network_tree network.now).leaves (document_at (P.documents part.old) id) ≡ false)
         → OnOk result (Advances rule.now.kind (map (λ plug. meaning plug) plugs.old) (map filter_tree filters.now) (network_tree network.now) (unmarked (take id (P.documents part.old)) marks.now) (unmarked (take (id + 1) (P.documents part.old)) marks.now) (counted first.old squares.old) (counted first.new squares.new)) }
     ensures windows { OnOk result (KeepsWindows (network_tree network.now) (unmarked (P.documents part.old) marks.now) first.old first.new) }
+    ensures within { P.sound part.old
+        → (may_have ≡ false → query_may (map filter_tree filters.now) (network_tree network.now).leaves (document_at (P.documents part.old) id) ≡ false)
+        → SpendsWithin rule.now.kind (map (λ plug. meaning plug) plugs.old) (map filter_tree filters.now) (network_tree network.now) (unmarked (take id (P.documents part.old)) marks.now) (unmarked (take (id + 1) (P.documents part.old)) marks.now) squares.old squares.new }
     ensures docs { IfOk result (λ docs. live_ids marks.now (id + 1) ≡ live_ids marks.now id + docs) }
     ensures one { IfOk result (λ docs. docs ≤ 1) }
     ensures stay { map (λ plug. meaning plug) plugs.new ≡ map (λ plug. meaning plug) plugs.old }

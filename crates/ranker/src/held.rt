@@ -42,9 +42,9 @@ impl Held {
         ensures ended { OnOk result (is_open self.new ≡ false) }
         ensures held { OnOk result ((kind : RuleKind) (priors : List Prior) (filters : List FilterTree) (docs : List Document) (most : ℕ)
             → IsHeld kind priors filters (network_tree network.now) docs most self.old → IsHeld kind priors filters (network_tree network.now) docs most self.new) }
-        ensures cost { OnOk result ((kind : RuleKind) (priors : List Prior) (filters : List FilterTree) (docs : List Document) (most : ℕ)
+        ensures cost { (kind : RuleKind) (priors : List Prior) (filters : List FilterTree) (docs : List Document) (most : ℕ)
             → is_open self.old ≡ true → IsHeld kind priors filters (network_tree network.now) docs most self.old
-            → squares.new ≤ squares.old + late_cost (network_tree network.now) most (candidates kind priors filters (network_tree network.now) docs)) }
+            → squares.new ≤ squares.old + late_cost (network_tree network.now) most (candidates kind priors filters (network_tree network.now) docs) }
         ensures windows { OnOk result ((docs : List Document) (leaves most : ℕ) → HasWindows docs leaves most self.old → HasWindows docs leaves most self.new) }
     {
         match mem::replace(self, Held::Ended(Hits::of(Vec::new(alloc)))) {

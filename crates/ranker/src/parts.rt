@@ -7,7 +7,7 @@ ghost use Rattle.smoothing.specs.Fractions.{Computes};
 ghost use Rattle.belief_nodes.specs.Leaves.{HasPrior};
 ghost use Rattle.belief_nodes.specs.Network.{network_tree};
 ghost use Rattle.disk_index.specs.Snapshots.{unmarked};
-ghost use Rattle.ranker.specs.First.{Advances, counted};
+ghost use Rattle.ranker.specs.First.{Advances, SpendsWithin, counted};
 ghost use Rattle.ranker.specs.Passed.{IsAhead, IsPassed};
 ghost use Rattle.ranker.specs.Windows.{KeepsWindows};
 
@@ -50,6 +50,8 @@ fn pass_masked<P: TermMasks, F: Fn(u32, u32, u64, u64) -> Fraction, L: Ledger>(
     ensures keeps { Keeps P.documents P.faults P.sound P.quiet part.old part.new }
     ensures first { P.sound part.old → IsAhead (map filter_tree filters.now) (network_tree network.now).leaves (P.documents part.old) id ahead → IfOk result (λ to.
         Advances rule.now.kind (map (λ plug. meaning plug) plugs.old) (map filter_tree filters.now) (network_tree network.now) (unmarked (take id (P.documents part.old)) marks.now) (unmarked (take to.id (P.documents part.old)) marks.now) (counted first.old squares.old) (counted first.new squares.new)) }
+    ensures within { P.sound part.old → IsAhead (map filter_tree filters.now) (network_tree network.now).leaves (P.documents part.old) id ahead
+        → SpendsWithin rule.now.kind (map (λ plug. meaning plug) plugs.old) (map filter_tree filters.now) (network_tree network.now) (unmarked (take id (P.documents part.old)) marks.now) (unmarked (P.documents part.old) marks.now) squares.old squares.new }
     ensures windows { OnOk result (KeepsWindows (network_tree network.now) (unmarked (P.documents part.old) marks.now) first.old first.new) }
     ensures ahead { P.sound part.old → IsAhead (map filter_tree filters.now) (network_tree network.now).leaves (P.documents part.old) id ahead → IfOk result (λ to.
         IsAhead (map filter_tree filters.now) (network_tree network.now).leaves (P.documents part.old) to.id to.ahead) }
@@ -110,6 +112,8 @@ fn pass_on<P: TermMasks, F: Fn(u32, u32, u64, u64) -> Fraction, L: Ledger>(
     ensures keeps { Keeps P.documents P.faults P.sound P.quiet part.old part.new }
     ensures first { P.sound part.old → IsAhead (map filter_tree filters.now) (network_tree network.now).leaves (P.documents part.old) id ahead → IfOk result (λ to.
         Advances rule.now.kind (map (λ plug. meaning plug) plugs.old) (map filter_tree filters.now) (network_tree network.now) (unmarked (take id (P.documents part.old)) marks.now) (unmarked (take to.id (P.documents part.old)) marks.now) (counted first.old squares.old) (counted first.new squares.new)) }
+    ensures within { P.sound part.old → IsAhead (map filter_tree filters.now) (network_tree network.now).leaves (P.documents part.old) id ahead
+        → SpendsWithin rule.now.kind (map (λ plug. meaning plug) plugs.old) (map filter_tree filters.now) (network_tree network.now) (unmarked (take id (P.documents part.old)) marks.now) (unmarked (P.documents part.old) marks.now) squares.old squares.new }
     ensures windows { OnOk result (KeepsWindows (network_tree network.now) (unmarked (P.documents part.old) marks.now) first.old first.new) }
     ensures ahead { P.sound part.old → IsAhead (map filter_tree filters.now) (network_tree network.now).leaves (P.documents part.old) id ahead → IfOk result (λ to.
         IsAhead (map filter_tree filters.now) (network_tree network.now).leaves (P.documents part.old) to.id to.ahead) }
@@ -151,6 +155,8 @@ pub fn pass_part<P: TermMasks, F: Fn(u32, u32, u64, u64) -> Fraction, L: Ledger>
     ensures keeps { Keeps P.documents P.faults P.sound P.quiet part.old part.new }
     ensures first { P.sound part.old → IsAhead (map filter_tree filters.now) (network_tree network.now).leaves (P.documents part.old) id ahead → IfOk result (λ to.
         Advances rule.now.kind (map (λ plug. meaning plug) plugs.old) (map filter_tree filters.now) (network_tree network.now) (unmarked (take id (P.documents part.old)) marks.now) (unmarked (take to.id (P.documents part.old)) marks.now) (counted first.old squares.old) (counted first.new squares.new)) }
+    ensures within { P.sound part.old → IsAhead (map filter_tree filters.now) (network_tree network.now).leaves (P.documents part.old) id ahead
+        → SpendsWithin rule.now.kind (map (λ plug. meaning plug) plugs.old) (map filter_tree filters.now) (network_tree network.now) (unmarked (take id (P.documents part.old)) marks.now) (unmarked (P.documents part.old) marks.now) squares.old squares.new }
     ensures windows { OnOk result (KeepsWindows (network_tree network.now) (unmarked (P.documents part.old) marks.now) first.old first.new) }
     ensures ahead { P.sound part.old → IsAhead (map filter_tree filters.now) (network_tree network.now).leaves (P.documents part.old) id ahead → IfOk result (λ to.
         IsAhead (map filter_tree filters.now) (network_tree network.now).leaves (P.documents part.old) to.id to.ahead) }

@@ -57,7 +57,7 @@ impl Search {
     ghost use Rattle.belief_nodes.specs.Priors.{Prior};
     ghost use Rattle.disk_index.specs.Cache.{CacheKeeps, IsCacheBacked};
     ghost use Rattle.disk_index.specs.Snapshots.{AreBacked, IsFileAmong};
-    ghost use Rattle.ranker.specs.Searches.{IsAnswerOf, IsSameSearch, IsTaken, searched, spent_by};
+    ghost use Rattle.ranker.specs.Searches.{IsAnswerOf, IsSameSearch, IsTaken, searched, spent_by, whole_cost};
     ghost use Rattle.ranker.specs.Windows.{AreWindows};
 
     /// A search over the documents of a snapshot that has passed none yet, for at most so many results. The statistics are those of
@@ -142,6 +142,10 @@ impl Search {
             (IsTaken rule.now.kind (map (λ plug. meaning plug) plugs.old) (T.files store.old) self.old
             → squares.new + spent_by rule.now.kind (map (λ plug. meaning plug) plugs.old) (T.files store.old) self.old
             ≤ squares.old + spent_by rule.now.kind (map (λ plug. meaning plug) plugs.old) (T.files store.old) self.new) }
+
+        // Also where it answers an error.
+        ensures within { AreBacked (T.files store.old) self.old.snapshot → IsCacheBacked (T.files store.old) cache.old → IsTaken rule.now.kind (map (λ plug. meaning plug) plugs.old) (T.files store.old) self.old
+            → squares.new + spent_by rule.now.kind (map (λ plug. meaning plug) plugs.old) (T.files store.old) self.old ≤ squares.old + whole_cost rule.now.kind (map (λ plug. meaning plug) plugs.old) (T.files store.old) self.old }
     {
         self.usable = false;
         advance(

@@ -10,7 +10,7 @@ ghost use Rattle.belief_nodes.specs.Network.{network_tree};
 ghost use Rattle.disk_index.specs.Cache.{CacheKeeps, IsCacheBacked};
 ghost use Rattle.disk_index.specs.Parts.{IsFileOf, IsPartBacked, reads, size};
 ghost use Rattle.disk_index.specs.Snapshots.{AreBacked, IsFileAmong, IsSnapshot, live, live_in};
-ghost use Rattle.ranker.specs.First.{Advances, counted};
+ghost use Rattle.ranker.specs.First.{Advances, SpendsWithin, counted};
 ghost use Rattle.ranker.specs.Passed.{IsAhead, IsAheadAt, IsPassed, IsPlace, behind, live_before, passed};
 ghost use Rattle.ranker.specs.Windows.{KeepsWindows};
 
@@ -49,6 +49,9 @@ fn pass_marked<T: Store, F: Fn(u32, u32, u64, u64) -> Fraction, L: Ledger>(
     ensures first { IsPartBacked (T.files store.old) marked.now.source → IsCacheBacked (T.files store.old) cache.old
         → IsAhead (map filter_tree filters.now) (network_tree network.now).leaves (reads (T.files store.old) marked.now.source) id ahead → IfOk result (λ to.
         Advances rule.now.kind (map (λ plug. meaning plug) plugs.old) (map filter_tree filters.now) (network_tree network.now) (live_before (T.files store.old) marked.now id) (live_before (T.files store.old) marked.now to.id) (counted first.old squares.old) (counted first.new squares.new)) }
+    ensures within { IsPartBacked (T.files store.old) marked.now.source → IsCacheBacked (T.files store.old) cache.old
+        → IsAhead (map filter_tree filters.now) (network_tree network.now).leaves (reads (T.files store.old) marked.now.source) id ahead
+        → SpendsWithin rule.now.kind (map (λ plug. meaning plug) plugs.old) (map filter_tree filters.now) (network_tree network.now) (live_before (T.files store.old) marked.now id) (live_in (T.files store.old) marked.now) squares.old squares.new }
     ensures windows { OnOk result (KeepsWindows (network_tree network.now) (live_in (T.files store.old) marked.now) first.old first.new) }
     ensures ahead { IsPartBacked (T.files store.old) marked.now.source → IsCacheBacked (T.files store.old) cache.old
         → IsAhead (map filter_tree filters.now) (network_tree network.now).leaves (reads (T.files store.old) marked.now.source) id ahead → IfOk result (λ to.
@@ -127,6 +130,8 @@ fn pass_next<T: Store, F: Fn(u32, u32, u64, u64) -> Fraction, L: Ledger>(
     requires some { at.old.part < length parts.now }
     ensures first { AreBacked (T.files store.old) parts.now → IsCacheBacked (T.files store.old) cache.old → IsAheadAt (map filter_tree filters.now) (network_tree network.now).leaves (T.files store.old) parts.now at.old → OnOk result
         (Advances rule.now.kind (map (λ plug. meaning plug) plugs.old) (map filter_tree filters.now) (network_tree network.now) (passed (T.files store.old) parts.now at.old) (passed (T.files store.old) parts.now at.new) (counted first.old squares.old) (counted first.new squares.new)) }
+    ensures within { AreBacked (T.files store.old) parts.now → IsCacheBacked (T.files store.old) cache.old → IsAheadAt (map filter_tree filters.now) (network_tree network.now).leaves (T.files store.old) parts.now at.old
+        → SpendsWithin rule.now.kind (map (λ plug. meaning plug) plugs.old) (map filter_tree filters.now) (network_tree network.now) (passed (T.files store.old) parts.now at.old) (live (T.files store.old) parts.now) squares.old squares.new }
     ensures windows { OnOk result (KeepsWindows (network_tree network.now) (live (T.files store.old) parts.now) first.old first.new) }
     ensures ahead { AreBacked (T.files store.old) parts.now → IsCacheBacked (T.files store.old) cache.old → IsAheadAt (map filter_tree filters.now) (network_tree network.now).leaves (T.files store.old) parts.now at.old → OnOk result
         (IsAheadAt (map filter_tree filters.now) (network_tree network.now).leaves (T.files store.old) parts.now at.new) }
@@ -171,6 +176,8 @@ pub fn pass_parts<T: Store, F: Fn(u32, u32, u64, u64) -> Fraction, L: Ledger>(
     requires place { IsPlace parts.now at.old }
     ensures first { AreBacked (T.files store.old) parts.now → IsCacheBacked (T.files store.old) cache.old → IsAheadAt (map filter_tree filters.now) (network_tree network.now).leaves (T.files store.old) parts.now at.old → OnOk result
         (Advances rule.now.kind (map (λ plug. meaning plug) plugs.old) (map filter_tree filters.now) (network_tree network.now) (passed (T.files store.old) parts.now at.old) (passed (T.files store.old) parts.now at.new) (counted first.old squares.old) (counted first.new squares.new)) }
+    ensures within { AreBacked (T.files store.old) parts.now → IsCacheBacked (T.files store.old) cache.old → IsAheadAt (map filter_tree filters.now) (network_tree network.now).leaves (T.files store.old) parts.now at.old
+        → SpendsWithin rule.now.kind (map (λ plug. meaning plug) plugs.old) (map filter_tree filters.now) (network_tree network.now) (passed (T.files store.old) parts.now at.old) (live (T.files store.old) parts.now) squares.old squares.new }
     ensures windows { OnOk result (KeepsWindows (network_tree network.now) (live (T.files store.old) parts.now) first.old first.new) }
     ensures ahead { AreBacked (T.files store.old) parts.now → IsCacheBacked (T.files store.old) cache.old → IsAheadAt (map filter_tree filters.now) (network_tree network.now).leaves (T.files store.old) parts.now at.old → OnOk result
         (IsAheadAt (map filter_tree filters.now) (network_tree network.now).leaves (T.files store.old) parts.now at.new) }

@@ -1,13 +1,15 @@
-use Rattle.std.proofs.Common.{◌≡◌, ◌≤◌, ◌+◌, None, true, length, map, min, refl, sym, ap, ◌∙◌, arith}
+use Rattle.std.proofs.Common.{◌≡◌, ◌≤◌, ◌+◌, None, true, List, length, map, min, refl, sym, ap, ◌∙◌, arith}
 use Rattle.ri_base.specs.Query.{filter_tree}
 use Rattle.belief_nodes.specs.Network.{network_tree}
 use Rattle.disk_index.specs.Snapshots.{live}
+use Rattle.document_scoring.specs.Candidates.{Candidate, candidates}
 use Rattle.ranker.specs.Held.{is_open}
 use Rattle.ranker.specs.Passed.{passed}
 use Rattle.ranker.proofs.HeldLemmas.{HoldsEntries-on, HoldsEntries-shut, IsHeld-on, ended-credit}
-use Rattle.ranker.proofs.PlaceLemmas.{credit-le}
-use Rattle.ranker.proofs.SquaresLemmas.{squares_end, squares_on}
+use Rattle.ranker.proofs.PlaceLemmas.{credit-le, passed-all}
+use Rattle.ranker.proofs.SquaresLemmas.{squares_end, squares_ended, squares_met, squares_on, squares_whole}
 use Rattle.ranker.proofs.WindowLemmas.{HasWindows-on}
+use Rattle.ranker.proofs.WithinLemmas.{cost-passed}
 use Rattle.ranker.proofs.advance.advance.Goals as goal
 
 pub returns-in_default-clause-credit : goal.returns-in_default-clause-credit
@@ -77,6 +79,84 @@ returns-clause-squares g c = λ backed cached known most h.
     let network = network_tree c.args.network.now in
     let on = c.in_ok-pass_parts.ensures.first backed cached known in
     squares_end network most (is_open c.args.held.now) (is_open c.end.new.self) _ _ c.args.squares.now c.pass_parts.new.squares c.end.new.squares (ap is_open c.in-Open.is) c.in_ok-end.ensures.ended on.cost
-    (c.in_ok-end.ensures.cost kind priors filters (passed told parts c.pass_parts.new.at) most refl
+    (c.end.ensures.cost kind priors filters (passed told parts c.pass_parts.new.at) most refl
+    (IsHeld-on kind priors filters network (passed told parts c.args.at.now) (passed told parts c.pass_parts.new.at) most
+    c.args.held.now c.in-Open.first c.pass_parts.new.first c.args.squares.now c.pass_parts.new.squares c.in-Open.is on h))
+
+pub returns-in_default-clause-within : goal.returns-in_default-clause-within
+returns-in_default-clause-within g c = λ backed cached known most h.
+    let told = g.T.Store.files c.args.store.now in
+    let parts = c.args.parts.now in
+    let kind = c.args.rule.now.kind in
+    let priors = map (λ b. (goal.BeliefNode-dyn g (b.vtable, b.value)).meaning b.value) c.args.plugs.now in
+    let filters = map filter_tree c.args.filters.now in
+    let network = network_tree c.args.network.now in
+    let at = c.args.at.now in
+    let whole : c.args.count ≡ length (live told parts) = c.requires.count told in
+    let below : at.credit ≤ length (live told parts) = credit-le told parts at c.requires.place in
+    let few : at.credit ≤ c.args.count = omega (arith, whole, below) in
+    let end : at.credit ≡ c.args.count = ended-credit c.args.held.now c.in_default.field-0 at.credit c.args.count c.in_default.is c.requires.open few in
+    let all : passed told parts at ≡ live told parts = passed-all told parts at (sym (c.requires.place.credit told) ∙ end ∙ whole) in
+    squares_ended network most (is_open c.args.held.now) _ _ c.args.squares.now (ap is_open c.in_default.is) (ap (candidates kind priors filters network) all)
+
+pub returns-in_err-pass_parts-clause-within : goal.returns-in_err-pass_parts-clause-within
+returns-in_err-pass_parts-clause-within g c = λ backed cached known most h.
+    let told = g.T.Store.files c.args.store.now in
+    let parts = c.args.parts.now in
+    let kind = c.args.rule.now.kind in
+    let priors = map (λ b. (goal.BeliefNode-dyn g (b.vtable, b.value)).meaning b.value) c.args.plugs.now in
+    let filters = map filter_tree c.args.filters.now in
+    let network = network_tree c.args.network.now in
+    let whole : List Candidate = candidates kind priors filters network (live told parts) in
+    squares_whole network most (is_open c.args.held.now) _ whole whole c.args.squares.now c.pass_parts.new.squares (ap is_open c.in-Open.is) (c.pass_parts.ensures.within backed cached known) (omega arith)
+
+pub returns-then-at-count-clause-within : goal.returns-then-at-count-clause-within
+returns-then-at-count-clause-within g c = λ backed cached known most h.
+    let told = g.T.Store.files c.args.store.now in
+    let parts = c.args.parts.now in
+    let kind = c.args.rule.now.kind in
+    let priors = map (λ b. (goal.BeliefNode-dyn g (b.vtable, b.value)).meaning b.value) c.args.plugs.now in
+    let filters = map filter_tree c.args.filters.now in
+    let network = network_tree c.args.network.now in
+    squares_whole network most (is_open c.args.held.now) _ (candidates kind priors filters network (passed told parts c.pass_parts.new.at)) _ c.args.squares.now c.pass_parts.new.squares (ap is_open c.in-Open.is)
+    (c.in_ok-pass_parts.ensures.first backed cached known).cost (cost-passed kind priors filters network told parts c.pass_parts.new.at)
+
+pub returns-in_err-end-clause-within : goal.returns-in_err-end-clause-within
+returns-in_err-end-clause-within g c = λ backed cached known most h.
+    let told = g.T.Store.files c.args.store.now in
+    let parts = c.args.parts.now in
+    let kind = c.args.rule.now.kind in
+    let priors = map (λ b. (goal.BeliefNode-dyn g (b.vtable, b.value)).meaning b.value) c.args.plugs.now in
+    let filters = map filter_tree c.args.filters.now in
+    let network = network_tree c.args.network.now in
+    let on = c.in_ok-pass_parts.ensures.first backed cached known in
+    let now = c.pass_parts.new.at in
+    let whole : c.args.count ≡ length (live told parts) = c.requires.count told in
+    let below : now.credit ≤ length (live told parts) = credit-le told parts now c.pass_parts.ensures.place in
+    let end : now.credit ≡ length (live told parts) = omega (arith, whole, below, c.if-at-count.false) in
+    let all : passed told parts now ≡ live told parts = passed-all told parts now (sym (c.pass_parts.ensures.place.credit told) ∙ end) in
+    squares_met network most (is_open c.args.held.now) _ (candidates kind priors filters network (passed told parts c.pass_parts.new.at)) _ c.args.squares.now c.pass_parts.new.squares c.end.new.squares (ap is_open c.in-Open.is)
+    (ap (candidates kind priors filters network) all) on.cost
+    (c.end.ensures.cost kind priors filters (passed told parts c.pass_parts.new.at) most refl
+    (IsHeld-on kind priors filters network (passed told parts c.args.at.now) (passed told parts c.pass_parts.new.at) most
+    c.args.held.now c.in-Open.first c.pass_parts.new.first c.args.squares.now c.pass_parts.new.squares c.in-Open.is on h))
+
+pub returns-clause-within : goal.returns-clause-within
+returns-clause-within g c = λ backed cached known most h.
+    let told = g.T.Store.files c.args.store.now in
+    let parts = c.args.parts.now in
+    let kind = c.args.rule.now.kind in
+    let priors = map (λ b. (goal.BeliefNode-dyn g (b.vtable, b.value)).meaning b.value) c.args.plugs.now in
+    let filters = map filter_tree c.args.filters.now in
+    let network = network_tree c.args.network.now in
+    let on = c.in_ok-pass_parts.ensures.first backed cached known in
+    let now = c.pass_parts.new.at in
+    let whole : c.args.count ≡ length (live told parts) = c.requires.count told in
+    let below : now.credit ≤ length (live told parts) = credit-le told parts now c.pass_parts.ensures.place in
+    let end : now.credit ≡ length (live told parts) = omega (arith, whole, below, c.if-at-count.false) in
+    let all : passed told parts now ≡ live told parts = passed-all told parts now (sym (c.pass_parts.ensures.place.credit told) ∙ end) in
+    squares_met network most (is_open c.args.held.now) _ (candidates kind priors filters network (passed told parts c.pass_parts.new.at)) _ c.args.squares.now c.pass_parts.new.squares c.end.new.squares (ap is_open c.in-Open.is)
+    (ap (candidates kind priors filters network) all) on.cost
+    (c.end.ensures.cost kind priors filters (passed told parts c.pass_parts.new.at) most refl
     (IsHeld-on kind priors filters network (passed told parts c.args.at.now) (passed told parts c.pass_parts.new.at) most
     c.args.held.now c.in-Open.first c.pass_parts.new.first c.args.squares.now c.pass_parts.new.squares c.in-Open.is on h))

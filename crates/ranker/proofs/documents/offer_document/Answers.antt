@@ -49,3 +49,14 @@ returns-clause-cost g c = λ sound.
     let rows = c.score_document.new.rows.items in
     let adds : Adds kind priors filters network d [] rows = subst (λ (rs : List Row). Adds kind priors filters network d rs rows) c.new-rows.ensures.items (c.in_ok-score_document.ensures.exact sound) in
     subst (λ n. c.offer_rows.new.squares ≤ c.args.squares.now + early_cost network n) (adds_length kind priors filters network d rows adds) c.offer_rows.ensures.cost
+
+pub returns-in_err-offer_rows-clause-cost : goal.returns-in_err-offer_rows-clause-cost
+returns-in_err-offer_rows-clause-cost g c = λ sound.
+    let kind = c.args.rule.now.kind in
+    let priors = map (λ b. (goal.BeliefNode-dyn g (b.vtable, b.value)).meaning b.value) c.args.plugs.now in
+    let filters = map filter_tree c.args.filters.now in
+    let network = network_tree c.args.network.now in
+    let d = document_at (g.P.Postings.documents c.args.part.now) c.args.id in
+    let rows = c.score_document.new.rows.items in
+    let adds : Adds kind priors filters network d [] rows = subst (λ (rs : List Row). Adds kind priors filters network d rs rows) c.new-rows.ensures.items (c.in_ok-score_document.ensures.exact sound) in
+    subst (λ n. c.offer_rows.new.squares ≤ c.args.squares.now + early_cost network n) (adds_length kind priors filters network d rows adds) c.offer_rows.ensures.cost

@@ -2,7 +2,7 @@ use Rattle.std.proofs.Common.{map, sym, arith, ◌∙◌}
 use Rattle.ri_base.specs.Query.{filter_tree}
 use Rattle.belief_nodes.specs.Network.{network_tree}
 use Rattle.ranker.specs.First.{counted}
-use Rattle.ranker.proofs.PassedLemmas.{Advances-dead, Advances-live, Advances-unseen, ids-dead, ids-live}
+use Rattle.ranker.proofs.PassedLemmas.{Advances-dead, Advances-live, Advances-unseen, cost-live, ids-dead, ids-live}
 use Rattle.ranker.proofs.WindowLemmas.{KeepsWindows-live, KeepsWindows-same}
 use Rattle.ranker.proofs.documents.pass_document.Goals as goal
 
@@ -46,3 +46,27 @@ pub returns-clause-windows : goal.returns-clause-windows
 returns-clause-windows g c =
     KeepsWindows-live (network_tree c.args.network.now) (g.P.Postings.documents c.args.part.now) c.args.marks.now c.args.id c.args.first.now c.offer_document.new.first
     c.requires.id c.requires.marks (sym c.is_marked.ensures ∙ c.if-is_marked.false) c.in_ok-offer_document.ensures.windows
+
+-- ---- squarings
+
+pub returns-then-is_marked-clause-within : goal.returns-then-is_marked-clause-within
+returns-then-is_marked-clause-within g c = λ sound none.
+    (Advances-dead c.args.rule.now.kind (map (λ b. (goal.BeliefNode-dyn g (b.vtable, b.value)).meaning b.value) c.args.plugs.now) (map filter_tree c.args.filters.now) (network_tree c.args.network.now) (g.P.Postings.documents c.args.part.now) c.args.marks.now c.args.id (counted c.args.first.now c.args.squares.now)
+    c.requires.id c.requires.marks (sym c.is_marked.ensures ∙ c.if-is_marked.true)).cost
+
+pub returns-then-not-may_have-clause-within : goal.returns-then-not-may_have-clause-within
+returns-then-not-may_have-clause-within g c = λ sound none.
+    (Advances-unseen c.args.rule.now.kind (map (λ b. (goal.BeliefNode-dyn g (b.vtable, b.value)).meaning b.value) c.args.plugs.now) (map filter_tree c.args.filters.now) (network_tree c.args.network.now) (g.P.Postings.documents c.args.part.now) c.args.marks.now c.args.id (counted c.args.first.now c.args.squares.now)
+    c.requires.id c.requires.marks (sym c.is_marked.ensures ∙ c.if-is_marked.false) (none c.if-not-may_have.true)).cost
+
+pub returns-in_err-offer_document-clause-within : goal.returns-in_err-offer_document-clause-within
+returns-in_err-offer_document-clause-within g c = λ sound none.
+    let more = cost-live c.args.rule.now.kind (map (λ b. (goal.BeliefNode-dyn g (b.vtable, b.value)).meaning b.value) c.args.plugs.now) (map filter_tree c.args.filters.now) (network_tree c.args.network.now) (g.P.Postings.documents c.args.part.now) c.args.marks.now c.args.id c.requires.id c.requires.marks (sym c.is_marked.ensures ∙ c.if-is_marked.false) in
+    let one = c.offer_document.ensures.cost sound in
+    omega (arith, more, one)
+
+pub returns-clause-within : goal.returns-clause-within
+returns-clause-within g c = λ sound none.
+    let more = cost-live c.args.rule.now.kind (map (λ b. (goal.BeliefNode-dyn g (b.vtable, b.value)).meaning b.value) c.args.plugs.now) (map filter_tree c.args.filters.now) (network_tree c.args.network.now) (g.P.Postings.documents c.args.part.now) c.args.marks.now c.args.id c.requires.id c.requires.marks (sym c.is_marked.ensures ∙ c.if-is_marked.false) in
+    let one = c.offer_document.ensures.cost sound in
+    omega (arith, more, one)

@@ -12,6 +12,7 @@ use Rattle.ranker.specs.Windows.{KeepsWindows}
 use Rattle.ranker.proofs.AheadLemmas.{IsAhead-on}
 use Rattle.ranker.proofs.PassedLemmas.{Advances-read, Advances-same, Advances-then}
 use Rattle.ranker.proofs.WindowLemmas.{KeepsWindows-same, KeepsWindows-then}
+use Rattle.ranker.proofs.WithinLemmas.{cost-take, within-more, within-then, within-to}
 use Rattle.ranker.proofs.parts.pass_masked.Goals as goal
 
 pub loop-at-init : goal.loop-at-init
@@ -82,3 +83,51 @@ pub returns-else-docs-most-clause-ahead : goal.returns-else-docs-most-clause-ahe
 returns-else-docs-most-clause-ahead g c = λ sound known.
     let started = c.loop-at.invariant.from in
     IsAhead-on (map filter_tree c.args.filters.now) (network_tree c.args.network.now).leaves (g.P.Postings.documents c.args.part.now) c.args.id c.loop-at.at c.args.ahead c.args.ahead (omega (arith, started)) refl known
+
+-- ---- squarings
+
+pub returns-after-loop-at-clause-within : goal.returns-after-loop-at-clause-within
+returns-after-loop-at-clause-within g c = λ sound known.
+    let kind = c.args.rule.now.kind in
+    let priors = map (λ b. (goal.BeliefNode-dyn g (b.vtable, b.value)).meaning b.value) c.args.plugs.now in
+    let filters = map filter_tree c.args.filters.now in
+    let network = network_tree c.args.network.now in
+    let docs = g.P.Postings.documents c.args.part.now in
+    let marks = c.args.marks.now in
+    within-more kind priors filters network (unmarked (take c.args.id docs) marks) (unmarked (take c.loop-at.at docs) marks) (unmarked docs marks) c.args.squares.now c.loop-at.squares (c.loop-at.invariant.so_far sound known).cost
+    (cost-take kind priors filters network docs marks c.loop-at.at)
+
+pub returns-else-docs-most-clause-within : goal.returns-else-docs-most-clause-within
+returns-else-docs-most-clause-within g c = λ sound known.
+    let kind = c.args.rule.now.kind in
+    let priors = map (λ b. (goal.BeliefNode-dyn g (b.vtable, b.value)).meaning b.value) c.args.plugs.now in
+    let filters = map filter_tree c.args.filters.now in
+    let network = network_tree c.args.network.now in
+    let docs = g.P.Postings.documents c.args.part.now in
+    let marks = c.args.marks.now in
+    within-more kind priors filters network (unmarked (take c.args.id docs) marks) (unmarked (take c.loop-at.at docs) marks) (unmarked docs marks) c.args.squares.now c.loop-at.squares (c.loop-at.invariant.so_far sound known).cost
+    (cost-take kind priors filters network docs marks c.loop-at.at)
+
+pub returns-in_err-passed-clause-within : goal.returns-in_err-passed-clause-within
+returns-in_err-passed-clause-within g c = λ sound known.
+    let kind = c.args.rule.now.kind in
+    let priors = map (λ b. (goal.BeliefNode-dyn g (b.vtable, b.value)).meaning b.value) c.args.plugs.now in
+    let filters = map filter_tree c.args.filters.now in
+    let network = network_tree c.args.network.now in
+    let docs = g.P.Postings.documents c.args.part.now in
+    let marks = c.args.marks.now in
+    let read = g.P.Postings.documents c.loop-at.part in
+    let at = c.loop-at.at in
+    let keeps = c.loop-at.invariant.keeps in
+    let started = c.loop-at.invariant.from in
+    let low : c.args.id ≤ at = omega (arith, started) in
+    let test = c.loop-at-test.true in
+    let none : c.has_id.result ≡ false → query_may filters network.leaves (document_at read at) ≡ false =
+    λ clear.
+    let bit : bit_at c.args.ahead.mask (at % 64) ≡ 0 = sym c.has_id.ensures ∙ ap (λ b. cond b 1 0) clear in
+    subst (λ (ds : List Document). query_may filters network.leaves (document_at ds at) ≡ false) (sym keeps.documents_stay) (known.none at low (omega (arith, test)) bit) in
+    let next = within-to kind _ priors filters network read docs marks at (at + 1) c.loop-at.squares c.pass_document.new.squares c.loop-at.invariant.stay keeps.documents_stay (c.pass_document.ensures.within (keeps.sound_stays sound) none) in
+    within-more kind priors filters network (unmarked (take c.args.id docs) marks) (unmarked (take (at + 1) docs) marks) (unmarked docs marks) c.args.squares.now c.pass_document.new.squares
+    (within-then kind priors filters network (unmarked (take c.args.id docs) marks) (unmarked (take at docs) marks) (unmarked (take (at + 1) docs) marks) c.args.squares.now c.loop-at.squares c.pass_document.new.squares
+    (c.loop-at.invariant.so_far sound known).cost next)
+    (cost-take kind priors filters network docs marks (at + 1))

@@ -1,10 +1,12 @@
-use Rattle.std.proofs.Common.{map, sym, arith}
+use Rattle.std.proofs.Common.{map, sym, take, arith}
 use Rattle.ri_base.specs.Query.{filter_tree}
 use Rattle.belief_nodes.specs.Network.{network_tree}
+use Rattle.disk_index.specs.Snapshots.{unmarked}
 use Rattle.ranker.specs.First.{counted}
 use Rattle.ranker.proofs.AheadLemmas.{IsAhead-on, IsAhead-read, bare}
 use Rattle.ranker.proofs.PassedLemmas.{Advances-bare}
 use Rattle.ranker.proofs.WindowLemmas.{KeepsWindows-same}
+use Rattle.ranker.proofs.WithinLemmas.{cost-take, within-same}
 use Rattle.ranker.proofs.parts.pass_on.Goals as goal
 
 -- ---- no document is looked at
@@ -53,3 +55,33 @@ returns-clause-ahead g c = λ sound known.
 
 pub returns-clause-windows : goal.returns-clause-windows
 returns-clause-windows g c = rw c.ahead_of.ensures.keeps.documents_stay at c.pass_masked.ensures.windows
+
+-- ---- squarings
+
+pub returns-in_err-ahead-clause-within : goal.returns-in_err-ahead-clause-within
+returns-in_err-ahead-clause-within g c = λ sound known.
+    let kind = c.args.rule.now.kind in
+    let priors = map (λ b. (goal.BeliefNode-dyn g (b.vtable, b.value)).meaning b.value) c.args.plugs.now in
+    let filters = map filter_tree c.args.filters.now in
+    let network = network_tree c.args.network.now in
+    let docs = g.P.Postings.documents c.args.part.now in
+    let marks = c.args.marks.now in
+    within-same kind priors filters network (unmarked (take c.args.id docs) marks) (unmarked docs marks) c.args.squares.now (cost-take kind priors filters network docs marks c.args.id)
+
+pub returns-then-ahead-eq0-clause-within : goal.returns-then-ahead-eq0-clause-within
+returns-then-ahead-eq0-clause-within g c = λ sound known.
+    let kind = c.args.rule.now.kind in
+    let priors = map (λ b. (goal.BeliefNode-dyn g (b.vtable, b.value)).meaning b.value) c.args.plugs.now in
+    let filters = map filter_tree c.args.filters.now in
+    let network = network_tree c.args.network.now in
+    let docs = g.P.Postings.documents c.args.part.now in
+    let marks = c.args.marks.now in
+    within-same kind priors filters network (unmarked (take c.args.id docs) marks) (unmarked docs marks) c.args.squares.now (cost-take kind priors filters network docs marks c.args.id)
+
+pub returns-clause-within : goal.returns-clause-within
+returns-clause-within g c = λ sound known.
+    let keeps = c.ahead_of.ensures.keeps in
+    let docs = g.P.Postings.documents c.args.part.now in
+    let read = g.P.Postings.documents c.ahead_of.new.part in
+    let here = IsAhead-read (map filter_tree c.args.filters.now) (network_tree c.args.network.now).leaves docs read c.args.id c.in_ok-ahead.ahead (sym keeps.documents_stay) (c.in_ok-ahead.ensures.ahead sound known) in
+    rw keeps.documents_stay at (c.pass_masked.ensures.within (keeps.sound_stays sound) here)

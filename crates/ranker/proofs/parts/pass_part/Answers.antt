@@ -10,6 +10,7 @@ use Rattle.ranker.specs.Windows.{KeepsWindows}
 use Rattle.ranker.proofs.AheadLemmas.{IsAhead-read}
 use Rattle.ranker.proofs.PassedLemmas.{Advances-read, Advances-same, Advances-then}
 use Rattle.ranker.proofs.WindowLemmas.{KeepsWindows-same, KeepsWindows-then}
+use Rattle.ranker.proofs.WithinLemmas.{cost-take, within-more, within-read, within-then}
 use Rattle.ranker.proofs.parts.pass_part.Goals as goal
 
 pub loop-at-init : goal.loop-at-init
@@ -67,3 +68,43 @@ returns-else-docs-most-clause-passed g c = record {
   docs = c.loop-at.invariant.ids;
   few = c.loop-at.invariant.few;
 }
+
+-- ---- squarings
+
+pub returns-after-loop-at-clause-within : goal.returns-after-loop-at-clause-within
+returns-after-loop-at-clause-within g c = λ sound known.
+    let kind = c.args.rule.now.kind in
+    let priors = map (λ b. (goal.BeliefNode-dyn g (b.vtable, b.value)).meaning b.value) c.args.plugs.now in
+    let filters = map filter_tree c.args.filters.now in
+    let network = network_tree c.args.network.now in
+    let docs = g.P.Postings.documents c.args.part.now in
+    let marks = c.args.marks.now in
+    within-more kind priors filters network (unmarked (take c.args.id docs) marks) (unmarked (take c.loop-at.at docs) marks) (unmarked docs marks) c.args.squares.now c.loop-at.squares (c.loop-at.invariant.so_far sound known).cost
+    (cost-take kind priors filters network docs marks c.loop-at.at)
+
+pub returns-else-docs-most-clause-within : goal.returns-else-docs-most-clause-within
+returns-else-docs-most-clause-within g c = λ sound known.
+    let kind = c.args.rule.now.kind in
+    let priors = map (λ b. (goal.BeliefNode-dyn g (b.vtable, b.value)).meaning b.value) c.args.plugs.now in
+    let filters = map filter_tree c.args.filters.now in
+    let network = network_tree c.args.network.now in
+    let docs = g.P.Postings.documents c.args.part.now in
+    let marks = c.args.marks.now in
+    within-more kind priors filters network (unmarked (take c.args.id docs) marks) (unmarked (take c.loop-at.at docs) marks) (unmarked docs marks) c.args.squares.now c.loop-at.squares (c.loop-at.invariant.so_far sound known).cost
+    (cost-take kind priors filters network docs marks c.loop-at.at)
+
+pub returns-in_err-to-clause-within : goal.returns-in_err-to-clause-within
+returns-in_err-to-clause-within g c = λ sound known.
+    let kind = c.args.rule.now.kind in
+    let priors = map (λ b. (goal.BeliefNode-dyn g (b.vtable, b.value)).meaning b.value) c.args.plugs.now in
+    let filters = map filter_tree c.args.filters.now in
+    let network = network_tree c.args.network.now in
+    let docs = g.P.Postings.documents c.args.part.now in
+    let marks = c.args.marks.now in
+    let read = g.P.Postings.documents c.loop-at.part in
+    let at = c.loop-at.at in
+    let keeps = c.loop-at.invariant.keeps in
+    let here = IsAhead-read filters network.leaves docs read at c.loop-at.known (sym keeps.documents_stay) (c.loop-at.invariant.ahead sound known) in
+    let next = within-read kind _ priors filters network read docs marks at c.loop-at.squares c.pass_on.new.squares c.loop-at.invariant.stay keeps.documents_stay (c.pass_on.ensures.within (keeps.sound_stays sound) here) in
+    within-then kind priors filters network (unmarked (take c.args.id docs) marks) (unmarked (take at docs) marks) (unmarked docs marks) c.args.squares.now c.loop-at.squares c.pass_on.new.squares
+    (c.loop-at.invariant.so_far sound known).cost next

@@ -6,7 +6,7 @@ use Rattle.belief_nodes.specs.Network.{network_tree}
 use Rattle.disk_index.specs.Parts.{reads, size, source_of}
 use Rattle.disk_index.specs.Snapshots.{unmarked}
 use Rattle.disk_index.proofs.RebuiltLemmas.{reads-length}
-use Rattle.ranker.specs.First.{Advances, counted}
+use Rattle.ranker.specs.First.{Advances, SpendsWithin, counted}
 use Rattle.ranker.specs.Passed.{IsAhead}
 use Rattle.ranker.specs.Windows.{KeepsWindows}
 use Rattle.ranker.specs.declared.place.Passed.{Passed}
@@ -76,3 +76,21 @@ returns-clause-windows g c =
     let docs : reads here own ≡ reads told m.source = ap (λ (t : Option Files). reads t own) same_told ∙ ap (reads told) same_part in
     subst (λ (ds : List Document). OnOk c.pass_part.result (KeepsWindows network (unmarked ds m.marks) c.args.first.now c.pass_part.new.first)) docs
     (subst (λ (ms : List Bool). OnOk c.pass_part.result (KeepsWindows network (unmarked (reads here own) ms) c.args.first.now c.pass_part.new.first)) c.marks.ensures.marks c.pass_part.ensures.windows)
+
+pub returns-clause-within : goal.returns-clause-within
+returns-clause-within g c = λ part cached known.
+    let told = g.T.Store.files c.args.store.now in
+    let here = g.T.Store.files c.new-reader.result.store.now in
+    let m = c.args.marked.now in
+    let own = source_of c.new-reader.result.part.now in
+    let kind = c.args.rule.now.kind in
+    let priors = map (λ b. (goal.BeliefNode-dyn g (b.vtable, b.value)).meaning b.value) c.args.plugs.now in
+    let filters = map filter_tree c.args.filters.now in
+    let network = network_tree c.args.network.now in
+    let same_told : here ≡ told = ap g.T.Store.files c.new-reader.ensures.store in
+    let same_part : own ≡ m.source = ap source_of c.new-reader.ensures.part ∙ c.part.ensures.part in
+    let docs : reads here own ≡ reads told m.source = ap (λ (t : Option Files). reads t own) same_told ∙ ap (reads told) same_part in
+    let there = sound-of told here m.source own c.args.cache.now c.new-reader.result.cache.now same_told same_part c.new-reader.ensures.cache part cached in
+    subst (λ (ds : List Document). SpendsWithin kind priors filters network (unmarked (take c.args.id ds) m.marks) (unmarked ds m.marks) c.args.squares.now c.pass_part.new.squares) docs
+    (subst (λ (ms : List Bool). SpendsWithin kind priors filters network (unmarked (take c.args.id (reads here own)) ms) (unmarked (reads here own) ms) c.args.squares.now c.pass_part.new.squares) c.marks.ensures.marks
+    (c.pass_part.ensures.within there (IsAhead-read filters network.leaves (reads told m.source) (reads here own) c.args.id c.args.ahead (sym docs) known)))

@@ -11,6 +11,7 @@ use Rattle.ranker.specs.declared.place.Place.{Place}
 use Rattle.ranker.proofs.PlaceLemmas.{Advances-place, IsAheadAt-behind, IsPlace-behind, credit-behind, credit-few, part-behind, part-is}
 use Rattle.ranker.proofs.DocumentLemmas.{live-among}
 use Rattle.ranker.proofs.WindowLemmas.{KeepsWindows-among}
+use Rattle.ranker.proofs.WithinLemmas.{within-part}
 use Rattle.ranker.proofs.snapshots.pass_next.Goals as goal
 
 pub pass_marked-requires-clause-id : goal.pass_marked-requires-clause-id
@@ -97,3 +98,35 @@ returns-in_err-to-clause-honest g c = λ backed cached.
     let own : IsPartBacked told m.source = backed-at parts c.args.at.now.part m c.requires.some c.index-parts-at.is told backed in
     let p = err_from_is_err_and c.from_residual.result c.from_residual.ensures.1 in
     rw (p.1, p.2) (c.in_err-to.ensures.honest own cached)
+
+-- ---- squarings
+
+pub returns-in_err-to-clause-within : goal.returns-in_err-to-clause-within
+returns-in_err-to-clause-within g c = λ backed cached known.
+    let told = g.T.Store.files c.args.store.now in
+    let parts = c.args.parts.now in
+    let at = c.args.at.now in
+    let m = c.index-parts-at.result in
+    let kind = c.args.rule.now.kind in
+    let priors = map (λ b. (goal.BeliefNode-dyn g (b.vtable, b.value)).meaning b.value) c.args.plugs.now in
+    let filters = map filter_tree c.args.filters.now in
+    let network = network_tree c.args.network.now in
+    let is = part-is parts at.part m c.requires.some c.index-parts-at.is in
+    let own : IsPartBacked told m.source = backed-at parts at.part m c.requires.some c.index-parts-at.is told backed in
+    within-part kind priors filters network told parts at m c.args.squares.now c.pass_marked.new.squares is c.requires.some
+    (c.pass_marked.ensures.within own cached (subst (λ (p : Marked). IsAhead filters network.leaves (reads told p.source) at.id at.ahead) is known))
+
+pub returns-clause-within : goal.returns-clause-within
+returns-clause-within g c = λ backed cached known.
+    let told = g.T.Store.files c.args.store.now in
+    let parts = c.args.parts.now in
+    let at = c.args.at.now in
+    let m = c.index-parts-at.result in
+    let kind = c.args.rule.now.kind in
+    let priors = map (λ b. (goal.BeliefNode-dyn g (b.vtable, b.value)).meaning b.value) c.args.plugs.now in
+    let filters = map filter_tree c.args.filters.now in
+    let network = network_tree c.args.network.now in
+    let is = part-is parts at.part m c.requires.some c.index-parts-at.is in
+    let own : IsPartBacked told m.source = backed-at parts at.part m c.requires.some c.index-parts-at.is told backed in
+    within-part kind priors filters network told parts at m c.args.squares.now c.pass_marked.new.squares is c.requires.some
+    (c.pass_marked.ensures.within own cached (subst (λ (p : Marked). IsAhead filters network.leaves (reads told p.source) at.id at.ahead) is known))

@@ -12,6 +12,7 @@ use Rattle.ranker.specs.Windows.{KeepsWindows}
 use Rattle.ranker.proofs.PassedLemmas.{Advances-same, Advances-then}
 use Rattle.ranker.proofs.PlaceLemmas.{Advances-later, IsAheadAt-later, credit-min}
 use Rattle.ranker.proofs.WindowLemmas.{KeepsWindows-same, KeepsWindows-then}
+use Rattle.ranker.proofs.WithinLemmas.{cost-passed, within-later, within-more, within-then}
 use Rattle.ranker.proofs.snapshots.pass_parts.Goals as goal
 
 pub loop-left-init : goal.loop-left-init
@@ -83,3 +84,35 @@ returns-in_err-passed-clause-cache g c =
 pub returns-after-loop-left-clause-credit : goal.returns-after-loop-left-clause-credit
 returns-after-loop-left-clause-credit g c = λ told.
     credit-min told c.args.parts.now c.loop-left.at c.args.at.now.credit c.args.docs c.loop-left.left c.loop-left.invariant.place c.loop-left.invariant.credit (λ some inside. omega (arith, c.loop-left-test.false, some))
+
+-- ---- squarings
+
+pub returns-after-loop-left-clause-within : goal.returns-after-loop-left-clause-within
+returns-after-loop-left-clause-within g c = λ backed cached known.
+    let told = g.T.Store.files c.args.store.now in
+    let parts = c.args.parts.now in
+    let kind = c.args.rule.now.kind in
+    let priors = map (λ b. (goal.BeliefNode-dyn g (b.vtable, b.value)).meaning b.value) c.args.plugs.now in
+    let filters = map filter_tree c.args.filters.now in
+    let network = network_tree c.args.network.now in
+    within-more kind priors filters network (passed told parts c.args.at.now) (passed told parts c.loop-left.at) (live told parts) c.args.squares.now c.loop-left.squares (c.loop-left.invariant.so_far backed cached known).cost
+    (cost-passed kind priors filters network told parts c.loop-left.at)
+
+pub returns-in_err-passed-clause-within : goal.returns-in_err-passed-clause-within
+returns-in_err-passed-clause-within g c = λ backed cached known.
+    let told = g.T.Store.files c.args.store.now in
+    let here = g.T.Store.files c.loop-left.store in
+    let parts = c.args.parts.now in
+    let inv = c.loop-left.invariant in
+    let kind = c.args.rule.now.kind in
+    let priors = map (λ b. (goal.BeliefNode-dyn g (b.vtable, b.value)).meaning b.value) c.args.plugs.now in
+    let filters = map filter_tree c.args.filters.now in
+    let network = network_tree c.args.network.now in
+    let same : here ≡ told = inv.quiet.same_files in
+    let there : AreBacked here parts = subst (λ (f : Option Files). AreBacked f parts) (sym same) backed in
+    let blocks : IsCacheBacked here c.loop-left.cache =
+    subst (λ (f : Option Files). IsCacheBacked f c.loop-left.cache) (sym same) (IsCacheBacked-kept told (IsFileAmong parts) c.args.cache.now c.loop-left.cache inv.cache cached) in
+    let next = within-later kind _ priors filters network here told parts c.loop-left.at c.loop-left.squares c.pass_next.new.squares inv.stay same
+    (c.pass_next.ensures.within there blocks (IsAheadAt-later filters network.leaves told here parts c.loop-left.at (sym same) (inv.ahead backed cached known))) in
+    within-then kind priors filters network (passed told parts c.args.at.now) (passed told parts c.loop-left.at) (live told parts) c.args.squares.now c.loop-left.squares c.pass_next.new.squares
+    (inv.so_far backed cached known).cost next

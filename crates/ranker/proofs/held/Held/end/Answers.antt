@@ -24,4 +24,14 @@ returns-in_ok-hits-in-Open-clause-windows g c = λ docs leaves most h.
 pub returns-in_ok-hits-in-Open-clause-cost : goal.returns-in_ok-hits-in-Open-clause-cost
 returns-in_ok-hits-in-Open-clause-cost g c = λ kind priors filters docs most more h.
     late_spent (network_tree c.args.network.now) kind priors filters docs most c.args.self.now c.in-Open.kept c.args.squares.now c.into_first.new.squares (sym c.replace.ensures.value ∙ c.in-Open.is)
-    (c.requires c.in-Open.kept (sym c.replace.ensures.value ∙ c.in-Open.is)) c.in_ok-first-in-Open.ensures.cost h
+    (c.requires c.in-Open.kept (sym c.replace.ensures.value ∙ c.in-Open.is)) c.into_first.ensures.within h
+
+pub returns-in_err-hits-in-Open-clause-cost : goal.returns-in_err-hits-in-Open-clause-cost
+returns-in_err-hits-in-Open-clause-cost g c = λ kind priors filters docs most more h.
+    late_spent (network_tree c.args.network.now) kind priors filters docs most c.args.self.now c.in-Open.kept c.args.squares.now c.into_first.new.squares (sym c.replace.ensures.value ∙ c.in-Open.is)
+    (c.requires c.in-Open.kept (sym c.replace.ensures.value ∙ c.in-Open.is)) c.into_first.ensures.within h
+
+pub returns-in_err-first-in-Open-clause-cost : goal.returns-in_err-first-in-Open-clause-cost
+returns-in_err-first-in-Open-clause-cost g c = λ kind priors filters docs most more h.
+    late_spent (network_tree c.args.network.now) kind priors filters docs most c.args.self.now c.in-Open.kept c.args.squares.now c.into_first.new.squares (sym c.replace.ensures.value ∙ c.in-Open.is)
+    (c.requires c.in-Open.kept (sym c.replace.ensures.value ∙ c.in-Open.is)) c.into_first.ensures.within h

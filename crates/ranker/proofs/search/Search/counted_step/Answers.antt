@@ -31,3 +31,11 @@ invariant_of-self-2 g c = record {
 pub returns-clause-squares : goal.returns-clause-squares
 returns-clause-squares g c = λ backed cached h.
     (rw c.deref.ensures.value at (rw c.parts.ensures.parts at c.in_ok-advance.ensures.squares)) backed cached h.ahead c.args.self.now.most h.held
+
+pub returns-clause-within : goal.returns-clause-within
+returns-clause-within g c = λ backed cached h.
+    (rw c.deref.ensures.value at (rw c.parts.ensures.parts at c.advance.ensures.within)) backed cached h.ahead c.args.self.now.most h.held
+
+pub returns-in_err-advance-clause-within : goal.returns-in_err-advance-clause-within
+returns-in_err-advance-clause-within g c = λ backed cached h.
+    (rw c.deref.ensures.value at (rw c.parts.ensures.parts at c.advance.ensures.within)) backed cached h.ahead c.args.self.now.most h.held

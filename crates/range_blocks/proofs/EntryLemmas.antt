@@ -1,6 +1,6 @@
 -- Entries of documents: places that rise, and the entries of a block.
-use Rattle.std.proofs.Common.{◌≡◌, ◌<◌, ◌≤◌, ℕ, zero, suc, ◌+◌, ◌-◌, ◌*◌, ◌==◌, ◌⊎◌, List, [], ◌∷◌, ◌++◌, length, map, take, drop, get_or, Bool, true, false, cond, ltb, Option, Some, None, inl, inr, refl, sym, ap, subst, ◌∙◌, arith, length-drop}
-use Rattle.std.specs.List.{All, AllAdjacentBelow, AllPairs, IsAllAdjacentAnswer, find}
+use Rattle.std.proofs.Common.{◌≡◌, ◌<◌, ◌≤◌, ℕ, zero, suc, ◌+◌, ◌-◌, ◌*◌, ◌==◌, ◌⊎◌, List, [], ◌∷◌, ◌++◌, length, map, take, drop, get_or, Bool, true, false, ltb, Option, Some, None, inl, inr, refl, sym, ap, subst, ◌∙◌, arith, length-drop}
+use Rattle.std.specs.List.{All, IsAllAdjacentAnswer, find}
 use Rattle.std.specs.List.Sorted.{IsStrictlyIncreasing}
 use Rattle.std.specs.Option.{option_map_or}
 use Rattle.std.proofs.lemmas.Bool.{cases_lt, eqb-true, lt-ltb, ltb-true}
@@ -16,7 +16,7 @@ use Rattle.seg_codec.specs.Segment.{entry_of}
 use Rattle.seg_codec.specs.declared.blocks.BlockEntry.{BlockEntry}
 use Rattle.seg_codec.specs.declared.documents.Entry.{Entry}
 use Rattle.store_ends.specs.Files.{Files}
-use Rattle.disk_index.specs.Blocks.{block_of, entries_from, entry_of_places, of_range, places_of, told_file}
+use Rattle.disk_index.specs.Blocks.{block_of, entries_from, entry_of_places, places_of, told_file}
 use Rattle.disk_index.specs.Faults.{ArePlacesIn}
 use Rattle.disk_index.specs.Kept.{Kept, kept_of}
 use Rattle.disk_index.specs.Parts.{Source, InMemory, OnDisk, outlines_of, reads}

@@ -1,4 +1,4 @@
-use Rattle.std.proofs.Common.{◌≡◌, ◌-◌, ◌<◌, get_or, length, true, rules, ltb, arith}
+use Rattle.std.proofs.Common.{◌≡◌, ◌-◌, get_or, length, rules, ltb}
 use Rattle.std.proofs.lemmas.List.Sorted.{answers_always}
 use Rattle.range_blocks.proofs.EntryLemmas.{rise-below, told-no, told-yes}
 use Rattle.range_blocks.proofs.opening.rise_below.Goals as goal

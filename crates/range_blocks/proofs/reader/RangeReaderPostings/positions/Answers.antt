@@ -1,8 +1,7 @@
-use Rattle.std.proofs.Common.{◌≡◌, ◌<◌, List, ℕ, Option, Some, IfSome, length, ap, sym, subst, refl, ◌∙◌, rules}
+use Rattle.std.proofs.Common.{◌≡◌, ◌<◌, List, ℕ, Option, Some, IfSome, length, ap, sym, subst, refl, rules}
 use Rattle.std.specs.List.{All}
 use Rattle.std.specs.List.Sorted.{IsStrictlyIncreasing}
 use Rattle.ri_base.specs.Collection.{document_at}
-use Rattle.ri_base.specs.Documents.{Document}
 use Rattle.store_ends.specs.Files.{Files}
 use Rattle.seg_codec.specs.Blocks.{tokens_of}
 use Rattle.disk_index.specs.Cache.{IsCacheBacked}

@@ -510,8 +510,8 @@ impl Kept {
             store,
             &mut self.cache,
         )?;
-        let search = Search::new(alloc, snapshot, checked, &stats, k)?;
         let told = name.clone_in(alloc)?;
+        let search = Search::new(alloc, snapshot, checked, &stats, k)?;
         self.queries
             .push(OpenQuery { name, search })
             .map_err(AllocError::from)?;

@@ -1,6 +1,5 @@
 // What a desk answers.
-ghost use Rattle.std.specs.Prelude.{◌≡◌, length, true, IfOk};
-ghost use Rattle.belief_nodes.specs.Priors.{no_prior};
+ghost use Rattle.std.specs.Prelude.{◌≡◌, length, true};
 ghost use Rattle.ri_base.specs.Ratio.{ratio_of};
 ghost use Rattle.session_events.specs.Events.{IsSessionEvent};
 ghost use Rattle.smoothing.specs.Counts.{AreCounts};
@@ -9,10 +8,10 @@ ghost use Rattle.smoothing.specs.Fractions.{Computes, dirichlet};
 use crate::events::event_of;
 use crate::files::{FIRST, TURNED, put};
 use belief_nodes::{BeliefNode, TablePlug};
-use desk::{Desk, length_plug, reply_text, take_priors};
+use desk::{Desk, reply_text};
 use holdings::Limits;
 use repository::Repository;
-use ri_base::{Fraction, NoMemory, SegFault};
+use ri_base::{Docno, Fraction, SegFault};
 use session_events::Event;
 use smoothing::{Rule, RuleKind, dirichlet_fraction};
 use std::alloc::Global;
@@ -96,31 +95,59 @@ fn put_lines<F: Fn(u32, u32, u64, u64) -> Fraction, S: Store>(
     Some(())
 }
 
-/// The lines of a script with their replies, where this repository and these plugs are given.
-fn session_by<F: Fn(u32, u32, u64, u64) -> Fraction, S: Store>(
+/// The lines of a script with their replies, where this repository and these plugs are given, and mu is 1.
+fn session_by<S: Store>(
     alloc: Global,
     repository: Repository,
-    rule: Rule<F>,
     script: &str,
     store: &mut S,
     plugs: &mut [Box<dyn BeliefNode>],
 ) -> Option<Vec<u8>>
     requires usable { repository.usable ≡ true }
-    requires rule { Computes F.pre F.post rule.kind rule.f }
     requires nine { length plugs.old ≡ 9 }
 {
-    let mut desk = Desk::new(alloc, repository, rule).ok()?;
+    let rule = Rule::new(
+        RuleKind::Dirichlet { mu: 1 },
+        |tf, len, cf, total| -> Fraction
+            requires { AreCounts tf len cf total }
+            ensures { ratio_of result ≡ dirichlet 1 tf len cf total }
+        { dirichlet_fraction(1, tf, len, cf, total) },
+    );
+    let Ok(mut desk) = Desk::new(alloc, repository, rule) else {
+        return None;
+    };
     let mut out = Vec::new(alloc);
     put_lines(alloc, &mut desk, script, store, plugs, &mut out)?;
     Some(out)
 }
 
-/// A prior that can be stored. It has no rows before a repository is opened.
-fn stored(alloc: Global) -> Result<Box<TablePlug>, NoMemory>
-    ensures { IfOk result (λ plug. ⟦<TablePlug as BeliefNode>⟧.meaning plug.value ≡ no_prior) }
+/// The prior `home` by its rows.
+fn home(alloc: Global) -> Option<TablePlug> {
+    let mut plug = TablePlug::new(alloc).ok()?;
+    let docno = Docno::new(alloc, b"d1").ok()??;
+    plug.take_row(alloc, &docno, Fraction { p: 1, q: 2 }).ok()?;
+    plug.take_rest(Fraction { p: 1, q: 4 }).ok()?;
+    Some(plug)
+}
+
+/// The same with nine priors. The first is `home`, and of the others no text asks for a belief.
+fn session_over<S: Store>(
+    alloc: Global,
+    repository: Repository,
+    script: &str,
+    store: &mut S,
+) -> Option<Vec<u8>>
+    requires usable { repository.usable ≡ true }
 {
-    let table = TablePlug::new(alloc)?;
-    Ok(Box::new(alloc, table)?)
+    let mut plugs: Vec<Box<dyn BeliefNode>> = Vec::new(alloc);
+    for _ in 0..9 {
+        let plug = Box::new(alloc, home(alloc)?).ok()?;
+        plugs.push(plug).ok()?;
+    }
+    if plugs.len() != 9 {
+        return None;
+    }
+    session_by(alloc, repository, script, store, &mut plugs)
 }
 
 /// The lines of a script, which begin with `> `, with the replies of a desk to them, where mu is 1; nothing where the files of the store
@@ -131,26 +158,9 @@ pub fn session<S: Store>(
     limits: Limits,
     script: &str,
 ) -> Option<Vec<u8>> {
-    let rule = Rule::new(
-        RuleKind::Dirichlet { mu: 1 },
-        |tf, len, cf, total| -> Fraction
-            requires { AreCounts tf len cf total }
-            ensures { ratio_of result ≡ dirichlet 1 tf len cf total }
-        { dirichlet_fraction(1, tf, len, cf, total) },
-    );
-    let lengths = Box::new(alloc, length_plug(alloc).ok()?).ok()?;
-    let mut plugs: [Box<dyn BeliefNode>; 9] = [
-        stored(alloc).ok()?,
-        stored(alloc).ok()?,
-        stored(alloc).ok()?,
-        stored(alloc).ok()?,
-        stored(alloc).ok()?,
-        stored(alloc).ok()?,
-        stored(alloc).ok()?,
-        stored(alloc).ok()?,
-        lengths,
-    ];
     let repository = Repository::open(alloc, store, limits).ok()??;
-    take_priors(alloc, &repository, &mut plugs, store).ok()?;
-    session_by(alloc, repository, rule, script, store, &mut plugs)
+    if !repository.usable() {
+        return None;
+    }
+    session_over(alloc, repository, script, store)
 }

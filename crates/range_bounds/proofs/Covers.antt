@@ -141,7 +141,7 @@ module _ (d : Document) (sound : AreFields (length d.tokens) d.fields) where
     some_some (more x xs) b e (inr h) = some_some xs b e h
 
   -- the counts in a window of the document are such that a belief is made of
-  window_counts : (x : ExprTree) (w : Pair) (c : Option (List ℕ)) (cf total : ℕ) → length d.tokens ≤ MAX_DOC_TOKENS → w.end ≤ length d.tokens → cf ≤ total → total ≤ 2 ^ 29
+  pub window_counts : (x : ExprTree) (w : Pair) (c : Option (List ℕ)) (cf total : ℕ) → length d.tokens ≤ MAX_DOC_TOKENS → w.end ≤ length d.tokens → cf ≤ total → total ≤ 2 ^ 29
       → AreCounts (tf x d w c) (len d w c) cf total
   window_counts x w c cf total short within part few = by c
     where
@@ -159,7 +159,7 @@ module _ (d : Document) (sound : AreFields (length d.tokens) d.fields) where
 
 -- ---- the windows of a document
 
-windows_end : (r : Range) (tokens : ℕ) (fields : List Field) → AreFields tokens fields → All (λ w. w.end ≤ tokens) (windows r tokens fields)
+pub windows_end : (r : Range) (tokens : ℕ) (fields : List Field) → AreFields tokens fields → All (λ w. w.end ≤ tokens) (windows r tokens fields)
 windows_end Whole tokens fields sound = by (nat_lt 0 tokens)
   where
     by : (b : Bool) → All (λ (w : Pair). w.end ≤ tokens) (cond b (window 0 tokens ∷ []) [])

@@ -1,10 +1,7 @@
-pub mod BeginLemmas
 pub mod Covers
 pub mod Falls
-pub mod MaskLemmas
+pub mod Leads
 pub mod Members
 pub mod Mosts
-pub mod SectionLemmas
-pub mod TextLemmas
 pub mod Togethers
 pub mod Told

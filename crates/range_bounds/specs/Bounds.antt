@@ -1,6 +1,6 @@
 -- Bounds of the beliefs of the leaves of a query in the windows of the documents of a range.
-use Rattle.std.specs.Prelude.{◌≡◌, ℕ, max, List, [], length, Option, None, Some, flat_map, map, zip}
-use Rattle.std.specs.List.{All, AllZip, Contains}
+use Rattle.std.specs.Prelude.{◌≡◌, ℕ, max, List, length, Option, None, Some, map, zip}
+use Rattle.std.specs.List.{AllZip}
 use Rattle.ri_base.specs.Documents.{Document}
 use Rattle.ri_base.specs.Pair.{Pair}
 use Rattle.ri_base.specs.Ratio.{Ratio}
@@ -13,10 +13,9 @@ use Rattle.smoothing.specs.Fractions.{fraction_of}
 use Rattle.smoothing.specs.declared.rule.RuleKind.{RuleKind}
 use Rattle.query_check.specs.Leaves.{LeafTree, extents, prior}
 use Rattle.belief_nodes.specs.Priors.{IsGreatestOf, Prior, prior_at, prior_fraction, prior_fractions}
-use Rattle.expression_words.specs.Words.{names, words}
 use Rattle.range_bounds.specs.Most.{most}
 use Rattle.range_bounds.specs.Ranges.{least_length}
-use Rattle.range_bounds.specs.Tables.{names_of, terms_of, told_most}
+use Rattle.range_bounds.specs.Tables.{told_most}
 use Rattle.range_bounds.specs.declared.range_counts.RangeCounts.{RangeCounts}
 use Rattle.range_bounds.specs.declared.table.RangeTable.{RangeTable}
 
@@ -58,24 +57,3 @@ beliefs_in kind priors d w leaves stats = map (λ leaf. belief_in kind priors d 
 -- each leaf's belief in the window is at most its bound
 abbrev pub AreCovered : RuleKind → List Prior → Document → Pair → List LeafTree → List LeafStats → List Ratio → Type 0
 AreCovered kind priors d w leaves stats bounds = AllZip IsAtMost (beliefs_in kind priors d w leaves stats) bounds
-
--- the terms and the names that a leaf asks for
-abbrev pub leaf_words : LeafTree → List (List ℕ)
-leaf_words (extents x c) = words x
-leaf_words (prior n) = []
-
-abbrev pub leaf_names : LeafTree → List (List ℕ)
-leaf_names (extents x c) = names x
-leaf_names (prior n) = []
-
--- those of all leaves
-abbrev pub all_leaf_words : List LeafTree → List (List ℕ)
-all_leaf_words leaves = flat_map leaf_words leaves
-
-abbrev pub all_leaf_names : List LeafTree → List (List ℕ)
-all_leaf_names leaves = flat_map leaf_names leaves
-
--- the table counts what these leaves ask for
-pub record CountsFor (leaves : List LeafTree) (table : RangeTable) : Type 0 where
-  pub words : All (Contains (terms_of table)) (all_leaf_words leaves)
-  pub names : All (Contains (names_of table)) (all_leaf_names leaves)

@@ -1,4 +1,3 @@
-pub mod Begins
 pub mod Bounds
 pub mod Most
 pub mod Ranges

@@ -1,14 +1,10 @@
 -- What is counted of the documents of a range of 64 ids together.
-use Rattle.std.specs.Prelude.{ℕ, ◌*◌, ◌-◌, max, min, nat_eq, List, drop, filter, fold, length, map, take}
+use Rattle.std.specs.Prelude.{ℕ, ◌*◌, max, min, nat_eq, List, drop, filter, fold, length, map, take}
 use Rattle.std.specs.Set.{distinct_count}
 use Rattle.std.specs.Str.{bytes_eq}
 use Rattle.ri_base.specs.Documents.{Document, Field}
 use Rattle.ri_base.specs.Places.{places}
 use Rattle.ri_base.specs.declared.limits.TheConstants.{MAX_DOC_TOKENS}
-
--- the documents with the ids from first on up to end, that one not among them
-abbrev pub section : List Document → ℕ → ℕ → List Document
-section docs first end = take (end - first) (drop first docs)
 
 -- the documents of a range: 64 of them, or in the last range as many as are left
 abbrev pub range_documents : List Document → ℕ → List Document

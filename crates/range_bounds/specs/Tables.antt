@@ -1,12 +1,13 @@
 -- What a table of ranges tells of the documents of a part.
-use Rattle.std.specs.Prelude.{◌≡◌, ◌<◌, ◌≤◌, ℕ, ◌*◌, List, length, map, position, slice_index_or}
+use Rattle.std.specs.Prelude.{◌≡◌, ◌<◌, ◌≤◌, ⊤, ℕ, ◌*◌, List, length, position, slice_index_or}
 use Rattle.std.specs.List.{All, AllZip}
 use Rattle.std.specs.Option.{option_map_or}
 use Rattle.std.specs.Str.{bytes_eq}
 use Rattle.ri_base.specs.Documents.{Document, IsDocument}
 use Rattle.ri_base.specs.Expression.{ExprTree}
-use Rattle.range_bounds.specs.Most.{capped, most_by}
-use Rattle.range_bounds.specs.Ranges.{least_length, most_begins, most_places, range_documents}
+use Rattle.query_check.specs.Leaves.{LeafTree, extents, prior}
+use Rattle.range_bounds.specs.Most.{most, most_by}
+use Rattle.range_bounds.specs.Ranges.{least_length, range_documents}
 use Rattle.range_bounds.specs.declared.range_counts.RangeCounts.{RangeCounts}
 use Rattle.range_bounds.specs.declared.table.RangeTable.{RangeTable}
 
@@ -14,22 +15,30 @@ use Rattle.range_bounds.specs.declared.table.RangeTable.{RangeTable}
 abbrev pub AreFormed : List Document → Type 0
 AreFormed docs = All (λ d. IsDocument d.tokens d.fields) docs
 
--- the counts are those of these documents, of the terms and the names at their places
-pub record AreCountsOf (terms names : List (List ℕ)) (docs : List Document) (counts : RangeCounts) : Type 0 where
-  pub formed : AreFormed docs
-  pub least : counts.least ≡ least_length docs
-  pub places : counts.places.items ≡ map (λ t. capped (most_places docs t)) terms
-  pub begins : counts.begins.items ≡ map (λ f. capped (most_begins docs f)) names
-
 -- what is told of a text: the number at its place among the texts, 0 of one that isn't there
 abbrev pub told : List (List ℕ) → List ℕ → List ℕ → ℕ
 told texts numbers t = option_map_or (λ i. slice_index_or numbers i 0) (position (bytes_eq t) texts) 0
 
--- there are counts for each 64 of the documents, of these terms and names
-pub record AreAllCounts (terms names : List (List ℕ)) (docs : List Document) (ranges : List RangeCounts) : Type 0 where
+-- what counts of these terms and names tell of an expression
+abbrev pub told_by : List (List ℕ) → List (List ℕ) → RangeCounts → ExprTree → ℕ
+told_by terms names counts x = most_by (told terms counts.places.items) (told names counts.begins.items) x
+
+-- the counts tell of a leaf at how many tokens at most it occurs in one of these documents
+abbrev pub TellsLeaf : List (List ℕ) → List (List ℕ) → List Document → RangeCounts → LeafTree → Type 0
+TellsLeaf terms names docs counts (extents x context) = told_by terms names counts x ≡ most docs x
+TellsLeaf terms names docs counts (prior n) = ⊤
+
+-- the counts, of these terms and names, are those of these documents for what the leaves ask
+pub record AreCountsOf (leaves : List LeafTree) (terms names : List (List ℕ)) (docs : List Document) (counts : RangeCounts) : Type 0 where
+  pub formed : AreFormed docs
+  pub least : counts.least ≡ least_length docs
+  pub most : All (TellsLeaf terms names docs counts) leaves
+
+-- there are such counts for each 64 of the documents
+pub record AreAllCounts (leaves : List LeafTree) (terms names : List (List ℕ)) (docs : List Document) (ranges : List RangeCounts) : Type 0 where
   pub whole : length docs ≤ 64 * length ranges
   pub each : (range : ℕ) (d : RangeCounts) → range < length ranges
-      → AreCountsOf terms names (range_documents docs range) (slice_index_or ranges range d)
+      → AreCountsOf leaves terms names (range_documents docs range) (slice_index_or ranges range d)
 
 -- the terms and the names that a table counts
 abbrev pub terms_of : RangeTable → List (List ℕ)
@@ -42,14 +51,14 @@ names_of table = table.names.keys
 abbrev pub range_count : RangeTable → ℕ
 range_count table = length table.ranges.items
 
--- it has the counts of each range of these documents
-abbrev pub IsTableOf : List Document → RangeTable → Type 0
-IsTableOf docs table = AreAllCounts (terms_of table) (names_of table) docs table.ranges.items
+-- it has the counts of each range of these documents for these leaves
+abbrev pub IsTableOf : List LeafTree → List Document → RangeTable → Type 0
+IsTableOf leaves docs table = AreAllCounts leaves (terms_of table) (names_of table) docs table.ranges.items
 
 -- each table is that of its documents
-abbrev pub AreTablesOf : List (List Document) → List RangeTable → Type 0
-AreTablesOf docs tables = AllZip IsTableOf docs tables
+abbrev pub AreTablesOf : List LeafTree → List (List Document) → List RangeTable → Type 0
+AreTablesOf leaves docs tables = AllZip (IsTableOf leaves) docs tables
 
 -- what the counts of a range tell of an expression
 abbrev pub told_most : RangeTable → RangeCounts → ExprTree → ℕ
-told_most table counts x = most_by (told (terms_of table) counts.places.items) (told (names_of table) counts.begins.items) x
+told_most table counts x = told_by (terms_of table) (names_of table) counts x

@@ -1,20 +1,22 @@
 // The bounds of the leaves of a query.
-ghost use Rattle.std.specs.Prelude.{◌≡◌, ◌<◌, ◌≤◌, List, length, map, Contains, IfOk};
+ghost use Rattle.std.specs.Prelude.{◌≡◌, ◌<◌, ◌≤◌, ℕ, List, length, map, Contains, IfOk, OnOk};
 ghost use Rattle.std.specs.List.{All};
 ghost use Rattle.ri_base.specs.Documents.{Document};
 ghost use Rattle.ri_base.specs.Pair.{Pair};
-ghost use Rattle.ri_base.specs.Ratio.{ratio_of};
+ghost use Rattle.ri_base.specs.Ratio.{IsBelief, ratio_of};
 ghost use Rattle.ri_base.specs.declared.limits.TheConstants.{MAX_DOC_TOKENS};
 ghost use Rattle.smoothing.specs.Fractions.{Computes};
 ghost use Rattle.query_check.specs.Leaves.{leaf_tree};
+ghost use Rattle.belief_nodes.specs.Keys.{key_at};
 ghost use Rattle.belief_nodes.specs.Leaves.{AreLeafStats, HasPrior};
 ghost use Rattle.belief_nodes.specs.Network.{network_tree};
 ghost use Rattle.belief_nodes.specs.Priors.{IsGreatestOf, prior_at, prior_fractions};
 ghost use Rattle.windows.specs.Windows.{windows};
-ghost use Rattle.range_bounds.specs.Bounds.{AreBounds, AreCovered, CountsFor, IsToldBound, least_scored};
+ghost use Rattle.range_bounds.specs.Bounds.{AreBounds, AreCovered, IsToldBound, beliefs_in, least_scored};
 ghost use Rattle.range_bounds.specs.Ranges.{range_documents};
 ghost use Rattle.range_bounds.specs.Tables.{IsTableOf, range_count};
 
+use crate::beliefs::ask_rule;
 use crate::most::most;
 use crate::range_counts::RangeCounts;
 use crate::table::RangeTable;
@@ -26,7 +28,7 @@ use std::alloc::Global;
 
 impl RangeTable {
     /// For each leaf, in order of their numbers, a fraction that its belief doesn't exceed in any window of any document of
-    /// the range. The terms and the names that the leaves ask for were handed to the call that made the table.
+    /// the range. The table was made for these leaves.
     pub fn bound_fractions<F: Fn(u32, u32, u64, u64) -> Fraction>(
         &self,
         alloc: Global,
@@ -37,16 +39,25 @@ impl RangeTable {
     ) -> Result<Fractions, NoMemory>
         requires rule { Computes F.pre F.post rule.now.kind rule.now.f }
         requires range { range < range_count self.now }
-        requires counts { CountsFor (network_tree network.now).leaves self.now }
         requires plugs { All (HasPrior (length plugs.now)) (network_tree network.now).leaves }
-        ensures exact { (docs : List Document) → IsTableOf docs self.now → IfOk result
+        ensures exact { (docs : List Document) → IsTableOf (network_tree network.now).leaves docs self.now → IfOk result
             (λ bounds. AreBounds rule.now.kind (map (λ plug. meaning plug) plugs.now) (network_tree network.now).range
             (range_documents docs range) (network_tree network.now).leaves (network_tree network.now).stats (map ratio_of bounds)) }
-        ensures covers { (docs : List Document) (d : Document) (w : Pair) → IsTableOf docs self.now
+        ensures covers { (docs : List Document) (d : Document) (w : Pair) → IsTableOf (network_tree network.now).leaves docs self.now
             → Contains (range_documents docs range) d → Contains (windows (network_tree network.now).range (length d.tokens) d.fields) w
             → IfOk result (λ bounds. AreCovered rule.now.kind (map (λ plug. meaning plug) plugs.now) d w
             (network_tree network.now).leaves (network_tree network.now).stats (map ratio_of bounds)) }
+        ensures beliefs { (docs : List Document) (d : Document) (w : Pair) → IsTableOf (network_tree network.now).leaves docs self.now
+            → Contains (range_documents docs range) d → Contains (windows (network_tree network.now).range (length d.tokens) d.fields) w
+            → OnOk result (All IsBelief (beliefs_in rule.now.kind (map (λ plug. meaning plug) plugs.now) d w
+            (network_tree network.now).leaves (network_tree network.now).stats)) }
+        ensures keys { (docs : List Document) (d : Document) (w : Pair) (k : ℕ) → IsTableOf (network_tree network.now).leaves docs self.now
+            → Contains (range_documents docs range) d → Contains (windows (network_tree network.now).range (length d.tokens) d.fields) w
+            → IfOk result (λ bounds. key_at k (map ratio_of bounds) (network_tree network.now).tree
+            ≤ key_at k (beliefs_in rule.now.kind (map (λ plug. meaning plug) plugs.now) d w
+            (network_tree network.now).leaves (network_tree network.now).stats) (network_tree network.now).tree) }
     {
+        ask_rule(rule);
         let stats = network.stats();
         let counts = &self.ranges[range as usize];
         let mut bounds = Vec::with_capacity(alloc, stats.len())?;

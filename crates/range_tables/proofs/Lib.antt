@@ -1,1 +1,8 @@
+pub mod AbsentLemmas
+pub mod BeginLemmas
+pub mod Counted
+pub mod MaskLemmas
+pub mod NeedLemmas
+pub mod SectionLemmas
 pub mod TableLemmas
+pub mod TextLemmas

@@ -29,19 +29,20 @@ module _ (f : LeafTree → List (List ℕ)) where
 
 -- ---- tables
 
-tables_push : (docs : List (List Document)) (tables : List RangeTable) (d : List Document) (table : RangeTable) → AreTablesOf docs tables → IsTableOf d table → AreTablesOf (docs ++ d ∷ []) (tables ++ table ∷ [])
-tables_push [] [] d table h k = (k, tt)
-tables_push [] (t ∷ ts) d table h k = absurd h
-tables_push (x ∷ xs) [] d table h k = absurd h
-tables_push (x ∷ xs) (t ∷ ts) d table h k = (h.0, tables_push xs ts d table h.1 k)
+tables_push : (leaves : List LeafTree) (docs : List (List Document)) (tables : List RangeTable) (d : List Document) (table : RangeTable) → AreTablesOf leaves docs tables → IsTableOf leaves d table
+    → AreTablesOf leaves (docs ++ d ∷ []) (tables ++ table ∷ [])
+tables_push leaves [] [] d table h k = (k, tt)
+tables_push leaves [] (t ∷ ts) d table h k = absurd h
+tables_push leaves (x ∷ xs) [] d table h k = absurd h
+tables_push leaves (x ∷ xs) (t ∷ ts) d table h k = (h.0, tables_push leaves xs ts d table h.1 k)
 
 map_push : {X : Type 0} (f : X → List Document) (ys : List X) (x : X) → map f (ys ++ x ∷ []) ≡ map f ys ++ f x ∷ []
 map_push f [] x = refl
 map_push f (y ∷ ys) x = ap (λ zs. f y ∷ zs) (map_push f ys x)
 
-pub tables_more : {X : Type 0} (f : X → List Document) (xs : List X) (i : ℕ) (x : X) (tables now : List RangeTable) (table : RangeTable) → i < length xs → x ≡ get_or xs i x → now ≡ tables ++ table ∷ []
-    → AreTablesOf (map f (take i xs)) tables → IsTableOf (f x) table → AreTablesOf (map f (take (i + 1) xs)) now
-tables_more f xs i x tables now table inside here is h k =
+pub tables_more : {X : Type 0} (leaves : List LeafTree) (f : X → List Document) (xs : List X) (i : ℕ) (x : X) (tables now : List RangeTable) (table : RangeTable) → i < length xs → x ≡ get_or xs i x → now ≡ tables ++ table ∷ []
+    → AreTablesOf leaves (map f (take i xs)) tables → IsTableOf leaves (f x) table → AreTablesOf leaves (map f (take (i + 1) xs)) now
+tables_more leaves f xs i x tables now table inside here is h k =
     let whole : take (i + 1) xs ≡ take i xs ++ x ∷ [] = take_more xs i x inside ∙ ap (λ y. take i xs ++ y ∷ []) (sym here) in
-    subst (AreTablesOf (map f (take (i + 1) xs))) (sym is) (subst (λ ds. AreTablesOf ds (tables ++ table ∷ [])) (sym (ap (map f) whole ∙ map_push f (take i xs) x))
-    (tables_push (map f (take i xs)) tables (f x) table h k))
+    subst (AreTablesOf leaves (map f (take (i + 1) xs))) (sym is) (subst (λ ds. AreTablesOf leaves ds (tables ++ table ∷ [])) (sym (ap (map f) whole ∙ map_push f (take i xs) x))
+    (tables_push leaves (map f (take i xs)) tables (f x) table h k))

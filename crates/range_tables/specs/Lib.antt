@@ -1,0 +1,4 @@
+pub mod Asks
+pub mod Begins
+pub mod Needs
+pub mod Sections

@@ -1,7 +1,7 @@
 // What the leaves of a query ask for.
 ghost use Rattle.std.specs.Prelude.{◌≡◌, ◌++◌, map, IfOk, OnOk};
 ghost use Rattle.query_check.specs.Leaves.{leaf_tree};
-ghost use Rattle.range_bounds.specs.Bounds.{all_leaf_names, all_leaf_words, leaf_names, leaf_words};
+ghost use Rattle.range_tables.specs.Asks.{all_leaf_names, all_leaf_words, leaf_names, leaf_words};
 
 use expression_words::{Asked, ask};
 use query_check::LeafKind;

@@ -2,6 +2,14 @@
 #![tactic(auto)]
 
 mod asked;
+mod begins;
+mod begun;
+mod needs;
 mod part_tables;
+mod presence;
+mod sections;
+mod table;
+mod texts;
 
 pub use part_tables::tables;
+pub use table::table_of;

@@ -40,9 +40,20 @@ end-none files since job s x = record {
   stops = λ c d merging stands read. Leaves-same (since x) (IsEither s.held.limits c (without_dead_of (Some job) d));
 }
 
-module _ (s t : State) (view : s ≡ t) (job : Merging) (h : Contents) (stale : List ℕ) (numbered : IsNumbered s) (tied : IsTied s.held job) (ex : IsExchange job (sealed s.held.parts).closed h.parts.closed)
-    (held : h ≡ with_parts s.held h.parts.closed) (whole : All IsWhole (sealed s.held.parts).closed) (left : stale ≡ all_stale s.stale (part_numbers (take (length job.snapshot) s.held.parts.closed))) (st : List ℕ) (ps : List PriorEntry)
-    (stale_is : st ≡ stale) (priors_are : ps ≡ s.priors) where
+-- what is handed on to the saving: in `h` the parts of the merge are in the place of those of its snapshot, whose numbers are stale
+pub record IsHanded (s t : State) (job : Merging) (h : Contents) (stale st : List ℕ) (ps : List PriorEntry) : Type 0 where
+  pub view : s ≡ t
+  pub numbered : IsNumbered s
+  pub tied : IsTied s.held job
+  pub none : s.merge ≡ None
+  pub exchanged : IsExchange job (sealed s.held.parts).closed h.parts.closed
+  pub held : h ≡ with_parts s.held h.parts.closed
+  pub whole : All IsWhole (sealed s.held.parts).closed
+  pub left : stale ≡ all_stale s.stale (part_numbers (take (length job.snapshot) s.held.parts.closed))
+  pub stale_is : st ≡ stale
+  pub priors_are : ps ≡ s.priors
+
+module _ {s t : State} {job : Merging} {h : Contents} {stale st : List ℕ} {ps : List PriorEntry} (p : IsHanded s t job h stale st ps) where
   abbrev handed : List ℕ
   handed = part_numbers h.parts.closed ++ (st ++ prior_numbers ps)
 
@@ -50,14 +61,14 @@ module _ (s t : State) (view : s ≡ t) (job : Merging) (h : Contents) (stale : 
   others = stale ++ prior_numbers s.priors
 
   others-are : st ++ prior_numbers ps ≡ others
-  others-are = others-handed st stale ps s.priors stale_is priors_are
+  others-are = others-handed st stale ps s.priors p.stale_is p.priors_are
 
   -- what the saving of parts requires
   pub end-handed : AreNumbered s.next handed
-  end-handed = subst (λ (os : List ℕ). AreNumbered s.next (part_numbers h.parts.closed ++ os)) (sym others-are) (numbered-exchanged s job h stale numbered tied ex held whole left)
+  end-handed = subst (λ (os : List ℕ). AreNumbered s.next (part_numbers h.parts.closed ++ os)) (sym others-are) (numbered-exchanged s job h stale p.numbered p.tied p.exchanged p.held p.whole p.left)
 
   listed-are : (k : ℕ) → is_among k handed ≡ is_among k (listed_numbers s)
-  listed-are k = ap (λ (os : List ℕ). is_among k (part_numbers h.parts.closed ++ os)) others-are ∙ among-exchanged s job h stale numbered tied ex held whole left k
+  listed-are k = ap (λ (os : List ℕ). is_among k (part_numbers h.parts.closed ++ os)) others-are ∙ among-exchanged s job h stale p.numbered p.tied p.exchanged p.held p.whole p.left k
 
   module _ {S : Type 0} (files : S → Option Files) (since : S → ℕ → Files → Type 0) (old mid : S) (same : SameWhere (IsOther (IsUnlisted handed)) (files old) (files mid))
       (first : Leaves (since old) (since mid) (SameWhere (IsOther (IsUnlisted handed)) (files old))) where
@@ -71,27 +82,27 @@ module _ (s t : State) (view : s ≡ t) (job : Merging) (h : Contents) (stale : 
     known_stops = leaves-among (since old) (since mid) handed (listed_numbers s) (files old) listed-are first
 
     pub end-begun : EndWrites files since job t old mid
-    end-begun = subst (λ (x : State). EndWrites files since job x old mid) view (record {
+    end-begun = subst (λ (x : State). EndWrites files since job x old mid) p.view (record {
       stay = beside-begun (files old) (files mid) s (IsUnlisted (listed_numbers s)) (unlisted-clear s) known;
       stay_on = leaves-begun (since old) (since mid) (since mid) (files old) (files mid) s (IsUnlisted (listed_numbers s)) (unlisted-clear s) known known_stops;
       stops = λ c d merging stands read. stops-begun (since old) (since mid) (since mid) (files old) (files mid) s (IsUnlisted (listed_numbers s)) (unlisted-clear s) known known_stops c (without_dead_of (Some job) d) merging.backed stands;
     })
 
-    module _ (k : Contents) (after : ℕ) (saved : AllSaved (files mid) (st ++ prior_numbers ps) s.next after h k) (fit : AreFit k) where
+    module _ {k : Contents} {after : ℕ} (saved : AllSaved (files mid) (st ++ prior_numbers ps) s.next after h k) (fit : AreFit k) where
       all_saved : AllSaved (files mid) others s.next after h k
       all_saved = subst (λ (os : List ℕ). AllSaved (files mid) os s.next after h k) others-are saved
 
       form : IsListing after (entries_for k.parts.closed) stale s.priors
-      form = end-form s job h stale numbered tied ex held whole left (files old) (files mid) k after known all_saved fit
+      form = end-form s job h stale p.numbered p.tied p.exchanged p.held p.whole p.left (files old) (files mid) k after known all_saved fit
 
       pub ended-numbered : IsNumbered (state_of (state_exchanged s h stale) k after stale)
-      ended-numbered = end-numbered s job h stale numbered tied ex held whole left (files old) (files mid) k after known all_saved fit
+      ended-numbered = end-numbered s job h stale p.numbered p.tied p.exchanged p.held p.whole p.left (files old) (files mid) k after known all_saved fit
 
-      pub ended-state : s.merge ≡ None → IsMergeEnded job t (state_of (state_exchanged s h stale) k after stale)
-      ended-state none = subst (λ (x : State). IsMergeEnded job x (state_of (state_exchanged s h stale) k after stale)) view
-          (end-state s job h stale numbered tied ex held whole left (files old) (files mid) k after known all_saved fit none)
+      pub ended-state : IsMergeEnded job t (state_of (state_exchanged s h stale) k after stale)
+      ended-state = subst (λ (x : State). IsMergeEnded job x (state_of (state_exchanged s h stale) k after stale)) p.view
+          (end-state s job h stale p.numbered p.tied p.exchanged p.held p.whole p.left (files old) (files mid) k after known all_saved fit p.none)
 
-      module _ (ms : List Marked) (lst : List ℕ) (rows : List PriorEntry) (parts : ms ≡ k.parts.closed) (lst_is : lst ≡ stale) (rows_are : rows ≡ s.priors) where
+      module _ {ms : List Marked} {lst : List ℕ} {rows : List PriorEntry} (parts : ms ≡ k.parts.closed) (lst_is : lst ≡ stale) (rows_are : rows ≡ s.priors) where
         pub ended-form : IsListing after (entries_for ms) lst rows
         ended-form = form-handed after ms k.parts.closed lst stale rows s.priors parts lst_is rows_are form
 
@@ -104,17 +115,17 @@ module _ (s t : State) (view : s ≡ t) (job : Merging) (h : Contents) (stale : 
             let bytes = listed_text k after stale s.priors in
             let changed' = subst (λ (l : List ℕ). OldOrNew manifest_name (Some l) (files mid) (files new)) text changed in
             let second' = subst (λ (l : List ℕ). Leaves (since mid) (since new) (OldOrNew manifest_name (Some l) (files mid))) text second in
-            subst (λ (x : State). EndWrites files since job x old new) view (record {
+            subst (λ (x : State). EndWrites files since job x old new) p.view (record {
               stay = beside-listed (files old) (files mid) s (IsUnlisted (listed_numbers s)) (unlisted-clear s) known (files new) bytes changed';
               stay_on = leaves-listed (since old) (since mid) (since new) (files old) (files mid) s (IsUnlisted (listed_numbers s)) (unlisted-clear s) known known_stops bytes second';
               stops = λ c d merging stands read.
                   stops-listed (since old) (since mid) (since new) (files old) (files mid) s (IsUnlisted (listed_numbers s)) (unlisted-clear s) known known_stops bytes second' c (without_dead_of (Some job) d) merging.backed stands
-                  (λ f put. end-stands s job h stale numbered tied ex held whole left (files old) (files mid) k after known all_saved fit (Some f) put merging d read);
+                  (λ f put. end-stands s job h stale p.numbered p.tied p.exchanged p.held p.whole p.left (files old) (files mid) k after known all_saved fit (Some f) put merging d read);
             })
 
-        pub ended-over : (new : S) → s.merge ≡ None → files new ≡ option_map (with_file manifest_name (Some (manifest_text (listing after (entries_for ms) lst rows)))) (files mid) → IsMerging (files old) t job
+        pub ended-over : (new : S) → files new ≡ option_map (with_file manifest_name (Some (manifest_text (listing after (entries_for ms) lst rows)))) (files mid) → IsMerging (files old) t job
             → IsTurnedOver Done (Some job) (files old) (files new) t (state_of (state_exchanged s h stale) k after stale)
-        ended-over new none put merging =
+        ended-over new put merging =
             let put' = put ∙ ap (λ (l : List ℕ). option_map (with_file manifest_name (Some l)) (files mid)) text in
-            subst (λ (x : State). IsTurnedOver Done (Some job) (files old) (files new) x (state_of (state_exchanged s h stale) k after stale)) view
-            (end-over s job h stale numbered tied ex held whole left (files old) (files mid) k after known all_saved fit (files new) none put' (subst (λ (x : State). IsMerging (files old) x job) (sym view) merging))
+            subst (λ (x : State). IsTurnedOver Done (Some job) (files old) (files new) x (state_of (state_exchanged s h stale) k after stale)) p.view
+            (end-over s job h stale p.numbered p.tied p.exchanged p.held p.whole p.left (files old) (files mid) k after known all_saved fit (files new) p.none put' (subst (λ (x : State). IsMerging (files old) x job) (sym p.view) merging))

@@ -36,45 +36,52 @@ module _ (s : State) (st : List ℕ) (ps : List PriorEntry) (stale : st ≡ s.st
   pub saved-handed : (b : Option Files) (after : ℕ) (k : Contents) → AllSaved b (st ++ prior_numbers ps) s.next after s.held k → AllSaved b (s.stale ++ prior_numbers s.priors) s.next after s.held k
   saved-handed b after k saved = subst (λ (os : List ℕ). AllSaved b os s.next after s.held k) (others-handed st s.stale ps s.priors stale priors) saved
 
-module _ {S : Type 0} (files : S → Option Files) (since : S → ℕ → Files → Type 0) (s t : State) (view : s ≡ t) (st : List ℕ) (ps : List PriorEntry) (stale : st ≡ s.stale) (priors : ps ≡ s.priors) (old mid : S)
-    (same : SameWhere (IsOther (IsUnlisted (files_of s st ps))) (files old) (files mid)) (first : Leaves (since old) (since mid) (SameWhere (IsOther (IsUnlisted (files_of s st ps))) (files old))) where
+-- the state that the view shows can be listed, and its lists are handed on
+pub record AreHanded (s t : State) (st : List ℕ) (ps : List PriorEntry) : Type 0 where
+  pub view : s ≡ t
+  pub numbered : IsNumbered s
+  pub stale_is : st ≡ s.stale
+  pub priors_are : ps ≡ s.priors
+
+module _ {s t : State} {st : List ℕ} {ps : List PriorEntry} (lists : AreHanded s t st ps) {S : Type 0} (files : S → Option Files) (since : S → ℕ → Files → Type 0) (old mid : S) (same : SameWhere (IsOther (IsUnlisted (files_of s st ps))) (files old) (files mid))
+    (first : Leaves (since old) (since mid) (SameWhere (IsOther (IsUnlisted (files_of s st ps))) (files old))) where
   known : SameWhere (IsOther (IsUnlisted (listed_numbers s))) (files old) (files mid)
-  known = same-handed s st ps stale priors (files old) (files mid) same
+  known = same-handed s st ps lists.stale_is lists.priors_are (files old) (files mid) same
 
   known_stops : Leaves (since old) (since mid) (SameWhere (IsOther (IsUnlisted (listed_numbers s))) (files old))
-  known_stops = stops-handed s st ps stale priors (since old) (since mid) (files old) first
+  known_stops = stops-handed s st ps lists.stale_is lists.priors_are (since old) (since mid) (files old) first
 
   pub flush-begun : Writes files since (IsUnlisted (listed_numbers t)) (λ d. d) t old mid
-  flush-begun = begun files since s t view (λ x. IsUnlisted (listed_numbers x)) (unlisted-clear s) old mid known known_stops
+  flush-begun = begun files since s t lists.view (λ x. IsUnlisted (listed_numbers x)) (unlisted-clear s) old mid known known_stops
 
-  module _ (numbered : IsNumbered s) (k : Contents) (after : ℕ) (saved : AllSaved (files mid) (st ++ prior_numbers ps) s.next after s.held k) (fit : AreFit k) where
+  module _ {k : Contents} {after : ℕ} (saved : AllSaved (files mid) (st ++ prior_numbers ps) s.next after s.held k) (fit : AreFit k) where
     all_saved : AllSaved (files mid) (s.stale ++ prior_numbers s.priors) s.next after s.held k
-    all_saved = saved-handed s st ps stale priors (files mid) after k saved
+    all_saved = saved-handed s st ps lists.stale_is lists.priors_are (files mid) after k saved
 
     form : IsListing after (entries_for k.parts.closed) s.stale s.priors
     form =
-        let left = stale-listed s numbered in
-        form-now (files mid) s k after s.stale (s.stale ++ prior_numbers s.priors) numbered all_saved fit left.0 left.1 all_saved.numbered
+        let left = stale-listed s lists.numbered in
+        form-now (files mid) s k after s.stale (s.stale ++ prior_numbers s.priors) lists.numbered all_saved fit left.0 left.1 all_saved.numbered
 
     pub flush-numbered : IsNumbered (state_of s k after s.stale)
-    flush-numbered = numbered-now (files mid) s k after s.stale (s.stale ++ prior_numbers s.priors) numbered all_saved form
+    flush-numbered = numbered-now (files mid) s k after s.stale (s.stale ++ prior_numbers s.priors) lists.numbered all_saved form
 
     pub flush-saved : IsSavedAs t (state_of s k after s.stale) t.stale
-    flush-saved = subst (λ (x : State). IsSavedAs x (state_of s k after s.stale) x.stale) view (saved-as (files mid) s k after s.stale (s.stale ++ prior_numbers s.priors) all_saved)
+    flush-saved = subst (λ (x : State). IsSavedAs x (state_of s k after s.stale) x.stale) lists.view (saved-as (files mid) s k after s.stale (s.stale ++ prior_numbers s.priors) all_saved)
 
-    module _ (ms : List Marked) (left : List ℕ) (rows : List PriorEntry) (parts : ms ≡ k.parts.closed) (left_are : left ≡ s.stale) (rows_are : rows ≡ s.priors) where
+    module _ {ms : List Marked} {left : List ℕ} {rows : List PriorEntry} (parts : ms ≡ k.parts.closed) (left_are : left ≡ s.stale) (rows_are : rows ≡ s.priors) where
       pub flush-form : IsListing after (entries_for ms) left rows
       flush-form = form-handed after ms k.parts.closed left s.stale rows s.priors parts left_are rows_are form
 
       pub flush-listed : (new : S) → OldOrNew manifest_name (Some (manifest_text (listing after (entries_for ms) left rows))) (files mid) (files new)
           → Leaves (since mid) (since new) (OldOrNew manifest_name (Some (manifest_text (listing after (entries_for ms) left rows))) (files mid)) → Writes files since (IsUnlisted (listed_numbers t)) (λ d. d) t old new
       flush-listed new changed second =
-          listed files since s t view (λ x. IsUnlisted (listed_numbers x)) (unlisted-clear s) old mid known known_stops k after s.stale (s.stale ++ prior_numbers s.priors) all_saved form fit ms left rows parts left_are rows_are new changed second
+          listed files since s t lists.view (λ x. IsUnlisted (listed_numbers x)) (unlisted-clear s) old mid known known_stops k after s.stale (s.stale ++ prior_numbers s.priors) all_saved form fit ms left rows parts left_are rows_are new changed second
 
       pub flush-wrote : (new : S) → files new ≡ option_map (with_file manifest_name (Some (manifest_text (listing after (entries_for ms) left rows)))) (files mid)
           → Wrote (λ d. d) (files old) (files new) t (state_of s k after s.stale)
       flush-wrote new put =
-          wrote files since s t view (λ x. IsUnlisted (listed_numbers x)) (unlisted-clear s) old mid known known_stops k after s.stale (s.stale ++ prior_numbers s.priors) all_saved form fit ms left rows parts left_are rows_are new put
+          wrote files since s t lists.view (λ x. IsUnlisted (listed_numbers x)) (unlisted-clear s) old mid known known_stops k after s.stale (s.stale ++ prior_numbers s.priors) all_saved form fit ms left rows parts left_are rows_are new put
 
       -- the condition of an open merge is kept
       pub flush-merging : (new : S) → files new ≡ option_map (with_file manifest_name (Some (manifest_text (listing after (entries_for ms) left rows)))) (files mid) → IfSome s.merge (IsTied s.held) → IsOpenMerging (files old) t
@@ -83,4 +90,4 @@ module _ {S : Type 0} (files : S → Option Files) (since : S → ℕ → Files 
           let text = text-handed after ms k.parts.closed left s.stale rows s.priors parts left_are rows_are in
           let put' = put ∙ ap (λ (l : List ℕ). option_map (with_file manifest_name (Some l)) (files mid)) text in
           merging-saved (files old) (files mid) (files new) s k after s.stale (s.stale ++ prior_numbers s.priors) (IsUnlisted (listed_numbers s)) (unlisted-clear s) known all_saved form fit put' tied
-          (subst (λ (x : State). IsOpenMerging (files old) x) (sym view) open_now)
+          (subst (λ (x : State). IsOpenMerging (files old) x) (sym lists.view) open_now)

@@ -30,4 +30,5 @@ pub mod StoredLemmas
 pub mod SweepLemmas
 pub mod TieLemmas
 pub mod TurnLemmas
+pub mod Views
 pub mod WholeLemmas

@@ -103,9 +103,9 @@ leaves-listed s k past since a takes leaves = leaves-among past since k.numbers 
 
 -- ---- what is listed then
 
-pub listed-same : (k : ℕ) (ms : List Marked) {a b : List ℕ} {p q : List PriorEntry} → a ≡ b → p ≡ q → manifest_text (listing k (entries_for ms) a p) ≡ manifest_text (listing k (entries_for ms) b q)
-listed-same k ms {a} {b} {p} {q} stale priors =
-    ap (λ (ns : List ℕ). manifest_text (listing k (entries_for ms) ns p)) stale ∙ ap (λ (ps : List PriorEntry). manifest_text (listing k (entries_for ms) b ps)) priors
+-- what is listed of it once the prior is set makes a manifest
+abbrev pub IsSetListed : State → List ℕ → ℕ → Type 0
+IsSetListed s name n = IsListing (prior_set s name n).next (entries_for s.held.parts.closed) (prior_set s name n).stale (prior_set s name n).priors
 
 -- these are the lists of a repository in which the prior is set
 pub record IsSetAs (s : State) (name : List ℕ) (n next : ℕ) (parts : List Marked) (stale : List ℕ) (priors : List PriorEntry) : Type 0 where
@@ -114,11 +114,15 @@ pub record IsSetAs (s : State) (name : List ℕ) (n next : ℕ) (parts : List Ma
   pub stale_are : stale ≡ with_old s.stale (number_named s.priors name)
   pub priors_are : priors ≡ with_entry s.priors name n
 
-abbrev state : Option Merging → Contents → ℕ → List ℕ → List PriorEntry → State
+abbrev pub state : Option Merging → Contents → ℕ → List ℕ → List PriorEntry → State
 state merge h k ns ps = record { held = h; next = k; stale = ns; priors = ps; merge = merge; usable = true }
 
 module _ (s : State) (name : List ℕ) (n next : ℕ) (parts : List Marked) (stale : List ℕ) (priors : List PriorEntry) (is : IsSetAs s name n next parts stale priors) where
-  pub listing-is : IsListing (prior_set s name n).next (entries_for s.held.parts.closed) (prior_set s name n).stale (prior_set s name n).priors → IsListing next (entries_for parts) stale priors
+  -- and so are others that equal them
+  pub handed-is : {ms : List Marked} {st : List ℕ} {ps : List PriorEntry} → ms ≡ parts → st ≡ stale → ps ≡ priors → IsSetAs s name n next ms st ps
+  handed-is same_parts same_stale same_priors = record { next_is = is.next_is; parts_are = same_parts ∙ is.parts_are; stale_are = same_stale ∙ is.stale_are; priors_are = same_priors ∙ is.priors_are }
+
+  pub listing-is : IsSetListed s name n → IsListing next (entries_for parts) stale priors
   listing-is form =
       subst (λ (k : ℕ). IsListing k (entries_for parts) stale priors) (sym is.next_is)
       (subst (λ (ms : List Marked). IsListing (next_after s.next) (entries_for ms) stale priors) (sym is.parts_are)
@@ -132,7 +136,7 @@ module _ (s : State) (name : List ℕ) (n next : ℕ) (parts : List Marked) (sta
       ∙ ap (λ (ns : List ℕ). manifest_text (listing (next_after s.next) (entries_for s.held.parts.closed) ns priors)) is.stale_are
       ∙ ap (λ (ps : List PriorEntry). manifest_text (listing (next_after s.next) (entries_for s.held.parts.closed) (with_old s.stale (number_named s.priors name)) ps)) is.priors_are
 
-  pub state-is : (held : Contents) (merge : Option Merging) → held ≡ s.held → merge ≡ s.merge → record { held = held; next = next; stale = stale; priors = priors; merge = merge; usable = true } ≡ prior_set s name n
+  pub state-is : (held : Contents) (merge : Option Merging) → held ≡ s.held → merge ≡ s.merge → state merge held next stale priors ≡ prior_set s name n
   state-is held merge same open_now =
       ap (λ (h : Contents). state merge h next stale priors) same ∙ ap (λ (k : ℕ). state merge s.held k stale priors) is.next_is
       ∙ ap (λ (ns : List ℕ). state merge s.held (next_after s.next) ns priors) is.stale_are

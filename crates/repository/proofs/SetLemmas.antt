@@ -26,7 +26,7 @@ use Rattle.repository.specs.States.{IsNumbered, State, listed_numbers}
 use Rattle.repository.proofs.CountLemmas.{numbered-set, old-not_stale}
 use Rattle.repository.proofs.ListedLemmas.{all-listed, listing-now, numbers-entries, stale-listed}
 use Rattle.repository.proofs.NumberLemmas.{among-behind, among-left, among-own, among-right, below-next}
-use Rattle.repository.proofs.PriorSetLemmas.{after-fits, after-rises, new-numbered}
+use Rattle.repository.proofs.PriorSetLemmas.{IsSetListed, after-fits, after-rises, new-numbered}
 use Rattle.repository.proofs.StaleLemmas.{rising-stale}
 
 -- ---- names
@@ -151,20 +151,21 @@ module _ (s : State) (name : List ℕ) (n : ℕ) (numbered : IsNumbered s) (stor
       listing-now s s.next s.held.parts.closed s.stale numbered (omega arith) (omega (arith, most)) stored.0 numbered.sized whole few stale.0 stale.1 (all-listed s numbered))
 
   -- what is listed once the prior is set makes a manifest
-  pub set-listing : IsListing (prior_set s name n).next (entries_for s.held.parts.closed) (prior_set s name n).stale (prior_set s name n).priors
+  pub set-listing : IsSetListed s name n
   set-listing =
       let rise = stale-set s.next (entries_for s.held.parts.closed) s.stale s.priors name before.numbered before.stale_rise in
       let short = few-stale (next_after s.next) n (entries_for s.held.parts.closed) s.stale s.priors name rise entries-numbered in
       let fits = after-fits s.next in
       listing-set s.next (next_after s.next) n (entries_for s.held.parts.closed) s.stale s.priors name before entries-numbered (omega (arith, some, below)) fits form other room (omega (arith, short, fits))
 
-  pub set-numbered : IsNumbered (prior_set s name n)
-  set-numbered = record {
-    list = listing (prior_set s name n).next (entries_for s.held.parts.closed) (prior_set s name n).stale (prior_set s name n).priors;
-    form = manifest-of (prior_set s name n).next (entries_for s.held.parts.closed) (prior_set s name n).stale (prior_set s name n).priors set-listing;
-    next_is = refl;
-    numbers_are = numbers-entries s.held.parts.closed stored.0;
-    stale_are = refl;
-    priors_are = refl;
-    sized = numbered.sized;
-  }
+-- and so it can be listed
+pub set-numbered : (s : State) (name : List ℕ) (n : ℕ) → IsNumbered s → AreStored s → IsSetListed s name n → IsNumbered (prior_set s name n)
+set-numbered s name n numbered stored listed = record {
+  list = listing (prior_set s name n).next (entries_for s.held.parts.closed) (prior_set s name n).stale (prior_set s name n).priors;
+  form = manifest-of (prior_set s name n).next (entries_for s.held.parts.closed) (prior_set s name n).stale (prior_set s name n).priors listed;
+  next_is = refl;
+  numbers_are = numbers-entries s.held.parts.closed stored.0;
+  stale_are = refl;
+  priors_are = refl;
+  sized = numbered.sized;
+}

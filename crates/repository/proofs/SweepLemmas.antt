@@ -78,67 +78,74 @@ module _ (s : State) (numbered : IsNumbered s) where
 
 -- ---- the ways out
 
-module _ {S : Type 0} (files : S → Option Files) (since : S → ℕ → Files → Type 0) (s t : State) (view : s ≡ t) (numbered : IsNumbered s) (ns : List ℕ) (gone : ns ≡ s.stale) (old cut : S)
-    (removed : SameWhere (IsOther (IsAmong ns)) (files old) (files cut)) (first : Leaves (since old) (since cut) (SameWhere (IsOther (IsAmong ns)) (files old))) where
+-- the stale files of the state that the view shows are removed
+pub record IsSwept {S : Type 0} (files : S → Option Files) (since : S → ℕ → Files → Type 0) (s t : State) (ns : List ℕ) (old cut : S) : Type 0 where
+  pub view : s ≡ t
+  pub numbered : IsNumbered s
+  pub gone : ns ≡ s.stale
+  pub removed : SameWhere (IsOther (IsAmong ns)) (files old) (files cut)
+  pub first : Leaves (since old) (since cut) (SameWhere (IsOther (IsAmong ns)) (files old))
+
+module _ {S : Type 0} {files : S → Option Files} {since : S → ℕ → Files → Type 0} {s t : State} {ns : List ℕ} {old cut : S} (swept : IsSwept files since s t ns old cut) where
   removed_here : SameWhere (IsOther (IsAmong s.stale)) (files old) (files cut)
-  removed_here = subst (λ (l : List ℕ). SameWhere (IsOther (IsAmong l)) (files old) (files cut)) gone removed
+  removed_here = subst (λ (l : List ℕ). SameWhere (IsOther (IsAmong l)) (files old) (files cut)) swept.gone swept.removed
 
   removed_stops : Leaves (since old) (since cut) (SameWhere (IsOther (IsAmong s.stale)) (files old))
-  removed_stops = subst (λ (l : List ℕ). Leaves (since old) (since cut) (SameWhere (IsOther (IsAmong l)) (files old))) gone first
+  removed_stops = subst (λ (l : List ℕ). Leaves (since old) (since cut) (SameWhere (IsOther (IsAmong l)) (files old))) swept.gone swept.first
 
   pub sweep-begun : Writes files since (IsUnlisted (kept_numbers t)) (λ d. d) t old cut
   sweep-begun =
-      begun files since s t view (λ x. IsUnlisted (kept_numbers x)) (λ n free. free) old cut (swept-same s numbered (files old) (files cut) removed_here) (swept-stops s numbered (since old) (since cut) (files old) removed_stops)
+      begun files since s t swept.view (λ x. IsUnlisted (kept_numbers x)) (λ n free. free) old cut (swept-same s swept.numbered (files old) (files cut) removed_here) (swept-stops s swept.numbered (since old) (since cut) (files old) removed_stops)
 
-  module _ (st : List ℕ) (ps : List PriorEntry) (stale : st ≡ s.stale) (priors : ps ≡ s.priors) (mid : S) (kept : SameWhere (IsOther (IsUnlisted (files_of s st ps))) (files cut) (files mid))
+  module _ {st : List ℕ} {ps : List PriorEntry} (stale : st ≡ s.stale) (priors : ps ≡ s.priors) (mid : S) (kept : SameWhere (IsOther (IsUnlisted (files_of s st ps))) (files cut) (files mid))
       (second : Leaves (since cut) (since mid) (SameWhere (IsOther (IsUnlisted (files_of s st ps))) (files cut))) where
     same : SameWhere (IsRead s) (files old) (files mid)
-    same = saved-same s numbered (files old) (files cut) (files mid) removed_here (same-handed s st ps stale priors (files cut) (files mid) kept)
+    same = saved-same s swept.numbered (files old) (files cut) (files mid) removed_here (same-handed s st ps stale priors (files cut) (files mid) kept)
 
     stops : Leaves (since old) (since mid) (SameWhere (IsRead s) (files old))
-    stops = saved-stops s numbered (since old) (since cut) (since mid) (files old) (files cut) removed_here removed_stops (stops-handed s st ps stale priors (since cut) (since mid) (files cut) second)
+    stops = saved-stops s swept.numbered (since old) (since cut) (since mid) (files old) (files cut) removed_here removed_stops (stops-handed s st ps stale priors (since cut) (since mid) (files cut) second)
 
     pub sweep-saving : Writes files since (IsUnlisted (kept_numbers t)) (λ d. d) t old mid
-    sweep-saving = begun files since s t view (λ x. IsUnlisted (kept_numbers x)) (λ n free. free) old mid same stops
+    sweep-saving = begun files since s t swept.view (λ x. IsUnlisted (kept_numbers x)) (λ n free. free) old mid same stops
 
     pub sweep-gone : (bytes : List ℕ) (new : S) → AreGone ns (files cut) → files new ≡ option_map (with_file manifest_name (Some bytes)) (files mid) → AreGone t.stale (files new)
     sweep-gone bytes new none put =
-        let here = subst (λ (l : List ℕ). AreGone l (files cut)) gone none in
-        subst (λ (x : State). AreGone x.stale (files new)) view (gone-swept s numbered bytes (files cut) (files mid) (files new) here (same-handed s st ps stale priors (files cut) (files mid) kept) put)
+        let here = subst (λ (l : List ℕ). AreGone l (files cut)) swept.gone none in
+        subst (λ (x : State). AreGone x.stale (files new)) swept.view (gone-swept s swept.numbered bytes (files cut) (files mid) (files new) here (same-handed s st ps stale priors (files cut) (files mid) kept) put)
 
-    module _ (k : Contents) (after : ℕ) (saved : AllSaved (files mid) (st ++ prior_numbers ps) s.next after s.held k) (fit : AreFit k) where
+    module _ {k : Contents} {after : ℕ} (saved : AllSaved (files mid) (st ++ prior_numbers ps) s.next after s.held k) (fit : AreFit k) where
       all_saved : AllSaved (files mid) (s.stale ++ prior_numbers s.priors) s.next after s.held k
       all_saved = saved-handed s st ps stale priors (files mid) after k saved
 
       form : IsListing after (entries_for k.parts.closed) [] s.priors
       form =
           let fewer = numbered-less after (part_numbers k.parts.closed) s.stale (prior_numbers s.priors) all_saved.numbered in
-          form-now (files mid) s k after [] (s.stale ++ prior_numbers s.priors) numbered all_saved fit (omega arith) tt fewer
+          form-now (files mid) s k after [] (s.stale ++ prior_numbers s.priors) swept.numbered all_saved fit (omega arith) tt fewer
 
-      module _ (left : List ℕ) (none : left ≡ []) where
+      module _ {left : List ℕ} (none : left ≡ []) where
         pub sweep-numbered : IsNumbered (state_of s k after left)
-        sweep-numbered = subst (λ (l : List ℕ). IsNumbered (state_of s k after l)) (sym none) (numbered-now (files mid) s k after [] (s.stale ++ prior_numbers s.priors) numbered all_saved form)
+        sweep-numbered = subst (λ (l : List ℕ). IsNumbered (state_of s k after l)) (sym none) (numbered-now (files mid) s k after [] (s.stale ++ prior_numbers s.priors) swept.numbered all_saved form)
 
         pub sweep-saved : IsSavedAs t (state_of s k after left) []
         sweep-saved =
             subst (λ (l : List ℕ). IsSavedAs t (state_of s k after l) []) (sym none)
-            (subst (λ (x : State). IsSavedAs x (state_of s k after []) []) view (saved-as (files mid) s k after [] (s.stale ++ prior_numbers s.priors) all_saved))
+            (subst (λ (x : State). IsSavedAs x (state_of s k after []) []) swept.view (saved-as (files mid) s k after [] (s.stale ++ prior_numbers s.priors) all_saved))
 
-        module _ (ms : List Marked) (listed_stale : List ℕ) (rows : List PriorEntry) (parts : ms ≡ k.parts.closed) (stale_are : listed_stale ≡ left) (rows_are : rows ≡ s.priors) where
+        module _ {ms : List Marked} {listed_stale : List ℕ} {rows : List PriorEntry} (parts : ms ≡ k.parts.closed) (stale_are : listed_stale ≡ left) (rows_are : rows ≡ s.priors) where
           pub sweep-form : IsListing after (entries_for ms) listed_stale rows
           sweep-form = form-handed after ms k.parts.closed listed_stale [] rows s.priors parts (stale_are ∙ none) rows_are form
 
           pub sweep-listed : (new : S) → OldOrNew manifest_name (Some (manifest_text (listing after (entries_for ms) listed_stale rows))) (files mid) (files new)
               → Leaves (since mid) (since new) (OldOrNew manifest_name (Some (manifest_text (listing after (entries_for ms) listed_stale rows))) (files mid)) → Writes files since (IsUnlisted (kept_numbers t)) (λ d. d) t old new
           sweep-listed new changed last =
-              listed files since s t view (λ x. IsUnlisted (kept_numbers x)) (λ n free. free) old mid same stops k after [] (s.stale ++ prior_numbers s.priors) all_saved form fit ms listed_stale rows parts (stale_are ∙ none) rows_are new changed
+              listed files since s t swept.view (λ x. IsUnlisted (kept_numbers x)) (λ n free. free) old mid same stops k after [] (s.stale ++ prior_numbers s.priors) all_saved form fit ms listed_stale rows parts (stale_are ∙ none) rows_are new changed
               last
 
           pub sweep-wrote : (new : S) → files new ≡ option_map (with_file manifest_name (Some (manifest_text (listing after (entries_for ms) listed_stale rows)))) (files mid)
               → Wrote (λ d. d) (files old) (files new) t (state_of s k after left)
           sweep-wrote new put =
               subst (λ (l : List ℕ). Wrote (λ d. d) (files old) (files new) t (state_of s k after l)) (sym none)
-              (wrote files since s t view (λ x. IsUnlisted (kept_numbers x)) (λ n free. free) old mid same stops k after [] (s.stale ++ prior_numbers s.priors) all_saved form fit ms listed_stale rows parts (stale_are ∙ none) rows_are new put)
+              (wrote files since s t swept.view (λ x. IsUnlisted (kept_numbers x)) (λ n free. free) old mid same stops k after [] (s.stale ++ prior_numbers s.priors) all_saved form fit ms listed_stale rows parts (stale_are ∙ none) rows_are new put)
 
           -- the condition of an open merge is kept
           pub sweep-merging : (new : S) → files new ≡ option_map (with_file manifest_name (Some (manifest_text (listing after (entries_for ms) listed_stale rows)))) (files mid) → IfSome s.merge (IsTied s.held) → IsOpenMerging (files old) t
@@ -148,4 +155,4 @@ module _ {S : Type 0} (files : S → Option Files) (since : S → ℕ → Files 
               let put' = put ∙ ap (λ (l : List ℕ). option_map (with_file manifest_name (Some l)) (files mid)) text in
               subst (λ (l : List ℕ). IsOpenMerging (files new) (state_of s k after l)) (sym none)
               (merging-saved (files old) (files mid) (files new) s k after [] (s.stale ++ prior_numbers s.priors) (IsUnlisted (kept_numbers s)) (λ n free. free) same all_saved form fit put' tied
-              (subst (λ (x : State). IsOpenMerging (files old) x) (sym view) open_now))
+              (subst (λ (x : State). IsOpenMerging (files old) x) (sym swept.view) open_now))

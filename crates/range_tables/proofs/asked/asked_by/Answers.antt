@@ -1,4 +1,4 @@
-use Rattle.range_bounds.specs.Bounds.{leaf_names, leaf_words}
+use Rattle.range_tables.specs.Asks.{leaf_names, leaf_words}
 use Rattle.range_tables.proofs.TableLemmas.{asked_all, asked_more}
 use Rattle.range_tables.proofs.asked.asked_by.Goals as goal
 

@@ -1,6 +1,6 @@
 use Rattle.std.proofs.Common.{◌≡◌, map, take}
 use Rattle.query_check.specs.Leaves.{leaf_tree}
-use Rattle.range_bounds.specs.Bounds.{all_leaf_names, all_leaf_words}
+use Rattle.range_tables.specs.Asks.{all_leaf_names, all_leaf_words}
 use Rattle.range_tables.proofs.asked.asked_by.Given as goal
 
 abbrev pub invariant-loop-leaf : goal.invariant-loop-leaf

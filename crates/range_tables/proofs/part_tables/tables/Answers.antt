@@ -1,8 +1,5 @@
 use Rattle.std.proofs.Common.{rules, ◌≡◌, ◌∙◌, ◌++◌, ◌∷◌, [], List, Option, length, length-append, map, subst, sym, ap, arith}
-use Rattle.std.specs.Prelude.{Contains}
-use Rattle.std.specs.List.{All}
 use Rattle.std.proofs.lemmas.List.{take_all}
-use Rattle.std.proofs.lemmas.List.Elements.{All-push}
 use Rattle.std.proofs.lemmas.Result.{err_from_is_err_and}
 use Rattle.store_ends.specs.Files.{Files}
 use Rattle.query_check.specs.Leaves.{leaf_tree}
@@ -11,8 +8,7 @@ use Rattle.disk_index.specs.Parts.{IsFileOf, IsPartBacked, Source, reads}
 use Rattle.disk_index.specs.QuietLaws.{CacheKeeps-same, IsCacheBacked-kept, IsQuiet-same, IsQuiet-then}
 use Rattle.disk_index.specs.Snapshots.{IsFileAmong, Marked}
 use Rattle.disk_index.proofs.AmongLemmas.{backed-at, keeps-among}
-use Rattle.range_bounds.specs.Bounds.{CountsFor}
-use Rattle.range_bounds.specs.Tables.{AreTablesOf, IsTableOf, names_of, terms_of}
+use Rattle.range_bounds.specs.Tables.{AreTablesOf, IsTableOf}
 use Rattle.range_tables.proofs.TableLemmas.{tables_more}
 use Rattle.range_tables.proofs.part_tables.tables.Goals as goal
 
@@ -20,7 +16,6 @@ pub loop-marked-init : goal.loop-marked-init
 loop-marked-init g c = record {
   exact = λ backed cached. search rules;
   each = search rules;
-  counts = search rules;
   cache = CacheKeeps-same (g.T.Store.files c.args.store.now) (IsFileAmong c.args.parts.now) c.args.cache.now;
   quiet = IsQuiet-same g.T.Store.files g.T.Store.layers g.T.Store.clock g.T.Store.since g.T.Store.longest g.T.Store.held g.T.Store.faults c.args.store.now;
   later = omega arith;
@@ -38,23 +33,21 @@ loop-marked-preserved g c =
     let same : here ≡ told = inv.quiet.same_files in
     let own = c.part.ensures.part in
     let pushed : c.push.new.self.items ≡ c.loop-marked.tables.items ++ table ∷ [] = search rules in
-    let words = subst (λ ts. All (Contains (terms_of table)) ts) c.in_ok-asked.ensures.terms c.in_ok-table.ensures.terms in
-    let names = subst (λ ns. All (Contains (names_of table)) ns) c.in_ok-asked.ensures.names c.in_ok-table.ensures.names in
+    let leaves = map leaf_tree c.args.leaves.now in
     record {
       exact = λ backed cached.
           let part : IsPartBacked here m.source = subst (λ (f : Option Files). IsPartBacked f m.source) (sym same) (backed-at parts i m c.loop-marked-test.true c.marked-item.is told backed) in
           let blocks : IsCacheBacked here c.loop-marked.cache =
           subst (λ (f : Option Files). IsCacheBacked f c.loop-marked.cache) (sym same) (IsCacheBacked-kept told (IsFileAmong parts) c.args.cache.now c.loop-marked.cache inv.cache cached) in
-          let found : IsTableOf (reads told m.source) table =
-          subst (λ (f : Option Files). IsTableOf (reads f m.source) table) same
-          (subst (λ (s : Source). IsTableOf (reads here s) table) own (c.in_ok-table.ensures.exact (subst (λ (s : Source). IsPartBacked here s) (sym own) part) blocks)) in
-          tables_more (λ (n : Marked). reads told n.source) parts i m c.loop-marked.tables.items c.push.new.self.items table c.loop-marked-test.true c.marked-item.is pushed (inv.exact backed cached) found;
+          let found : IsTableOf leaves (reads told m.source) table =
+          subst (λ (f : Option Files). IsTableOf leaves (reads f m.source) table) same
+          (subst (λ (s : Source). IsTableOf leaves (reads here s) table) own (c.in_ok-table.ensures.exact (subst (λ (s : Source). IsPartBacked here s) (sym own) part) blocks)) in
+          tables_more leaves (λ (n : Marked). reads told n.source) parts i m c.loop-marked.tables.items c.push.new.self.items table c.loop-marked-test.true c.marked-item.is pushed (inv.exact backed cached) found;
       each = ap length pushed ∙ omega (arith, length-append c.loop-marked.tables.items (table ∷ []), inv.each);
-      counts = subst (All (CountsFor (map leaf_tree c.args.leaves.now))) (sym pushed) (All-push (CountsFor (map leaf_tree c.args.leaves.now)) c.loop-marked.tables.items table inv.counts (record { words = words; names = names }));
-      cache = keeps-among parts i m c.loop-marked-test.true c.marked-item.is told here c.args.cache.now c.loop-marked.cache c.table_of.new.cache same inv.cache
-          (subst (λ (s : Source). CacheKeeps here (IsFileOf s) c.loop-marked.cache c.table_of.new.cache) own c.table_of.ensures.cache);
-      quiet = IsQuiet-then g.T.Store.files g.T.Store.layers g.T.Store.clock g.T.Store.since g.T.Store.longest g.T.Store.held g.T.Store.faults c.args.store.now c.loop-marked.store c.table_of.new.store inv.quiet c.table_of.ensures.quiet;
-      later = omega (arith, inv.later, c.table_of.ensures.later);
+      cache = keeps-among parts i m c.loop-marked-test.true c.marked-item.is told here c.args.cache.now c.loop-marked.cache c.part_table.new.cache same inv.cache
+          (subst (λ (s : Source). CacheKeeps here (IsFileOf s) c.loop-marked.cache c.part_table.new.cache) own c.part_table.ensures.cache);
+      quiet = IsQuiet-then g.T.Store.files g.T.Store.layers g.T.Store.clock g.T.Store.since g.T.Store.longest g.T.Store.held g.T.Store.faults c.args.store.now c.loop-marked.store c.part_table.new.store inv.quiet c.part_table.ensures.quiet;
+      later = omega (arith, inv.later, c.part_table.ensures.later);
     }
 
 pub returns-in_err-table-clause-honest : goal.returns-in_err-table-clause-honest
@@ -74,16 +67,16 @@ returns-in_err-table-clause-honest g c = λ backed cached.
 pub returns-in_err-table-clause-cache : goal.returns-in_err-table-clause-cache
 returns-in_err-table-clause-cache g c =
     let here = g.T.Store.files c.loop-marked.store in
-    keeps-among c.args.parts.now c.loop-marked.marked-index c.marked-item.result c.loop-marked-test.true c.marked-item.is (g.T.Store.files c.args.store.now) here c.args.cache.now c.loop-marked.cache c.table_of.new.cache
-    c.loop-marked.invariant.quiet.same_files c.loop-marked.invariant.cache (subst (λ (s : Source). CacheKeeps here (IsFileOf s) c.loop-marked.cache c.table_of.new.cache) c.part.ensures.part c.table_of.ensures.cache)
+    keeps-among c.args.parts.now c.loop-marked.marked-index c.marked-item.result c.loop-marked-test.true c.marked-item.is (g.T.Store.files c.args.store.now) here c.args.cache.now c.loop-marked.cache c.part_table.new.cache
+    c.loop-marked.invariant.quiet.same_files c.loop-marked.invariant.cache (subst (λ (s : Source). CacheKeeps here (IsFileOf s) c.loop-marked.cache c.part_table.new.cache) c.part.ensures.part c.part_table.ensures.cache)
 
 pub returns-in_err-map_err-clause-cache : goal.returns-in_err-map_err-clause-cache
 returns-in_err-map_err-clause-cache g c =
     let here = g.T.Store.files c.loop-marked.store in
-    keeps-among c.args.parts.now c.loop-marked.marked-index c.marked-item.result c.loop-marked-test.true c.marked-item.is (g.T.Store.files c.args.store.now) here c.args.cache.now c.loop-marked.cache c.table_of.new.cache
-    c.loop-marked.invariant.quiet.same_files c.loop-marked.invariant.cache (subst (λ (s : Source). CacheKeeps here (IsFileOf s) c.loop-marked.cache c.table_of.new.cache) c.part.ensures.part c.table_of.ensures.cache)
+    keeps-among c.args.parts.now c.loop-marked.marked-index c.marked-item.result c.loop-marked-test.true c.marked-item.is (g.T.Store.files c.args.store.now) here c.args.cache.now c.loop-marked.cache c.part_table.new.cache
+    c.loop-marked.invariant.quiet.same_files c.loop-marked.invariant.cache (subst (λ (s : Source). CacheKeeps here (IsFileOf s) c.loop-marked.cache c.part_table.new.cache) c.part.ensures.part c.part_table.ensures.cache)
 
 pub returns-clause-exact : goal.returns-clause-exact
 returns-clause-exact g c = λ backed cached.
     let told = g.T.Store.files c.args.store.now in
-    subst (λ (ms : List Marked). AreTablesOf (map (λ (m : Marked). reads told m.source) ms) c.loop-marked.tables.items) (take_all c.loop-marked.marked-index c.args.parts.now c.loop-marked-test.false) (c.loop-marked.invariant.exact backed cached)
+    subst (λ (ms : List Marked). AreTablesOf (map leaf_tree c.args.leaves.now) (map (λ (m : Marked). reads told m.source) ms) c.loop-marked.tables.items) (take_all c.loop-marked.marked-index c.args.parts.now c.loop-marked-test.false) (c.loop-marked.invariant.exact backed cached)

@@ -6,12 +6,15 @@ use Rattle.ri_base.specs.Ratio.{ratio_of}
 use Rattle.ri_base.specs.declared.hit.LeafStats.{LeafStats}
 use Rattle.ri_base.specs.declared.query.Range.{Range}
 use Rattle.query_check.specs.Leaves.{LeafTree, leaf_tree}
+use Rattle.query_check.specs.Trees.{scaled_tree}
 use Rattle.belief_nodes.specs.Leaves.{HasPrior}
+use Rattle.belief_nodes.specs.Priors.{IsPrior}
 use Rattle.range_bounds.specs.Bounds.{IsToldBound}
 use Rattle.range_bounds.specs.Ranges.{range_documents}
 use Rattle.range_bounds.specs.Tables.{AreCountsOf, names_of, terms_of}
 use Rattle.range_bounds.specs.declared.range_counts.RangeCounts.{RangeCounts}
 use Rattle.range_bounds.proofs.Covers.{all_covered}
+use Rattle.range_bounds.proofs.Leads.{all_are_beliefs, are_beliefs, each_told, keys_lead}
 use Rattle.range_bounds.proofs.Told.{AreToldBounds, bounds_more, bounds_told}
 use Rattle.range_bounds.proofs.table.RangeTable.bound_fractions.Goals as goal
 
@@ -69,11 +72,11 @@ returns-clause-exact g c = λ docs is_table.
     let long : length (map leaf_tree items) ≤ i = rw (length-map items leaf_tree) c.loop-i-test.false in
     let end : length leaves ≤ i = subst (λ (ls : List LeafTree). length ls ≤ i) told long in
     let counts_at : counts ≡ get_or c.args.self.now.ranges.items c.args.range counts = search rules in
-    let counted : AreCountsOf (terms_of table) (names_of table) (range_documents docs c.args.range) counts = subst (AreCountsOf (terms_of table) (names_of table) (range_documents docs c.args.range)) (sym counts_at) (is_table.each c.args.range counts c.requires.range) in
+    let counted : AreCountsOf leaves (terms_of table) (names_of table) (range_documents docs c.args.range) counts = subst (AreCountsOf leaves (terms_of table) (names_of table) (range_documents docs c.args.range)) (sym counts_at) (is_table.each c.args.range counts c.requires.range) in
     let all : AreToldBounds kind priors network.range table counts leaves network.stats.items (map ratio_of c.loop-i.bounds.items) =
     subst (λ (ls : List LeafTree). AreToldBounds kind priors network.range table counts ls network.stats.items (map ratio_of c.loop-i.bounds.items)) (take_all i leaves end)
     (subst (λ (ss : List LeafStats). AreToldBounds kind priors network.range table counts (take i leaves) ss (map ratio_of c.loop-i.bounds.items)) (take_all i network.stats.items (omega (arith, end, network.kept.each))) c.loop-i.invariant) in
-    rw c.of.ensures (bounds_told kind priors network.range table counts (range_documents docs c.args.range) leaves network.stats.items (map ratio_of c.loop-i.bounds.items) counted c.requires.counts.words c.requires.counts.names all)
+    rw c.of.ensures (bounds_told kind priors network.range table counts (range_documents docs c.args.range) leaves network.stats.items (map ratio_of c.loop-i.bounds.items) counted.least counted.most all)
 
 pub returns-clause-covers : goal.returns-clause-covers
 returns-clause-covers g c = λ docs d w is_table has in_it.
@@ -82,5 +85,29 @@ returns-clause-covers g c = λ docs d w is_table has in_it.
     let network = c.args.network.now in
     let leaves : List LeafTree = map leaf_tree network.leaves.items in
     let counts : RangeCounts = get_or c.args.self.now.ranges.items c.args.range c.index-counts.result.now in
-    let counted : AreCountsOf (terms_of c.args.self.now) (names_of c.args.self.now) (range_documents docs c.args.range) counts = is_table.each c.args.range c.index-counts.result.now c.requires.range in
+    let counted : AreCountsOf leaves (terms_of c.args.self.now) (names_of c.args.self.now) (range_documents docs c.args.range) counts = is_table.each c.args.range c.index-counts.result.now c.requires.range in
     all_covered kind priors network.range (range_documents docs c.args.range) d w counted.formed has in_it leaves network.stats.items _ network.kept.counted (returns-clause-exact g c docs is_table)
+
+pub returns-clause-beliefs : goal.returns-clause-beliefs
+returns-clause-beliefs g c = λ docs d w is_table has in_it.
+    let kind = c.args.rule.now.kind in
+    let priors = map (λ b. (goal.BeliefNode-dyn g (b.vtable, b.value)).meaning b.value) c.args.plugs.now in
+    let network = c.args.network.now in
+    let leaves : List LeafTree = map leaf_tree network.leaves.items in
+    let told : All IsPrior priors = each_told _ c.args.plugs.now (λ b. (g.dyn-1-met b.vtable).0.beliefs b.value) in
+    let counts : RangeCounts = get_or c.args.self.now.ranges.items c.args.range c.index-counts.result.now in
+    let counted : AreCountsOf leaves (terms_of c.args.self.now) (names_of c.args.self.now) (range_documents docs c.args.range) counts = is_table.each c.args.range c.index-counts.result.now c.requires.range in
+    all_are_beliefs kind priors network.range (range_documents docs c.args.range) d w counted.formed has in_it c.ask_rule.ensures told leaves network.stats.items network.kept.counted
+
+pub returns-clause-keys : goal.returns-clause-keys
+returns-clause-keys g c = λ docs d w k is_table has in_it.
+    let kind = c.args.rule.now.kind in
+    let priors = map (λ b. (goal.BeliefNode-dyn g (b.vtable, b.value)).meaning b.value) c.args.plugs.now in
+    let network = c.args.network.now in
+    let leaves : List LeafTree = map leaf_tree network.leaves.items in
+    let bounds = c.of.result in
+    let told : All IsPrior priors = each_told _ c.args.plugs.now (λ b. (g.dyn-1-met b.vtable).0.beliefs b.value) in
+    let counts : RangeCounts = get_or c.args.self.now.ranges.items c.args.range c.index-counts.result.now in
+    let counted : AreCountsOf leaves (terms_of c.args.self.now) (names_of c.args.self.now) (range_documents docs c.args.range) counts = is_table.each c.args.range c.index-counts.result.now c.requires.range in
+    keys_lead kind priors network.range (range_documents docs c.args.range) d w counted.formed has in_it c.ask_rule.ensures told leaves network.stats.items (map ratio_of bounds) (scaled_tree network.tree) k network.kept.counted (are_beliefs bounds)
+    (returns-clause-exact g c docs is_table)

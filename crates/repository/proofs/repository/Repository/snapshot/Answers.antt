@@ -5,35 +5,32 @@ use Rattle.repository.specs.Ties.{IsTied}
 use Rattle.repository.proofs.KeepLemmas.{merging-closed}
 use Rattle.repository.proofs.StepLemmas.{backed-closed, closed-call, numbered-closed, reads-closed}
 use Rattle.repository.proofs.TieLemmas.{tied-all_closed}
+use Rattle.repository.proofs.Views.{seen}
 use Rattle.repository.proofs.repository.Repository.snapshot.Goals as goal
 
 pub invariant_of-self : goal.invariant_of-self
 invariant_of-self c =
-    let s = c.self.inside in
-    let view : State = record { held = s.held; next = s.next; stale = s.stale.items; priors = s.priors.items; merge = s.merge; usable = s.usable } in (
+    let view = seen c.self.view_is in (
       λ usable. (let numbered = c.self.invariant.0 usable in
           closed-call IsNumbered view c.snapshot.result c.snapshot.new.self c.snapshot.ensures.closed c.snapshot.ensures.left numbered (numbered-closed view numbered)),
       λ usable. (let tied = c.self.invariant.1 usable in
-          closed-call (λ (x : State). IfSome x.merge (IsTied x.held)) view c.snapshot.result c.snapshot.new.self c.snapshot.ensures.closed c.snapshot.ensures.left tied (tied-all_closed s.held s.merge tied)),
+          closed-call (λ (x : State). IfSome x.merge (IsTied x.held)) view c.snapshot.result c.snapshot.new.self c.snapshot.ensures.closed c.snapshot.ensures.left tied (tied-all_closed view.held view.merge tied)),
     )
 
 pub returns-clause-reads : goal.returns-clause-reads
 returns-clause-reads c = λ told col reads.
-    let s = c.self.inside in
-    let view : State = record { held = s.held; next = s.next; stale = s.stale.items; priors = s.priors.items; merge = s.merge; usable = s.usable } in
+    let view = seen c.self.view_is in
     let inside : ReadsAs told view col = subst (λ (x : State). ReadsAs told x col) (sym c.self.view_is) reads in
     closed-call (λ (x : State). ReadsAs told x col) view c.snapshot.result c.snapshot.new.self c.snapshot.ensures.closed c.snapshot.ensures.left inside (reads-closed told view col inside)
 
 pub returns-clause-backed : goal.returns-clause-backed
 returns-clause-backed c = λ told backed.
-    let s = c.self.inside in
-    let view : State = record { held = s.held; next = s.next; stale = s.stale.items; priors = s.priors.items; merge = s.merge; usable = s.usable } in
+    let view = seen c.self.view_is in
     let inside : IsBacked told view = subst (λ (x : State). IsBacked told x) (sym c.self.view_is) backed in
     closed-call (IsBacked told) view c.snapshot.result c.snapshot.new.self c.snapshot.ensures.closed c.snapshot.ensures.left inside (backed-closed told view inside)
 
 pub returns-clause-merging : goal.returns-clause-merging
 returns-clause-merging c = λ told open_now.
-    let s = c.self.inside in
-    let view : State = record { held = s.held; next = s.next; stale = s.stale.items; priors = s.priors.items; merge = s.merge; usable = s.usable } in
+    let view = seen c.self.view_is in
     let inside : IsOpenMerging told view = subst (λ (x : State). IsOpenMerging told x) (sym c.self.view_is) open_now in
     closed-call (IsOpenMerging told) view c.snapshot.result c.snapshot.new.self c.snapshot.ensures.closed c.snapshot.ensures.left inside (merging-closed told view inside)

@@ -1,0 +1,156 @@
+// What a desk answers.
+ghost use Rattle.std.specs.Prelude.{◌≡◌, length, true, IfOk};
+ghost use Rattle.belief_nodes.specs.Priors.{no_prior};
+ghost use Rattle.ri_base.specs.Ratio.{ratio_of};
+ghost use Rattle.session_events.specs.Events.{IsSessionEvent};
+ghost use Rattle.smoothing.specs.Counts.{AreCounts};
+ghost use Rattle.smoothing.specs.Fractions.{Computes, dirichlet};
+
+use crate::events::event_of;
+use crate::files::{FIRST, TURNED, put};
+use belief_nodes::{BeliefNode, TablePlug};
+use desk::{Desk, length_plug, reply_text, take_priors};
+use holdings::Limits;
+use repository::Repository;
+use ri_base::{Fraction, NoMemory, SegFault};
+use session_events::Event;
+use smoothing::{Rule, RuleKind, dirichlet_fraction};
+use std::alloc::Global;
+use store_ends::Store;
+
+/// At most so many documents a part, and so many documents and tokens in all, a hundred each at most.
+pub fn limits_of(part_docs: u32, held_docs: u64, held_tokens: u64) -> Limits {
+    Limits {
+        part_docs: part_docs.clamp(1, 100),
+        held_docs: held_docs.min(100),
+        held_tokens: held_tokens.min(100),
+    }
+}
+
+/// Puts the text of the reply to an event behind the others, or that the store failed, or that the desk may not be used.
+fn put_reply<F: Fn(u32, u32, u64, u64) -> Fraction, S: Store>(
+    alloc: Global,
+    desk: &mut Desk<F>,
+    event: Event,
+    store: &mut S,
+    plugs: &mut [Box<dyn BeliefNode>],
+    out: &mut Vec<u8>,
+) -> Option<()>
+    requires rule { Computes F.pre F.post desk.old.rule.kind desk.old.rule.f }
+    requires form { IsSessionEvent event }
+    requires nine { length plugs.old ≡ 9 }
+    ensures rule { desk.new.rule ≡ desk.old.rule }
+    ensures nine { length plugs.new ≡ 9 }
+{
+    if !desk.usable() {
+        return out.extend_from_slice(b"unusable\n").ok();
+    }
+    match desk.event(alloc, event, store, plugs) {
+        Ok(reply) => out.extend_from_slice(&reply_text(alloc, &reply).ok()?).ok(),
+        Err(SegFault::Store) => out.extend_from_slice(b"fault\n").ok(),
+        Err(_) => None,
+    }
+}
+
+/// Puts a line of a script and the reply to it behind the others. The line `exchange` puts another file in the place of the first segment.
+fn put_line<F: Fn(u32, u32, u64, u64) -> Fraction, S: Store>(
+    alloc: Global,
+    desk: &mut Desk<F>,
+    line: &str,
+    store: &mut S,
+    plugs: &mut [Box<dyn BeliefNode>],
+    out: &mut Vec<u8>,
+) -> Option<()>
+    requires rule { Computes F.pre F.post desk.old.rule.kind desk.old.rule.f }
+    requires nine { length plugs.old ≡ 9 }
+    ensures rule { desk.new.rule ≡ desk.old.rule }
+    ensures nine { length plugs.new ≡ 9 }
+{
+    out.extend_from_slice(b"> ").ok()?;
+    out.extend_from_slice(line.as_bytes()).ok()?;
+    out.push(b'\n').ok()?;
+    if line == "exchange" {
+        return put(store, &(FIRST, TURNED));
+    }
+    let event = event_of(alloc, line)?;
+    put_reply(alloc, desk, event, store, plugs, out)
+}
+
+/// Does the lines of a script, which begin with `> `, and puts each with its reply behind the others.
+fn put_lines<F: Fn(u32, u32, u64, u64) -> Fraction, S: Store>(
+    alloc: Global,
+    desk: &mut Desk<F>,
+    script: &str,
+    store: &mut S,
+    plugs: &mut [Box<dyn BeliefNode>],
+    out: &mut Vec<u8>,
+) -> Option<()>
+    requires rule { Computes F.pre F.post desk.old.rule.kind desk.old.rule.f }
+    requires nine { length plugs.old ≡ 9 }
+{
+    for line in script.lines() {
+        if let Some(line) = line.strip_prefix("> ") {
+            put_line(alloc, desk, line, store, plugs, out)?;
+        }
+    }
+    Some(())
+}
+
+/// The lines of a script with their replies, where this repository and these plugs are given.
+fn session_by<F: Fn(u32, u32, u64, u64) -> Fraction, S: Store>(
+    alloc: Global,
+    repository: Repository,
+    rule: Rule<F>,
+    script: &str,
+    store: &mut S,
+    plugs: &mut [Box<dyn BeliefNode>],
+) -> Option<Vec<u8>>
+    requires usable { repository.usable ≡ true }
+    requires rule { Computes F.pre F.post rule.kind rule.f }
+    requires nine { length plugs.old ≡ 9 }
+{
+    let mut desk = Desk::new(alloc, repository, rule).ok()?;
+    let mut out = Vec::new(alloc);
+    put_lines(alloc, &mut desk, script, store, plugs, &mut out)?;
+    Some(out)
+}
+
+/// A prior that can be stored. It has no rows before a repository is opened.
+fn stored(alloc: Global) -> Result<Box<TablePlug>, NoMemory>
+    ensures { IfOk result (λ plug. ⟦<TablePlug as BeliefNode>⟧.meaning plug.value ≡ no_prior) }
+{
+    let table = TablePlug::new(alloc)?;
+    Ok(Box::new(alloc, table)?)
+}
+
+/// The lines of a script, which begin with `> `, with the replies of a desk to them, where mu is 1; nothing where the files of the store
+/// can't be opened.
+pub fn session<S: Store>(
+    alloc: Global,
+    store: &mut S,
+    limits: Limits,
+    script: &str,
+) -> Option<Vec<u8>> {
+    let rule = Rule::new(
+        RuleKind::Dirichlet { mu: 1 },
+        |tf, len, cf, total| -> Fraction
+            requires { AreCounts tf len cf total }
+            ensures { ratio_of result ≡ dirichlet 1 tf len cf total }
+        { dirichlet_fraction(1, tf, len, cf, total) },
+    );
+    let lengths = Box::new(alloc, length_plug(alloc).ok()?).ok()?;
+    let mut plugs: [Box<dyn BeliefNode>; 9] = [
+        stored(alloc).ok()?,
+        stored(alloc).ok()?,
+        stored(alloc).ok()?,
+        stored(alloc).ok()?,
+        stored(alloc).ok()?,
+        stored(alloc).ok()?,
+        stored(alloc).ok()?,
+        stored(alloc).ok()?,
+        lengths,
+    ];
+    let repository = Repository::open(alloc, store, limits).ok()??;
+    take_priors(alloc, &repository, &mut plugs, store).ok()?;
+    session_by(alloc, repository, rule, script, store, &mut plugs)
+}

@@ -1,6 +1,0 @@
-use Rattle.std.proofs.Common.{refl}
-use Rattle.range_bounds.proofs.BeginLemmas.{IsCounted-none}
-use Rattle.range_bounds.proofs.begun.Begun.new.Goals as goal
-
-pub returns : goal.returns
-returns c = IsCounted-none _ refl refl

@@ -63,13 +63,13 @@ returns-then-is_beaten-clause-first g c = λ sound told.
     λ sound known. c.in_ok-known.ensures.known filters (IsKnown-read kind priors filters network c.args.tables.now c.args.number docs read c.args.id c.in_ok-found.found (sym keeps.documents_stay) (found sound known)) in
     let here : g.P.Postings.sound c.args.part.now → IsKnown kind priors filters network c.args.tables.now c.args.number docs c.args.id c.args.ahead → IsKnown kind priors filters network c.args.tables.now c.args.number docs c.args.id c.in_ok-known.known =
     λ sound known. IsKnown-read kind priors filters network c.args.tables.now c.args.number read docs c.args.id c.in_ok-known.known keeps.documents_stay (bounded sound known) in
-    let to = c.pass_unseen-2.result in
-    let inside = c.pass_unseen-2.ensures.passed.inside in
-    let within = c.pass_unseen-2.ensures.inside in
+    let to = c.pass_unseen-then-is_beaten.result in
+    let inside = c.pass_unseen-then-is_beaten.ensures.passed.inside in
+    let within = c.pass_unseen-then-is_beaten.ensures.inside in
     let beaten = c.is_beaten.ensures c.if-is_beaten.true in
     let stats = c.args.network.now.kept.each in
     let leaves : length network.leaves ≤ length network.stats = omega (arith, stats) in
-    Advances-beaten kind priors filters network docs marks (counted c.args.first.now c.args.squares.now) c.args.id to.id beaten.0 c.pass_unseen-2.ensures.back (omega (arith, inside, c.requires.marks)) c.requires.marks leaves beaten.2
+    Advances-beaten kind priors filters network docs marks (counted c.args.first.now c.args.squares.now) c.args.id to.id beaten.0 c.pass_unseen-then-is_beaten.ensures.back (omega (arith, inside, c.requires.marks)) c.requires.marks leaves beaten.2
     (λ i low high. (here sound told).least beaten.0 i beaten.1 low (omega (arith, high, within)))
 
 pub returns-then-is_beaten-clause-ahead : goal.returns-then-is_beaten-clause-ahead
@@ -88,8 +88,8 @@ returns-then-is_beaten-clause-ahead g c = λ sound told.
     λ sound known. c.in_ok-known.ensures.known filters (IsKnown-read kind priors filters network c.args.tables.now c.args.number docs read c.args.id c.in_ok-found.found (sym keeps.documents_stay) (found sound known)) in
     let here : g.P.Postings.sound c.args.part.now → IsKnown kind priors filters network c.args.tables.now c.args.number docs c.args.id c.args.ahead → IsKnown kind priors filters network c.args.tables.now c.args.number docs c.args.id c.in_ok-known.known =
     λ sound known. IsKnown-read kind priors filters network c.args.tables.now c.args.number read docs c.args.id c.in_ok-known.known keeps.documents_stay (bounded sound known) in
-    let to = c.pass_unseen-2.result in
-    IsKnown-on kind priors filters network c.args.tables.now c.args.number docs c.args.id to.id c.in_ok-known.known to.ahead c.pass_unseen-2.ensures.back c.pass_unseen-2.ensures.same (here sound told)
+    let to = c.pass_unseen-then-is_beaten.result in
+    IsKnown-on kind priors filters network c.args.tables.now c.args.number docs c.args.id to.id c.in_ok-known.known to.ahead c.pass_unseen-then-is_beaten.ensures.back c.pass_unseen-then-is_beaten.ensures.same (here sound told)
 
 pub returns-then-is_beaten-clause-windows : goal.returns-then-is_beaten-clause-windows
 returns-then-is_beaten-clause-windows g c = KeepsWindows-same _ _ _

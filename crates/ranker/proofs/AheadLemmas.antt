@@ -1,5 +1,5 @@
 -- What is known of the documents that come next.
-use Rattle.std.proofs.Common.{◌≡◌, ◌<◌, ◌≤◌, ℕ, ◌+◌, ◌*◌, ◌/◌, ◌%◌, zero, suc, ◌-◌, false, List, [], ◌∷◌, Contains, IfOk, IfSome, Result, Ok, Err, inl, inr, ◌⊎◌, Option, None, Some, length, take, drop, is_some, refl, sym, ap, subst, ◌∙◌, arith}
+use Rattle.std.proofs.Common.{◌≡◌, ◌<◌, ◌≤◌, ℕ, ◌+◌, ◌*◌, ◌/◌, ◌%◌, zero, suc, ◌-◌, false, List, [], ◌∷◌, Contains, IfOk, IfSome, Result, Ok, Err, inl, inr, ◌⊎◌, Option, None, Some, length, take, drop, is_some, slice_get, refl, sym, ap, subst, ◌∙◌, arith}
 use Rattle.std.specs.Int.{bit_at}
 use Rattle.std.proofs.lemmas.Bool.{false≢true}
 use Rattle.std.proofs.lemmas.List.{length-drop}
@@ -130,3 +130,11 @@ module _ (kind : RuleKind) (priors : List Prior) (filters : List FilterTree) (ne
 pub IsKnown-priors : (kind : RuleKind) (was priors : List Prior) (filters : List FilterTree) (network : NetworkTree) (tables : List RangeTable) (number : ℕ) (docs : List Document) (id : ℕ) (ahead : Ahead) → was ≡ priors
     → IsKnown kind was filters network tables number docs id ahead → IsKnown kind priors filters network tables number docs id ahead
 IsKnown-priors kind was priors filters network tables number docs id ahead stay h = subst (λ (ps : List Prior). IsKnown kind ps filters network tables number docs id ahead) stay h
+
+-- where there is no table, none is another part's
+none_there : (number : ℕ) (t : RangeTable) → slice_get [] number ≡ Some t → ⊥
+none_there zero t e = false≢true (ap is_some e)
+none_there (suc number) t e = false≢true (ap is_some e)
+
+pub IsTold-none : (network : NetworkTree) (tables : List RangeTable) (number : ℕ) (docs : List Document) → tables ≡ [] → IsTold network tables number docs
+IsTold-none network tables number docs none = subst (λ (ts : List RangeTable). IsTold network ts number docs) (sym none) (λ t e. absurd (none_there number t e))

@@ -82,7 +82,8 @@ impl Search {
         ensures taken { IfOk result (λ s. (kind : RuleKind) (priors : List Prior) (told : Option Files) → IsTaken kind priors told s) }
     {
         let tables = Vec::new(alloc);
-        Search::with_tables(alloc, snapshot, checked, stats, tables, most)
+        let search = Search::with_tables(alloc, snapshot, checked, stats, tables, most)?;
+        Ok(search)
     }
 
     /// A search over the documents of a snapshot that has passed none yet, for at most so many results. The statistics are those of
@@ -104,7 +105,7 @@ impl Search {
         ensures most { IfOk result (λ s. s.most ≡ most) }
         ensures credit { IfOk result (λ s. s.at.credit ≡ 0) }
         ensures usable { IfOk result (λ s. s.usable ≡ true) }
-        ensures tables { IfOk result (λ s. s.tables ≡ tables) }
+        ensures tables { IfOk result (λ s. s.tables.items ≡ tables.items) }
         ensures taken { IfOk result (λ s. (kind : RuleKind) (priors : List Prior) (told : Option Files) → AreTold told s → IsTaken kind priors told s) }
     {
         let network = Network::new(alloc, &checked, stats)?;

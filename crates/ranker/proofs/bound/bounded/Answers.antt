@@ -1,4 +1,4 @@
-use Rattle.std.proofs.Common.{◌≡◌, ◌≤◌, ◌+◌, ◌*◌, ◌/◌, length, map, arith}
+use Rattle.std.proofs.Common.{◌≤◌, ◌+◌, ◌*◌, ◌/◌, length, map, arith}
 use Rattle.belief_nodes.specs.Network.{network_tree}
 use Rattle.ranker.proofs.AheadLemmas.{IsKnown-bounded}
 use Rattle.ranker.proofs.bound.bounded.Goals as goal

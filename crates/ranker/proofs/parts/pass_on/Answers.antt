@@ -1,5 +1,4 @@
-use Rattle.std.proofs.Common.{◌≡◌, ◌≤◌, IfOk, List, map, take, length, refl, ap, subst, sym, ◌∙◌, arith}
-use Rattle.ri_base.specs.Documents.{Document}
+use Rattle.std.proofs.Common.{◌≤◌, map, take, length, sym, arith}
 use Rattle.ri_base.specs.Query.{filter_tree}
 use Rattle.belief_nodes.specs.Network.{network_tree}
 use Rattle.disk_index.specs.Snapshots.{unmarked}

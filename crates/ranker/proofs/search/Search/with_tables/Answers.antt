@@ -3,13 +3,13 @@ use Rattle.ri_base.specs.Query.{is_range}
 use Rattle.belief_nodes.specs.Network.{NetworkTree, network_tree}
 use Rattle.ranker.specs.First.{scale_of}
 use Rattle.ranker.specs.Passed.{nothing_known}
-use Rattle.ranker.proofs.AheadLemmas.{IsAhead-nothing, IsAhead-on}
-use Rattle.ranker.proofs.search.Search.new.Goals as goal
+use Rattle.ranker.proofs.AheadLemmas.{IsKnown-nothing, IsKnown-on}
+use Rattle.ranker.proofs.search.Search.with_tables.Goals as goal
 
 pub returns-clause-taken : goal.returns-clause-taken
-returns-clause-taken c = λ kind priors told. record {
+returns-clause-taken c = λ kind priors told tables. record {
   held = c.first_held-held.ensures.held kind priors _ _;
-  ahead = IsAhead-on _ _ _ 0 0 nothing_known c.nothing.result (omega arith) c.nothing.ensures (IsAhead-nothing _ _ _ 0);
+  ahead = record { here = IsKnown-on kind priors _ _ _ 0 _ 0 0 nothing_known c.nothing.result (omega arith) c.nothing.ensures (IsKnown-nothing kind priors _ _ _ 0 _ 0 (tables 0)); each = tables };
 }
 
 pub invariant_of-result : goal.invariant_of-result

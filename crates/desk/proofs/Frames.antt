@@ -20,7 +20,7 @@ use Rattle.smoothing.specs.declared.rule.RuleKind.{RuleKind}
 use Rattle.belief_nodes.specs.Network.{network_tree}
 use Rattle.belief_nodes.specs.Priors.{Prior}
 use Rattle.ranker.specs.Held.{IsHeld}
-use Rattle.ranker.specs.Passed.{IsAhead, part_at, passed}
+use Rattle.ranker.specs.Passed.{IsKnown, IsTold, part_at, passed}
 use Rattle.ranker.specs.Searches.{IsTaken, filters_of}
 use Rattle.ranker.specs.declared.place.Place.{Place}
 use Rattle.ranker.specs.declared.search.Search.{Search}
@@ -101,7 +101,10 @@ module _ (P : List ℕ → Type 0) (a b : Option Files) (same : SameWhere P a b)
   pub taken-same : (kind : RuleKind) (priors : List Prior) (s : Search) → Stay P (part_numbers s.snapshot) → IsTaken kind priors a s → IsTaken kind priors b s
   taken-same kind priors s stay taken = record {
     held = subst (λ (docs : List Document). IsHeld kind priors (filters_of s) (network_tree s.network) docs s.most s.held) (sym (passed-same s.snapshot s.at stay)) taken.held;
-    ahead = subst (λ (docs : List Document). IsAhead (filters_of s) (network_tree s.network).leaves docs s.at.id s.at.ahead) (sym (reads-same (part_at s.snapshot s.at.part).source (at-stays s.snapshot s.at.part stay))) taken.ahead;
+    ahead = record {
+      here = subst (λ (docs : List Document). IsKnown kind priors (filters_of s) (network_tree s.network) s.tables.items s.at.part docs s.at.id s.at.ahead) (sym (reads-same (part_at s.snapshot s.at.part).source (at-stays s.snapshot s.at.part stay))) taken.ahead.here;
+      each = λ number. subst (λ (docs : List Document). IsTold (network_tree s.network) s.tables.items number docs) (sym (reads-same (part_at s.snapshot number).source (at-stays s.snapshot number stay))) (taken.ahead.each number);
+    };
   }
 
 -- a cache keeps the blocks of files that stay

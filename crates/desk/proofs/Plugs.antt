@@ -50,6 +50,28 @@ module _ (kind : RuleKind) (a b : List Prior) where
   held-alike filters network docs most alike (Ended hits) held =
       (held.0, record { all = subst (λ (cs : List Candidate). IsPermutation cs (map candidate_of held.0)) (candidates-alike filters network alike docs) held.1.all; keys = held.1.keys; sorted = held.1.sorted }, held.2)
 
+  told-alike : (d : Document) (w : Pair) (leaves : List LeafTree) (stats : List LeafStats) → All (TellsAlike a b) leaves → beliefs_in kind a d w leaves stats ≡ beliefs_in kind b d w leaves stats
+  told-alike d w leaves stats alike = beliefs-alike d w leaves stats alike
+
+  from-alike : (network : NetworkTree) → All (TellsAlike a b) network.leaves → (least : ℕ) (d : Document) → AreFrom kind a network least d → AreFrom kind b network least d
+  from-alike network alike least d from = λ w has.
+      let same = told-alike d w network.leaves network.stats alike in
+      record {
+        beliefs = subst (λ (qs : List Ratio). All IsBelief qs) same (from w has).beliefs;
+        leads = subst (λ (qs : List Ratio). least ≤ key_at FIRST qs network.tree) same (from w has).leads;
+      }
+
+  known-alike : (filters : List FilterTree) (network : NetworkTree) (tables : List RangeTable) (number : ℕ) (docs : List Document) (id : ℕ) (ahead : Ahead) → All (TellsAlike a b) network.leaves
+      → IsKnown kind a filters network tables number docs id ahead → IsKnown kind b filters network tables number docs id ahead
+  known-alike filters network tables number docs id ahead alike known = record {
+    may = known.may;
+    least = λ n i is from end. from-alike network alike n (document_at docs i) (known.least n i is from end);
+    told = known.told;
+  }
+
   -- What a search has taken by the one is so by the other.
   pub taken-alike : (told : Option Files) (s : Search) → All (TellsAlike a b) (network_tree s.network).leaves → IsTaken kind a told s → IsTaken kind b told s
-  taken-alike told s alike taken = record { held = held-alike (filters_of s) (network_tree s.network) (passed told s.snapshot s.at) s.most alike s.held taken.held; ahead = taken.ahead }
+  taken-alike told s alike taken = record {
+    held = held-alike (filters_of s) (network_tree s.network) (passed told s.snapshot s.at) s.most alike s.held taken.held;
+    ahead = record { here = known-alike (filters_of s) (network_tree s.network) s.tables.items s.at.part _ s.at.id s.at.ahead alike taken.ahead.here; each = taken.ahead.each };
+  }

@@ -30,7 +30,7 @@ returns-clause-taken g c = λ backed cached.
     let made = c.in_ok-search.ensures in
     let same : c.new-rule.result.kind ≡ c.args.kind = rw c.new-rule.ensures refl in
     subst (λ (k : RuleKind). IsTaken k (map (λ b. (goal.BeliefNode-dyn g (b.vtable, b.value)).meaning b.value) c.args.plugs.now) (g.T.Store.files c.args.store.now) c.step.new.self) same
-    (c.in_ok-step.ensures.taken (subst (λ (ms : List Marked). AreBacked (g.T.Store.files c.args.store.now) ms) (sym made.snapshot) backed) cached (made.taken _ _ _))
+    (c.in_ok-step.ensures.taken (subst (λ (ms : List Marked). AreBacked (g.T.Store.files c.args.store.now) ms) (sym made.snapshot) (parts-backed _ _ _ _ _ made.reads backed)) (cache-backed _ _ _ _ _ made.reads cached) (made.taken backed cached _ _))
 
 pub returns-clause-reads : goal.returns-clause-reads
 returns-clause-reads g c = record { quiet = c.step.ensures.quiet; later = c.step.ensures.later; cache = rw c.in_ok-search.ensures.snapshot at c.step.ensures.cache }

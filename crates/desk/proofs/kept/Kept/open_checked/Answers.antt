@@ -114,7 +114,8 @@ returns-in_err-stats-clause-honest g c = λ backed.
 pub returns-clause-steps : goal.returns-clause-steps
 returns-clause-steps g c = λ backed.
     let told = g.T.Store.files c.args.store.now in
-    let after = g.T.Store.files c.all_stats.new.store in
+    let after = g.T.Store.files c.new_search.new.store in
+    let reads = c.in_ok-stats.ensures.reads in
     let s = c.self.inside in
     let name = c.args.name in
     let view = seen c.self.inside in
@@ -131,12 +132,13 @@ returns-clause-steps g c = λ backed.
     let generation : c.generation-generation.result ≡ s.repository.held.generation = c.generation-generation.ensures ∙ ap (λ (x : repositories.State). x.held.generation) c.in_ok-snapshot.ensures.closed in
     let sums : IsDeskBacked told view → AreSums (snapshots.live told snapshot) c.generation-generation.result s.counts = λ b.
     subst (λ n. AreSums (snapshots.live told snapshot) n s.counts) (sym generation) (subst (λ (docs : List Document). AreSums docs s.repository.held.generation s.counts) (sym documents) b.counts) in
-    open-done told view name c.args.k c.args.checked snapshot stats q new refl documents after c.args.self.now c.snapshot.new.self c.push.new.self.items c.all_stats.new.counts c.all_stats.new.cache c.from-live.result c.in_ok-told.told
-    c.self.view_is c.in_ok-snapshot.ensures.closed pushed c.in_ok-told.ensures c.in_ok-stats.ensures.reads.quiet.same_files free room (wide ∙ c.live_count.ensures told) c.in_ok-snapshot.ensures.numbers
-    (λ b. c.in_ok-snapshot.ensures.stored told b.repository) c.in_ok-search.ensures.taken
+    open-done told view name c.args.k c.args.checked snapshot stats q new refl documents after c.args.self.now c.snapshot.new.self c.push.new.self.items c.all_stats.new.counts c.new_search.new.cache c.from-live.result c.in_ok-told.told
+    c.self.view_is c.in_ok-snapshot.ensures.closed pushed c.in_ok-told.ensures (made.reads.quiet.same_files ∙ reads.quiet.same_files) free room (wide ∙ c.live_count.ensures told) c.in_ok-snapshot.ensures.numbers
+    (λ b. c.in_ok-snapshot.ensures.stored told b.repository) (λ b. new-taken told _ snapshot s.cache c.all_stats.new.cache q.search reads (made.taken) (c.in_ok-snapshot.ensures.stored told b.repository) b.cache.backed)
     (λ b. c.deref-2.ensures.value ∙ c.in_ok-stats.ensures.exact (c.in_ok-snapshot.ensures.stored told b.repository) b.cache.backed (sums b) ∙ ap (λ (ls : List LeafKind). map (stats_of (snapshots.live told snapshot)) (map leaf_tree ls)) c.deref.ensures.value)
     (λ b. subst (λ n. AreSums (snapshots.live told snapshot) n c.all_stats.new.counts) generation (c.in_ok-stats.ensures.kept (c.in_ok-snapshot.ensures.stored told b.repository) b.cache.backed (sums b)))
-    (λ b. cache-read told s.repository snapshot s.cache c.all_stats.new.cache (listed-now s.repository snapshot c.in_ok-snapshot.ensures.numbers) c.in_ok-stats.ensures.reads.cache b.cache) backed
+    (λ b. cache-read told s.repository snapshot s.cache c.new_search.new.cache (listed-now s.repository snapshot c.in_ok-snapshot.ensures.numbers)
+    (CacheKeeps-after told (g.T.Store.files c.all_stats.new.store) _ s.cache c.all_stats.new.cache c.new_search.new.cache reads.quiet.same_files reads.cache made.reads.cache) b.cache) backed
 
 pub returns-clause-refuses : goal.returns-clause-refuses
 returns-clause-refuses g c = λ told.

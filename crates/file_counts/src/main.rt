@@ -17,7 +17,8 @@ mod searches;
 use anyhow::{Context, Result, bail};
 use documents::sealed_of;
 use parts::{Counted, docs_once_open};
-use ri_base::{Doc, FileName, Postings, SegFault};
+use query_check::LeafKind;
+use ri_base::{Doc, ExtentExpr, FileName, Postings, SegFault, Term};
 use searches::found;
 use seg_codec::{read_segment, seg_bytes};
 use std::alloc::Global;
@@ -128,6 +129,21 @@ fn search(rt: &HostRuntime, folder: &str, docs: u32, step: u64) -> Result<()> {
 }
 
 /// The number that stands next among the words.
+fn table(rt: &HostRuntime, folder: &str, docs: u32) -> Result<()> {
+    let mut store = FolderStore::new(rt, folder)?;
+    let mut counted = Counted::new(rt.alloc(), &mut store, docs)?;
+    let snapshot = counted.shared(rt.alloc())?;
+    for line in rt.lines(rt.alloc()) {
+        let text = line?;
+        let term = Term::new(rt.alloc(), text.as_bytes())?.context("no term")?;
+        let leaves = [LeafKind::Extents(ExtentExpr::Word(term), None)];
+        let tables = range_tables::tables(rt.alloc(), &leaves, snapshot.parts(), &mut store, counted.blocks())?;
+        println!(rt; "{} tables", tables.len())?;
+    }
+    Ok(())
+}
+
+/// x
 fn number_of(word: Option<String>) -> Result<u64> {
     Ok(word.context("no number")?.parse::<u64>()?)
 }
@@ -143,6 +159,7 @@ fn main(rt: HostRuntime) -> Result<()> {
     match command.as_str() {
         "write" => write_segments(&rt, word.parse::<u32>()?, number.parse::<u64>()?),
         "open" => open_segments(&rt, &word, number.parse::<u32>()?),
+        "table" => table(&rt, &word, number.parse::<u32>()?),
         "count" => count_words(&rt, &word, number.parse::<u32>()?),
         "search" => search(&rt, &word, number.parse::<u32>()?, number_of(words.next())?),
         _ => bail!("no such command"),

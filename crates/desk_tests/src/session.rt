@@ -1,5 +1,5 @@
 // What a desk answers.
-ghost use Rattle.std.specs.Prelude.{◌≡◌, length, true};
+ghost use Rattle.std.specs.Prelude.{◌≡◌, length, true, IfSome};
 ghost use Rattle.ri_base.specs.Ratio.{ratio_of};
 ghost use Rattle.session_events.specs.Events.{IsSessionEvent};
 ghost use Rattle.smoothing.specs.Counts.{AreCounts};
@@ -95,8 +95,20 @@ fn put_lines<F: Fn(u32, u32, u64, u64) -> Fraction, S: Store>(
     Some(())
 }
 
-/// The lines of a script with their replies, where this repository and these plugs are given, and mu is 1.
-fn session_by<S: Store>(
+/// The repository of these files; nothing where it can't be opened.
+fn opened<S: Store>(alloc: Global, store: &mut S, limits: Limits) -> Option<Repository>
+    ensures { IfSome result (λ repository. repository.usable ≡ true) }
+{
+    let repository = Repository::open(alloc, store, limits).ok()??;
+    if repository.usable() {
+        Some(repository)
+    } else {
+        None
+    }
+}
+
+/// The lines of a script with their replies, over this repository, where mu is 1.
+fn session_over<S: Store>(
     alloc: Global,
     repository: Repository,
     script: &str,
@@ -121,46 +133,44 @@ fn session_by<S: Store>(
     Some(out)
 }
 
+/// The same of the repository of these files.
+fn session_by<S: Store>(
+    alloc: Global,
+    store: &mut S,
+    limits: Limits,
+    script: &str,
+    plugs: &mut [Box<dyn BeliefNode>],
+) -> Option<Vec<u8>>
+    requires nine { length plugs.old ≡ 9 }
+{
+    let repository = opened(alloc, store, limits)?;
+    session_over(alloc, repository, script, store, plugs)
+}
+
 /// The prior `home` by its rows.
-fn home(alloc: Global) -> Option<TablePlug> {
+fn home(alloc: Global) -> Option<Box<TablePlug>> {
     let mut plug = TablePlug::new(alloc).ok()?;
     let docno = Docno::new(alloc, b"d1").ok()??;
     plug.take_row(alloc, &docno, Fraction { p: 1, q: 2 }).ok()?;
     plug.take_rest(Fraction { p: 1, q: 4 }).ok()?;
-    Some(plug)
-}
-
-/// The same with nine priors. The first is `home`, and of the others no text asks for a belief.
-fn session_over<S: Store>(
-    alloc: Global,
-    repository: Repository,
-    script: &str,
-    store: &mut S,
-) -> Option<Vec<u8>>
-    requires usable { repository.usable ≡ true }
-{
-    let mut plugs: Vec<Box<dyn BeliefNode>> = Vec::new(alloc);
-    for _ in 0..9 {
-        let plug = Box::new(alloc, home(alloc)?).ok()?;
-        plugs.push(plug).ok()?;
-    }
-    if plugs.len() != 9 {
-        return None;
-    }
-    session_by(alloc, repository, script, store, &mut plugs)
+    Box::new(alloc, plug).ok()
 }
 
 /// The lines of a script, which begin with `> `, with the replies of a desk to them, where mu is 1; nothing where the files of the store
-/// can't be opened.
+/// can't be opened. Of the nine priors the first is `home`, and no text asks for a belief of the others.
 pub fn session<S: Store>(
     alloc: Global,
     store: &mut S,
     limits: Limits,
     script: &str,
 ) -> Option<Vec<u8>> {
-    let repository = Repository::open(alloc, store, limits).ok()??;
-    if !repository.usable() {
+    let mut plugs: Vec<Box<dyn BeliefNode>> = Vec::new(alloc);
+    for _ in 0..9 {
+        let plug = home(alloc)?;
+        plugs.push(plug).ok()?;
+    }
+    if plugs.len() != 9 {
         return None;
     }
-    session_over(alloc, repository, script, store)
+    session_by(alloc, store, limits, script, &mut plugs)
 }

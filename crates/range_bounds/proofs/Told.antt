@@ -1,5 +1,5 @@
 -- The bounds that a table tells are those of the definition.
-use Rattle.std.proofs.Common.{◌≡◌, ◌<◌, ◌+◌, ℕ, zero, suc, List, [], ◌∷◌, ◌++◌, length, take, get_or, add-one, max, ap, subst, ◌∙◌, arith}
+use Rattle.std.proofs.Common.{◌≡◌, ◌<◌, ◌≤◌, ◌+◌, ℕ, zero, suc, List, [], ◌∷◌, ◌++◌, length, take, get_or, add-one, max, refl, ap, subst, ◌∙◌, arith}
 use Rattle.std.specs.Prelude.{All, zip}
 use Rattle.std.specs.List.{AllZip}
 use Rattle.ri_base.specs.Documents.{Document}
@@ -39,6 +39,14 @@ module _ (kind : RuleKind) (priors : List Prior) (range : Range) (table : RangeT
   bounds_told docs (l ∷ ls) (s ∷ ss) (r ∷ rs) least tell told =
       let Tells = TellsLeaf (terms_of table) (names_of table) docs counts in
       (bound_told kind priors range table docs counts l s r least (all_first Tells l ls tell) told.0, bounds_told docs ls ss rs least (all_rest Tells l ls tell) told.1)
+
+  -- as many as leaves
+  pub bounds_length : (leaves : List LeafTree) (stats : List LeafStats) (bounds : List Ratio) → length leaves ≤ length stats → AreToldBounds leaves stats bounds → length bounds ≡ length leaves
+  bounds_length [] stats [] few told = refl
+  bounds_length [] stats (r ∷ rs) few told = absurd told
+  bounds_length (l ∷ ls) [] bounds few told = absurd (omega (arith, few))
+  bounds_length (l ∷ ls) (s ∷ ss) [] few told = absurd told
+  bounds_length (l ∷ ls) (s ∷ ss) (r ∷ rs) few told = let rest = bounds_length ls ss rs (omega (arith, few)) told.1 in omega (arith, rest)
 
   bounds_suc : (leaves : List LeafTree) (stats : List LeafStats) (bounds : List Ratio) (i : ℕ) (l : LeafTree) (s : LeafStats) (r : Ratio) → i < length leaves → i < length stats → l ≡ get_or leaves i l → s ≡ get_or stats i s
       → AreToldBounds (take i leaves) (take i stats) bounds → IsToldBound kind priors range table counts l s r → AreToldBounds (take (suc i) leaves) (take (suc i) stats) (bounds ++ r ∷ [])

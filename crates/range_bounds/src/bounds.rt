@@ -40,6 +40,7 @@ impl RangeTable {
         requires rule { Computes F.pre F.post rule.now.kind rule.now.f }
         requires range { range < range_count self.now }
         requires plugs { All (HasPrior (length plugs.now)) (network_tree network.now).leaves }
+        ensures each { IfOk result (λ bounds. length bounds ≡ length (network_tree network.now).leaves) }
         ensures exact { (docs : List Document) → IsTableOf (network_tree network.now).leaves docs self.now → IfOk result
             (λ bounds. AreBounds rule.now.kind (map (λ plug. meaning plug) plugs.now) (network_tree network.now).range
             (range_documents docs range) (network_tree network.now).leaves (network_tree network.now).stats (map ratio_of bounds)) }

@@ -1,5 +1,6 @@
 // The table of the ranges of a part.
-ghost use Rattle.std.specs.Prelude.{◌≡◌};
+ghost use Rattle.std.specs.Prelude.{◌≡◌, nat_lt};
+ghost use Rattle.range_bounds.specs.Tables.{range_count};
 
 use crate::range_counts::RangeCounts;
 use indexmap::IndexSet;
@@ -23,5 +24,12 @@ impl RangeTable {
             names,
             ranges,
         }
+    }
+
+    /// Whether it has the counts of a range.
+    pub fn has(&self, range: u32) -> bool
+        ensures { result ≡ nat_lt range (range_count self.now) }
+    {
+        (range as usize) < self.ranges.len()
     }
 }

@@ -15,7 +15,7 @@ use Rattle.range_bounds.specs.Tables.{AreCountsOf, names_of, terms_of}
 use Rattle.range_bounds.specs.declared.range_counts.RangeCounts.{RangeCounts}
 use Rattle.range_bounds.proofs.Covers.{all_covered}
 use Rattle.range_bounds.proofs.Leads.{all_are_beliefs, are_beliefs, each_told, keys_lead}
-use Rattle.range_bounds.proofs.Told.{AreToldBounds, bounds_more, bounds_told}
+use Rattle.range_bounds.proofs.Told.{AreToldBounds, bounds_length, bounds_more, bounds_told}
 use Rattle.range_bounds.proofs.table.RangeTable.bound_fractions.Goals as goal
 
 pub leaf_bound-bound-requires-clause-plugs : goal.leaf_bound-bound-requires-clause-plugs
@@ -57,6 +57,25 @@ loop-i-preserved g c =
     subst (AreToldBounds kind priors network.range table counts (take (i + 1) leaves) (take (i + 1) network.stats.items)) (sym more)
     (bounds_more kind priors network.range table counts leaves network.stats.items (map ratio_of c.loop-i.bounds.items) i (leaf_tree leaf) stat (ratio_of c.leaf_bound-bound.result)
     inside short here stat_at c.loop-i.invariant bound)
+
+pub returns-clause-each : goal.returns-clause-each
+returns-clause-each g c =
+    let kind = c.args.rule.now.kind in
+    let priors = map (λ b. (goal.BeliefNode-dyn g (b.vtable, b.value)).meaning b.value) c.args.plugs.now in
+    let table = c.args.self.now in
+    let counts : RangeCounts = c.index-counts.result.now in
+    let network = c.args.network.now in
+    let leaves : List LeafTree = map leaf_tree network.leaves.items in
+    let items = c.leaves-leaf-items.result.now in
+    let i = c.loop-i.i in
+    let told : map leaf_tree items ≡ leaves = c.leaves-leaf-items.ensures in
+    let long : length (map leaf_tree items) ≤ i = rw (length-map items leaf_tree) c.loop-i-test.false in
+    let end : length leaves ≤ i = subst (λ (ls : List LeafTree). length ls ≤ i) told long in
+    let all : AreToldBounds kind priors network.range table counts leaves network.stats.items (map ratio_of c.loop-i.bounds.items) =
+    subst (λ (ls : List LeafTree). AreToldBounds kind priors network.range table counts ls network.stats.items (map ratio_of c.loop-i.bounds.items)) (take_all i leaves end)
+    (subst (λ (ss : List LeafStats). AreToldBounds kind priors network.range table counts (take i leaves) ss (map ratio_of c.loop-i.bounds.items)) (take_all i network.stats.items (omega (arith, end, network.kept.each))) c.loop-i.invariant) in
+    ap length c.of.ensures ∙ sym (length-map c.loop-i.bounds.items ratio_of)
+    ∙ bounds_length kind priors network.range table counts leaves network.stats.items (map ratio_of c.loop-i.bounds.items) (omega (arith, network.kept.each)) all
 
 pub returns-clause-exact : goal.returns-clause-exact
 returns-clause-exact g c = λ docs is_table.

@@ -1,6 +1,9 @@
 -- What is known of the documents that come next.
-use Rattle.std.proofs.Common.{◌≡◌, ◌<◌, ◌≤◌, ℕ, ◌+◌, ◌*◌, ◌/◌, ◌%◌, false, List, sym, ap, subst, ◌∙◌, arith}
+use Rattle.std.proofs.Common.{◌≡◌, ◌<◌, ◌≤◌, ℕ, ◌+◌, ◌*◌, ◌/◌, ◌%◌, zero, suc, ◌-◌, false, List, [], ◌∷◌, Contains, IfOk, IfSome, Result, Ok, Err, inl, inr, ◌⊎◌, Option, None, Some, length, take, drop, is_some, slice_get, refl, sym, ap, subst, ◌∙◌, arith}
 use Rattle.std.specs.Int.{bit_at}
+use Rattle.std.proofs.lemmas.Bool.{false≢true}
+use Rattle.std.proofs.lemmas.List.{length-drop}
+use Rattle.std.proofs.lemmas.List.Elements.{Contains-append_right, Contains-get_or}
 use Rattle.std.proofs.lemmas.Nat.Bits.{bit_at-zero}
 use Rattle.ri_base.specs.Collection.{document_at}
 use Rattle.ri_base.specs.Documents.{Document}
@@ -9,8 +12,15 @@ use Rattle.query_check.specs.Leaves.{LeafTree}
 use Rattle.range_masks.specs.Masks.{IsMask}
 use Rattle.range_masks.specs.May.{query_may}
 use Rattle.range_masks.proofs.MaskLemmas.{IsMask-tells}
-use Rattle.ranker.specs.Passed.{IsAhead, nothing_known}
+use Rattle.smoothing.specs.declared.rule.RuleKind.{RuleKind}
+use Rattle.belief_nodes.specs.Network.{NetworkTree}
+use Rattle.belief_nodes.specs.Priors.{Prior}
+use Rattle.range_bounds.specs.Ranges.{range_documents}
+use Rattle.range_bounds.specs.declared.table.RangeTable.{RangeTable}
+use Rattle.ranker.specs.Least.{AreFrom}
+use Rattle.ranker.specs.Passed.{IsAhead, IsKnown, IsTold, nothing_known}
 use Rattle.ranker.specs.declared.place.Ahead.{Ahead}
+use Rattle.ranker.specs.declared.place.Passed.{Passed}
 
 module _ (filters : List FilterTree) (leaves : List LeafTree) where
   pub IsAhead-nothing : (docs : List Document) (id : ℕ) → IsAhead filters leaves docs id nothing_known
@@ -28,12 +38,12 @@ module _ (filters : List FilterTree) (leaves : List LeafTree) where
 
   -- documents that have nothing to show
   pub IsAhead-bare : (docs : List Document) (id end : ℕ) → ((i : ℕ) → 64 * (id / 64) ≤ i → i < end → query_may filters leaves (document_at docs i) ≡ false)
-      → IsAhead filters leaves docs id (record { end = end; mask = 0 })
+      → IsAhead filters leaves docs id (record { end = end; mask = 0; bound = None })
   IsAhead-bare docs id end h = record { none = λ i low high clear. h i (omega (arith, low)) high }
 
   -- those of a mask
   pub IsAhead-mask : (docs : List Document) (id end mask : ℕ) → end ≤ 64 * (id / 64 + 1) → IsMask (query_may filters leaves) (id / 64) docs mask
-      → IsAhead filters leaves docs id (record { end = end; mask = mask })
+      → IsAhead filters leaves docs id (record { end = end; mask = mask; bound = None })
   IsAhead-mask docs id end mask short h = record {
     none = λ i low high clear. IsMask-tells (id / 64) docs (query_may filters leaves) mask i false h (omega (arith, low)) (omega (arith, high, short)) (sym clear);
   }
@@ -42,3 +52,89 @@ module _ (filters : List FilterTree) (leaves : List LeafTree) where
   pub bare : (docs : List Document) (id : ℕ) (ahead : Ahead) → ahead.mask ≡ 0 → IsAhead filters leaves docs id ahead
       → (i : ℕ) → id ≤ i → i < ahead.end → query_may filters leaves (document_at docs i) ≡ false
   bare docs id ahead none h i low high = h.none i low high (ap (λ m. bit_at m (i % 64)) none ∙ bit_at-zero (i % 64))
+
+-- ---- documents of a list
+
+document_drop : (docs : List Document) (n i j : ℕ) → j ≡ n + i → j < length docs → document_at (drop n docs) i ≡ document_at docs j
+document_drop [] n i j is lt = absurd (omega (arith, lt))
+document_drop (d ∷ docs) zero i j is lt = let same : i ≡ j = omega (arith, is) in ap (document_at (d ∷ docs)) same
+document_drop (d ∷ docs) (suc n) i zero is lt = absurd (omega (arith, is))
+document_drop (d ∷ docs) (suc n) i (suc j) is lt = document_drop docs n i j (omega (arith, is)) (omega (arith, lt))
+
+document_taken : (docs : List Document) (n i : ℕ) → i < n → i < length docs → Contains (take n docs) (document_at docs i)
+document_taken [] n i few lt = absurd (omega (arith, lt))
+document_taken (d ∷ docs) zero i few lt = absurd (omega (arith, few))
+document_taken (d ∷ docs) (suc n) zero few lt = Contains-get_or (d ∷ take n docs) 0 d (omega arith)
+document_taken (d ∷ docs) (suc n) (suc i) few lt = Contains-append_right (d ∷ []) (take n docs) (document_at docs i) (document_taken docs n i (omega (arith, few)) (omega (arith, lt)))
+
+-- ---- what is known, with bounds
+
+module _ (kind : RuleKind) (priors : List Prior) (filters : List FilterTree) (network : NetworkTree) (tables : List RangeTable) (number : ℕ) where
+  abbrev Known : List Document → ℕ → Ahead → Type 0
+  Known docs id ahead = IsKnown kind priors filters network tables number docs id ahead
+
+  pub IsKnown-nothing : (docs : List Document) (id : ℕ) → IsTold network tables number docs → Known docs id nothing_known
+  IsKnown-nothing docs id told = record { may = IsAhead-nothing filters network.leaves docs id; least = λ n i is low high. absurd (omega (arith, high)); told = told }
+
+  -- the same documents
+  pub IsKnown-read : (read docs : List Document) (id : ℕ) (ahead : Ahead) → read ≡ docs → Known read id ahead → Known docs id ahead
+  IsKnown-read read docs id ahead same h = subst (λ (ds : List Document). Known ds id ahead) same h
+
+  -- from a later id on
+  pub IsKnown-on : (docs : List Document) (id next : ℕ) (ahead then : Ahead) → id ≤ next → then ≡ ahead → Known docs id ahead → Known docs next then
+  IsKnown-on docs id next ahead then up same h =
+      let later : Known docs next ahead = record {
+        may = IsAhead-on filters network.leaves docs id next ahead ahead up refl h.may;
+        least = λ n i is low high. h.least n i is (omega (arith, up, low)) high;
+        told = h.told;
+      } in
+      subst (λ (a : Ahead). Known docs next a) (sym same) later
+
+  -- behind documents that were passed, with what was known
+  pub IsKnown-masked : {E : Type 0} (docs : List Document) (id : ℕ) (ahead : Ahead) (passed : Result Passed E) → IfOk passed (λ to. id ≤ to.id) → IfOk passed (λ to. to.ahead ≡ ahead) → Known docs id ahead
+      → IfOk passed (λ to. Known docs to.id to.ahead)
+  IsKnown-masked docs id ahead (Ok to) back same h = IsKnown-on docs id to.id ahead to.ahead back same h
+  IsKnown-masked docs id ahead (Err e) back same h = tt
+
+  -- what was found out without a bound, or was known
+  pub IsKnown-found : (docs : List Document) (id : ℕ) (was now : Ahead) → (now ≡ was) ⊎ (now.bound ≡ None) → IsAhead filters network.leaves docs id now → Known docs id was → Known docs id now
+  IsKnown-found docs id was now (inl same) may h = subst (λ (a : Ahead). Known docs id a) (sym same) h
+  IsKnown-found docs id was now (inr none) may h = record {
+    may = may;
+    least = λ n i is low high. absurd (false≢true (ap is_some (sym none ∙ is)));
+    told = h.told;
+  }
+
+  -- a document of the range of an id
+  in_range : (docs : List Document) (i range : ℕ) → 64 * range ≤ i → i < 64 * (range + 1) → i < length docs → Contains (range_documents docs range) (document_at docs i)
+  in_range docs i range low high inside =
+      let from : List Document = drop (64 * range) docs in
+      let at : ℕ = i - 64 * range in
+      let long = length-drop (64 * range) docs in
+      let here : document_at from at ≡ document_at docs i = document_drop docs (64 * range) at i (omega (arith, low)) inside in
+      subst (λ (d : Document). Contains (range_documents docs range) d) here (document_taken from 64 at (omega (arith, low, high)) (omega (arith, long, low, inside)))
+
+  -- with a bound of the range
+  pub IsKnown-bounded : (docs : List Document) (id : ℕ) (ahead : Ahead) (bound : Option ℕ) → ahead.end ≤ 64 * (id / 64 + 1) → ahead.end ≤ length docs → 64 * (id / 64) ≤ id
+      → ((d : Document) → Contains (range_documents docs (id / 64)) d → IfSome bound (λ n. AreFrom kind priors network n d)) → Known docs id ahead
+      → Known docs id (record { end = ahead.end; mask = ahead.mask; bound = bound })
+  IsKnown-bounded docs id ahead bound short inside start least h = record {
+    may = record { none = λ i low high clear. h.may.none i low high clear };
+    least = λ n i is low high.
+        subst (λ (b : Option ℕ). IfSome b (λ n. AreFrom kind priors network n (document_at docs i))) is
+        (least (document_at docs i) (in_range docs i (id / 64) (omega (arith, start, low)) (omega (arith, high, short)) (omega (arith, high, inside))));
+    told = h.told;
+  }
+
+-- by what the priors told before
+pub IsKnown-priors : (kind : RuleKind) (was priors : List Prior) (filters : List FilterTree) (network : NetworkTree) (tables : List RangeTable) (number : ℕ) (docs : List Document) (id : ℕ) (ahead : Ahead) → was ≡ priors
+    → IsKnown kind was filters network tables number docs id ahead → IsKnown kind priors filters network tables number docs id ahead
+IsKnown-priors kind was priors filters network tables number docs id ahead stay h = subst (λ (ps : List Prior). IsKnown kind ps filters network tables number docs id ahead) stay h
+
+-- where there is no table, none is another part's
+none_there : (number : ℕ) (t : RangeTable) → slice_get [] number ≡ Some t → ⊥
+none_there zero t e = false≢true (ap is_some e)
+none_there (suc number) t e = false≢true (ap is_some e)
+
+pub IsTold-none : (network : NetworkTree) (tables : List RangeTable) (number : ℕ) (docs : List Document) → tables ≡ [] → IsTold network tables number docs
+IsTold-none network tables number docs none = subst (λ (ts : List RangeTable). IsTold network ts number docs) (sym none) (λ t e. absurd (none_there number t e))

@@ -15,6 +15,7 @@ use Rattle.belief_nodes.specs.Priors.{Prior}
 use Rattle.disk_index.specs.Parts.{reads, size}
 use Rattle.disk_index.specs.Snapshots.{Marked}
 use Rattle.disk_index.proofs.RebuiltLemmas.{reads-length}
+use Rattle.range_bounds.specs.declared.table.RangeTable.{RangeTable}
 use Rattle.ranker.specs.First.{Advances, Counted, counted}
 use Rattle.ranker.specs.Held.{IsHeld, is_open}
 use Rattle.ranker.specs.Passed.{AreBare, IsAheadAt, IsBare, IsBareTo, IsPassed, IsPlace, behind, live_ids, nothing_known, part_at, passed}
@@ -113,7 +114,7 @@ module _ (parts : List Marked) (at : Place) (count : ℕ) (bare : AreBare (part_
     IsPlace-on : IsPlace parts at → IsPlace parts (place_on at docs)
     IsPlace-on place = subst (IsPlace parts) (behind-on docs) (IsPlace-behind parts at (to docs) docs own refl there first.whole is_passed (λ fewer. absurd (omega (arith, fewer))) place)
 
-    module _ (kind : RuleKind) (priors : List Prior) (filters : List FilterTree) (network : NetworkTree) (told : Option Files) (ahead : IsAheadAt filters network.leaves told parts at) where
+    module _ (kind : RuleKind) (priors : List Prior) (filters : List FilterTree) (network : NetworkTree) (tables : List RangeTable) (told : Option Files) (ahead : IsAheadAt kind priors filters network tables told parts at) where
       Advances-on : (rows : Counted) → Advances kind priors filters network (passed told parts at) (passed told parts (place_on at docs)) rows rows
       Advances-on rows =
           let whole = first.whole in
@@ -121,7 +122,7 @@ module _ (parts : List Marked) (at : Place) (count : ℕ) (bare : AreBare (part_
           subst (λ (p : Place). Advances kind priors filters network (passed told parts at) (passed told parts p) rows rows) (behind-on docs)
           (Advances-place parts at (to docs) docs kind priors filters network told rows rows own refl there (λ fewer. absurd (omega (arith, fewer)))
           (Advances-bare kind priors filters network (reads told own.source) own.marks rows at.id (at.id + docs) (omega arith) (omega (arith, inside, read)) (omega (arith, whole, read))
-          (λ i low high. let b = bare i low (omega (arith, high, few)) in ahead.none i low b.known b.clear)))
+          (λ i low high. let b = bare i low (omega (arith, high, few)) in ahead.here.may.none i low b.known b.clear)))
 
       IsHeld-bare : (most : ℕ) (held : Held) → is_open held ≡ true → IsHeld kind priors filters network (passed told parts at) most held → IsHeld kind priors filters network (passed told parts (place_on at docs)) most held
       IsHeld-bare most (Open rows) is h = (Advances-on (counted rows 0)).step [] most h
@@ -139,11 +140,11 @@ module _ (parts : List Marked) (at : Place) (count : ℕ) (bare : AreBare (part_
   IsPlace-few zero few place = subst (IsPlace parts) (sym place_on-none) place
   IsPlace-few (suc docs) few place = IsPlace-on (suc docs) (omega (arith, few)) few place
 
-  module _ (kind : RuleKind) (priors : List Prior) (filters : List FilterTree) (network : NetworkTree) (told : Option Files) (ahead : IsAheadAt filters network.leaves told parts at) where
+  module _ (kind : RuleKind) (priors : List Prior) (filters : List FilterTree) (network : NetworkTree) (tables : List RangeTable) (told : Option Files) (ahead : IsAheadAt kind priors filters network tables told parts at) where
     pub IsHeld-few : (docs most : ℕ) (held : Held) → docs ≤ count → is_open held ≡ true → IsHeld kind priors filters network (passed told parts at) most held
         → IsHeld kind priors filters network (passed told parts (place_on at docs)) most held
     IsHeld-few zero most held few is h = subst (λ (p : Place). IsHeld kind priors filters network (passed told parts p) most held) (sym place_on-none) h
-    IsHeld-few (suc docs) most held few is h = IsHeld-bare (suc docs) (omega (arith, few)) few kind priors filters network told ahead most held is h
+    IsHeld-few (suc docs) most held few is h = IsHeld-bare (suc docs) (omega (arith, few)) few kind priors filters network tables told ahead most held is h
 
 -- ---- up to a credit
 

@@ -7,6 +7,7 @@ pub mod Lists
 pub mod PassedLemmas
 pub mod PlaceLemmas
 pub mod RankingLemmas
+pub mod SkippedLemmas
 pub mod SkippingLemmas
 pub mod SquaresLemmas
 pub mod WindowLemmas

@@ -1,6 +1,7 @@
 -- Live documents that are passed one by one.
-use Rattle.std.proofs.Common.{◌≡◌, ◌<◌, ◌≤◌, ℕ, zero, suc, ◌+◌, ◌-◌, Bool, true, false, List, [], ◌∷◌, ◌++◌, cond, not, length, take, get_or, refl, sym, ap, subst, ◌∙◌, arith, append_assoc, append-nil}
+use Rattle.std.proofs.Common.{◌≡◌, ◌<◌, ◌≤◌, ℕ, zero, suc, ◌+◌, ◌-◌, Bool, true, false, List, [], ◌∷◌, ◌++◌, cond, not, length, map, take, get_or, refl, sym, ap, subst, ◌∙◌, arith, append_assoc, append-nil}
 use Rattle.std.specs.Int.{from_bool}
+use Rattle.std.specs.List.{All}
 use Rattle.std.proofs.lemmas.List.{length-append}
 use Rattle.ri_base.specs.Collection.{document_at}
 use Rattle.ri_base.specs.Documents.{Document}
@@ -11,10 +12,15 @@ use Rattle.belief_nodes.specs.Priors.{Prior}
 use Rattle.deletion_list.specs.Marks.{marked_count}
 use Rattle.disk_index.specs.Snapshots.{unmarked}
 use Rattle.document_scoring.specs.Candidates.{candidates}
+use Rattle.bounded_keys.specs.Entries.{WereOffered}
+use Rattle.bounded_keys.specs.declared.entry.Entry.{Entry}
 use Rattle.range_masks.specs.May.{query_may}
-use Rattle.ranker.specs.First.{Advances, Counted, HoldsFirst, early_cost}
+use Rattle.ranker.specs.First.{Advances, Counted, HoldsFirst, early_cost, early_of}
 use Rattle.ranker.specs.Passed.{live_ids}
-use Rattle.ranker.proofs.RankingLemmas.{candidates-append}
+use Rattle.ranker.specs.Least.{AreFrom}
+use Rattle.ranker.specs.declared.window.Window.{Window}
+use Rattle.ranker.proofs.RankingLemmas.{HoldsFirst-more, candidates-append}
+use Rattle.ranker.proofs.SkippedLemmas.{document_rows}
 use Rattle.ranker.proofs.SkippingLemmas.{HoldsFirst-skipped}
 
 -- ---- ids
@@ -105,6 +111,21 @@ module _ (kind : RuleKind) (priors : List Prior) (filters : List FilterTree) (ne
       → Advances kind priors filters network old new few next
   Advances-then old mid new few held next first second = record { step = λ before most h. second.step before most (first.step before most h); cost = let a = first.cost in let b = second.cost in omega (arith, a, b) }
 
+  -- a document behind any others changes nothing of what is held
+  abbrev PassesBy : Counted → Document → Type 0
+  PassesBy few d = (before : List Document) (most : ℕ) → HoldsFirst kind priors filters network before most few.kept → HoldsFirst kind priors filters network (before ++ d ∷ []) most few.kept
+
+  passes_unseen : (few : Counted) (d : Document) → query_may filters network.leaves d ≡ false → PassesBy few d
+  passes_unseen few d none = λ before most h. HoldsFirst-skipped kind priors filters network before d most few.kept none h
+
+  passes_beaten : (few : Counted) (d : Document) (least : ℕ) → length network.leaves ≤ length network.stats
+      → ((all more : List (Entry Window)) → WereOffered all few.kept → All (λ x. least ≤ x.leading) more → WereOffered (more ++ all) few.kept)
+      → AreFrom kind priors network least d → PassesBy few d
+  passes_beaten few d least summed skip from = λ before most h.
+      let rows = document_rows kind priors filters network least summed d from in
+      HoldsFirst-more kind priors filters network before d most few.kept few.kept rows.rows (record { more = rows.rows; behind = refl; candidates = rows.all }) rows.each refl
+      (λ all offered. skip all (map (early_of network) rows.rows) offered rows.leads) h
+
   module _ (docs : List Document) (marks : List Bool) (i : ℕ) (few : Counted) where
     -- a dead document
     pub Advances-dead : i < length docs → length marks ≡ length docs → get_or marks i false ≡ true
@@ -130,15 +151,19 @@ module _ (kind : RuleKind) (priors : List Prior) (filters : List FilterTree) (ne
           cost = let e : spent_on (unmarked (take (i + 1) docs) marks) ≡ spent_on seen + spent_on d = ap spent_on same ∙ cost-append seen d in omega (arith, e, few_squares);
         }
 
+    -- a live document that changes nothing of what is held
+    pub Advances-by : i < length docs → length marks ≡ length docs → get_or marks i false ≡ false → PassesBy few (document_at docs i)
+        → Advances kind priors filters network (unmarked (take i docs) marks) (unmarked (take (i + 1) docs) marks) few few
+    Advances-by lt whole live by = Advances-live few lt whole live by (omega arith)
+
     -- a live document that has nothing to show
     pub Advances-unseen : i < length docs → length marks ≡ length docs → get_or marks i false ≡ false → query_may filters network.leaves (document_at docs i) ≡ false
         → Advances kind priors filters network (unmarked (take i docs) marks) (unmarked (take (i + 1) docs) marks) few few
-    Advances-unseen lt whole live none =
-        Advances-live few lt whole live (λ before most h. HoldsFirst-skipped kind priors filters network before (document_at docs i) most few.kept none h) (omega arith)
+    Advances-unseen lt whole live none = Advances-by lt whole live (passes_unseen few (document_at docs i) none)
 
-  -- documents behind others that have nothing to show
+  -- documents behind others that change nothing of what is held
   unseen : (docs : List Document) (marks : List Bool) (few : Counted) (n i j : ℕ) → j ≡ i + n → j ≤ length docs → length marks ≡ length docs
-      → ((id : ℕ) → i ≤ id → id < j → query_may filters network.leaves (document_at docs id) ≡ false)
+      → ((id : ℕ) → i ≤ id → id < j → PassesBy few (document_at docs id))
       → Advances kind priors filters network (unmarked (take i docs) marks) (unmarked (take j docs) marks) few few
   unseen docs marks few zero i j far le whole none =
       let same : i ≡ j = omega (arith, far) in
@@ -149,12 +174,20 @@ module _ (kind : RuleKind) (priors : List Prior) (filters : List FilterTree) (ne
     where
       one : (b : Bool) → get_or marks i false ≡ b → Advances kind priors filters network (unmarked (take i docs) marks) (unmarked (take (i + 1) docs) marks) few few
       one true dead = Advances-dead docs marks i few (omega (arith, far, le)) whole dead
-      one false live = Advances-unseen docs marks i few (omega (arith, far, le)) whole live (none i (omega arith) (omega (arith, far)))
+      one false live = Advances-by docs marks i few (omega (arith, far, le)) whole live (none i (omega arith) (omega (arith, far)))
 
   pub Advances-bare : (docs : List Document) (marks : List Bool) (few : Counted) (i j : ℕ) → i ≤ j → j ≤ length docs → length marks ≡ length docs
       → ((id : ℕ) → i ≤ id → id < j → query_may filters network.leaves (document_at docs id) ≡ false)
       → Advances kind priors filters network (unmarked (take i docs) marks) (unmarked (take j docs) marks) few few
-  Advances-bare docs marks few i j up le whole none = unseen docs marks few (j - i) i j (omega (arith, up)) le whole none
+  Advances-bare docs marks few i j up le whole none = unseen docs marks few (j - i) i j (omega (arith, up)) le whole (λ id low high. passes_unseen few (document_at docs id) (none id low high))
+
+  -- documents whose candidates can't be among the first
+  pub Advances-beaten : (docs : List Document) (marks : List Bool) (few : Counted) (i j least : ℕ) → i ≤ j → j ≤ length docs → length marks ≡ length docs → length network.leaves ≤ length network.stats
+      → ((all more : List (Entry Window)) → WereOffered all few.kept → All (λ x. least ≤ x.leading) more → WereOffered (more ++ all) few.kept)
+      → ((id : ℕ) → i ≤ id → id < j → AreFrom kind priors network least (document_at docs id))
+      → Advances kind priors filters network (unmarked (take i docs) marks) (unmarked (take j docs) marks) few few
+  Advances-beaten docs marks few i j least up le whole summed skip from =
+      unseen docs marks few (j - i) i j (omega (arith, up)) le whole (λ id low high. passes_beaten few (document_at docs id) least summed skip (from id low high))
 
 -- ---- ids of which none is marked, and all ids
 

@@ -7,7 +7,7 @@ use Rattle.ri_base.specs.Documents.{Document}
 use Rattle.ri_base.specs.Query.{FilterTree}
 use Rattle.store_ends.specs.Files.{Files}
 use Rattle.smoothing.specs.declared.rule.RuleKind.{RuleKind}
-use Rattle.query_check.specs.Leaves.{LeafTree}
+use Rattle.range_bounds.specs.declared.table.RangeTable.{RangeTable}
 use Rattle.belief_nodes.specs.Network.{NetworkTree}
 use Rattle.belief_nodes.specs.Priors.{Prior}
 use Rattle.disk_index.specs.Parts.{InMemory, reads, size}
@@ -15,10 +15,10 @@ use Rattle.disk_index.specs.Snapshots.{IsSnapshot, Marked, live, live_in, unmark
 use Rattle.disk_index.proofs.LiveLemmas.{live-few, live-length}
 use Rattle.disk_index.proofs.RebuiltLemmas.{reads-length}
 use Rattle.ranker.specs.First.{Advances, Counted, HoldsFirst}
-use Rattle.ranker.specs.Passed.{IsAhead, IsAheadAt, IsPassed, IsPlace, behind, live_before, live_ids, nothing_known, part_at, passed}
+use Rattle.ranker.specs.Passed.{IsAheadAt, IsKnown, IsPassed, IsPlace, IsTold, behind, live_before, live_ids, nothing_known, part_at, passed}
 use Rattle.ranker.specs.declared.place.Passed.{Passed}
 use Rattle.ranker.specs.declared.place.Place.{Place}
-use Rattle.ranker.proofs.AheadLemmas.{IsAhead-nothing}
+use Rattle.ranker.proofs.AheadLemmas.{IsKnown-nothing}
 use Rattle.ranker.proofs.PassedLemmas.{cost-append, unmarked-ids}
 
 -- ---- documents before a place stand before all others
@@ -157,17 +157,20 @@ module _ (parts : List Marked) (at : Place) (to : Passed) (most : ℕ) where
         → Advances kind priors filters network (passed told parts at) (passed told parts (behind at to most)) few next) is advanced
 
 -- what is known at the place behind documents of its part
-pub IsAheadAt-behind : (filters : List FilterTree) (leaves : List LeafTree) (told : Option Files) (parts : List Marked) (at : Place) (to : Passed) (most : ℕ) (m : Marked) → part_at parts at.part ≡ m
-    → IsAhead filters leaves (reads told m.source) to.id to.ahead → IsAheadAt filters leaves told parts (behind at to most)
-IsAheadAt-behind filters leaves told parts at to most m is h = by (nat_lt to.docs most)
+pub IsAheadAt-behind : (kind : RuleKind) (priors : List Prior) (filters : List FilterTree) (network : NetworkTree) (tables : List RangeTable) (told : Option Files) (parts : List Marked) (at : Place) (to : Passed) (most : ℕ) (m : Marked)
+    → part_at parts at.part ≡ m → ((number : ℕ) → IsTold network tables number (reads told (part_at parts number).source))
+    → IsKnown kind priors filters network tables at.part (reads told m.source) to.id to.ahead → IsAheadAt kind priors filters network tables told parts (behind at to most)
+IsAheadAt-behind kind priors filters network tables told parts at to most m is each h = by (nat_lt to.docs most)
   where
-    by : (b : Bool) → IsAheadAt filters leaves told parts (if b then record { part = at.part + 1; id = 0; credit = at.credit + to.docs; ahead = nothing_known } else record { part = at.part; id = to.id; credit = at.credit + to.docs; ahead = to.ahead })
-    by true = IsAhead-nothing filters leaves (reads told (part_at parts (at.part + 1)).source) 0
-    by false = subst (λ (p : Marked). IsAhead filters leaves (reads told p.source) to.id to.ahead) (sym is) h
+    by : (b : Bool) → IsAheadAt kind priors filters network tables told parts (if b then record { part = at.part + 1; id = 0; credit = at.credit + to.docs; ahead = nothing_known } else record { part = at.part; id = to.id; credit = at.credit + to.docs; ahead = to.ahead })
+    by true = record { here = IsKnown-nothing kind priors filters network tables (at.part + 1) (reads told (part_at parts (at.part + 1)).source) 0 (each (at.part + 1)); each = each }
+    by false = record { here = subst (λ (p : Marked). IsKnown kind priors filters network tables at.part (reads told p.source) to.id to.ahead) (sym is) h; each = each }
 
--- by the files as they were before
-pub IsAheadAt-later : (filters : List FilterTree) (leaves : List LeafTree) (here told : Option Files) (parts : List Marked) (at : Place) → here ≡ told → IsAheadAt filters leaves here parts at → IsAheadAt filters leaves told parts at
-IsAheadAt-later filters leaves here told parts at same h = subst (λ (f : Option Files). IsAheadAt filters leaves f parts at) same h
+-- by the files as they were, and what the priors told, before
+pub IsAheadAt-later : (kind : RuleKind) (was priors : List Prior) (filters : List FilterTree) (network : NetworkTree) (tables : List RangeTable) (here told : Option Files) (parts : List Marked) (at : Place) → was ≡ priors → here ≡ told
+    → IsAheadAt kind was filters network tables here parts at → IsAheadAt kind priors filters network tables told parts at
+IsAheadAt-later kind was priors filters network tables here told parts at stay same h =
+    subst (λ (f : Option Files). IsAheadAt kind priors filters network tables f parts at) same (subst (λ (ps : List Prior). IsAheadAt kind ps filters network tables here parts at) stay h)
 
 -- by the files as they were, and what the priors told, before
 pub Advances-later : (kind : RuleKind) (was priors : List Prior) (filters : List FilterTree) (network : NetworkTree) (here told : Option Files) (parts : List Marked) (a b : Place) (few next : Counted) → was ≡ priors → here ≡ told

@@ -1,5 +1,6 @@
 pub mod First
 pub mod Held
+pub mod Least
 pub mod Passed
 pub mod Ranking
 pub mod Searches

@@ -1,5 +1,5 @@
 -- How far a search has come.
-use Rattle.std.specs.Prelude.{◌≡◌, ◌<◌, ◌≤◌, ◌+◌, ◌%◌, ◌^◌, if◌then◌else◌, nat_lt, ℕ, zero, suc, Bool, true, false, List, [], ◌∷◌, ◌++◌, Option, length, take, slice_index_or}
+use Rattle.std.specs.Prelude.{◌≡◌, ◌<◌, ◌≤◌, ◌+◌, ◌%◌, ◌^◌, if◌then◌else◌, nat_lt, ℕ, zero, suc, Bool, true, false, List, [], ◌∷◌, ◌++◌, Option, None, Some, length, slice_get, take, slice_index_or}
 use Rattle.std.specs.Int.{bit_at}
 use Rattle.ri_base.specs.Collection.{document_at}
 use Rattle.ri_base.specs.Documents.{Document}
@@ -8,7 +8,13 @@ use Rattle.store_ends.specs.Files.{Files}
 use Rattle.query_check.specs.Leaves.{LeafTree}
 use Rattle.disk_index.specs.Parts.{InMemory, reads, size}
 use Rattle.disk_index.specs.Snapshots.{Marked, live, unmarked}
+use Rattle.smoothing.specs.declared.rule.RuleKind.{RuleKind}
+use Rattle.belief_nodes.specs.Network.{NetworkTree}
+use Rattle.belief_nodes.specs.Priors.{Prior}
 use Rattle.range_masks.specs.May.{query_may}
+use Rattle.range_bounds.specs.Tables.{IsTableOf}
+use Rattle.range_bounds.specs.declared.table.RangeTable.{RangeTable}
+use Rattle.ranker.specs.Least.{AreFrom}
 use Rattle.ranker.specs.declared.place.Ahead.{Ahead}
 use Rattle.ranker.specs.declared.place.Passed.{Passed}
 use Rattle.ranker.specs.declared.place.Place.{Place}
@@ -43,7 +49,7 @@ abbrev pub AreBare : Marked → Ahead → ℕ → ℕ → Type 0
 AreBare m ahead id count = (i : ℕ) → id ≤ i → i < id + count → IsBare m ahead i
 
 abbrev pub nothing_known : Ahead
-nothing_known = record { end = 0; mask = 0 }
+nothing_known = record { end = 0; mask = 0; bound = None }
 
 -- the live documents of a part before an id
 abbrev pub live_before : Option Files → Marked → ℕ → List Document
@@ -57,9 +63,20 @@ part_at parts part = slice_index_or parts part (record { source = InMemory []; m
 abbrev pub passed : Option Files → List Marked → Place → List Document
 passed told parts at = live told (take at.part parts) ++ live_before told (part_at parts at.part) at.id
 
--- what is known at a place is so of the documents of its part, as they read by these files
-abbrev pub IsAheadAt : List FilterTree → List LeafTree → Option Files → List Marked → Place → Type 0
-IsAheadAt filters leaves told parts at = IsAhead filters leaves (reads told (part_at parts at.part).source) at.id at.ahead
+-- the table of the part of a number, where there is one, is that of these documents
+abbrev pub IsTold : NetworkTree → List RangeTable → ℕ → List Document → Type 0
+IsTold network tables number docs = (t : RangeTable) → slice_get tables number ≡ Some t → IsTableOf network.leaves docs t
+
+-- What is known from an id of a part on: also what is told of the keys of the candidates before its end, and by a table of ranges.
+pub record IsKnown (kind : RuleKind) (priors : List Prior) (filters : List FilterTree) (network : NetworkTree) (tables : List RangeTable) (number : ℕ) (docs : List Document) (id : ℕ) (ahead : Ahead) : Type 0 where
+  pub may : IsAhead filters network.leaves docs id ahead
+  pub least : (n i : ℕ) → ahead.bound ≡ Some n → id ≤ i → i < ahead.end → AreFrom kind priors network n (document_at docs i)
+  pub told : IsTold network tables number docs
+
+-- what is known at a place is so of the documents of its part, as they read by these files, and each part has its own table
+pub record IsAheadAt (kind : RuleKind) (priors : List Prior) (filters : List FilterTree) (network : NetworkTree) (tables : List RangeTable) (told : Option Files) (parts : List Marked) (at : Place) : Type 0 where
+  pub here : IsKnown kind priors filters network tables at.part (reads told (part_at parts at.part).source) at.id at.ahead
+  pub each : (number : ℕ) → IsTold network tables number (reads told (part_at parts number).source)
 
 -- a place in these parts, and how many live documents stand before it
 pub record IsPlace (parts : List Marked) (at : Place) : Type 0 where

@@ -8,10 +8,11 @@ use Rattle.smoothing.specs.declared.rule.RuleKind.{RuleKind}
 use Rattle.query_check.specs.Answers.{whole_checked}
 use Rattle.belief_nodes.specs.Network.{network_tree}
 use Rattle.belief_nodes.specs.Priors.{Prior}
+use Rattle.disk_index.specs.Parts.{reads}
 use Rattle.disk_index.specs.Snapshots.{live}
 use Rattle.document_scoring.specs.Candidates.{candidates}
 use Rattle.ranker.specs.Held.{IsHeld, is_open}
-use Rattle.ranker.specs.Passed.{IsAheadAt, passed}
+use Rattle.ranker.specs.Passed.{IsAheadAt, IsTold, part_at, passed}
 use Rattle.ranker.specs.Ranking.{IsAnswerBy}
 use Rattle.ranker.specs.Squares.{spent}
 use Rattle.ranker.specs.declared.search.Search.{Search}
@@ -23,11 +24,15 @@ searched told s = live told s.snapshot
 abbrev pub filters_of : Search → List FilterTree
 filters_of s = map filter_tree s.checked.filters.items
 
+-- each of its tables of ranges is that of its part, as it reads by these files
+abbrev pub AreTold : Option Files → Search → Type 0
+AreTold told s = (number : ℕ) → IsTold (network_tree s.network) s.tables.items number (reads told (part_at s.snapshot number).source)
+
 -- What it has taken so far is that of the documents that it passed, and what it knows of those that come next is so, as they read by
 -- these files.
 pub record IsTaken (kind : RuleKind) (priors : List Prior) (told : Option Files) (s : Search) : Type 0 where
   pub held : IsHeld kind priors (filters_of s) (network_tree s.network) (passed told s.snapshot s.at) s.most s.held
-  pub ahead : IsAheadAt (filters_of s) (network_tree s.network).leaves told s.snapshot s.at
+  pub ahead : IsAheadAt kind priors (filters_of s) (network_tree s.network) s.tables.items told s.snapshot s.at
 
 -- the answer of the search over these documents
 abbrev pub IsAnswerOf : RuleKind → List Prior → Search → List Document → List Hit → Type 0

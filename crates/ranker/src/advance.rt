@@ -25,6 +25,7 @@ use crate::snapshots::pass_parts;
 use belief_nodes::{BeliefNode, Network};
 use bounded_keys::Contenders;
 use disk_index::{BlockCache, MarkedPart};
+use range_bounds::RangeTable;
 use ri_base::{Filter, Fraction, Hits, SegFault, Steps};
 use smoothing::Rule;
 use std::alloc::Global;
@@ -45,6 +46,7 @@ pub fn advance<T: Store, F: Fn(u32, u32, u64, u64) -> Fraction, L: Ledger>(
     parts: &[MarkedPart],
     store: &mut T,
     cache: &mut BlockCache,
+    tables: &[RangeTable],
     at: &mut Place,
     held: &mut Held,
     squares: &mut Steps<L>,
@@ -57,16 +59,16 @@ pub fn advance<T: Store, F: Fn(u32, u32, u64, u64) -> Fraction, L: Ledger>(
     requires count { (told : Option Files) → count ≡ length (live told parts.now) }
     requires open { is_open held.old ≡ nat_lt at.old.credit count }
     requires entries { HoldsEntries (network_tree network.now) held.old }
-    ensures ahead { AreBacked (T.files store.old) parts.now → IsCacheBacked (T.files store.old) cache.old → IsAheadAt (map filter_tree filters.now) (network_tree network.now).leaves (T.files store.old) parts.now at.old → OnOk result
-        (IsAheadAt (map filter_tree filters.now) (network_tree network.now).leaves (T.files store.old) parts.now at.new) }
-    ensures taken { AreBacked (T.files store.old) parts.now → IsCacheBacked (T.files store.old) cache.old → IsAheadAt (map filter_tree filters.now) (network_tree network.now).leaves (T.files store.old) parts.now at.old → OnOk result ((most : ℕ)
+    ensures ahead { AreBacked (T.files store.old) parts.now → IsCacheBacked (T.files store.old) cache.old → IsAheadAt rule.now.kind (map (λ plug. meaning plug) plugs.old) (map filter_tree filters.now) (network_tree network.now) tables.now (T.files store.old) parts.now at.old → OnOk result
+        (IsAheadAt rule.now.kind (map (λ plug. meaning plug) plugs.old) (map filter_tree filters.now) (network_tree network.now) tables.now (T.files store.old) parts.now at.new) }
+    ensures taken { AreBacked (T.files store.old) parts.now → IsCacheBacked (T.files store.old) cache.old → IsAheadAt rule.now.kind (map (λ plug. meaning plug) plugs.old) (map filter_tree filters.now) (network_tree network.now) tables.now (T.files store.old) parts.now at.old → OnOk result ((most : ℕ)
         → IsHeld rule.now.kind (map (λ plug. meaning plug) plugs.old) (map filter_tree filters.now) (network_tree network.now) (passed (T.files store.old) parts.now at.old) most held.old
         → IsHeld rule.now.kind (map (λ plug. meaning plug) plugs.old) (map filter_tree filters.now) (network_tree network.now) (passed (T.files store.old) parts.now at.new) most held.new) }
-    ensures squares { AreBacked (T.files store.old) parts.now → IsCacheBacked (T.files store.old) cache.old → IsAheadAt (map filter_tree filters.now) (network_tree network.now).leaves (T.files store.old) parts.now at.old → OnOk result ((most : ℕ)
+    ensures squares { AreBacked (T.files store.old) parts.now → IsCacheBacked (T.files store.old) cache.old → IsAheadAt rule.now.kind (map (λ plug. meaning plug) plugs.old) (map filter_tree filters.now) (network_tree network.now) tables.now (T.files store.old) parts.now at.old → OnOk result ((most : ℕ)
         → IsHeld rule.now.kind (map (λ plug. meaning plug) plugs.old) (map filter_tree filters.now) (network_tree network.now) (passed (T.files store.old) parts.now at.old) most held.old
         → squares.new + spent (network_tree network.now) most (is_open held.old) (candidates rule.now.kind (map (λ plug. meaning plug) plugs.old) (map filter_tree filters.now) (network_tree network.now) (passed (T.files store.old) parts.now at.old))
         ≤ squares.old + spent (network_tree network.now) most (is_open held.new) (candidates rule.now.kind (map (λ plug. meaning plug) plugs.old) (map filter_tree filters.now) (network_tree network.now) (passed (T.files store.old) parts.now at.new))) }
-    ensures within { AreBacked (T.files store.old) parts.now → IsCacheBacked (T.files store.old) cache.old → IsAheadAt (map filter_tree filters.now) (network_tree network.now).leaves (T.files store.old) parts.now at.old → (most : ℕ)
+    ensures within { AreBacked (T.files store.old) parts.now → IsCacheBacked (T.files store.old) cache.old → IsAheadAt rule.now.kind (map (λ plug. meaning plug) plugs.old) (map filter_tree filters.now) (network_tree network.now) tables.now (T.files store.old) parts.now at.old → (most : ℕ)
         → IsHeld rule.now.kind (map (λ plug. meaning plug) plugs.old) (map filter_tree filters.now) (network_tree network.now) (passed (T.files store.old) parts.now at.old) most held.old
         → squares.new + spent (network_tree network.now) most (is_open held.old) (candidates rule.now.kind (map (λ plug. meaning plug) plugs.old) (map filter_tree filters.now) (network_tree network.now) (passed (T.files store.old) parts.now at.old))
         ≤ squares.old + spent (network_tree network.now) most false (candidates rule.now.kind (map (λ plug. meaning plug) plugs.old) (map filter_tree filters.now) (network_tree network.now) (live (T.files store.old) parts.now)) }
@@ -87,7 +89,7 @@ pub fn advance<T: Store, F: Fn(u32, u32, u64, u64) -> Fraction, L: Ledger>(
         return Ok(());
     };
     pass_parts(
-        alloc, filters, network, rule, plugs, parts, store, cache, at, docs, first, squares,
+        alloc, filters, network, rule, plugs, parts, store, cache, tables, at, docs, first, squares,
     )?;
     if at.credit < count {
         return Ok(());

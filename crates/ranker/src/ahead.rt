@@ -1,5 +1,5 @@
 // What the postings of a part tell of the documents that come next.
-ghost use Rattle.std.specs.Prelude.{◌≡◌, ◌<◌, ◌≤◌, ◌*◌, ℕ, false, length, map, Err, IfErr, IfOk};
+ghost use Rattle.std.specs.Prelude.{◌≡◌, ◌<◌, ◌≤◌, ◌*◌, ◌⊎◌, ℕ, None, false, length, map, Err, IfErr, IfOk};
 ghost use Rattle.ri_base.specs.Collection.{document_at};
 ghost use Rattle.ri_base.specs.Faults.{IsOutside};
 ghost use Rattle.ri_base.specs.Keeps.{Keeps, Rose};
@@ -41,18 +41,24 @@ fn look_ahead<P: TermMasks>(
     ensures keeps { Keeps P.documents P.faults P.sound P.quiet part.old part.new }
     ensures ahead { P.sound part.old → IfOk result (IsAhead (map filter_tree filters.now) (network_tree network.now).leaves (P.documents part.old) id) }
     ensures some { IfOk result (λ ahead. id < ahead.end) }
+    ensures fresh { IfOk result (λ ahead. ahead.bound ≡ None) }
     ensures honest { P.sound part.old → IfErr result IsOutside }
     ensures store { result ≡ Err SegFault.Store → Rose (P.faults part.old) (P.faults part.new) }
 {
     let range = id / 64;
     let end = bare_end(filters, network, part, range);
     if id < end {
-        return Ok(Ahead { end, mask: 0 });
+        return Ok(Ahead {
+            end,
+            mask: 0,
+            bound: None,
+        });
     }
     let mask = query_mask(alloc, filters, network.leaves(), part, range)?;
     Ok(Ahead {
         end: end_of(range, part.docs()),
         mask,
+        bound: None,
     })
 }
 
@@ -70,6 +76,7 @@ pub fn ahead_of<P: TermMasks>(
     ensures ahead { P.sound part.old → IsAhead (map filter_tree filters.now) (network_tree network.now).leaves (P.documents part.old) id ahead
         → IfOk result (IsAhead (map filter_tree filters.now) (network_tree network.now).leaves (P.documents part.old) id) }
     ensures some { IfOk result (λ ahead. id < ahead.end) }
+    ensures fresh { IfOk result (λ now. (now ≡ ahead) ⊎ (now.bound ≡ None)) }
     ensures honest { P.sound part.old → IfErr result IsOutside }
     ensures store { result ≡ Err SegFault.Store → Rose (P.faults part.old) (P.faults part.new) }
 {

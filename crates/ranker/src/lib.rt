@@ -4,6 +4,7 @@
 mod advance;
 mod ahead;
 mod bare;
+mod bound;
 mod documents;
 mod entries;
 mod held;

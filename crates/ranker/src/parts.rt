@@ -8,10 +8,11 @@ ghost use Rattle.belief_nodes.specs.Leaves.{HasPrior};
 ghost use Rattle.belief_nodes.specs.Network.{network_tree};
 ghost use Rattle.disk_index.specs.Snapshots.{unmarked};
 ghost use Rattle.ranker.specs.First.{Advances, SpendsWithin, counted};
-ghost use Rattle.ranker.specs.Passed.{IsAhead, IsPassed};
+ghost use Rattle.ranker.specs.Passed.{IsAhead, IsKnown, IsPassed};
 ghost use Rattle.ranker.specs.Windows.{KeepsWindows};
 
 use crate::ahead::ahead_of;
+use crate::bound::{bounded, is_beaten};
 use crate::documents::pass_document;
 use crate::place::{Ahead, Passed};
 use crate::unseen::pass_unseen;
@@ -19,6 +20,7 @@ use crate::window::Window;
 use belief_nodes::{BeliefNode, Network};
 use bounded_keys::{Contenders, Entry};
 use deletion_list::DelList;
+use range_bounds::RangeTable;
 use range_masks::{TermMasks, has_id};
 use ri_base::{Filter, Fraction, SegFault, Steps};
 use smoothing::Rule;
@@ -57,6 +59,8 @@ fn pass_masked<P: TermMasks, F: Fn(u32, u32, u64, u64) -> Fraction, L: Ledger>(
         IsAhead (map filter_tree filters.now) (network_tree network.now).leaves (P.documents part.old) to.id to.ahead) }
     ensures passed { IfOk result (IsPassed marks.now id most) }
     ensures forward { IfOk result (λ to. 0 < most → id < to.id) }
+    ensures back { IfOk result (λ to. id ≤ to.id) }
+    ensures same { IfOk result (λ to. to.ahead ≡ ahead) }
     ensures stay { map (λ plug. meaning plug) plugs.new ≡ map (λ plug. meaning plug) plugs.old }
     ensures honest { P.sound part.old → IfErr result IsOutside }
     ensures store { result ≡ Err SegFault.Store → Rose (P.faults part.old) (P.faults part.new) }
@@ -89,7 +93,7 @@ fn pass_masked<P: TermMasks, F: Fn(u32, u32, u64, u64) -> Fraction, L: Ledger>(
 }
 
 /// Passes documents from an id on, at most so many live ones: up to the end of what is known of the id, or, where nothing is, of what
-/// is found out. Where no bit is set no document is looked at.
+/// is found out. Where no bit is set no document is looked at, and none where the candidates of the range can't be among the first.
 fn pass_on<P: TermMasks, F: Fn(u32, u32, u64, u64) -> Fraction, L: Ledger>(
     alloc: Global,
     filters: &[Filter],
@@ -98,6 +102,8 @@ fn pass_on<P: TermMasks, F: Fn(u32, u32, u64, u64) -> Fraction, L: Ledger>(
     plugs: &mut [Box<dyn BeliefNode>],
     part: &mut P,
     marks: &DelList,
+    tables: &[RangeTable],
+    number: usize,
     id: u32,
     ahead: Ahead,
     most: u64,
@@ -110,25 +116,29 @@ fn pass_on<P: TermMasks, F: Fn(u32, u32, u64, u64) -> Fraction, L: Ledger>(
     requires shown { is_range (network_tree network.now).range ≡ true }
     requires plugs { All (HasPrior (length plugs.old)) (network_tree network.now).leaves }
     ensures keeps { Keeps P.documents P.faults P.sound P.quiet part.old part.new }
-    ensures first { P.sound part.old → IsAhead (map filter_tree filters.now) (network_tree network.now).leaves (P.documents part.old) id ahead → IfOk result (λ to.
+    ensures first { P.sound part.old → IsKnown rule.now.kind (map (λ plug. meaning plug) plugs.old) (map filter_tree filters.now) (network_tree network.now) tables.now number (P.documents part.old) id ahead → IfOk result (λ to.
         Advances rule.now.kind (map (λ plug. meaning plug) plugs.old) (map filter_tree filters.now) (network_tree network.now) (unmarked (take id (P.documents part.old)) marks.now) (unmarked (take to.id (P.documents part.old)) marks.now) (counted first.old squares.old) (counted first.new squares.new)) }
-    ensures within { P.sound part.old → IsAhead (map filter_tree filters.now) (network_tree network.now).leaves (P.documents part.old) id ahead
+    ensures within { P.sound part.old → IsKnown rule.now.kind (map (λ plug. meaning plug) plugs.old) (map filter_tree filters.now) (network_tree network.now) tables.now number (P.documents part.old) id ahead
         → SpendsWithin rule.now.kind (map (λ plug. meaning plug) plugs.old) (map filter_tree filters.now) (network_tree network.now) (unmarked (take id (P.documents part.old)) marks.now) (unmarked (P.documents part.old) marks.now) squares.old squares.new }
     ensures windows { OnOk result (KeepsWindows (network_tree network.now) (unmarked (P.documents part.old) marks.now) first.old first.new) }
-    ensures ahead { P.sound part.old → IsAhead (map filter_tree filters.now) (network_tree network.now).leaves (P.documents part.old) id ahead → IfOk result (λ to.
-        IsAhead (map filter_tree filters.now) (network_tree network.now).leaves (P.documents part.old) to.id to.ahead) }
+    ensures ahead { P.sound part.old → IsKnown rule.now.kind (map (λ plug. meaning plug) plugs.old) (map filter_tree filters.now) (network_tree network.now) tables.now number (P.documents part.old) id ahead → IfOk result (λ to.
+        IsKnown rule.now.kind (map (λ plug. meaning plug) plugs.old) (map filter_tree filters.now) (network_tree network.now) tables.now number (P.documents part.old) to.id to.ahead) }
     ensures passed { IfOk result (IsPassed marks.now id most) }
     ensures forward { IfOk result (λ to. 0 < most → id < to.id) }
     ensures stay { map (λ plug. meaning plug) plugs.new ≡ map (λ plug. meaning plug) plugs.old }
     ensures honest { P.sound part.old → IfErr result IsOutside }
     ensures store { result ≡ Err SegFault.Store → Rose (P.faults part.old) (P.faults part.new) }
 {
-    let ahead = ahead_of(alloc, filters, network, part, id, ahead)?;
-    if ahead.mask == 0 {
-        return Ok(pass_unseen(marks, ahead, id, most));
+    let found = ahead_of(alloc, filters, network, part, id, ahead)?;
+    if found.mask == 0 {
+        return Ok(pass_unseen(marks, found, id, most));
+    }
+    let known = bounded(alloc, network, rule, plugs, part, tables, number, id, found)?;
+    if is_beaten(first, known.bound) {
+        return Ok(pass_unseen(marks, known, id, most));
     }
     pass_masked(
-        alloc, filters, network, rule, plugs, part, marks, id, ahead, most, first, squares,
+        alloc, filters, network, rule, plugs, part, marks, id, known, most, first, squares,
     )
 }
 
@@ -141,6 +151,8 @@ pub fn pass_part<P: TermMasks, F: Fn(u32, u32, u64, u64) -> Fraction, L: Ledger>
     plugs: &mut [Box<dyn BeliefNode>],
     part: &mut P,
     marks: &DelList,
+    tables: &[RangeTable],
+    number: usize,
     id: u32,
     ahead: Ahead,
     most: u64,
@@ -153,13 +165,13 @@ pub fn pass_part<P: TermMasks, F: Fn(u32, u32, u64, u64) -> Fraction, L: Ledger>
     requires shown { is_range (network_tree network.now).range ≡ true }
     requires plugs { All (HasPrior (length plugs.old)) (network_tree network.now).leaves }
     ensures keeps { Keeps P.documents P.faults P.sound P.quiet part.old part.new }
-    ensures first { P.sound part.old → IsAhead (map filter_tree filters.now) (network_tree network.now).leaves (P.documents part.old) id ahead → IfOk result (λ to.
+    ensures first { P.sound part.old → IsKnown rule.now.kind (map (λ plug. meaning plug) plugs.old) (map filter_tree filters.now) (network_tree network.now) tables.now number (P.documents part.old) id ahead → IfOk result (λ to.
         Advances rule.now.kind (map (λ plug. meaning plug) plugs.old) (map filter_tree filters.now) (network_tree network.now) (unmarked (take id (P.documents part.old)) marks.now) (unmarked (take to.id (P.documents part.old)) marks.now) (counted first.old squares.old) (counted first.new squares.new)) }
-    ensures within { P.sound part.old → IsAhead (map filter_tree filters.now) (network_tree network.now).leaves (P.documents part.old) id ahead
+    ensures within { P.sound part.old → IsKnown rule.now.kind (map (λ plug. meaning plug) plugs.old) (map filter_tree filters.now) (network_tree network.now) tables.now number (P.documents part.old) id ahead
         → SpendsWithin rule.now.kind (map (λ plug. meaning plug) plugs.old) (map filter_tree filters.now) (network_tree network.now) (unmarked (take id (P.documents part.old)) marks.now) (unmarked (P.documents part.old) marks.now) squares.old squares.new }
     ensures windows { OnOk result (KeepsWindows (network_tree network.now) (unmarked (P.documents part.old) marks.now) first.old first.new) }
-    ensures ahead { P.sound part.old → IsAhead (map filter_tree filters.now) (network_tree network.now).leaves (P.documents part.old) id ahead → IfOk result (λ to.
-        IsAhead (map filter_tree filters.now) (network_tree network.now).leaves (P.documents part.old) to.id to.ahead) }
+    ensures ahead { P.sound part.old → IsKnown rule.now.kind (map (λ plug. meaning plug) plugs.old) (map filter_tree filters.now) (network_tree network.now) tables.now number (P.documents part.old) id ahead → IfOk result (λ to.
+        IsKnown rule.now.kind (map (λ plug. meaning plug) plugs.old) (map filter_tree filters.now) (network_tree network.now) tables.now number (P.documents part.old) to.id to.ahead) }
     ensures passed { IfOk result (IsPassed marks.now id most) }
     ensures end { IfOk result (λ to. to.docs < most → to.id ≡ length marks.now) }
     ensures stay { map (λ plug. meaning plug) plugs.new ≡ map (λ plug. meaning plug) plugs.old }
@@ -179,6 +191,8 @@ pub fn pass_part<P: TermMasks, F: Fn(u32, u32, u64, u64) -> Fraction, L: Ledger>
             plugs,
             part,
             marks,
+            tables,
+            number,
             at,
             known,
             most - docs,

@@ -1,11 +1,12 @@
 // Places in parts.
 
 /// What is known of the documents of a part before an id: those may have candidates whose bit in the mask is set, by their place in
-/// their range of 64 ids.
+/// their range of 64 ids; and, where it was looked for, a number that the keys of their candidates at the first level aren't below.
 #[derive(Clone, Copy, Debug)]
 pub struct Ahead {
     pub end: u32,
     pub mask: u64,
+    pub bound: Option<u128>,
 }
 
 /// How far a part was gone over: the next id, how many live documents were passed, and what is known of those that come next.
@@ -34,6 +35,10 @@ impl Ahead {
     pub fn nothing() -> Ahead
         ensures { result ≡ nothing_known }
     {
-        Ahead { end: 0, mask: 0 }
+        Ahead {
+            end: 0,
+            mask: 0,
+            bound: None,
+        }
     }
 }

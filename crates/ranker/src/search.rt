@@ -15,6 +15,7 @@ use crate::place::{Ahead, Place};
 use belief_nodes::{BeliefNode, Network};
 use disk_index::{BlockCache, Snapshot};
 use query_check::Checked;
+use range_bounds::RangeTable;
 use ri_base::{Fraction, Hits, LeafStats, NoMemory, SegFault, Steps};
 use smoothing::Rule;
 use std::alloc::Global;
@@ -30,6 +31,7 @@ pub struct Search {
     snapshot: Snapshot,
     checked: Checked,
     network: Network,
+    tables: Vec<RangeTable>,
     most: usize,
     live_count: u64,
     at: Place,
@@ -57,7 +59,7 @@ impl Search {
     ghost use Rattle.belief_nodes.specs.Priors.{Prior};
     ghost use Rattle.disk_index.specs.Cache.{CacheKeeps, IsCacheBacked};
     ghost use Rattle.disk_index.specs.Snapshots.{AreBacked, IsFileAmong};
-    ghost use Rattle.ranker.specs.Searches.{IsAnswerOf, IsSameSearch, IsTaken, searched, spent_by, whole_cost};
+    ghost use Rattle.ranker.specs.Searches.{AreTold, IsAnswerOf, IsSameSearch, IsTaken, searched, spent_by, whole_cost};
     ghost use Rattle.ranker.specs.Windows.{AreWindows};
 
     /// A search over the documents of a snapshot that has passed none yet, for at most so many results. The statistics are those of
@@ -79,6 +81,33 @@ impl Search {
         ensures usable { IfOk result (λ s. s.usable ≡ true) }
         ensures taken { IfOk result (λ s. (kind : RuleKind) (priors : List Prior) (told : Option Files) → IsTaken kind priors told s) }
     {
+        let tables = Vec::new(alloc);
+        let search = Search::with_tables(alloc, snapshot, checked, stats, tables, most)?;
+        Ok(search)
+    }
+
+    /// A search over the documents of a snapshot that has passed none yet, for at most so many results. The statistics are those of
+    /// the query's leaves, in order of their numbers. There may be a table of the ranges of each part, by the numbers of the parts: ranges
+    /// whose candidates can't be among the first are passed without a look then.
+    pub fn with_tables(
+        alloc: Global,
+        snapshot: Snapshot,
+        checked: Checked,
+        stats: &[LeafStats],
+        tables: Vec<RangeTable>,
+        most: u32,
+    ) -> Result<Search, NoMemory>
+        requires each { length stats.now ≡ length checked.leaves.items }
+        requires counted { All (λ s. AreLeafStats s) stats.now }
+        ensures snapshot { IfOk result (λ s. s.snapshot ≡ snapshot) }
+        ensures checked { IfOk result (λ s. s.checked ≡ checked) }
+        ensures network { IfOk result (λ s. network_tree s.network ≡ network_of checked stats.now) }
+        ensures most { IfOk result (λ s. s.most ≡ most) }
+        ensures credit { IfOk result (λ s. s.at.credit ≡ 0) }
+        ensures usable { IfOk result (λ s. s.usable ≡ true) }
+        ensures tables { IfOk result (λ s. s.tables.items ≡ tables.items) }
+        ensures taken { IfOk result (λ s. (kind : RuleKind) (priors : List Prior) (told : Option Files) → AreTold told s → IsTaken kind priors told s) }
+    {
         let network = Network::new(alloc, &checked, stats)?;
         let live_count = snapshot.live_count();
         let held = first_held(alloc, most as usize, checked.scale, live_count);
@@ -86,6 +115,7 @@ impl Search {
             snapshot,
             checked,
             network,
+            tables,
             most: most as usize,
             live_count: u64::from(live_count),
             at: Place {
@@ -159,6 +189,7 @@ impl Search {
             self.snapshot.parts(),
             store,
             cache,
+            &self.tables,
             &mut self.at,
             &mut self.held,
             squares,

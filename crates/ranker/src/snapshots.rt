@@ -11,7 +11,7 @@ ghost use Rattle.disk_index.specs.Cache.{CacheKeeps, IsCacheBacked};
 ghost use Rattle.disk_index.specs.Parts.{IsFileOf, IsPartBacked, reads, size};
 ghost use Rattle.disk_index.specs.Snapshots.{AreBacked, IsFileAmong, IsSnapshot, live, live_in};
 ghost use Rattle.ranker.specs.First.{Advances, SpendsWithin, counted};
-ghost use Rattle.ranker.specs.Passed.{IsAhead, IsAheadAt, IsPassed, IsPlace, behind, live_before, passed};
+ghost use Rattle.ranker.specs.Passed.{IsAheadAt, IsKnown, IsPassed, IsPlace, behind, live_before, passed};
 ghost use Rattle.ranker.specs.Windows.{KeepsWindows};
 
 use crate::parts::pass_part;
@@ -20,6 +20,7 @@ use crate::window::Window;
 use belief_nodes::{BeliefNode, Network};
 use bounded_keys::{Contenders, Entry};
 use disk_index::{BlockCache, MarkedPart, PartReader};
+use range_bounds::RangeTable;
 use ri_base::{Filter, Fraction, SegFault, Steps};
 use smoothing::Rule;
 use std::alloc::Global;
@@ -36,6 +37,8 @@ fn pass_marked<T: Store, F: Fn(u32, u32, u64, u64) -> Fraction, L: Ledger>(
     marked: &MarkedPart,
     store: &mut T,
     cache: &mut BlockCache,
+    tables: &[RangeTable],
+    number: usize,
     id: u32,
     ahead: Ahead,
     most: u64,
@@ -47,15 +50,15 @@ fn pass_marked<T: Store, F: Fn(u32, u32, u64, u64) -> Fraction, L: Ledger>(
     requires shown { is_range (network_tree network.now).range ≡ true }
     requires plugs { All (HasPrior (length plugs.old)) (network_tree network.now).leaves }
     ensures first { IsPartBacked (T.files store.old) marked.now.source → IsCacheBacked (T.files store.old) cache.old
-        → IsAhead (map filter_tree filters.now) (network_tree network.now).leaves (reads (T.files store.old) marked.now.source) id ahead → IfOk result (λ to.
+        → IsKnown rule.now.kind (map (λ plug. meaning plug) plugs.old) (map filter_tree filters.now) (network_tree network.now) tables.now number (reads (T.files store.old) marked.now.source) id ahead → IfOk result (λ to.
         Advances rule.now.kind (map (λ plug. meaning plug) plugs.old) (map filter_tree filters.now) (network_tree network.now) (live_before (T.files store.old) marked.now id) (live_before (T.files store.old) marked.now to.id) (counted first.old squares.old) (counted first.new squares.new)) }
     ensures within { IsPartBacked (T.files store.old) marked.now.source → IsCacheBacked (T.files store.old) cache.old
-        → IsAhead (map filter_tree filters.now) (network_tree network.now).leaves (reads (T.files store.old) marked.now.source) id ahead
+        → IsKnown rule.now.kind (map (λ plug. meaning plug) plugs.old) (map filter_tree filters.now) (network_tree network.now) tables.now number (reads (T.files store.old) marked.now.source) id ahead
         → SpendsWithin rule.now.kind (map (λ plug. meaning plug) plugs.old) (map filter_tree filters.now) (network_tree network.now) (live_before (T.files store.old) marked.now id) (live_in (T.files store.old) marked.now) squares.old squares.new }
     ensures windows { OnOk result (KeepsWindows (network_tree network.now) (live_in (T.files store.old) marked.now) first.old first.new) }
     ensures ahead { IsPartBacked (T.files store.old) marked.now.source → IsCacheBacked (T.files store.old) cache.old
-        → IsAhead (map filter_tree filters.now) (network_tree network.now).leaves (reads (T.files store.old) marked.now.source) id ahead → IfOk result (λ to.
-        IsAhead (map filter_tree filters.now) (network_tree network.now).leaves (reads (T.files store.old) marked.now.source) to.id to.ahead) }
+        → IsKnown rule.now.kind (map (λ plug. meaning plug) plugs.old) (map filter_tree filters.now) (network_tree network.now) tables.now number (reads (T.files store.old) marked.now.source) id ahead → IfOk result (λ to.
+        IsKnown rule.now.kind (map (λ plug. meaning plug) plugs.old) (map filter_tree filters.now) (network_tree network.now) tables.now number (reads (T.files store.old) marked.now.source) to.id to.ahead) }
     ensures passed { IfOk result (IsPassed marked.now.marks id most) }
     ensures end { IfOk result (λ to. to.docs < most → to.id ≡ size marked.now.source) }
     ensures whole { length marked.now.marks ≡ size marked.now.source }
@@ -75,6 +78,8 @@ fn pass_marked<T: Store, F: Fn(u32, u32, u64, u64) -> Fraction, L: Ledger>(
         plugs,
         &mut reader,
         marked.marks(),
+        tables,
+        number,
         id,
         ahead,
         most,
@@ -117,6 +122,7 @@ fn pass_next<T: Store, F: Fn(u32, u32, u64, u64) -> Fraction, L: Ledger>(
     parts: &[MarkedPart],
     store: &mut T,
     cache: &mut BlockCache,
+    tables: &[RangeTable],
     at: &mut Place,
     most: u64,
     first: &mut Contenders<Entry<Window>>,
@@ -128,13 +134,13 @@ fn pass_next<T: Store, F: Fn(u32, u32, u64, u64) -> Fraction, L: Ledger>(
     requires few { IsSnapshot parts.now }
     requires place { IsPlace parts.now at.old }
     requires some { at.old.part < length parts.now }
-    ensures first { AreBacked (T.files store.old) parts.now → IsCacheBacked (T.files store.old) cache.old → IsAheadAt (map filter_tree filters.now) (network_tree network.now).leaves (T.files store.old) parts.now at.old → OnOk result
+    ensures first { AreBacked (T.files store.old) parts.now → IsCacheBacked (T.files store.old) cache.old → IsAheadAt rule.now.kind (map (λ plug. meaning plug) plugs.old) (map filter_tree filters.now) (network_tree network.now) tables.now (T.files store.old) parts.now at.old → OnOk result
         (Advances rule.now.kind (map (λ plug. meaning plug) plugs.old) (map filter_tree filters.now) (network_tree network.now) (passed (T.files store.old) parts.now at.old) (passed (T.files store.old) parts.now at.new) (counted first.old squares.old) (counted first.new squares.new)) }
-    ensures within { AreBacked (T.files store.old) parts.now → IsCacheBacked (T.files store.old) cache.old → IsAheadAt (map filter_tree filters.now) (network_tree network.now).leaves (T.files store.old) parts.now at.old
+    ensures within { AreBacked (T.files store.old) parts.now → IsCacheBacked (T.files store.old) cache.old → IsAheadAt rule.now.kind (map (λ plug. meaning plug) plugs.old) (map filter_tree filters.now) (network_tree network.now) tables.now (T.files store.old) parts.now at.old
         → SpendsWithin rule.now.kind (map (λ plug. meaning plug) plugs.old) (map filter_tree filters.now) (network_tree network.now) (passed (T.files store.old) parts.now at.old) (live (T.files store.old) parts.now) squares.old squares.new }
     ensures windows { OnOk result (KeepsWindows (network_tree network.now) (live (T.files store.old) parts.now) first.old first.new) }
-    ensures ahead { AreBacked (T.files store.old) parts.now → IsCacheBacked (T.files store.old) cache.old → IsAheadAt (map filter_tree filters.now) (network_tree network.now).leaves (T.files store.old) parts.now at.old → OnOk result
-        (IsAheadAt (map filter_tree filters.now) (network_tree network.now).leaves (T.files store.old) parts.now at.new) }
+    ensures ahead { AreBacked (T.files store.old) parts.now → IsCacheBacked (T.files store.old) cache.old → IsAheadAt rule.now.kind (map (λ plug. meaning plug) plugs.old) (map filter_tree filters.now) (network_tree network.now) tables.now (T.files store.old) parts.now at.old → OnOk result
+        (IsAheadAt rule.now.kind (map (λ plug. meaning plug) plugs.old) (map filter_tree filters.now) (network_tree network.now) tables.now (T.files store.old) parts.now at.new) }
     ensures place { IsPlace parts.now at.new }
     ensures docs { IfOk result (λ docs. (at.new.credit ≡ at.old.credit + docs) × (docs ≤ most)) }
     ensures next { IfOk result (λ docs. at.new.part ≡ (if nat_lt docs most then at.old.part + 1 else at.old.part)) }
@@ -147,8 +153,8 @@ fn pass_next<T: Store, F: Fn(u32, u32, u64, u64) -> Fraction, L: Ledger>(
 {
     let marked = &parts[at.part];
     let to = pass_marked(
-        alloc, filters, network, rule, plugs, marked, store, cache, at.id, at.ahead, most, first,
-        squares,
+        alloc, filters, network, rule, plugs, marked, store, cache, tables, at.part, at.id,
+        at.ahead, most, first, squares,
     )?;
     *at = place_behind(*at, to, most);
     Ok(to.docs)
@@ -164,6 +170,7 @@ pub fn pass_parts<T: Store, F: Fn(u32, u32, u64, u64) -> Fraction, L: Ledger>(
     parts: &[MarkedPart],
     store: &mut T,
     cache: &mut BlockCache,
+    tables: &[RangeTable],
     at: &mut Place,
     docs: u64,
     first: &mut Contenders<Entry<Window>>,
@@ -174,13 +181,13 @@ pub fn pass_parts<T: Store, F: Fn(u32, u32, u64, u64) -> Fraction, L: Ledger>(
     requires plugs { All (HasPrior (length plugs.old)) (network_tree network.now).leaves }
     requires few { IsSnapshot parts.now }
     requires place { IsPlace parts.now at.old }
-    ensures first { AreBacked (T.files store.old) parts.now → IsCacheBacked (T.files store.old) cache.old → IsAheadAt (map filter_tree filters.now) (network_tree network.now).leaves (T.files store.old) parts.now at.old → OnOk result
+    ensures first { AreBacked (T.files store.old) parts.now → IsCacheBacked (T.files store.old) cache.old → IsAheadAt rule.now.kind (map (λ plug. meaning plug) plugs.old) (map filter_tree filters.now) (network_tree network.now) tables.now (T.files store.old) parts.now at.old → OnOk result
         (Advances rule.now.kind (map (λ plug. meaning plug) plugs.old) (map filter_tree filters.now) (network_tree network.now) (passed (T.files store.old) parts.now at.old) (passed (T.files store.old) parts.now at.new) (counted first.old squares.old) (counted first.new squares.new)) }
-    ensures within { AreBacked (T.files store.old) parts.now → IsCacheBacked (T.files store.old) cache.old → IsAheadAt (map filter_tree filters.now) (network_tree network.now).leaves (T.files store.old) parts.now at.old
+    ensures within { AreBacked (T.files store.old) parts.now → IsCacheBacked (T.files store.old) cache.old → IsAheadAt rule.now.kind (map (λ plug. meaning plug) plugs.old) (map filter_tree filters.now) (network_tree network.now) tables.now (T.files store.old) parts.now at.old
         → SpendsWithin rule.now.kind (map (λ plug. meaning plug) plugs.old) (map filter_tree filters.now) (network_tree network.now) (passed (T.files store.old) parts.now at.old) (live (T.files store.old) parts.now) squares.old squares.new }
     ensures windows { OnOk result (KeepsWindows (network_tree network.now) (live (T.files store.old) parts.now) first.old first.new) }
-    ensures ahead { AreBacked (T.files store.old) parts.now → IsCacheBacked (T.files store.old) cache.old → IsAheadAt (map filter_tree filters.now) (network_tree network.now).leaves (T.files store.old) parts.now at.old → OnOk result
-        (IsAheadAt (map filter_tree filters.now) (network_tree network.now).leaves (T.files store.old) parts.now at.new) }
+    ensures ahead { AreBacked (T.files store.old) parts.now → IsCacheBacked (T.files store.old) cache.old → IsAheadAt rule.now.kind (map (λ plug. meaning plug) plugs.old) (map filter_tree filters.now) (network_tree network.now) tables.now (T.files store.old) parts.now at.old → OnOk result
+        (IsAheadAt rule.now.kind (map (λ plug. meaning plug) plugs.old) (map filter_tree filters.now) (network_tree network.now) tables.now (T.files store.old) parts.now at.new) }
     ensures place { IsPlace parts.now at.new }
     ensures credit { OnOk result ((told : Option Files) → at.new.credit ≡ min (at.old.credit + docs) (length (live told parts.now))) }
     ensures stay { map (λ plug. meaning plug) plugs.new ≡ map (λ plug. meaning plug) plugs.old }
@@ -193,7 +200,8 @@ pub fn pass_parts<T: Store, F: Fn(u32, u32, u64, u64) -> Fraction, L: Ledger>(
     let mut left = docs;
     while left > 0 && at.part < parts.len() {
         let passed = pass_next(
-            alloc, filters, network, rule, plugs, parts, store, cache, at, left, first, squares,
+            alloc, filters, network, rule, plugs, parts, store, cache, tables, at, left, first,
+            squares,
         )?;
         left -= passed;
     }

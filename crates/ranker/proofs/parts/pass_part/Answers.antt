@@ -5,9 +5,9 @@ use Rattle.belief_nodes.specs.Network.{network_tree}
 use Rattle.disk_index.specs.Snapshots.{unmarked}
 use Rattle.extent_lists.proofs.KeepsLemmas.{Keeps-then}
 use Rattle.ranker.specs.First.{counted}
-use Rattle.ranker.specs.Passed.{IsAhead}
+use Rattle.ranker.specs.Passed.{IsKnown}
 use Rattle.ranker.specs.Windows.{KeepsWindows}
-use Rattle.ranker.proofs.AheadLemmas.{IsAhead-read}
+use Rattle.ranker.proofs.AheadLemmas.{IsKnown-priors, IsKnown-read}
 use Rattle.ranker.proofs.PassedLemmas.{Advances-read, Advances-same, Advances-then}
 use Rattle.ranker.proofs.WindowLemmas.{KeepsWindows-same, KeepsWindows-then}
 use Rattle.ranker.proofs.WithinLemmas.{cost-take, within-more, within-read, within-then}
@@ -37,9 +37,11 @@ loop-at-preserved g c =
     let at = c.loop-at.at in
     let to = c.in_ok-to.to in
     let keeps = c.loop-at.invariant.keeps in
+    let here_priors = map (λ b. (goal.BeliefNode-dyn g (b.vtable, b.value)).meaning b.value) c.loop-at.plugs in
     let passed = c.in_ok-to.ensures.passed in
-    let here : g.P.Postings.sound c.args.part.now → IsAhead filters network.leaves docs c.args.id c.args.ahead → IsAhead filters network.leaves read at c.loop-at.known =
-    λ sound known. IsAhead-read filters network.leaves docs read at c.loop-at.known (sym keeps.documents_stay) (c.loop-at.invariant.ahead sound known) in
+    let here : g.P.Postings.sound c.args.part.now → IsKnown kind priors filters network c.args.tables.now c.args.number docs c.args.id c.args.ahead → IsKnown kind here_priors filters network c.args.tables.now c.args.number read at c.loop-at.known =
+    λ sound known. IsKnown-priors kind priors here_priors filters network c.args.tables.now c.args.number read at c.loop-at.known (sym c.loop-at.invariant.stay)
+    (IsKnown-read kind priors filters network c.args.tables.now c.args.number docs read at c.loop-at.known (sym keeps.documents_stay) (c.loop-at.invariant.ahead sound known)) in
     record {
       keeps = Keeps-then _ _ _ _ g.met.P.Postings.quiet_then _ _ _ keeps c.pass_on.ensures.keeps;
       stay = c.pass_on.ensures.stay ∙ c.loop-at.invariant.stay;
@@ -47,7 +49,9 @@ loop-at-preserved g c =
           Advances-then kind priors filters network (unmarked (take c.args.id docs) marks) (unmarked (take at docs) marks) (unmarked (take to.id docs) marks) (counted c.args.first.now c.args.squares.now) (counted c.loop-at.first c.loop-at.squares) (counted c.pass_on.new.first c.pass_on.new.squares)
           (c.loop-at.invariant.so_far sound known)
           (Advances-read kind _ priors filters network read docs marks at to.id (counted c.loop-at.first c.loop-at.squares) (counted c.pass_on.new.first c.pass_on.new.squares) c.loop-at.invariant.stay keeps.documents_stay (c.in_ok-to.ensures.first (keeps.sound_stays sound) (here sound known)));
-      ahead = λ sound known. IsAhead-read filters network.leaves read docs to.id to.ahead keeps.documents_stay (c.in_ok-to.ensures.ahead (keeps.sound_stays sound) (here sound known));
+      ahead = λ sound known.
+          IsKnown-priors kind here_priors priors filters network c.args.tables.now c.args.number docs to.id to.ahead c.loop-at.invariant.stay
+          (IsKnown-read kind here_priors filters network c.args.tables.now c.args.number read docs to.id to.ahead keeps.documents_stay (c.in_ok-to.ensures.ahead (keeps.sound_stays sound) (here sound known)));
       windows = KeepsWindows-then network (unmarked docs marks) c.args.first.now c.loop-at.first c.pass_on.new.first c.loop-at.invariant.windows
           (subst (λ (ds : List Document). KeepsWindows network (unmarked ds marks) c.loop-at.first c.pass_on.new.first) keeps.documents_stay c.in_ok-to.ensures.windows);
       ids = omega (arith, c.loop-at.invariant.ids, passed.docs);
@@ -104,7 +108,9 @@ returns-in_err-to-clause-within g c = λ sound known.
     let read = g.P.Postings.documents c.loop-at.part in
     let at = c.loop-at.at in
     let keeps = c.loop-at.invariant.keeps in
-    let here = IsAhead-read filters network.leaves docs read at c.loop-at.known (sym keeps.documents_stay) (c.loop-at.invariant.ahead sound known) in
+    let here_priors = map (λ b. (goal.BeliefNode-dyn g (b.vtable, b.value)).meaning b.value) c.loop-at.plugs in
+    let here = IsKnown-priors kind priors here_priors filters network c.args.tables.now c.args.number read at c.loop-at.known (sym c.loop-at.invariant.stay)
+    (IsKnown-read kind priors filters network c.args.tables.now c.args.number docs read at c.loop-at.known (sym keeps.documents_stay) (c.loop-at.invariant.ahead sound known)) in
     let next = within-read kind _ priors filters network read docs marks at c.loop-at.squares c.pass_on.new.squares c.loop-at.invariant.stay keeps.documents_stay (c.pass_on.ensures.within (keeps.sound_stays sound) here) in
     within-then kind priors filters network (unmarked (take c.args.id docs) marks) (unmarked (take at docs) marks) (unmarked docs marks) c.args.squares.now c.loop-at.squares c.pass_on.new.squares
     (c.loop-at.invariant.so_far sound known).cost next

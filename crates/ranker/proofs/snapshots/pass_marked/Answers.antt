@@ -7,10 +7,10 @@ use Rattle.disk_index.specs.Parts.{reads, size, source_of}
 use Rattle.disk_index.specs.Snapshots.{unmarked}
 use Rattle.disk_index.proofs.RebuiltLemmas.{reads-length}
 use Rattle.ranker.specs.First.{Advances, SpendsWithin, counted}
-use Rattle.ranker.specs.Passed.{IsAhead}
+use Rattle.ranker.specs.Passed.{IsKnown}
 use Rattle.ranker.specs.Windows.{KeepsWindows}
 use Rattle.ranker.specs.declared.place.Passed.{Passed}
-use Rattle.ranker.proofs.AheadLemmas.{IsAhead-read}
+use Rattle.ranker.proofs.AheadLemmas.{IsKnown-read}
 use Rattle.disk_index.proofs.AmongLemmas.{sound-of}
 use Rattle.ranker.proofs.snapshots.pass_marked.Goals as goal
 
@@ -47,7 +47,7 @@ returns-clause-first g c = λ part cached known.
     let there = sound-of told here m.source own c.args.cache.now c.new-reader.result.cache.now same_told same_part c.new-reader.ensures.cache part cached in
     subst (λ (ds : List Document). IfOk c.pass_part.result (λ (to : Passed). Advances kind priors filters network (unmarked (take c.args.id ds) m.marks) (unmarked (take to.id ds) m.marks) (counted c.args.first.now c.args.squares.now) (counted c.pass_part.new.first c.pass_part.new.squares))) docs
     (subst (λ (ms : List Bool). IfOk c.pass_part.result (λ (to : Passed). Advances kind priors filters network (unmarked (take c.args.id (reads here own)) ms) (unmarked (take to.id (reads here own)) ms) (counted c.args.first.now c.args.squares.now) (counted c.pass_part.new.first c.pass_part.new.squares))) c.marks.ensures.marks
-    (c.pass_part.ensures.first there (IsAhead-read filters network.leaves (reads told m.source) (reads here own) c.args.id c.args.ahead (sym docs) known)))
+    (c.pass_part.ensures.first there (IsKnown-read kind priors filters network c.args.tables.now c.args.number (reads told m.source) (reads here own) c.args.id c.args.ahead (sym docs) known)))
 
 pub returns-clause-ahead : goal.returns-clause-ahead
 returns-clause-ahead g c = λ part cached known.
@@ -56,13 +56,15 @@ returns-clause-ahead g c = λ part cached known.
     let m = c.args.marked.now in
     let own = source_of c.new-reader.result.part.now in
     let filters = map filter_tree c.args.filters.now in
-    let leaves = (network_tree c.args.network.now).leaves in
+    let kind = c.args.rule.now.kind in
+    let priors = map (λ b. (goal.BeliefNode-dyn g (b.vtable, b.value)).meaning b.value) c.args.plugs.now in
+    let network = network_tree c.args.network.now in
     let same_told : here ≡ told = ap g.T.Store.files c.new-reader.ensures.store in
     let same_part : own ≡ m.source = ap source_of c.new-reader.ensures.part ∙ c.part.ensures.part in
     let docs : reads here own ≡ reads told m.source = ap (λ (t : Option Files). reads t own) same_told ∙ ap (reads told) same_part in
     let there = sound-of told here m.source own c.args.cache.now c.new-reader.result.cache.now same_told same_part c.new-reader.ensures.cache part cached in
-    subst (λ (ds : List Document). IfOk c.pass_part.result (λ (to : Passed). IsAhead filters leaves ds to.id to.ahead)) docs
-    (c.pass_part.ensures.ahead there (IsAhead-read filters leaves (reads told m.source) (reads here own) c.args.id c.args.ahead (sym docs) known))
+    subst (λ (ds : List Document). IfOk c.pass_part.result (λ (to : Passed). IsKnown kind priors filters network c.args.tables.now c.args.number ds to.id to.ahead)) docs
+    (c.pass_part.ensures.ahead there (IsKnown-read kind priors filters network c.args.tables.now c.args.number (reads told m.source) (reads here own) c.args.id c.args.ahead (sym docs) known))
 
 pub returns-clause-windows : goal.returns-clause-windows
 returns-clause-windows g c =
@@ -93,4 +95,4 @@ returns-clause-within g c = λ part cached known.
     let there = sound-of told here m.source own c.args.cache.now c.new-reader.result.cache.now same_told same_part c.new-reader.ensures.cache part cached in
     subst (λ (ds : List Document). SpendsWithin kind priors filters network (unmarked (take c.args.id ds) m.marks) (unmarked ds m.marks) c.args.squares.now c.pass_part.new.squares) docs
     (subst (λ (ms : List Bool). SpendsWithin kind priors filters network (unmarked (take c.args.id (reads here own)) ms) (unmarked (reads here own) ms) c.args.squares.now c.pass_part.new.squares) c.marks.ensures.marks
-    (c.pass_part.ensures.within there (IsAhead-read filters network.leaves (reads told m.source) (reads here own) c.args.id c.args.ahead (sym docs) known)))
+    (c.pass_part.ensures.within there (IsKnown-read kind priors filters network c.args.tables.now c.args.number (reads told m.source) (reads here own) c.args.id c.args.ahead (sym docs) known)))

@@ -6,7 +6,7 @@ use Rattle.disk_index.specs.Parts.{IsPartBacked, reads, size}
 use Rattle.disk_index.specs.Snapshots.{Marked, live, live_in}
 use Rattle.disk_index.proofs.AmongLemmas.{backed-at, blocks-among}
 use Rattle.ranker.specs.First.{Advances, counted}
-use Rattle.ranker.specs.Passed.{IsAhead, IsAheadAt, IsPlace, behind, passed}
+use Rattle.ranker.specs.Passed.{IsAheadAt, IsKnown, IsPlace, behind, passed}
 use Rattle.ranker.specs.declared.place.Place.{Place}
 use Rattle.ranker.proofs.PlaceLemmas.{Advances-place, IsAheadAt-behind, IsPlace-behind, credit-behind, credit-few, part-behind, part-is}
 use Rattle.ranker.proofs.DocumentLemmas.{live-among}
@@ -45,7 +45,7 @@ returns-clause-first g c = λ backed cached known.
     let network = network_tree c.args.network.now in
     subst (λ (p : Place). Advances kind priors filters network (passed told parts at) (passed told parts p) (counted c.args.first.now c.args.squares.now) (counted c.pass_marked.new.first c.pass_marked.new.squares)) (sym c.place_behind.ensures)
     (Advances-place parts at to c.args.most kind priors filters network told (counted c.args.first.now c.args.squares.now) (counted c.pass_marked.new.first c.pass_marked.new.squares) m is c.requires.some c.in_ok-to.ensures.end
-    (c.in_ok-to.ensures.first own cached (subst (λ (p : Marked). IsAhead filters network.leaves (reads told p.source) at.id at.ahead) is known)))
+    (c.in_ok-to.ensures.first own cached (subst (λ (p : Marked). IsKnown kind priors filters network c.args.tables.now at.part (reads told p.source) at.id at.ahead) is known.here)))
 
 pub returns-clause-ahead : goal.returns-clause-ahead
 returns-clause-ahead g c = λ backed cached known.
@@ -55,12 +55,14 @@ returns-clause-ahead g c = λ backed cached known.
     let to = c.in_ok-to.to in
     let m = c.index-parts-at.result in
     let filters = map filter_tree c.args.filters.now in
-    let leaves = (network_tree c.args.network.now).leaves in
+    let kind = c.args.rule.now.kind in
+    let priors = map (λ b. (goal.BeliefNode-dyn g (b.vtable, b.value)).meaning b.value) c.args.plugs.now in
+    let network = network_tree c.args.network.now in
     let is = part-is parts at.part m c.requires.some c.index-parts-at.is in
     let own : IsPartBacked told m.source = backed-at parts at.part m c.requires.some c.index-parts-at.is told backed in
-    subst (λ (p : Place). IsAheadAt filters leaves told parts p) (sym c.place_behind.ensures)
-    (IsAheadAt-behind filters leaves told parts at to c.args.most m is
-    (c.in_ok-to.ensures.ahead own cached (subst (λ (p : Marked). IsAhead filters leaves (reads told p.source) at.id at.ahead) is known)))
+    subst (λ (p : Place). IsAheadAt kind priors filters network c.args.tables.now told parts p) (sym c.place_behind.ensures)
+    (IsAheadAt-behind kind priors filters network c.args.tables.now told parts at to c.args.most m is known.each
+    (c.in_ok-to.ensures.ahead own cached (subst (λ (p : Marked). IsKnown kind priors filters network c.args.tables.now at.part (reads told p.source) at.id at.ahead) is known.here)))
 
 pub returns-clause-windows : goal.returns-clause-windows
 returns-clause-windows g c =
@@ -114,7 +116,7 @@ returns-in_err-to-clause-within g c = λ backed cached known.
     let is = part-is parts at.part m c.requires.some c.index-parts-at.is in
     let own : IsPartBacked told m.source = backed-at parts at.part m c.requires.some c.index-parts-at.is told backed in
     within-part kind priors filters network told parts at m c.args.squares.now c.pass_marked.new.squares is c.requires.some
-    (c.pass_marked.ensures.within own cached (subst (λ (p : Marked). IsAhead filters network.leaves (reads told p.source) at.id at.ahead) is known))
+    (c.pass_marked.ensures.within own cached (subst (λ (p : Marked). IsKnown kind priors filters network c.args.tables.now at.part (reads told p.source) at.id at.ahead) is known.here))
 
 pub returns-clause-within : goal.returns-clause-within
 returns-clause-within g c = λ backed cached known.
@@ -129,4 +131,4 @@ returns-clause-within g c = λ backed cached known.
     let is = part-is parts at.part m c.requires.some c.index-parts-at.is in
     let own : IsPartBacked told m.source = backed-at parts at.part m c.requires.some c.index-parts-at.is told backed in
     within-part kind priors filters network told parts at m c.args.squares.now c.pass_marked.new.squares is c.requires.some
-    (c.pass_marked.ensures.within own cached (subst (λ (p : Marked). IsAhead filters network.leaves (reads told p.source) at.id at.ahead) is known))
+    (c.pass_marked.ensures.within own cached (subst (λ (p : Marked). IsKnown kind priors filters network c.args.tables.now at.part (reads told p.source) at.id at.ahead) is known.here))

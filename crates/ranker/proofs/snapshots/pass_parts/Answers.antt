@@ -48,13 +48,13 @@ loop-left-preserved g c =
           subst (λ (f : Option Files). IsCacheBacked f c.loop-left.cache) (sym same) (IsCacheBacked-kept told (IsFileAmong parts) c.args.cache.now c.loop-left.cache inv.cache cached) in
           Advances-then kind priors filters network (passed told parts c.args.at.now) (passed told parts c.loop-left.at) (passed told parts c.pass_next.new.at) (counted c.args.first.now c.args.squares.now) (counted c.loop-left.first c.loop-left.squares) (counted c.pass_next.new.first c.pass_next.new.squares) (inv.so_far backed cached known)
           (Advances-later kind _ priors filters network here told parts c.loop-left.at c.pass_next.new.at (counted c.loop-left.first c.loop-left.squares) (counted c.pass_next.new.first c.pass_next.new.squares) inv.stay same
-          (c.in_ok-passed.ensures.first there blocks (IsAheadAt-later filters network.leaves told here parts c.loop-left.at (sym same) (inv.ahead backed cached known))));
+          (c.in_ok-passed.ensures.first there blocks (IsAheadAt-later kind priors _ filters network c.args.tables.now told here parts c.loop-left.at (sym inv.stay) (sym same) (inv.ahead backed cached known))));
       ahead = λ backed cached known.
           let there : AreBacked here parts = subst (λ (f : Option Files). AreBacked f parts) (sym same) backed in
           let blocks : IsCacheBacked here c.loop-left.cache =
           subst (λ (f : Option Files). IsCacheBacked f c.loop-left.cache) (sym same) (IsCacheBacked-kept told (IsFileAmong parts) c.args.cache.now c.loop-left.cache inv.cache cached) in
-          IsAheadAt-later filters network.leaves here told parts c.pass_next.new.at same
-          (c.in_ok-passed.ensures.ahead there blocks (IsAheadAt-later filters network.leaves told here parts c.loop-left.at (sym same) (inv.ahead backed cached known)));
+          IsAheadAt-later kind _ priors filters network c.args.tables.now here told parts c.pass_next.new.at inv.stay same
+          (c.in_ok-passed.ensures.ahead there blocks (IsAheadAt-later kind priors _ filters network c.args.tables.now told here parts c.loop-left.at (sym inv.stay) (sym same) (inv.ahead backed cached known)));
       windows = KeepsWindows-then network (live told parts) c.args.first.now c.loop-left.first c.pass_next.new.first inv.windows
           (subst (λ (f : Option Files). KeepsWindows network (live f parts) c.loop-left.first c.pass_next.new.first) same c.in_ok-passed.ensures.windows);
       place = c.pass_next.ensures.place;
@@ -113,6 +113,6 @@ returns-in_err-passed-clause-within g c = λ backed cached known.
     let blocks : IsCacheBacked here c.loop-left.cache =
     subst (λ (f : Option Files). IsCacheBacked f c.loop-left.cache) (sym same) (IsCacheBacked-kept told (IsFileAmong parts) c.args.cache.now c.loop-left.cache inv.cache cached) in
     let next = within-later kind _ priors filters network here told parts c.loop-left.at c.loop-left.squares c.pass_next.new.squares inv.stay same
-    (c.pass_next.ensures.within there blocks (IsAheadAt-later filters network.leaves told here parts c.loop-left.at (sym same) (inv.ahead backed cached known))) in
+    (c.pass_next.ensures.within there blocks (IsAheadAt-later kind priors _ filters network c.args.tables.now told here parts c.loop-left.at (sym inv.stay) (sym same) (inv.ahead backed cached known))) in
     within-then kind priors filters network (passed told parts c.args.at.now) (passed told parts c.loop-left.at) (live told parts) c.args.squares.now c.loop-left.squares c.pass_next.new.squares
     (inv.so_far backed cached known).cost next

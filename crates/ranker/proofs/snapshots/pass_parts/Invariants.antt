@@ -13,11 +13,11 @@ abbrev pub invariant-loop-left : goal.invariant-loop-left
 invariant-loop-left g l = record {
   stay : map (λ b. (goal.BeliefNode-dyn g (b.vtable, b.value)).meaning b.value) l.plugs ≡ map (λ b. (goal.BeliefNode-dyn g (b.vtable, b.value)).meaning b.value) l.fn.plugs;
   so_far : AreBacked (g.T.Store.files l.fn.store) l.parts → IsCacheBacked (g.T.Store.files l.fn.store) l.fn.cache
-      → IsAheadAt (map filter_tree l.filters) (network_tree l.network).leaves (g.T.Store.files l.fn.store) l.parts l.fn.at
+      → IsAheadAt l.rule.kind (map (λ b. (goal.BeliefNode-dyn g (b.vtable, b.value)).meaning b.value) l.fn.plugs) (map filter_tree l.filters) (network_tree l.network) l.tables (g.T.Store.files l.fn.store) l.parts l.fn.at
       → Advances l.rule.kind (map (λ b. (goal.BeliefNode-dyn g (b.vtable, b.value)).meaning b.value) l.fn.plugs) (map filter_tree l.filters) (network_tree l.network) (passed (g.T.Store.files l.fn.store) l.parts l.fn.at) (passed (g.T.Store.files l.fn.store) l.parts l.at) (counted l.fn.first l.fn.squares) (counted l.first l.squares);
   ahead : AreBacked (g.T.Store.files l.fn.store) l.parts → IsCacheBacked (g.T.Store.files l.fn.store) l.fn.cache
-      → IsAheadAt (map filter_tree l.filters) (network_tree l.network).leaves (g.T.Store.files l.fn.store) l.parts l.fn.at
-      → IsAheadAt (map filter_tree l.filters) (network_tree l.network).leaves (g.T.Store.files l.fn.store) l.parts l.at;
+      → IsAheadAt l.rule.kind (map (λ b. (goal.BeliefNode-dyn g (b.vtable, b.value)).meaning b.value) l.fn.plugs) (map filter_tree l.filters) (network_tree l.network) l.tables (g.T.Store.files l.fn.store) l.parts l.fn.at
+      → IsAheadAt l.rule.kind (map (λ b. (goal.BeliefNode-dyn g (b.vtable, b.value)).meaning b.value) l.fn.plugs) (map filter_tree l.filters) (network_tree l.network) l.tables (g.T.Store.files l.fn.store) l.parts l.at;
   windows : KeepsWindows (network_tree l.network) (live (g.T.Store.files l.fn.store) l.parts) l.fn.first l.first;
   place : IsPlace l.parts l.at;
   credit : l.at.credit + l.left ≡ l.fn.at.credit + l.docs;

@@ -13,8 +13,8 @@ returns-clause-same g c = record { snapshot = refl; checked = refl; network = re
 
 pub returns-clause-taken : goal.returns-clause-taken
 returns-clause-taken g c = λ backed cached h. record {
-  held = (rw c.deref.ensures.value at (rw c.parts.ensures.parts at c.in_ok-advance.ensures.taken)) backed cached h.ahead c.args.self.now.most h.held;
-  ahead = (rw c.deref.ensures.value at (rw c.parts.ensures.parts at c.in_ok-advance.ensures.ahead)) backed cached h.ahead;
+  held = (rw c.deref.ensures.value at (rw c.deref-2.ensures.value at (rw c.parts.ensures.parts at c.in_ok-advance.ensures.taken))) backed cached h.ahead c.args.self.now.most h.held;
+  ahead = (rw c.deref.ensures.value at (rw c.deref-2.ensures.value at (rw c.parts.ensures.parts at c.in_ok-advance.ensures.ahead))) backed cached h.ahead;
 }
 
 pub invariant_of-self-2 : goal.invariant_of-self-2
@@ -30,12 +30,12 @@ invariant_of-self-2 g c = record {
 
 pub returns-clause-squares : goal.returns-clause-squares
 returns-clause-squares g c = λ backed cached h.
-    (rw c.deref.ensures.value at (rw c.parts.ensures.parts at c.in_ok-advance.ensures.squares)) backed cached h.ahead c.args.self.now.most h.held
+    (rw c.deref.ensures.value at (rw c.deref-2.ensures.value at (rw c.parts.ensures.parts at c.in_ok-advance.ensures.squares))) backed cached h.ahead c.args.self.now.most h.held
 
 pub returns-clause-within : goal.returns-clause-within
 returns-clause-within g c = λ backed cached h.
-    (rw c.deref.ensures.value at (rw c.parts.ensures.parts at c.advance.ensures.within)) backed cached h.ahead c.args.self.now.most h.held
+    (rw c.deref.ensures.value at (rw c.deref-2.ensures.value at (rw c.parts.ensures.parts at c.advance.ensures.within))) backed cached h.ahead c.args.self.now.most h.held
 
 pub returns-in_err-advance-clause-within : goal.returns-in_err-advance-clause-within
 returns-in_err-advance-clause-within g c = λ backed cached h.
-    (rw c.deref.ensures.value at (rw c.parts.ensures.parts at c.advance.ensures.within)) backed cached h.ahead c.args.self.now.most h.held
+    (rw c.deref.ensures.value at (rw c.deref-2.ensures.value at (rw c.parts.ensures.parts at c.advance.ensures.within))) backed cached h.ahead c.args.self.now.most h.held

@@ -5,7 +5,7 @@ use Rattle.belief_nodes.specs.Network.{network_tree}
 use Rattle.disk_index.specs.Parts.{reads}
 use Rattle.ranker.specs.Passed.{IsBareTo, part_at}
 use Rattle.ranker.specs.Searches.{filters_of}
-use Rattle.ranker.proofs.AheadLemmas.{IsAhead-on}
+use Rattle.ranker.proofs.AheadLemmas.{IsKnown-on}
 use Rattle.ranker.proofs.BareLemmas.{IsBareTo-on, IsHeld-few, IsPlace-few}
 use Rattle.ranker.proofs.search.Search.step.Goals as goal
 
@@ -61,9 +61,12 @@ returns-then-passes_bare-clause-taken g c = λ backed cached h.
     let here : IsBareTo s.snapshot s.at s.live_count s.bare_to = s.next c.requires.usable in
     let left = here.left in
     record {
-      held = IsHeld-few s.snapshot s.at c.args.docs (here.bare c.args.docs low) c.args.rule.now.kind priors (filters_of s) (network_tree s.network) told h.ahead c.args.docs s.most s.held (omega arith)
+      held = IsHeld-few s.snapshot s.at c.args.docs (here.bare c.args.docs low) c.args.rule.now.kind priors (filters_of s) (network_tree s.network) s.tables.items told h.ahead c.args.docs s.most s.held (omega arith)
           (s.open c.requires.usable told ∙ lt-ltb _ _ (omega (arith, low, left, s.count told))) h.held;
-      ahead = IsAhead-on (filters_of s) (network_tree s.network).leaves (reads told (part_at s.snapshot s.at.part).source) s.at.id (s.at.id + c.args.docs) s.at.ahead s.at.ahead (omega arith) refl h.ahead;
+      ahead = record {
+        here = IsKnown-on c.args.rule.now.kind priors (filters_of s) (network_tree s.network) s.tables.items s.at.part (reads told (part_at s.snapshot s.at.part).source) s.at.id (s.at.id + c.args.docs) s.at.ahead s.at.ahead (omega arith) refl h.ahead.here;
+        each = h.ahead.each;
+      };
     }
 
 pub invariant_of-self : goal.invariant_of-self

@@ -5,7 +5,7 @@ ghost use Rattle.ri_base.specs.Query.{FilterTree};
 ghost use Rattle.smoothing.specs.Fractions.{Computes};
 ghost use Rattle.belief_nodes.specs.Leaves.{HasPrior};
 ghost use Rattle.belief_nodes.specs.Network.{network_tree};
-ghost use Rattle.bounded_keys.specs.Entries.{WereOffered};
+ghost use Rattle.ranker.specs.First.{WereOffered};
 ghost use Rattle.range_bounds.specs.Ranges.{range_documents};
 ghost use Rattle.range_bounds.specs.Tables.{IsTableOf, range_count};
 ghost use Rattle.ranker.specs.Least.{AreFrom};

@@ -63,33 +63,9 @@ impl Search {
     ghost use Rattle.ranker.specs.Windows.{AreWindows};
 
     /// A search over the documents of a snapshot that has passed none yet, for at most so many results. The statistics are those of
-    /// the query's leaves, in order of their numbers.
-    pub fn new(
-        alloc: Global,
-        snapshot: Snapshot,
-        checked: Checked,
-        stats: &[LeafStats],
-        most: u32,
-    ) -> Result<Search, NoMemory>
-        requires each { length stats.now ≡ length checked.leaves.items }
-        requires counted { All (λ s. AreLeafStats s) stats.now }
-        ensures snapshot { IfOk result (λ s. s.snapshot ≡ snapshot) }
-        ensures checked { IfOk result (λ s. s.checked ≡ checked) }
-        ensures network { IfOk result (λ s. network_tree s.network ≡ network_of checked stats.now) }
-        ensures most { IfOk result (λ s. s.most ≡ most) }
-        ensures credit { IfOk result (λ s. s.at.credit ≡ 0) }
-        ensures usable { IfOk result (λ s. s.usable ≡ true) }
-        ensures taken { IfOk result (λ s. (kind : RuleKind) (priors : List Prior) (told : Option Files) → IsTaken kind priors told s) }
-    {
-        let tables = Vec::new(alloc);
-        let search = Search::with_tables(alloc, snapshot, checked, stats, tables, most)?;
-        Ok(search)
-    }
-
-    /// A search over the documents of a snapshot that has passed none yet, for at most so many results. The statistics are those of
     /// the query's leaves, in order of their numbers. There may be a table of the ranges of each part, by the numbers of the parts: ranges
-    /// whose candidates can't be among the first are passed without a look then.
-    pub fn with_tables(
+    /// of a part that has one are passed without a look where their candidates can't be among the first.
+    pub fn new(
         alloc: Global,
         snapshot: Snapshot,
         checked: Checked,

@@ -1,10 +1,24 @@
-use Rattle.std.proofs.Common.{◌≡◌, [], ◌∙◌}
-use Rattle.belief_nodes.specs.Network.{network_tree}
-use Rattle.ranker.proofs.AheadLemmas.{IsTold-none}
+use Rattle.std.proofs.Common.{nat_lt, refl, ap, sym, ◌∙◌, arith}
+use Rattle.ri_base.specs.Query.{is_range}
+use Rattle.belief_nodes.specs.Network.{NetworkTree, network_tree}
+use Rattle.ranker.specs.First.{scale_of}
+use Rattle.ranker.specs.Passed.{nothing_known}
+use Rattle.ranker.proofs.AheadLemmas.{IsKnown-nothing, IsKnown-on}
 use Rattle.ranker.proofs.search.Search.new.Goals as goal
 
 pub returns-clause-taken : goal.returns-clause-taken
-returns-clause-taken c = λ kind priors told.
-    let s = c.in_ok-search.search in
-    let none : s.tables.items ≡ [] = c.in_ok-search.ensures.tables ∙ c.new-tables.ensures.items in
-    c.in_ok-search.ensures.taken kind priors told (λ number. IsTold-none (network_tree s.network) s.tables.items number _ none)
+returns-clause-taken c = λ kind priors told tables. record {
+  held = c.first_held-held.ensures.held kind priors _ _;
+  ahead = record { here = IsKnown-on kind priors _ _ _ 0 _ 0 0 nothing_known c.nothing.result (omega arith) (omega arith) c.nothing.ensures (IsKnown-nothing kind priors _ _ _ 0 _ (tables 0)); each = tables };
+}
+
+pub invariant_of-result : goal.invariant_of-result
+invariant_of-result c = record {
+  shown = ap (λ (n : NetworkTree). is_range n.range) c.in_ok-network.ensures ∙ c.args.checked.kept.within.sound_range;
+  count = λ told. c.from.ensures ∙ c.live_count-live_count.ensures told;
+  place = record { part = omega arith; id = omega arith; credit = λ told. refl };
+  next = λ usable. record { from = omega arith; left = omega arith; ids = omega arith; bare = λ docs lt. absurd (omega (arith, lt)) };
+  «open» = λ usable told. c.first_held-held.ensures.open ∙ ap (nat_lt 0) (c.live_count-live_count.ensures told);
+  entries = λ usable. c.first_held-held.ensures.entries (network_tree c.in_ok-network.network) (c.args.checked.kept.whole ∙ ap (λ (n : NetworkTree). scale_of n) (sym c.in_ok-network.ensures));
+  windows = λ usable told. ∣ c.first_held-held.ensures.windows _ _ ∣₁;
+}

@@ -85,6 +85,7 @@ module _ (kind : RuleKind) (a b : List Prior) where
     may = known.may;
     least = λ n i is from end. from-alike network alike n (document_at docs i) (known.least n i is from end);
     told = known.told;
+    span = known.span;
   }
 
   -- What a search has taken by the one is so by the other.

@@ -12,10 +12,9 @@ use Rattle.belief_nodes.specs.Priors.{Prior}
 use Rattle.deletion_list.specs.Marks.{marked_count}
 use Rattle.disk_index.specs.Snapshots.{unmarked}
 use Rattle.document_scoring.specs.Candidates.{candidates}
-use Rattle.bounded_keys.specs.Entries.{WereOffered}
 use Rattle.bounded_keys.specs.declared.entry.Entry.{Entry}
 use Rattle.range_masks.specs.May.{query_may}
-use Rattle.ranker.specs.First.{Advances, AsksWithin, Counted, HoldsFirst, KeptEntries, counted, early_cost, early_of}
+use Rattle.ranker.specs.First.{Advances, AsksWithin, Counted, HoldsFirst, KeptEntries, WereOffered, counted, early_cost, early_of}
 use Rattle.ranker.specs.Passed.{live_ids}
 use Rattle.ranker.specs.Least.{AreFrom}
 use Rattle.ranker.specs.declared.window.Window.{Window}

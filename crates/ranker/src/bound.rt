@@ -5,10 +5,9 @@ ghost use Rattle.ri_base.specs.Query.{FilterTree};
 ghost use Rattle.smoothing.specs.Fractions.{Computes};
 ghost use Rattle.belief_nodes.specs.Leaves.{HasPrior};
 ghost use Rattle.belief_nodes.specs.Network.{network_tree};
-ghost use Rattle.bounded_keys.specs.Entries.{WereOffered};
 ghost use Rattle.range_bounds.specs.Ranges.{range_documents};
 ghost use Rattle.range_bounds.specs.Tables.{IsTableOf, has_counts};
-ghost use Rattle.ranker.specs.First.{AsksWithin, early_cost};
+ghost use Rattle.ranker.specs.First.{AsksWithin, WereOffered, early_cost};
 ghost use Rattle.ranker.specs.Least.{AreFrom};
 ghost use Rattle.ranker.specs.Passed.{IsKnown, IsSpan, IsTold, asked_of, is_clear, ranges_of};
 

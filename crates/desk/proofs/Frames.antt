@@ -20,7 +20,7 @@ use Rattle.smoothing.specs.declared.rule.RuleKind.{RuleKind}
 use Rattle.belief_nodes.specs.Network.{network_tree}
 use Rattle.belief_nodes.specs.Priors.{Prior}
 use Rattle.ranker.specs.Held.{IsHeld}
-use Rattle.ranker.specs.Passed.{IsAhead, part_at, passed}
+use Rattle.ranker.specs.Passed.{IsKnown, IsTold, part_at, passed}
 use Rattle.ranker.specs.Searches.{IsTaken, filters_of}
 use Rattle.ranker.specs.declared.place.Place.{Place}
 use Rattle.ranker.specs.declared.search.Search.{Search}
@@ -94,15 +94,25 @@ module _ (P : List ℕ → Type 0) (a b : Option Files) (same : SameWhere P a b)
   at-stays (m ∷ ms) zero stay = first-stays m ms stay
   at-stays (m ∷ ms) (suc k) stay = at-stays ms k (rest-stays m ms stay)
 
+  -- the part of each number reads as it did
+  at-same : (ms : List Marked) (k : ℕ) → Stay P (part_numbers ms) → reads b (part_at ms k).source ≡ reads a (part_at ms k).source
+  at-same ms k stay = reads-same (part_at ms k).source (at-stays ms k stay)
+
   passed-same : (ms : List Marked) (at : Place) → Stay P (part_numbers ms) → passed b ms at ≡ passed a ms at
   passed-same ms at stay = λ i.
-      live-same (take at.part ms) (take-stays ms at.part stay) i ++ unmarked (take at.id (reads-same (part_at ms at.part).source (at-stays ms at.part stay) i)) (part_at ms at.part).marks
+      live-same (take at.part ms) (take-stays ms at.part stay) i ++ unmarked (take at.id (at-same ms at.part stay i)) (part_at ms at.part).marks
 
   pub taken-same : (kind : RuleKind) (priors : List Prior) (s : Search) → Stay P (part_numbers s.snapshot) → IsTaken kind priors a s → IsTaken kind priors b s
-  taken-same kind priors s stay taken = record {
-    held = subst (λ (docs : List Document). IsHeld kind priors (filters_of s) (network_tree s.network) docs s.most s.held) (sym (passed-same s.snapshot s.at stay)) taken.held;
-    ahead = subst (λ (docs : List Document). IsAhead (filters_of s) (network_tree s.network).leaves docs s.at.id s.at.ahead) (sym (reads-same (part_at s.snapshot s.at.part).source (at-stays s.snapshot s.at.part stay))) taken.ahead;
-  }
+  taken-same kind priors s stay taken =
+      let network = network_tree s.network in
+      let filters = filters_of s in
+      record {
+        held = subst (λ (docs : List Document). IsHeld kind priors filters network docs s.most s.held) (sym (passed-same s.snapshot s.at stay)) taken.held;
+        ahead = record {
+          here = subst (λ (docs : List Document). IsKnown kind priors filters network s.tables.items s.at.part docs s.at.id s.at.ahead) (sym (at-same s.snapshot s.at.part stay)) taken.ahead.here;
+          each = λ number. subst (λ (docs : List Document). IsTold network s.tables.items number docs) (sym (at-same s.snapshot number stay)) (taken.ahead.each number);
+        };
+      }
 
 -- a cache keeps the blocks of files that stay
 block-same : (P : List ℕ → Type 0) (f g : Files) (key : BlockKey) (es : List BlockEntry) → ((name : List ℕ) → P name → g name ≡ f name) → P (segment_name key.number) → IsBlockIn f key es → IsBlockIn g key es

@@ -36,6 +36,7 @@ pub mod ReadingExits
 pub mod ScanLemmas
 pub mod SearchLemmas
 pub mod Staying
+pub mod TableLemmas
 pub mod Telling
 pub mod TurnExits
 pub mod WritingLemmas

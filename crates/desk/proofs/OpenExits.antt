@@ -180,7 +180,7 @@ module _ (told : Option Files) (d : Keeps) (name : List ℕ) (k : ℕ) (checked 
   }
 
   -- it is backed where its snapshot is
-  query-new : part_numbers snapshot ≡ part_numbers d.repository.held.parts.closed → AreBacked told snapshot → ((kind : RuleKind) (priors : List Prior) (f : Option Files) → IsTaken kind priors f q.search)
+  query-new : part_numbers snapshot ≡ part_numbers d.repository.held.parts.closed → AreBacked told snapshot → ((kind : RuleKind) (priors : List Prior) → IsTaken kind priors told q.search)
       → stats ≡ map (stats_of (snapshots.live told snapshot)) (map leaf_tree checked.leaves.items) → IsQueryBacked told (closed d.repository) d.kind q
   query-new numbers stored taken counted =
       let r = closed d.repository in
@@ -188,7 +188,7 @@ module _ (told : Option Files) (d : Keeps) (name : List ℕ) (k : ℕ) (checked 
       record {
         snapshot = subst (λ (ms : List Marked). AreBacked told ms) (sym new.snapshot_is) stored;
         listed = subst (λ (ms : List Marked). AreListed r (part_numbers ms)) (sym new.snapshot_is) (listed-on d.repository r (part_numbers snapshot) (lists-closed d.repository) (listed-now d.repository snapshot numbers));
-        taken = taken d.kind (priors_with (priors_in told r.priors)) told;
+        taken = taken d.kind (priors_with (priors_in told r.priors));
         network = new.network_is ∙ ap (network_of checked) counted ∙ (λ i. query_network (whole_checked (sym new.checked_is i)) (docs i));
       }
 
@@ -198,7 +198,7 @@ module _ (told : Option Files) (d : Keeps) (name : List ℕ) (k : ℕ) (checked 
   -- The query is opened.
   pub open-done : (after : Option Files) (now : Keeps) (r : repositories.State) (all : List OpenQuery) (counts : List Kept) (cache : List KeptBlock) (live_now : ℕ) (told_name : List ℕ) → d ≡ now → r ≡ closed d.repository → all ≡ d.queries ++ q ∷ [] → told_name ≡ name → after ≡ told
       → is_some (position (is_named name) d.queries) ≡ false → nat_le MAX_QUERIES (length d.queries) ≡ false → live_now ≡ length (snapshots.live told snapshot)
-      → part_numbers snapshot ≡ part_numbers d.repository.held.parts.closed → (IsDeskBacked told d → AreBacked told snapshot) → ((kind : RuleKind) (priors : List Prior) (f : Option Files) → IsTaken kind priors f q.search)
+      → part_numbers snapshot ≡ part_numbers d.repository.held.parts.closed → (IsDeskBacked told d → AreBacked told snapshot) → (IsDeskBacked told d → (kind : RuleKind) (priors : List Prior) → IsTaken kind priors told q.search)
       → (IsDeskBacked told d → stats ≡ map (stats_of (snapshots.live told snapshot)) (map leaf_tree checked.leaves.items))
       → (IsDeskBacked told d → AreSums (snapshots.live told snapshot) d.repository.held.generation counts) → (IsDeskBacked told d → IsCacheKept told d.repository cache) → IsDeskBacked told now
       → StepsTo (open_step (state_of told now) name k (Ok (whole_checked checked))) after (opened_with r all counts cache) (reply.Opened told_name live_now)
@@ -210,6 +210,6 @@ module _ (told : Option Files) (d : Keeps) (name : List ℕ) (k : ℕ) (checked 
       subst (λ (x : repositories.State). StepsTo from after (opened_with x all counts cache) (reply.Opened told_name live_now)) (sym made)
       (subst (λ (qs : List OpenQuery). StepsTo from after (opened_with (closed d.repository) qs counts cache) (reply.Opened told_name live_now)) (sym pushed)
       (subst (λ (n : List ℕ). StepsTo from after (opened_with (closed d.repository) (d.queries ++ q ∷ []) counts cache) (reply.Opened n live_now)) (sym copied)
-      (open-exit told d name k (whole_checked checked) after q counts cache live_now stay of-now-new free room (count ∙ ap length documents) (query-new numbers (stored b) taken (counted b))
+      (open-exit told d name k (whole_checked checked) after q counts cache live_now stay of-now-new free room (count ∙ ap length documents) (query-new numbers (stored b) (taken b) (counted b))
       (subst (λ (docs : List Document). AreSums docs d.repository.held.generation counts) documents (sums b)) (kept b) b))))
       backed

@@ -1,25 +1,34 @@
 -- A search asks the plugs for no more than the priors tell.
-use Rattle.std.proofs.Common.{◌≡◌, ℕ, List, [], ◌∷◌, length, map, refl, subst, ◌∙◌, Option}
-use Rattle.std.specs.Prelude.{⊤, flat_map}
+use Rattle.std.proofs.Common.{◌≡◌, ◌≤◌, ℕ, List, [], ◌∷◌, length, map, refl, subst, ◌∙◌, Option}
+use Rattle.std.specs.Prelude.{⊤, flat_map, zip}
 use Rattle.std.specs.List.{All, filter, list_all}
 use Rattle.std.specs.List.Sorted.{IsPermutation}
 use Rattle.std.proofs.lemmas.List.Elements.{All-head, All-tail}
+use Rattle.log_chain.specs.declared.chain.TheConstants.{FIRST}
+use Rattle.ri_base.specs.Collection.{document_at}
 use Rattle.ri_base.specs.Documents.{Document}
 use Rattle.ri_base.specs.Pair.{Pair}
 use Rattle.ri_base.specs.Query.{FilterTree}
+use Rattle.ri_base.specs.Ratio.{IsBelief, Ratio}
 use Rattle.ri_base.specs.declared.hit.LeafStats.{LeafStats}
 use Rattle.store_ends.specs.Files.{Files}
 use Rattle.smoothing.specs.declared.rule.RuleKind.{RuleKind}
 use Rattle.query_check.specs.Leaves.{LeafTree, extents, prior}
+use Rattle.belief_nodes.specs.Keys.{key_at}
 use Rattle.belief_nodes.specs.Network.{NetworkTree, network_tree}
 use Rattle.belief_nodes.specs.Priors.{Prior, prior_at, prior_fraction}
+use Rattle.disk_index.specs.Parts.{reads}
 use Rattle.document_scoring.specs.Candidates.{Candidate, beliefs, candidate, candidates, found_windows, leaf_belief, passes}
+use Rattle.range_bounds.specs.Bounds.{belief_in, beliefs_in}
+use Rattle.range_bounds.specs.declared.table.RangeTable.{RangeTable}
 use Rattle.ranker.specs.Held.{IsHeld}
-use Rattle.ranker.specs.Passed.{passed}
+use Rattle.ranker.specs.Least.{AreFrom}
+use Rattle.ranker.specs.Passed.{IsKnown, part_at, passed}
 use Rattle.ranker.specs.Ranking.{candidate_of}
 use Rattle.ranker.specs.Searches.{IsTaken, filters_of}
 use Rattle.ranker.specs.declared.held.Held.{Held}
 use Rattle.ranker.specs.declared.held.Held.TheVariants.{Open, Ended}
+use Rattle.ranker.specs.declared.place.Ahead.{Ahead}
 use Rattle.ranker.specs.declared.search.Search.{Search}
 
 -- of a leaf the two tell the same
@@ -32,11 +41,23 @@ module _ (kind : RuleKind) (a b : List Prior) where
   belief-alike d w (extents x context) stats alike = refl
   belief-alike d w (prior n) stats alike = alike d.docno (length d.tokens)
 
+  belief_in-alike : (d : Document) (w : Pair) (leaf : LeafTree) (stats : LeafStats) → TellsAlike a b leaf → belief_in kind a d w leaf stats ≡ belief_in kind b d w leaf stats
+  belief_in-alike d w (extents x context) stats alike = refl
+  belief_in-alike d w (prior n) stats alike = alike d.docno (length d.tokens)
+
+  -- what is told of each leaf is the same where it is so of one
+  each-alike : (f g : LeafTree → LeafStats → Ratio) → ((leaf : LeafTree) (stats : LeafStats) → TellsAlike a b leaf → f leaf stats ≡ g leaf stats) → (leaves : List LeafTree) (stats : List LeafStats) → All (TellsAlike a b) leaves
+      → map (λ (l : LeafTree × LeafStats). f l.0 l.1) (zip leaves stats) ≡ map (λ (l : LeafTree × LeafStats). g l.0 l.1) (zip leaves stats)
+  each-alike f g one [] stats alike = refl
+  each-alike f g one (l ∷ ls) [] alike = refl
+  each-alike f g one (l ∷ ls) (s ∷ ss) alike = λ i.
+      one l s (All-head (TellsAlike a b) l ls alike) i ∷ each-alike f g one ls ss (All-tail (TellsAlike a b) l ls alike) i
+
   beliefs-alike : (d : Document) (w : Pair) (leaves : List LeafTree) (stats : List LeafStats) → All (TellsAlike a b) leaves → beliefs kind a leaves stats d w ≡ beliefs kind b leaves stats d w
-  beliefs-alike d w [] stats alike = refl
-  beliefs-alike d w (l ∷ ls) [] alike = refl
-  beliefs-alike d w (l ∷ ls) (s ∷ ss) alike = λ i.
-      belief-alike d w l s (All-head (TellsAlike a b) l ls alike) i ∷ beliefs-alike d w ls ss (All-tail (TellsAlike a b) l ls alike) i
+  beliefs-alike d w = each-alike (leaf_belief kind a d w) (leaf_belief kind b d w) (belief-alike d w)
+
+  beliefs_in-alike : (d : Document) (w : Pair) (leaves : List LeafTree) (stats : List LeafStats) → All (TellsAlike a b) leaves → beliefs_in kind a d w leaves stats ≡ beliefs_in kind b d w leaves stats
+  beliefs_in-alike d w = each-alike (belief_in kind a d w) (belief_in kind b d w) (belief_in-alike d w)
 
   candidate-alike : (network : NetworkTree) → All (TellsAlike a b) network.leaves → (d : Document) (w : Pair) → candidate kind a network d w ≡ candidate kind b network d w
   candidate-alike network alike d w = λ i. record { docno = d.docno; begin = w.begin; end = w.end; beliefs = beliefs-alike d w network.leaves network.stats alike i }
@@ -50,6 +71,31 @@ module _ (kind : RuleKind) (a b : List Prior) where
   held-alike filters network docs most alike (Ended hits) held =
       (held.0, record { all = subst (λ (cs : List Candidate). IsPermutation cs (map candidate_of held.0)) (candidates-alike filters network alike docs) held.1.all; keys = held.1.keys; sorted = held.1.sorted }, held.2)
 
+  from-alike : (network : NetworkTree) → All (TellsAlike a b) network.leaves → (least : ℕ) (d : Document) → AreFrom kind a network least d → AreFrom kind b network least d
+  from-alike network alike least d from = λ w has.
+      let same = beliefs_in-alike d w network.leaves network.stats alike in
+      record {
+        beliefs = subst (λ (qs : List Ratio). All IsBelief qs) same (from w has).beliefs;
+        leads = subst (λ (qs : List Ratio). least ≤ key_at FIRST qs network.tree) same (from w has).leads;
+      }
+
+  known-alike : (filters : List FilterTree) (network : NetworkTree) (tables : List RangeTable) (number : ℕ) (docs : List Document) (id : ℕ) (ahead : Ahead) → All (TellsAlike a b) network.leaves
+      → IsKnown kind a filters network tables number docs id ahead → IsKnown kind b filters network tables number docs id ahead
+  known-alike filters network tables number docs id ahead alike known = record {
+    may = known.may;
+    least = λ n i is from end. from-alike network alike n (document_at docs i) (known.least n i is from end);
+    told = known.told;
+    span = known.span;
+  }
+
   -- What a search has taken by the one is so by the other.
   pub taken-alike : (told : Option Files) (s : Search) → All (TellsAlike a b) (network_tree s.network).leaves → IsTaken kind a told s → IsTaken kind b told s
-  taken-alike told s alike taken = record { held = held-alike (filters_of s) (network_tree s.network) (passed told s.snapshot s.at) s.most alike s.held taken.held; ahead = taken.ahead }
+  taken-alike told s alike taken =
+      let docs = reads told (part_at s.snapshot s.at.part).source in
+      record {
+        held = held-alike (filters_of s) (network_tree s.network) (passed told s.snapshot s.at) s.most alike s.held taken.held;
+        ahead = record {
+          here = known-alike (filters_of s) (network_tree s.network) s.tables.items s.at.part docs s.at.id s.at.ahead alike taken.ahead.here;
+          each = taken.ahead.each;
+        };
+      }

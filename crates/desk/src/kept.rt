@@ -26,13 +26,13 @@ ghost use Rattle.desk.specs.Told.{RefusesAs, reply_early, told_early};
 use crate::asking::{NotTaken, ask, ask_expr};
 use crate::query::{MAX_QUERIES, OpenQuery};
 use crate::scanning::scan;
+use crate::search::new_search;
 use crate::{Refusal, Reply, all_stats, explain_hit, hit_of_rank, names_of, ranking_is_true};
 use belief_nodes::BeliefNode;
 use counts::Counts;
 use disk_index::BlockCache;
 use holdings::AddRefusal;
 use query_check::Checked;
-use ranker::Search;
 use repository::{Repository, Turned};
 use ri_base::{Bytes, Doc, Docno, Fraction, Name, NoMemory, SegFault};
 use session_events::Event;
@@ -511,7 +511,7 @@ impl Kept {
             &mut self.cache,
         )?;
         let told = name.clone_in(alloc)?;
-        let search = Search::new(alloc, snapshot, checked, &stats, k)?;
+        let search = new_search(alloc, snapshot, checked, &stats, k, store, &mut self.cache)?;
         self.queries
             .push(OpenQuery { name, search })
             .map_err(AllocError::from)?;

@@ -9,7 +9,7 @@ ghost use Rattle.smoothing.specs.Fractions.{IsMu, dirichlet};
 ghost use Rattle.smoothing.specs.declared.rule.RuleKind.{RuleKind};
 ghost use Rattle.query_check.specs.Answers.{whole_checked};
 ghost use Rattle.belief_nodes.specs.Leaves.{AreLeafStats};
-ghost use Rattle.belief_nodes.specs.Network.{network_tree};
+ghost use Rattle.belief_nodes.specs.Network.{network_of, network_tree};
 ghost use Rattle.belief_nodes.specs.Priors.{Prior};
 ghost use Rattle.disk_index.specs.Cache.{IsCacheBacked};
 ghost use Rattle.disk_index.specs.Snapshots.{AreBacked, IsFileAmong};
@@ -22,11 +22,42 @@ ghost use Rattle.desk.specs.Searching.{HasSearched};
 use belief_nodes::BeliefNode;
 use disk_index::{BlockCache, Snapshot};
 use query_check::Checked;
+use range_tables::tables;
 use ranker::Search;
 use ri_base::{Fraction, Hits, LeafStats, SegFault};
 use smoothing::{Rule, RuleKind, dirichlet_fraction};
 use std::alloc::Global;
 use store_ends::Store;
+
+/// A search over the documents of a snapshot that has passed none yet, with the tables of the ranges of its parts. The statistics are
+/// those of the query's leaves, in order of their numbers.
+pub(crate) fn new_search<T: Store>(
+    alloc: Global,
+    snapshot: Snapshot,
+    checked: Checked,
+    stats: &[LeafStats],
+    most: u32,
+    store: &mut T,
+    cache: &mut BlockCache,
+) -> Result<Search, SegFault>
+    requires each { length stats.now ≡ length checked.leaves.items }
+    requires counted { All (λ s. AreLeafStats s) stats.now }
+    ensures snapshot { IfOk result (λ s. s.snapshot ≡ snapshot) }
+    ensures checked { IfOk result (λ s. s.checked ≡ checked) }
+    ensures network { IfOk result (λ s. network_tree s.network ≡ network_of checked stats.now) }
+    ensures most { IfOk result (λ s. s.most ≡ most) }
+    ensures credit { IfOk result (λ s. s.at.credit ≡ 0) }
+    ensures usable { IfOk result (λ s. s.usable ≡ true) }
+    ensures taken { AreBacked (T.files store.old) snapshot → IsCacheBacked (T.files store.old) cache.old
+        → IfOk result (λ s. (kind : RuleKind) (priors : List Prior) → IsTaken kind priors (T.files store.old) s) }
+    ensures honest { AreBacked (T.files store.old) snapshot → IsCacheBacked (T.files store.old) cache.old → IfErr result IsOutside }
+    ensures reads { OnlyReads T.files T.layers T.clock T.since T.longest T.held T.faults (IsFileAmong snapshot) store.old store.new cache.old cache.new }
+    ensures store { result ≡ Err SegFault.Store → Rose (T.faults store.old) (T.faults store.new) }
+{
+    let tables = tables(alloc, &checked.leaves, snapshot.parts(), store, cache)?;
+    let search = Search::new(alloc, snapshot, checked, stats, tables, most)?;
+    Ok(search)
+}
 
 /// A search for the first results over the documents of a snapshot, `most` of them at most, that has passed them all. The
 /// statistics are those of the query's leaves, in order of their numbers.
@@ -63,7 +94,7 @@ pub fn search_all<T: Store>(
         { dirichlet_fraction(mu, tf, len, cf, total) },
     );
     let live = u64::from(snapshot.live_count());
-    let mut search = Search::new(alloc, snapshot, checked, stats, most)?;
+    let mut search = new_search(alloc, snapshot, checked, stats, most, store, cache)?;
     search.step(alloc, live, &rule, plugs, store, cache)?;
     Ok(search)
 }

@@ -1,11 +1,14 @@
-use Rattle.std.proofs.Common.{◌≡◌, List, length, map, ap, refl, sym, ◌∙◌, subst}
+use Rattle.std.proofs.Common.{◌≡◌, List, Option, length, map, ap, refl, sym, ◌∙◌, subst}
 use Rattle.std.specs.List.{All}
+use Rattle.std.proofs.lemmas.Result.{err_from_is_err_and}
+use Rattle.store_ends.specs.Files.{Files}
 use Rattle.smoothing.specs.declared.rule.RuleKind.{RuleKind}
 use Rattle.query_check.specs.Answers.{whole_checked}
 use Rattle.belief_nodes.specs.Leaves.{HasPrior}
 use Rattle.belief_nodes.specs.Network.{NetworkTree}
+use Rattle.belief_nodes.specs.Priors.{Prior}
 use Rattle.disk_index.specs.Snapshots.{AreBacked, Marked}
-use Rattle.counts.proofs.ReadingLemmas.{reads-same}
+use Rattle.counts.proofs.ReadingLemmas.{cache-backed, reads-then}
 use Rattle.ranker.specs.Searches.{IsTaken}
 use Rattle.desk.proofs.AnswerLemmas.{nine_priors}
 use Rattle.desk.proofs.SearchLemmas.{has-searched}
@@ -27,16 +30,32 @@ returns-clause-searched g c =
 
 pub returns-clause-taken : goal.returns-clause-taken
 returns-clause-taken g c = λ backed cached.
+    let told = g.T.Store.files c.args.store.now in
+    let here = g.T.Store.files c.new_search.new.store in
+    let priors : List Prior = map (λ b. (goal.BeliefNode-dyn g (b.vtable, b.value)).meaning b.value) c.args.plugs.now in
     let made = c.in_ok-search.ensures in
-    let same : c.new-rule.result.kind ≡ c.args.kind = rw c.new-rule.ensures refl in
-    subst (λ (k : RuleKind). IsTaken k (map (λ b. (goal.BeliefNode-dyn g (b.vtable, b.value)).meaning b.value) c.args.plugs.now) (g.T.Store.files c.args.store.now) c.step.new.self) same
-    (c.in_ok-step.ensures.taken (subst (λ (ms : List Marked). AreBacked (g.T.Store.files c.args.store.now) ms) (sym made.snapshot) backed) cached (made.taken _ _ _))
+    let same : here ≡ told = made.reads.quiet.same_files in
+    let kind : c.new-rule.result.kind ≡ c.args.kind = rw c.new-rule.ensures refl in
+    let parts = subst (λ (f : Option Files). AreBacked f c.in_ok-search.search.snapshot) (sym same) (subst (λ (ms : List Marked). AreBacked told ms) (sym made.snapshot) backed) in
+    let begun = subst (λ (f : Option Files). IsTaken c.new-rule.result.kind priors f c.in_ok-search.search) (sym same) (made.taken backed cached c.new-rule.result.kind priors) in
+    subst (λ (f : Option Files). IsTaken c.args.kind priors f c.step.new.self) same
+    (subst (λ (k : RuleKind). IsTaken k priors here c.step.new.self) kind
+    (c.in_ok-step.ensures.taken parts (cache-backed _ _ _ _ _ _ _ _ _ _ _ _ made.reads cached) begun))
 
 pub returns-clause-reads : goal.returns-clause-reads
-returns-clause-reads g c = record { quiet = c.step.ensures.quiet; later = c.step.ensures.later; cache = rw c.in_ok-search.ensures.snapshot at c.step.ensures.cache }
-
-pub returns-in_err-search-clause-reads : goal.returns-in_err-search-clause-reads
-returns-in_err-search-clause-reads g c = reads-same _ _ _ _ _ _ _ _ _ _
+returns-clause-reads g c =
+    let made = c.in_ok-search.ensures in
+    reads-then _ _ _ _ _ _ _ _ _ _ c.step.new.store _ _ c.step.new.cache made.reads (record { quiet = c.step.ensures.quiet; later = c.step.ensures.later; cache = rw made.snapshot at c.step.ensures.cache })
 
 pub returns-in_err-step-clause-reads : goal.returns-in_err-step-clause-reads
-returns-in_err-step-clause-reads g c = record { quiet = c.step.ensures.quiet; later = c.step.ensures.later; cache = rw c.in_ok-search.ensures.snapshot at c.step.ensures.cache }
+returns-in_err-step-clause-reads g c =
+    let made = c.in_ok-search.ensures in
+    reads-then _ _ _ _ _ _ _ _ _ _ c.step.new.store _ _ c.step.new.cache made.reads (record { quiet = c.step.ensures.quiet; later = c.step.ensures.later; cache = rw made.snapshot at c.step.ensures.cache })
+
+pub returns-in_err-step-clause-honest : goal.returns-in_err-step-clause-honest
+returns-in_err-step-clause-honest g c = λ backed cached.
+    let told = g.T.Store.files c.args.store.now in
+    let made = c.in_ok-search.ensures in
+    let parts = subst (λ (f : Option Files). AreBacked f c.in_ok-search.search.snapshot) (sym made.reads.quiet.same_files) (subst (λ (ms : List Marked). AreBacked told ms) (sym made.snapshot) backed) in
+    let p = err_from_is_err_and c.from_residual-in_err-step.result c.from_residual-in_err-step.ensures.1 in
+    rw (p.1, p.2) (c.in_err-step.ensures.honest parts (cache-backed _ _ _ _ _ _ _ _ _ _ _ _ made.reads cached))

@@ -1,15 +1,23 @@
-use Rattle.std.proofs.Common.{◌≡◌, ◌∙◌, ◌<◌, ◌++◌, ◌∷◌, [], ap, arith, false, true, length, map, refl, rules, subst, sym, List}
+use Rattle.std.proofs.Common.{◌≡◌, ◌∙◌, ◌<◌, ◌++◌, ◌∷◌, [], ap, arith, false, true, length, map, refl, rules, subst, sym, List, Option}
 use Rattle.std.specs.Prelude.{is_some, nat_le}
 use Rattle.std.specs.List.{All}
 use Rattle.std.proofs.lemmas.Bool.{le-leb, lt-leb}
 use Rattle.std.proofs.lemmas.Result.{err_from_is_err_and}
 use Rattle.ri_base.specs.Documents.{Document}
+use Rattle.store_ends.specs.Files.{Files}
+use Rattle.smoothing.specs.declared.rule.RuleKind.{RuleKind}
 use Rattle.query_check.specs.Answers.{whole_checked}
 use Rattle.query_check.specs.Leaves.{leaf_tree}
 use Rattle.query_check.specs.declared.leaf_kind.LeafKind.{LeafKind}
+use Rattle.belief_nodes.specs.Priors.{Prior}
+use Rattle.disk_index.specs.Cache.{IsCacheBacked}
+use Rattle.disk_index.specs.QuietLaws.{IsCacheBacked-kept}
 use Rattle.disk_index.specs.Snapshots as snapshots
+use Rattle.disk_index.specs.Snapshots.{AreBacked, IsFileAmong}
 use Rattle.document_scoring.specs.Counts.{stats_of}
 use Rattle.counts.specs.Kept.{AreSums}
+use Rattle.counts.proofs.ReadingLemmas.{cache-backed, reads-then}
+use Rattle.ranker.specs.Searches.{IsTaken}
 use Rattle.repository.specs.States as repositories
 use Rattle.desk.specs.declared.reply.Refusal.TheVariants.{DeskFull, NameTaken}
 use Rattle.desk.specs.Backed.{IsDeskBacked, Keeps}
@@ -111,10 +119,28 @@ returns-in_err-stats-clause-honest g c = λ backed.
     let p = err_from_is_err_and c.from_residual-in_err-stats.result c.from_residual-in_err-stats.ensures.1 in
     rw (p.1, p.2) (c.in_err-stats.ensures.honest (c.in_ok-snapshot.ensures.stored told b.repository) b.cache.backed)
 
+pub returns-in_err-search-clause-honest : goal.returns-in_err-search-clause-honest
+returns-in_err-search-clause-honest g c = λ backed.
+    let told = g.T.Store.files c.args.store.now in
+    let b : IsDeskBacked told (seen c.self.inside) = subst (IsDeskBacked told) (sym c.self.view_is) backed in
+    let reads = c.in_ok-stats.ensures.reads in
+    let stored = subst (λ (f : Option Files). AreBacked f c.in_ok-snapshot.snapshot) (sym reads.quiet.same_files) (c.in_ok-snapshot.ensures.stored told b.repository) in
+    let p = err_from_is_err_and c.from_residual-in_err-search.result c.from_residual-in_err-search.ensures.1 in
+    rw (p.1, p.2) (c.in_err-search.ensures.honest stored (cache-backed _ _ _ _ _ _ _ _ _ _ _ _ reads b.cache.backed))
+
+pub returns-in_err-search-clause-quiet : goal.returns-in_err-search-clause-quiet
+returns-in_err-search-clause-quiet g c = (reads-then _ _ _ _ _ _ _ _ _ _ _ _ _ _ c.in_ok-stats.ensures.reads c.in_err-search.ensures.reads).quiet
+
+pub returns-in_err-map_err-clause-quiet : goal.returns-in_err-map_err-clause-quiet
+returns-in_err-map_err-clause-quiet g c = (reads-then _ _ _ _ _ _ _ _ _ _ _ _ _ _ c.in_ok-stats.ensures.reads c.in_ok-search.ensures.reads).quiet
+
+pub returns-clause-quiet : goal.returns-clause-quiet
+returns-clause-quiet g c = (reads-then _ _ _ _ _ _ _ _ _ _ _ _ _ _ c.in_ok-stats.ensures.reads c.in_ok-search.ensures.reads).quiet
+
 pub returns-clause-steps : goal.returns-clause-steps
 returns-clause-steps g c = λ backed.
     let told = g.T.Store.files c.args.store.now in
-    let after = g.T.Store.files c.all_stats.new.store in
+    let after = g.T.Store.files c.new_search.new.store in
     let s = c.self.inside in
     let name = c.args.name in
     let view = seen c.self.inside in
@@ -131,12 +157,16 @@ returns-clause-steps g c = λ backed.
     let generation : c.generation-generation.result ≡ s.repository.held.generation = c.generation-generation.ensures ∙ ap (λ (x : repositories.State). x.held.generation) c.in_ok-snapshot.ensures.closed in
     let sums : IsDeskBacked told view → AreSums (snapshots.live told snapshot) c.generation-generation.result s.counts = λ b.
     subst (λ n. AreSums (snapshots.live told snapshot) n s.counts) (sym generation) (subst (λ (docs : List Document). AreSums docs s.repository.held.generation s.counts) (sym documents) b.counts) in
-    open-done told view name c.args.k c.args.checked snapshot stats q new refl documents after c.args.self.now c.snapshot.new.self c.push.new.self.items c.all_stats.new.counts c.all_stats.new.cache c.from-live.result c.in_ok-told.told
-    c.self.view_is c.in_ok-snapshot.ensures.closed pushed c.in_ok-told.ensures c.in_ok-stats.ensures.reads.quiet.same_files free room (wide ∙ c.live_count.ensures told) c.in_ok-snapshot.ensures.numbers
-    (λ b. c.in_ok-snapshot.ensures.stored told b.repository) c.in_ok-search.ensures.taken
+    let counted = c.in_ok-stats.ensures.reads in
+    let reads = reads-then _ _ _ _ _ _ _ _ _ _ _ _ _ _ counted made.reads in
+    let taken = subst (λ (f : Option Files). AreBacked f snapshot → IsCacheBacked f c.all_stats.new.cache → (kind : RuleKind) (priors : List Prior) → IsTaken kind priors f q.search) counted.quiet.same_files made.taken in
+    open-done told view name c.args.k c.args.checked snapshot stats q new refl documents after c.args.self.now c.snapshot.new.self c.push.new.self.items c.all_stats.new.counts c.new_search.new.cache c.from-live.result c.in_ok-told.told
+    c.self.view_is c.in_ok-snapshot.ensures.closed pushed c.in_ok-told.ensures reads.quiet.same_files free room (wide ∙ c.live_count.ensures told) c.in_ok-snapshot.ensures.numbers
+    (λ b. c.in_ok-snapshot.ensures.stored told b.repository)
+    (λ b. taken (c.in_ok-snapshot.ensures.stored told b.repository) (IsCacheBacked-kept told (IsFileAmong snapshot) s.cache c.all_stats.new.cache counted.cache b.cache.backed))
     (λ b. c.deref-2.ensures.value ∙ c.in_ok-stats.ensures.exact (c.in_ok-snapshot.ensures.stored told b.repository) b.cache.backed (sums b) ∙ ap (λ (ls : List LeafKind). map (stats_of (snapshots.live told snapshot)) (map leaf_tree ls)) c.deref.ensures.value)
     (λ b. subst (λ n. AreSums (snapshots.live told snapshot) n c.all_stats.new.counts) generation (c.in_ok-stats.ensures.kept (c.in_ok-snapshot.ensures.stored told b.repository) b.cache.backed (sums b)))
-    (λ b. cache-read told s.repository snapshot s.cache c.all_stats.new.cache (listed-now s.repository snapshot c.in_ok-snapshot.ensures.numbers) c.in_ok-stats.ensures.reads.cache b.cache) backed
+    (λ b. cache-read told s.repository snapshot s.cache c.new_search.new.cache (listed-now s.repository snapshot c.in_ok-snapshot.ensures.numbers) reads.cache b.cache) backed
 
 pub returns-clause-refuses : goal.returns-clause-refuses
 returns-clause-refuses g c = λ told.

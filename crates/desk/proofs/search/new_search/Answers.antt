@@ -34,5 +34,5 @@ returns-in_err-search-clause-reads g c = record { quiet = c.tables.ensures.quiet
 pub returns-in_err-tables-clause-honest : goal.returns-in_err-tables-clause-honest
 returns-in_err-tables-clause-honest g c = λ backed cached.
     let told = g.T.Store.files c.args.store.now in
-    let p = err_from_is_err_and c.from_residual-in_err-tables.result c.from_residual-in_err-tables.ensures.1 in
+    let p = err_from_is_err_and c.from_residual.result c.from_residual.ensures.1 in
     rw (p.1, p.2) (c.in_err-tables.ensures.honest (subst (λ (ms : List Marked). AreBacked told ms) (sym c.parts.ensures.parts) backed) cached)

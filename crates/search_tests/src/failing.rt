@@ -1,6 +1,6 @@
 // A store that fails once, at each call in turn.
 use crate::opened::{Documents, open};
-use crate::searches::{Row, is_order};
+use crate::searches::{Row, Wanted, is_order};
 use std::alloc::Global;
 use store_ends::{Left, StoreFail};
 
@@ -31,8 +31,13 @@ fn failing_at(alloc: Global, call: u64) -> Option<Vec<StoreFail>> {
 fn searches(alloc: Global, call: u64) -> Option<(Option<bool>, Option<bool>)> {
     let fails = failing_at(alloc, call)?;
     let mut opened = open(alloc, DOCUMENTS, fails)?;
-    let first = is_order(alloc, &mut opened, &ROW, 10, 2);
-    Some((first, is_order(alloc, &mut opened, &ROW, 10, 2)))
+    let wanted = Wanted {
+        most: 10,
+        docs: 2,
+        skips: false,
+    };
+    let first = is_order(alloc, &mut opened, &ROW, wanted);
+    Some((first, is_order(alloc, &mut opened, &ROW, wanted)))
 }
 
 #[test]

@@ -1,11 +1,12 @@
 -- One of the parts of a snapshot, and the parts that are read one after the other.
-use Rattle.std.proofs.Common.{◌≡◌, ◌<◌, ℕ, List, Option, Contains, get_or, inl, inr, length, sym, subst}
+use Rattle.std.proofs.Common.{◌≡◌, ◌<◌, ℕ, List, Option, Contains, get_or, inl, inr, length, sym, ap, subst, ◌∙◌}
 use Rattle.std.proofs.lemmas.List.Elements.{Contains-get_or}
 use Rattle.store_ends.specs.Files.{Files}
 use Rattle.disk_index.specs.Cache.{CacheKeeps, IsCacheBacked, KeptBlock}
-use Rattle.disk_index.specs.Parts.{IsFileOf, IsPartBacked, Source}
+use Rattle.disk_index.specs.Parts.{IsFileOf, IsPartBacked, Source, reads, size}
 use Rattle.disk_index.specs.QuietLaws.{CacheKeeps-after}
 use Rattle.disk_index.specs.Snapshots.{AreBacked, IsFileAmong, Marked}
+use Rattle.disk_index.proofs.RebuiltLemmas.{reads-length}
 
 -- a reader of a backed part and a backed cache is sound
 pub sound-of : (told here : Option Files) (source own : Source) (cached kept : List KeptBlock) → here ≡ told → own ≡ source → kept ≡ cached → IsPartBacked told source → IsCacheBacked told cached
@@ -14,6 +15,14 @@ sound-of told here source own cached kept same_told same_part same_cache part ca
   subst (λ (f : Option Files). IsPartBacked f own) (sym same_told) (subst (IsPartBacked told) (sym same_part) part),
   subst (λ (f : Option Files). IsCacheBacked f kept) (sym same_told) (subst (IsCacheBacked told) (sym same_cache) cache),
 )
+
+-- and it has the documents of its part
+module _ (told here : Option Files) (source own : Source) (same_told : here ≡ told) (same_part : own ≡ source) where
+  pub docs-of : reads here own ≡ reads told source
+  docs-of = ap (λ (t : Option Files). reads t own) same_told ∙ ap (reads told) same_part
+
+  pub within-of : (id : ℕ) → id < size source → id < length (reads here own)
+  within-of id inside = subst (λ n. id < n) (sym (reads-length here own)) (subst (λ (p : Source). id < size p) (sym same_part) inside)
 
 module _ (parts : List Marked) (i : ℕ) (m : Marked) (inside : i < length parts) (at : m ≡ get_or parts i m) where
   -- the part of a place is one of them

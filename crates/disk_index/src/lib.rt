@@ -25,7 +25,7 @@ pub use index::DiskIndex;
 pub use marked_part::MarkedPart;
 pub use name::{as_text, segment_name, write_hex};
 pub use part::Part;
-pub use presence::next_in_memory;
+pub use presence::{next_in_memory, term_postings};
 pub use reader::PartReader;
 pub use reading::store_fault;
 pub use snapshot::{Snapshot, fits_snapshot};

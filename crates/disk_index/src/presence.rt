@@ -44,14 +44,22 @@ impl Part {
     }
 }
 
+/// The postings of a term, by rising id: none where no document has it.
+pub fn term_postings<'a>(sealed: &'a Sealed, term: &Term) -> &'a [Place]
+    ensures same { result.now ≡ postings_of term.now sealed.now }
+    ensures rising { IsNonDecreasingBy (λ p. p.id) result.now }
+{
+    match sealed.vocabulary().as_slice().binary_search(term) {
+        Ok(rank) => sealed.postings(rank).as_slice(),
+        Err(_) => &[],
+    }
+}
+
 /// Whether a document of the range has the term.
 fn has_term(sealed: &Sealed, term: &Term, range: u32) -> bool
     ensures { result ≡ list_any (λ p. p.id / 64 == range) (postings_of term.now sealed.now) }
 {
-    match sealed.vocabulary().as_slice().binary_search(term) {
-        Ok(rank) => has_posting(sealed.postings(rank).as_slice(), range),
-        Err(_) => false,
-    }
+    has_posting(term_postings(sealed, term), range)
 }
 
 /// Whether there is a posting in the range, of postings by rising id.
@@ -67,10 +75,7 @@ fn has_posting(postings: &[Place], range: u32) -> bool
 pub fn next_in_memory(sealed: &Sealed, term: &Term, from: u32) -> Option<u32>
     ensures { IsNext (λ range. list_any (λ p. p.id / 64 == range) (postings_of term.now sealed.now)) from result }
 {
-    match sealed.vocabulary().as_slice().binary_search(term) {
-        Ok(rank) => next_posting(sealed.postings(rank).as_slice(), from),
-        Err(_) => None,
-    }
+    next_posting(term_postings(sealed, term), from)
 }
 
 /// The range of the first posting that isn't before this range, of postings by rising id.

@@ -9,15 +9,13 @@ use Rattle.std.proofs.lemmas.Bool.Decides.{eqb_tells}
 use Rattle.std.proofs.lemmas.List.{take-append-drop}
 use Rattle.std.proofs.lemmas.List.Elements.{All-head, All-tail, All-take, All-weaker}
 use Rattle.std.proofs.lemmas.List.Folds.{list_any-append, list_any_more, list_any_none}
-use Rattle.std.proofs.lemmas.Nat.Bits.{bit_at-zero}
 use Rattle.std.proofs.lemmas.Option.{slice_get_past}
 use Rattle.ri_base.specs.Collection.{document_at, empty_document}
 use Rattle.ri_base.specs.Documents.{Document}
 use Rattle.ri_base.specs.Places.{places, places_at, places_from, postings_from, postings_of}
-use Rattle.ri_base.specs.Vocabulary.{Occurs}
 use Rattle.ri_base.specs.declared.places.Place.{Place}
 use Rattle.ri_base.proofs.ListLemmas.{All-drop_within, All-take_within}
-use Rattle.ri_base.proofs.PlacesLemmas.{made_other, places-absent, places_at-append, places_at-postings}
+use Rattle.ri_base.proofs.PlacesLemmas.{made_other, places_at-append, places_at-postings}
 use Rattle.range_masks.specs.Masks.{IsBlock, IsMask}
 use Rattle.range_masks.specs.May.{has_term}
 use Rattle.range_masks.proofs.MaskLemmas.{or_false}
@@ -71,10 +69,6 @@ at_any id t docs =
     ⊎_elim (λ h. places_at-postings id t docs h)
     (λ h. past_from 0 id t docs (omega (arith, h)) ∙ sym (ap (places t) (past docs id h) ∙ no_place t))
     (cases_lt id (length docs))
-
-absent_at : (id : ℕ) (t : List ℕ) (docs : List Document) → (Occurs t docs → ⊥) → places t (document_at docs id) ≡ []
-absent_at id t docs none =
-    ⊎_elim (λ h. places-absent id t docs h none) (λ h. ap (places t) (past docs id h) ∙ no_place t) (cases_lt id (length docs))
 
 -- ---- the postings of a range
 
@@ -174,11 +168,4 @@ IsMask-block t range docs all block mask is h bits = record {
       let id = 64 * range + i in
       bits i small ∙ ap (λ b. cond b 1 0) (same_ids range i block small h.inside ∙ h.whole i small
       ∙ ap (λ ps. list_any (λ p. p.id == id) ps) is ∙ some_at id (postings_of t docs) ∙ ap some (at_any id t docs) ∙ some_place t (document_at docs id));
-}
-
-pub IsMask-absent : (t : List ℕ) (range : ℕ) (docs : List Document) → (Occurs t docs → ⊥) → IsMask (has_term t) range docs 0
-IsMask-absent t range docs none = record {
-  bits = λ i small.
-      let id = 64 * range + i in
-      bit_at-zero i ∙ sym (ap (λ b. cond b 1 0) (sym (some_place t (document_at docs id)) ∙ ap some (absent_at id t docs none)));
 }

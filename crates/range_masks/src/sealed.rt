@@ -8,7 +8,7 @@ ghost use Rattle.range_masks.specs.May.{has_term};
 
 use crate::TermMasks;
 use crate::bits::with_id;
-use disk_index::next_in_memory;
+use disk_index::{next_in_memory, term_postings};
 use ri_base::{Place, Sealed, SegFault, Term};
 use std::alloc::Global;
 
@@ -26,10 +26,7 @@ impl TermMasks for Sealed {
 pub(crate) fn mask_in(index: &Sealed, term: &Term, range: u32) -> u64
     ensures { IsMask (has_term term.now) range index.now result }
 {
-    match index.vocabulary().as_slice().binary_search(term) {
-        Ok(rank) => mask_of_ids(block_of(index.postings(rank).as_slice(), range)),
-        Err(_) => 0,
-    }
+    mask_of_ids(block_of(term_postings(index, term), range))
 }
 
 /// Of postings by rising id those of the range.

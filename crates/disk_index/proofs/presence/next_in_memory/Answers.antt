@@ -1,33 +1,8 @@
-use Rattle.std.proofs.Common.{◌≡◌, ◌/◌, ◌==◌, ℕ, List, [], get_or, sym, ap, subst, ◌∙◌}
+use Rattle.std.proofs.Common.{◌/◌, ◌==◌, sym, ap}
 use Rattle.std.specs.List.{list_any}
-use Rattle.std.specs.List.Sorted.{IsNonDecreasingBy}
-use Rattle.std.proofs.lemmas.Map.Lookups.{exact_bytes}
-use Rattle.ri_base.specs.Places.{postings_of}
-use Rattle.ri_base.specs.Vocabulary.{IsVocabulary, vocabulary_of}
 use Rattle.ri_base.specs.declared.places.Place.{Place}
-use Rattle.ri_base.proofs.PlacesLemmas.{absent, postings_of-rise}
 use Rattle.disk_index.proofs.NextLemmas.{IsNext-same}
-use Rattle.disk_index.proofs.PresenceLemmas.{postings-absent}
 use Rattle.disk_index.proofs.presence.next_in_memory.Goals as goal
 
-pub next_posting-requires : goal.next_posting-requires
-next_posting-requires c =
-    let D = c.args.sealed.now in
-    subst (λ (ps : List Place). IsNonDecreasingBy (λ p. p.id) ps) (sym (c.as_slice-in-Ok.ensures ∙ c.postings.ensures)) (postings_of-rise (get_or (vocabulary_of D) c.in-Ok.rank []) D)
-
-pub returns-in-Ok : goal.returns-in-Ok
-returns-in-Ok c =
-    let D = c.args.sealed.now in
-    let r = c.in-Ok.rank in
-    let terms : c.as_slice.result.now ≡ vocabulary_of D = c.as_slice.ensures ∙ c.vocabulary.ensures.same in
-    let found : get_or (vocabulary_of D) r [] ≡ c.args.term.now = subst (λ (l : List (List ℕ)). get_or l r [] ≡ c.args.term.now) terms (exact_bytes _ _ (c.in-Ok.ensures.ok [])) in
-    let here : c.as_slice-in-Ok.result.now ≡ postings_of c.args.term.now D = c.as_slice-in-Ok.ensures ∙ c.postings.ensures ∙ ap (λ (t : List ℕ). postings_of t D) found in
-    IsNext-same _ _ c.args.from _ (λ n. ap (list_any (λ (p : Place). p.id / 64 == n)) (sym here)) c.next_posting.ensures
-
-pub returns-in-Err : goal.returns-in-Err
-returns-in-Err c =
-    let D = c.args.sealed.now in
-    let t = c.args.term.now in
-    let voc : IsVocabulary c.as_slice.result.now D = subst (λ (l : List (List ℕ)). IsVocabulary l D) (sym c.as_slice.ensures) c.vocabulary.ensures.distinct in
-    let none : postings_of t D ≡ [] = postings-absent t D (absent c.as_slice.result.now D t c.in-Err.field-0 voc c.in-Err.ensures.position) in
-    λ n low. ap (list_any (λ (p : Place). p.id / 64 == n)) none
+pub returns : goal.returns
+returns c = IsNext-same _ _ c.args.from _ (λ n. ap (list_any (λ (p : Place). p.id / 64 == n)) (sym c.term_postings.ensures.same)) c.next_posting.ensures

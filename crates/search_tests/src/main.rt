@@ -5,6 +5,7 @@
 mod documents;
 #[cfg(test)]
 mod failing;
+mod made;
 #[cfg(test)]
 mod opened;
 #[cfg(test)]
@@ -13,6 +14,7 @@ mod orders;
 mod queries;
 #[cfg(test)]
 mod searches;
+mod skipping;
 #[cfg(test)]
 mod stats;
 #[cfg(test)]

@@ -5,6 +5,7 @@
 mod documents;
 #[cfg(test)]
 mod failing;
+#[cfg(test)]
 mod made;
 #[cfg(test)]
 mod opened;
@@ -14,6 +15,7 @@ mod orders;
 mod queries;
 #[cfg(test)]
 mod searches;
+#[cfg(test)]
 mod skipping;
 #[cfg(test)]
 mod stats;

@@ -1,5 +1,5 @@
 // Queries that are searched for over a segment that is open.
-ghost use Rattle.std.specs.Prelude.{◌≡◌, length, All, IfOk};
+ghost use Rattle.std.specs.Prelude.{◌≡◌, All, IfOk};
 ghost use Rattle.ri_base.specs.Ratio.{ratio_of};
 ghost use Rattle.smoothing.specs.Counts.{AreCounts};
 ghost use Rattle.smoothing.specs.Fractions.{Computes, dirichlet};
@@ -10,7 +10,6 @@ use crate::parts::Counted;
 use crate::queries::query;
 use crate::sums::all_stats;
 use anyhow::{Result, bail};
-use belief_nodes::BeliefNode;
 use disk_index::BlockCache;
 use ranker::Search;
 use ri_base::{Fraction, Hits};
@@ -48,24 +47,23 @@ fn begin<T: Store>(
     Ok(Search::new(alloc, snapshot, checked, &stats, tables, wanted.most)?)
 }
 
-/// Passes so many documents, and tells whether all are passed by now.
+/// Passes so many documents, and tells whether all are passed by now. No prior is asked for.
 fn step<T: Store, F: Fn(u32, u32, u64, u64) -> Fraction>(
     alloc: Global,
     search: &mut Search,
     docs: u64,
     rule: &Rule<F>,
-    plugs: &mut [Box<dyn BeliefNode>],
     store: &mut T,
     cache: &mut BlockCache,
 ) -> Result<bool>
     requires rule { Computes F.pre F.post rule.now.kind rule.now.f }
-    requires priors { All (HasPrior (length plugs.old)) (network_tree search.old.network).leaves }
-    ensures priors { All (HasPrior (length plugs.new)) (network_tree search.new.network).leaves }
+    requires priors { All (HasPrior 0) (network_tree search.old.network).leaves }
+    ensures priors { All (HasPrior 0) (network_tree search.new.network).leaves }
 {
     if !search.usable() {
         bail!("a search that can't go on");
     }
-    Ok(search.step(alloc, docs, rule, plugs, store, cache)?)
+    Ok(search.step(alloc, docs, rule, &mut [], store, cache)?)
 }
 
 /// The results of the search.
@@ -79,7 +77,7 @@ fn results(alloc: Global, search: &Search) -> Result<Hits> {
     }
 }
 
-/// The results of the search once it is at its end, by steps of so many documents. No prior is asked for.
+/// The results of the search once it is at its end, by steps of so many documents.
 fn go_through<T: Store, F: Fn(u32, u32, u64, u64) -> Fraction>(
     alloc: Global,
     search: &mut Search,
@@ -91,9 +89,8 @@ fn go_through<T: Store, F: Fn(u32, u32, u64, u64) -> Fraction>(
     requires rule { Computes F.pre F.post rule.now.kind rule.now.f }
     requires priors { All (HasPrior 0) (network_tree search.old.network).leaves }
 {
-    let mut plugs: Vec<Box<dyn BeliefNode>> = Vec::new(alloc);
     for _ in 0..10_000_000u32 {
-        if step(alloc, search, docs, rule, &mut plugs, store, cache)? {
+        if step(alloc, search, docs, rule, store, cache)? {
             return results(alloc, search);
         }
     }

@@ -20,6 +20,7 @@ enum Shape {
 }
 
 /// How many words a document has, and how many of sixteen of these are searched for, nearly.
+#[derive(Clone, Copy)]
 struct Measures {
     words: u64,
     share: u64,

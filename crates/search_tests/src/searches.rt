@@ -1,5 +1,5 @@
 // Searches over what was opened.
-ghost use Rattle.std.specs.Prelude.{◌≡◌, length, true, All, IfSome};
+ghost use Rattle.std.specs.Prelude.{◌≡◌, true, All, IfSome};
 ghost use Rattle.ri_base.specs.Ratio.{ratio_of};
 ghost use Rattle.smoothing.specs.Counts.{AreCounts};
 ghost use Rattle.smoothing.specs.Fractions.{dirichlet};
@@ -9,7 +9,6 @@ ghost use Rattle.belief_nodes.specs.Network.{network_tree};
 use crate::opened::{Opened, shared};
 use crate::queries::query;
 use crate::stats::all_stats;
-use belief_nodes::BeliefNode;
 use query_check::LeafKind;
 use range_bounds::RangeTable;
 use range_tables::tables;
@@ -51,17 +50,11 @@ fn begin(alloc: Global, opened: &mut Opened, text: &str, wanted: Wanted) -> Opti
     Search::new(alloc, snapshot, checked, &stats, tables, wanted.most).ok()
 }
 
-/// Passes so many documents, with a mu of 1; whether all are passed by now.
-fn step(
-    alloc: Global,
-    search: &mut Search,
-    opened: &mut Opened,
-    docs: u64,
-    plugs: &mut [Box<dyn BeliefNode>],
-) -> Option<bool>
+/// Passes so many documents, with a mu of 1; whether all are passed by now. No prior is asked for.
+fn step(alloc: Global, search: &mut Search, opened: &mut Opened, docs: u64) -> Option<bool>
     requires usable { search.old.usable ≡ true }
-    requires priors { All (HasPrior (length plugs.old)) (network_tree search.old.network).leaves }
-    ensures priors { All (HasPrior (length plugs.new)) (network_tree search.new.network).leaves }
+    requires priors { All (HasPrior 0) (network_tree search.old.network).leaves }
+    ensures priors { All (HasPrior 0) (network_tree search.new.network).leaves }
 {
     let rule = Rule::new(
         RuleKind::Dirichlet { mu: 1 },
@@ -72,19 +65,18 @@ fn step(
     );
     let store = &mut opened.store;
     let cache = &mut opened.cache;
-    search.step(alloc, docs, &rule, plugs, store, cache).ok()
+    search.step(alloc, docs, &rule, &mut [], store, cache).ok()
 }
 
-/// Whether the search passes all documents by steps of so many, a thousand steps at most. No prior is asked for.
+/// Whether the search passes all documents by steps of so many, a thousand steps at most.
 fn passes(alloc: Global, search: &mut Search, opened: &mut Opened, docs: u64) -> bool
     requires { All (HasPrior 0) (network_tree search.old.network).leaves }
 {
-    let mut plugs: Vec<Box<dyn BeliefNode>> = Vec::new(alloc);
     for _ in 0..1000 {
         if !search.usable() {
             return false;
         }
-        match step(alloc, search, opened, docs, &mut plugs) {
+        match step(alloc, search, opened, docs) {
             Some(true) => return true,
             Some(false) => {}
             None => return false,

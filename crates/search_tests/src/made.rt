@@ -60,11 +60,11 @@ fn measures(shape: Shape, number: u32, state: u64) -> Measures {
 
 /// What the words of a document are drawn by.
 fn seed_of(shape: Shape, number: u32) -> u64 {
-    let seed = match shape {
-        Shape::Alike => number / 1000 * 1000 + number % 7,
-        _ => number,
+    let place = match shape {
+        Shape::Alike => number % 7,
+        _ => number % 1000,
     };
-    next(next(u64::from(seed)))
+    next(next(u64::from(number / 1000) * 1000 + u64::from(place)))
 }
 
 /// A word that is searched for, in some of sixteen cases, else another one.

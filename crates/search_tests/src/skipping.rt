@@ -22,8 +22,8 @@ static QUERIES: [&str; 11] = [
 ];
 
 /// A collection of a thousand documents, by its number: two parts in files and one in memory, all with deleted documents.
-fn collection(number: u32) -> Documents {
-    let first = 1000 * number.min(100);
+fn collection(number: u8) -> Documents {
+    let first = 1000 * u32::from(number);
     Documents {
         part: 400,
         first,

@@ -1,4 +1,4 @@
-use Rattle.std.proofs.Common.{IfOk, List, option_copied, ap, subst}
+use Rattle.std.proofs.Common.{◌≡◌, IfOk, List, option_copied, ap, subst}
 use Rattle.ri_base.specs.Collection.{document_at}
 use Rattle.ri_base.specs.Documents.{Document}
 use Rattle.ri_base.specs.Expression.{expr_tree}

@@ -19,8 +19,8 @@ many where it is counted again, which must be none. What the system counted for 
 
 A row of a search has the time of the best of the rounds, once its words are counted and its blocks are kept, by one step of all
 documents and by steps of one. The exponent is the logarithm of how much more time a word of 500 documents takes among four times as
-many documents, over that of 4. Behind it stands the same with the tables of the ranges, which are made for each search. These searches
-are for 1,000 results.
+many documents, over that of 4. Below it stands the same with the tables of the ranges, which are made for each search, and what they
+take. These searches are for 1,000 results.
 
 A search for 10 results has two rows: what the opening, the first counts and the search take without tables; and with tables, what these
 and the search take, and how many times as much this is as the search without. It is bounded for the documents of `early` alone. Where
@@ -231,7 +231,7 @@ class Table:
             opening = run.seconds()
             return opening, run.ask(query).seconds
 
-    def steps(self, command, folder, documents, query, bound, most):
+    def steps(self, command, folder, documents, query, bound=None, most=None, behind=()):
         """A row of a search by one step and by steps of one; what it says of the results."""
         said, whole = self.best(query, command, folder, documents, MANY, documents)
         said_by_one, by_one = self.best(query, command, folder, documents, MANY, 1)
@@ -242,6 +242,7 @@ class Table:
             said,
             self.bounded(shown, 1000 * whole <= bound, f"at most {bound} ms") if bound else shown,
             self.bounded(steps, ratio <= most, f"at most {most}") if most else steps,
+            *behind,
         )
         print(f"{command + ', ' + query:<24}", "   ".join(cells), flush=True)
         return said
@@ -252,8 +253,10 @@ class Table:
             folders[count] = self.made(f"searched {count}")
             (folders[count] / NAME).write_bytes(segment(count, searched_tokens(count))[0])
         for query, bound in SEARCHED.items():
-            said = self.steps("search", folders[documents], documents, query, bound, STEPS if bound == max(SEARCHED.values()) else None)
-            said_with = self.steps("skip", folders[documents], documents, query, None, None)
+            folder = folders[documents]
+            said = self.steps("search", folder, documents, query, bound, STEPS if bound == max(SEARCHED.values()) else None)
+            tables = self.best(query, "table", folder, documents)[1]
+            said_with = self.steps("skip", folder, documents, query, behind=[f"tables {1000 * tables:6.3f} ms of it"])
             self.wanted("said with tables", said_with, said)
         times = [self.best(f"w{RARE}", "search", folders[count], count, MANY, count)[1] for count in (documents, documents // 4)]
         exponent = math.log(times[0] / times[1]) / math.log(4)

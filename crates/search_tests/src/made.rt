@@ -46,7 +46,7 @@ fn shape_of(number: u32) -> Shape {
     }
 }
 
-fn measures(shape: Shape, number: u32, state: u64) -> Measures {
+fn measures_of(shape: Shape, number: u32, state: u64) -> Measures {
     let place = number % 1000;
     let (words, share) = match shape {
         Shape::Alike => (9, 8),
@@ -81,7 +81,7 @@ pub fn made_terms(alloc: Global, number: u32) -> Option<Terms>
 {
     let shape = shape_of(number);
     let mut state = seed_of(shape, number);
-    let measures = measures(shape, number, state);
+    let measures = measures_of(shape, number, state);
     let mut terms = Terms::new(alloc);
     for _ in 0..measures.words {
         state = next(state);

@@ -21,7 +21,8 @@ static QUERIES: [&str; 11] = [
     "#combine[passage8:6](a c)",
 ];
 
-/// A collection of a thousand documents, by its number: two parts in files and one in memory, all with deleted documents.
+/// A collection of a thousand documents, by its number: two parts in files and one in memory, all with deleted documents. Numbers that
+/// differ by five have the same shape.
 fn collection(number: u8) -> Documents {
     let first = 1000 * u32::from(number);
     Documents {
@@ -85,10 +86,10 @@ fn first_other(
     counts: &[u32],
 ) -> Option<Option<&'static str>> {
     let mut opened = opened_of(alloc, documents)?;
-    for text in QUERIES {
+    for text in &QUERIES {
         for most in counts {
             if !is_same(alloc, &mut opened, text, *most)? {
-                return Some(Some(text));
+                return Some(Some(*text));
             }
         }
     }
@@ -96,15 +97,23 @@ fn first_other(
 }
 
 #[test]
-fn in_all_shapes(rt: HostRuntime) {
-    for number in 1..21 {
+fn in_each_shape(rt: HostRuntime) {
+    for number in 1..6 {
         let other = first_other(rt.alloc(), collection(number), &[1, 10, 2000]);
         assert!(rt; other == Some(None), "{number} {other:?}");
     }
 }
 
 #[test]
+fn in_more_collections(rt: HostRuntime) {
+    for number in 6..21 {
+        let other = first_other(rt.alloc(), collection(number), &[10]);
+        assert!(rt; other == Some(None), "{number} {other:?}");
+    }
+}
+
+#[test]
 fn where_bounds_are_equal(rt: HostRuntime) {
-    let other = first_other(rt.alloc(), EQUAL, &[1, 40, 43, 44, 86, 100]);
+    let other = first_other(rt.alloc(), EQUAL, &[1, 40, 86, 100]);
     assert!(rt; other == Some(None), "{other:?}");
 }

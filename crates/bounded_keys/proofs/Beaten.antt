@@ -7,14 +7,14 @@ use Rattle.std.specs.List.Sorted.{IsPermutation}
 use Rattle.std.specs.Ordering.{is_lt}
 use Rattle.std.specs.declared.cmp.Ordering.{Ordering}
 use Rattle.std.proofs.lemmas.Bool.{cases_Bool, cases_lt, ltb-true, lt-ltb, le-ltb, ltb-false, leb-true, le-leb, lt-leb, false_from_ne_true, both_ways}
-use Rattle.std.proofs.lemmas.List.Elements.{All-head, All-tail, All-map, All-weaker, All-from_recursion, recursion_from_All}
+use Rattle.std.proofs.lemmas.List.Elements.{All-cons, All-head, All-nil, All-tail, All-map, All-weaker, All-from_recursion, recursion_from_All}
 use Rattle.std.proofs.lemmas.List.{get_or-take, get_or-drop, length-take, get_or_default}
 use Rattle.std.proofs.lemmas.List.Sums.{count_by-le-length, sum_by-take-drop}
-use Rattle.std.proofs.lemmas.List.Sorted.{IsPermutation-append_comm, IsPermutation-map, IsPermutation-trans, IsPermutation-sym, All-permutation, ranks_by, length_permutation}
+use Rattle.std.proofs.lemmas.List.Sorted.{IsPermutation-append_comm, IsPermutation-append_left, IsPermutation-cons, IsPermutation-map, IsPermutation-middle, IsPermutation-refl, IsPermutation-trans, IsPermutation-sym, All-permutation, ranks_by, length_permutation}
 use Rattle.first_few.specs.First.{AreFirst}
 use Rattle.first_few.proofs.FirstLemmas.{AreFirst-kept, AreFirst-same, NotLess}
 use Rattle.bounded_keys.specs.Bounds.{AreEnclosed, IsKthLeast, is_beaten}
-use Rattle.bounded_keys.proofs.Counts.{count_append, count_permutation, count_none, count_all, count_weaker, count_map, count_but_one, some_fails, All-append_left, All-append_right}
+use Rattle.bounded_keys.proofs.Counts.{bit, count_append, count_cons, count_permutation, count_none, count_all, count_weaker, count_map, count_but_one, some_fails, All-append_right}
 
 -- ---- entries of which k are less
 
@@ -61,12 +61,64 @@ module _ {Y : Type 0} (order : Y → Y → Ordering) (total : IsTotalOrder order
   first_beaten k all held g many f =
       AreFirst-kept order k all held g (held_full k all held (λ y. less y g) f many) (recursion_from_All (NotLess order g) held (above_held k all held g f many)) f
 
-  pub first_all_beaten : (k : ℕ) (all held more : List Y) → All (λ g. k ≤ count_by (λ y. less y g) all) more → AreFirst order k all held → AreFirst order k (more ++ all) held
-  first_all_beaten k all held [] many f = f
-  first_all_beaten k all held (g ∷ gs) many f =
-      first_beaten k (gs ++ all) held g
-      (omega (arith, All-head (λ g. k ≤ count_by (λ y. less y g) all) g gs many, count_append (λ y. less y g) gs all))
-      (first_all_beaten k all held gs (All-tail (λ g. k ≤ count_by (λ y. less y g) all) g gs many) f)
+  -- one of some items that is less than none of the others
+  greatest : (x : Y) (xs : List Y) → (g : Y) × (rest : List Y) × IsPermutation (x ∷ xs) (g ∷ rest) × All (λ y. less g y ≡ false) rest
+  greatest x [] = (x, [], IsPermutation-refl (x ∷ []), All-nil _)
+  greatest x (y ∷ ys) =
+      let r = greatest y ys in
+      ⊎_elim
+      (λ l. (
+        r.0,
+        x ∷ r.1,
+        IsPermutation-trans _ _ _ (IsPermutation-cons x _ _ r.2) (IsPermutation-middle (x ∷ []) r.0 r.1),
+        All-cons (λ z. less r.0 z ≡ false) x r.1 (weak.one_way x r.0 l) r.3,
+      ))
+      (λ e. (
+        x,
+        r.0 ∷ r.1,
+        IsPermutation-cons x _ _ r.2,
+        All-cons (λ z. less x z ≡ false) r.0 r.1 e (All-weaker (λ z. less r.0 z ≡ false) (λ z. less x z ≡ false) (λ z h. weak.chain x r.0 z e h) r.1 r.3),
+      ))
+      (cases_Bool (less x r.0))
+
+  -- where k of all are less than each of some items, these may come and go
+  behind_some : (n k : ℕ) (taken held more : List Y) → length more ≡ n → All (λ g. k ≤ count_by (λ y. less y g) (more ++ taken)) more → AreFirst order k taken held → AreFirst order k (more ++ taken) held
+  behind_some n k taken held [] e many f = f
+  behind_some zero k taken held (x ∷ xs) e many f = absurd (omega (arith, e))
+  behind_some (suc n) k taken held (x ∷ xs) e many f =
+      let r = greatest x xs in
+      let moved = IsPermutation-append_left taken (x ∷ xs) (r.0 ∷ r.1) r.2 in
+      let each = All-permutation (λ g. k ≤ count_by (λ y. less y g) (x ∷ xs ++ taken)) (x ∷ xs) (r.0 ∷ r.1) r.2 many in
+      let inner = behind_some n k taken held r.1 (omega (arith, e, length_permutation (x ∷ xs) (r.0 ∷ r.1) r.2))
+      (λ i d within. without r.0 (r.1 ++ taken) (get_or r.1 i d) moved (r.3 i d within)
+      (All-tail (λ g. k ≤ count_by (λ y. less y g) (x ∷ xs ++ taken)) r.0 r.1 each i d within)) f in
+      AreFirst-same order k (r.0 ∷ (r.1 ++ taken)) (x ∷ xs ++ taken) held (IsPermutation-sym _ _ moved)
+      (first_beaten k (r.1 ++ taken) held r.0 (without r.0 (r.1 ++ taken) r.0 moved (less_self r.0) (All-head (λ g. k ≤ count_by (λ y. less y g) (x ∷ xs ++ taken)) r.0 r.1 each)) inner)
+    where
+      without : (g : Y) (rest : List Y) (h : Y) → IsPermutation (x ∷ xs ++ taken) (g ∷ rest) → less g h ≡ false → k ≤ count_by (λ y. less y h) (x ∷ xs ++ taken) → k ≤ count_by (λ y. less y h) rest
+      without g rest h moved e many' =
+          let b : bit (less g h) ≡ 0 = ap bit e in
+          omega (arith, b, many', count_permutation (λ y. less y h) (x ∷ xs ++ taken) (g ∷ rest) moved, count_cons (λ y. less y h) g rest)
+
+  pub first_all_behind : (k : ℕ) (taken held more : List Y) → All (λ g. k ≤ count_by (λ y. less y g) (more ++ taken)) more → AreFirst order k taken held → AreFirst order k (more ++ taken) held
+  first_all_behind k taken held more many f = behind_some (length more) k taken held more refl many f
+
+-- ---- the first k of what is left, where k of all are less than each of the others
+
+module _ {X Y : Type 0} (order : Y → Y → Ordering) (total : IsTotalOrder order) (shown : X → Y) where
+  map_append : (xs ys : List X) → map shown (xs ++ ys) ≡ map shown xs ++ map shown ys
+  map_append [] ys = refl
+  map_append (x ∷ xs) ys = ap (λ zs. shown x ∷ zs) (map_append xs ys)
+
+  pub first_of_behind : (k : ℕ) (all taken passed : List X) (held : List Y) → IsPermutation all (taken ++ passed)
+      → All (λ x. k ≤ count_by (λ y. is_lt (order y (shown x))) (map shown all)) passed → AreFirst order k (map shown taken) held → AreFirst order k (map shown all) held
+  first_of_behind k all taken passed held split behind f =
+      let moved = IsPermutation-trans _ _ _ (subst (λ zs. IsPermutation (map shown all) zs) (map_append taken passed) (IsPermutation-map shown _ _ split))
+      (IsPermutation-append_comm (map shown taken) (map shown passed)) in
+      AreFirst-same order k (map shown passed ++ map shown taken) (map shown all) held (IsPermutation-sym _ _ moved)
+      (first_all_behind order total k (map shown taken) held (map shown passed)
+      (All-map (λ z. k ≤ count_by (λ y. is_lt (order y z)) (map shown passed ++ map shown taken)) shown passed
+      (λ i d within. omega (arith, behind i d within, count_permutation (λ y. is_lt (order y (shown (get_or passed i d)))) (map shown all) (map shown passed ++ map shown taken) moved))) f)
 
 -- ---- bounds that are beaten
 
@@ -86,41 +138,6 @@ module _ {X : Type 0} (lo up key : X → ℕ) where
   pub beaten_permutation : (k : ℕ) (xs ys : List X) (n : ℕ) → IsPermutation xs ys → is_beaten up k xs n ≡ is_beaten up k ys n
   beaten_permutation k xs ys n p = ap (nat_le k) (sym (count_permutation (λ x. nat_lt (up x) n) xs ys p))
 
-  -- the least number that k of them are below
-  least : (k : ℕ) (xs : List X) (n : ℕ) → k ≤ count_by (λ x. nat_lt (up x) n) xs
-      → (m : ℕ) × (m ≤ n) × (k ≤ count_by (λ x. nat_lt (up x) m) xs) × ((j : ℕ) → j < m → count_by (λ x. nat_lt (up x) j) xs < k)
-  least k xs zero h = (0, omega arith, h, λ j l. absurd (omega (arith, l)))
-  least k xs (suc n) h = ⊎_elim
-      (λ few. (
-        suc n,
-        omega arith,
-        h,
-        λ j l.
-            let w = count_weaker (λ x. nat_lt (up x) j) (λ x. nat_lt (up x) n) xs (λ i d within e. lt-ltb _ _ (omega (arith, l, ltb-true _ _ e))) in
-            omega (arith, few, w),
-      ))
-      (λ many. let r = least k xs n many in (r.0, omega (arith, r.1), r.2, r.3))
-      (cases_lt (count_by (λ x. nat_lt (up x) n) xs) k)
-
-  Beaten : ℕ → List X → X → Type 0
-  Beaten k all x = is_beaten up k all (lo x) ≡ true
-
-  -- what beats is never beaten itself: it is among the others
-  pub beaten_by_rest : (k : ℕ) (all taken passed : List X) (n : ℕ) → AreEnclosed lo up key all → IsPermutation all (taken ++ passed)
-      → All (λ x. is_beaten up k all (lo x) ≡ true) passed → is_beaten up k all n ≡ true → is_beaten up k taken n ≡ true
-  beaten_by_rest k all taken passed n enclosed split beaten e =
-      let r = least k all n (beaten_many k all n e) in
-      let p : X → Bool = λ x. nat_lt (up x) r.0 in
-      let q : X → Bool = λ x. nat_lt (up x) n in
-      let both = All-permutation (λ x. (lo x ≤ key x) × (key x ≤ up x)) all (taken ++ passed) split enclosed in
-      let right = All-append_right (λ x. (lo x ≤ key x) × (key x ≤ up x)) taken passed both in
-      let none = count_none p passed (λ i d within. le-ltb _ _ (⊎_elim
-      (λ l. absurd (omega (arith, l, r.3 (lo (get_or passed i d)) l, beaten_many k all _ (beaten i d within))))
-      (λ g. omega (arith, g, (right i d within).0, (right i d within).1))
-      (cases_lt (lo (get_or passed i d)) r.0))) in
-      let w = count_weaker p q taken (λ i d within l. lt-ltb _ _ (omega (arith, r.1, ltb-true _ _ l))) in
-      beaten_from k taken n (omega (arith, r.2, count_permutation p all (taken ++ passed) split, count_append p taken passed, none, w))
-
   -- ---- the order of the keys
 
   module _ {Y : Type 0} (order : Y → Y → Ordering) (total : IsTotalOrder order) (shown : X → Y)
@@ -138,21 +155,9 @@ module _ {X : Type 0} (lo up key : X → ℕ) where
         → All (λ x. is_beaten up k all (lo x) ≡ true) passed → AreFirst order k (map shown taken) held → AreFirst order k (map shown all) held
     first_of_rest k all taken passed held enclosed split beaten f =
         let both = All-permutation (λ x. (lo x ≤ key x) × (key x ≤ up x)) all (taken ++ passed) split enclosed in
-        let left = All-append_left (λ x. (lo x ≤ key x) × (key x ≤ up x)) taken passed both in
         let right = All-append_right (λ x. (lo x ≤ key x) × (key x ≤ up x)) taken passed both in
-        let more = first_all_beaten order total k (map shown taken) held (map shown passed)
-        (All-mapped passed (λ i d within. many_less k taken (get_or passed i d) left (right i d within).0
-        (beaten_by_rest k all taken passed _ enclosed split beaten (beaten i d within)))) f in
-        AreFirst-same order k (map shown passed ++ map shown taken) (map shown all) held
-        (IsPermutation-trans _ _ _ (IsPermutation-append_comm (map shown passed) (map shown taken))
-        (subst (λ zs. IsPermutation zs (map shown all)) (map_append taken passed) (IsPermutation-map shown _ _ (IsPermutation-sym _ _ split)))) more
-      where
-        map_append : (xs ys : List X) → map shown (xs ++ ys) ≡ map shown xs ++ map shown ys
-        map_append [] ys = refl
-        map_append (x ∷ xs) ys = ap (λ zs. shown x ∷ zs) (map_append xs ys)
-
-        All-mapped : (gs : List X) → All (λ g. k ≤ count_by (λ y. is_lt (order y (shown g))) (map shown taken)) gs → All (λ z. k ≤ count_by (λ y. is_lt (order y z)) (map shown taken)) (map shown gs)
-        All-mapped gs h = All-map (λ z. k ≤ count_by (λ y. is_lt (order y z)) (map shown taken)) shown gs h
+        first_of_behind order total shown k all taken passed held split
+        (λ i d within. many_less k all (get_or passed i d) enclosed (right i d within).0 (beaten i d within)) f
 
     -- none of the first k is beaten
     pub first_not_beaten : (k : ℕ) (all : List X) (held : List Y) → AreEnclosed lo up key all → AreFirst order k (map shown all) held

@@ -1,5 +1,5 @@
 -- What is kept of items, one after the other.
-use Rattle.std.proofs.Common.{◌≡◌, ◌<◌, ◌≤◌, ℕ, ◌+◌, ◌-◌, ◌*◌, ◌/◌, ◌%◌, ◌^◌, Bool, true, false, List, [], ◌∷◌, ◌++◌, length, refl, sym, ap, subst, ◌∙◌, arith, nat_lt, get_or, ⊎_elim, not, append_assoc, append-nil}
+use Rattle.std.proofs.Common.{◌≡◌, ◌⊎◌, inl, inr, Option, ◌||◌, ◌<◌, ◌≤◌, ℕ, ◌+◌, ◌-◌, ◌*◌, ◌/◌, ◌%◌, ◌^◌, Bool, true, false, List, [], ◌∷◌, ◌++◌, length, refl, sym, ap, subst, ◌∙◌, arith, nat_lt, get_or, ⊎_elim, not, append_assoc, append-nil}
 use Rattle.std.specs.BinaryHeap.{IsUpperBound}
 use Rattle.std.specs.Cmp.{IsTotalOrder}
 use Rattle.std.specs.List.{All, filter}
@@ -9,16 +9,18 @@ use Rattle.std.specs.declared.cmp.Ordering.{Ordering}
 use Rattle.std.proofs.lemmas.Bool.{both_ways, cases_lt, lt-ltb, le-leb, le-ltb, leb-true, ltb-false}
 use Rattle.std.proofs.lemmas.List.{get_or_default}
 use Rattle.std.proofs.lemmas.List.Elements.{All-append, All-cons, All-nil, All-tail, All-weaker, filter_passes, recursion_from_All}
-use Rattle.std.proofs.lemmas.List.Sorted.{IsPermutation-append_comm, IsPermutation-append_left, IsPermutation-append_right, IsPermutation-cons, IsPermutation-filter_both, IsPermutation-middle, IsPermutation-refl, IsPermutation-sym, IsPermutation-to_front, IsPermutation-trans}
+use Rattle.std.proofs.lemmas.List.Sorted.{All-permutation, IsPermutation-append_left, IsPermutation-append_right, IsPermutation-cons, IsPermutation-filter_both, IsPermutation-middle, IsPermutation-refl, IsPermutation-sym, IsPermutation-to_front, IsPermutation-trans}
 use Rattle.std.proofs.lemmas.List.Sums.{length-filter}
 use Rattle.first_few.proofs.FirstLemmas.{above_all}
 use Rattle.bounded_keys.specs.Bounds.{contenders, is_beaten}
-use Rattle.bounded_keys.specs.Kept.{AreAmong, AreContenders, IsApart, IsKept, LeavesOut, beats, is_beaten_by, lower, slack, upper}
+use Rattle.bounded_keys.specs.Kept.{AreAmong, AreContenders, IsApart, IsBehind, IsKept, LeavesOut, beats, is_beaten_by, is_surely_before, lower, slack, upper}
+use Rattle.bounded_keys.specs.Runs.{HoldsRuns, count_before}
 use Rattle.bounded_keys.specs.declared.threshold.Threshold.{Threshold}
 use Rattle.bounded_keys.proofs.Aparts.{apart_first, apart_kept, apart_more, apart_none, apart_rest}
-use Rattle.bounded_keys.proofs.Beaten.{beaten_by_first, beaten_by_top, beaten_more, beaten_permutation, beaten_room}
+use Rattle.bounded_keys.proofs.Beaten.{beaten_by_first, beaten_by_top, beaten_more, beaten_room}
 use Rattle.bounded_keys.proofs.Orders.{is_lt-nat_cmp}
-use Rattle.bounded_keys.proofs.Counts.{count_all, count_append, count_but_one, count_none, count_permutation}
+use Rattle.bounded_keys.proofs.Counts.{All-append_left, count_all, count_append, count_but_one, count_permutation, count_weaker}
+use Rattle.bounded_keys.proofs.RunLemmas.{before_more, before_some}
 
 -- ---- the threshold
 
@@ -27,6 +29,14 @@ cut_down t c = ⊎_elim
     (λ l. lt-ltb t (c * 2 ^ 28) l ∙ sym (lt-ltb (t / 2 ^ 28) c (omega (arith, l))))
     (λ g. le-ltb t (c * 2 ^ 28) g ∙ sym (le-ltb (t / 2 ^ 28) c (omega (arith, g))))
     (cases_lt t (c * 2 ^ 28))
+
+or_left : (a b : Bool) → a ≡ true → (a || b) ≡ true
+or_left true b e = refl
+or_left false b e = absurd (both_ways false refl e)
+
+or_right : (a b : Bool) → b ≡ true → (a || b) ≡ true
+or_right true b e = refl
+or_right false b e = e
 
 pub not_twice : (b : Bool) → not (not b) ≡ b
 not_twice true = refl
@@ -78,78 +88,95 @@ module _ {X : Type 0} (order : X → X → Ordering) (total : IsTotalOrder order
 
   -- ---- what is kept
 
-  abbrev pub Keeps : ℕ → ℕ → List X → List X → List X → Type 0
-  Keeps k scale all held near = IsKept order number all (record { most = k; scale = scale; held = held; near = near })
+  -- the order in which they came doesn't count
+  pub Keeps-same : (k scale : ℕ) {before : X → X → Bool} (all other held near : List X) → IsPermutation all other
+      → IsKept order number before all (record { most = k; scale = scale; held = held; near = near })
+      → IsKept order number before other (record { most = k; scale = scale; held = held; near = near })
+  Keeps-same k scale {before} all other held near p h = record {
+    gone = h.gone;
+    apart = record { split = IsPermutation-trans _ _ _ (IsPermutation-sym _ _ p) h.apart.split; few = h.apart.few; full = h.apart.full; apart = h.apart.apart };
+    behind = All-weaker (IsBehind number scale before k all) (IsBehind number scale before k other)
+        (λ x e. omega (arith, e, count_permutation (λ y. is_surely_before number scale before y x) all other p)) h.gone h.behind;
+  }
 
-  module _ (k scale : ℕ) where
+  module _ (k scale : ℕ) (before : X → X → Bool) where
+    abbrev pub Keeps : List X → List X → List X → Type 0
+    Keeps all held near = IsKept order number before all (record { most = k; scale = scale; held = held; near = near })
+
     abbrev Gone : List X → X → Type 0
-    Gone all x = is_beaten_by number scale k all (number x) ≡ true
+    Gone all x = IsBehind number scale before k all x
 
-    pub Keeps-none : Keeps k scale [] [] []
-    Keeps-none = record { gone = []; apart = apart_none order total k; beaten = All-nil _ }
+    pub Keeps-none : Keeps [] [] []
+    Keeps-none = record { gone = []; apart = apart_none order total k; behind = All-nil _ }
 
     -- what is held beats what all beat
     by_held : (all held others : List X) (n : ℕ) → IsApart order k all held others → is_beaten (up scale) k all n ≡ is_beaten (up scale) k held n
     by_held all held others n h = beaten_by_first order total (up scale) (rises scale) k all held n (apart_first order total k all held others h)
 
-    pub Keeps-beaten : (all held near : List X) (c : ℕ) → Keeps k scale all held near → is_beaten_by number scale k all c ≡ is_beaten_by number scale k held c
+    pub Keeps-beaten : (all held near : List X) (c : ℕ) → Keeps all held near → is_beaten_by number scale k all c ≡ is_beaten_by number scale k held c
     Keeps-beaten all held near c h = by_held all held (near ++ h.gone) (lower c) h.apart
 
-    -- more items don't make what is beaten less so
-    behind : (xs ys : List X) (n : ℕ) → is_beaten (up scale) k ys n ≡ true → is_beaten (up scale) k (xs ++ ys) n ≡ true
-    behind xs ys n e = beaten_permutation lo (up scale) lo k (xs ++ ys) (ys ++ xs) n (IsPermutation-append_comm xs ys) ∙ beaten_more lo (up scale) lo k ys xs n n (omega arith) e
+    -- what is beaten is behind so many
+    pub Gone-beaten : (all : List X) (x : X) → is_beaten_by number scale k all (number x) ≡ true → Gone all x
+    Gone-beaten all x e = omega (
+      arith,
+      leb-true _ _ e,
+      count_weaker (λ y. nat_lt (up scale y) (lo x)) (λ y. is_surely_before number scale before y x) all (λ i d within l. or_left (nat_lt (up scale (get_or all i d)) (lo x)) (before (get_or all i d) x) l),
+    )
 
+    -- and so is what so many stand before
+    pub Gone-before : (all : List X) (x : X) → k ≤ count_before before all x → Gone all x
+    Gone-before all x many = omega (
+      arith,
+      many,
+      count_weaker (λ y. before y x) (λ y. is_surely_before number scale before y x) all (λ i d within l. or_right (nat_lt (up scale (get_or all i d)) (lo x)) (before (get_or all i d) x) l),
+    )
+
+    -- more items don't make what is behind so many less so
     all_behind : (xs ys gone : List X) → All (Gone ys) gone → All (Gone (xs ++ ys)) gone
-    all_behind xs ys gone h = All-weaker (Gone ys) (Gone (xs ++ ys)) (λ x e. behind xs ys (lo x) e) gone h
-
-    -- the order in which they came doesn't count
-    pub Keeps-same : (all other held near : List X) → IsPermutation all other → Keeps k scale all held near → Keeps k scale other held near
-    Keeps-same all other held near p h = record {
-      gone = h.gone;
-      apart = record { split = IsPermutation-trans _ _ _ (IsPermutation-sym _ _ p) h.apart.split; few = h.apart.few; full = h.apart.full; apart = h.apart.apart };
-      beaten = All-weaker (Gone all) (Gone other) (λ x e. sym (beaten_permutation lo (up scale) lo k all other (lo x) p) ∙ e) h.gone h.beaten;
-    }
+    all_behind xs ys gone h = All-weaker (Gone ys) (Gone (xs ++ ys)) (λ x e. omega (arith, e, count_append (λ y. is_surely_before number scale before y x) xs ys)) gone h
 
     -- one more, where there is room
-    pub Keeps-more : (all held near moved : List X) (x : X) → length held < k → IsPermutation (x ∷ held) moved → Keeps k scale all held near → Keeps k scale (x ∷ all) moved near
+    pub Keeps-more : (all held near moved : List X) (x : X) → length held < k → IsPermutation (x ∷ held) moved → Keeps all held near → Keeps (x ∷ all) moved near
     Keeps-more all held near moved x room pushed h = record {
       gone = h.gone;
       apart = apart_more order total k all held moved (near ++ h.gone) x room pushed h.apart;
-      beaten = all_behind (x ∷ []) all h.gone h.beaten;
+      behind = all_behind (x ∷ []) all h.gone h.behind;
     }
 
-    -- one of the others, which is beaten, or not
-    pub Keeps-gone : (all held near gone : List X) (x : X) → IsApart order k all held (x ∷ (near ++ gone)) → All (Gone all) gone → is_beaten_by number scale k held (number x) ≡ true → Keeps k scale all held near
-    Keeps-gone all held near gone x apart beaten e = record {
-      gone = x ∷ gone;
-      apart = apart_rest order total k all held (x ∷ (near ++ gone)) (near ++ x ∷ gone) (IsPermutation-sym _ _ (IsPermutation-middle near x gone)) apart;
-      beaten = All-cons (Gone all) x gone (by_held all held _ (lo x) apart ∙ e) beaten;
-    }
-
-    pub Gone-still : (all held near : List X) (x : X) → (h : Keeps k scale all held near) → All (Gone (x ∷ all)) h.gone
-    Gone-still all held near x h = all_behind (x ∷ []) all h.gone h.beaten
-
-    -- one of the others comes beside what is kept, and some that are beaten may go
+    -- one of the others comes beside what is kept, and some that are behind so many may go
     shed : (all held near next gone : List X) (x : X) (t : Threshold) → ((c : ℕ) → is_beaten_by number scale k held c ≡ beats t c)
-        → IsApart order k all held (x ∷ (near ++ gone)) → All (Gone all) gone → LeavesOut number t (near ++ x ∷ []) next → Keeps k scale all held next
-    shed all held near next gone x t is apart beaten left = record {
+        → IsApart order k all held (x ∷ (near ++ gone)) → All (Gone all) gone → LeavesOut number before k t (near ++ x ∷ []) next → Keeps all held next
+    shed all held near next gone x t is apart behind left = record {
       gone = left.out ++ gone;
       apart = apart_rest order total k all held (x ∷ (near ++ gone)) (next ++ (left.out ++ gone))
           (subst (λ ys. IsPermutation (x ∷ (near ++ gone)) ys) (append_assoc next left.out gone)
           (IsPermutation-trans _ _ _ (IsPermutation-append_left gone (x ∷ near) (near ++ x ∷ []) (IsPermutation-sym _ _ (IsPermutation-to_front near x)))
           (IsPermutation-append_left gone (near ++ x ∷ []) (next ++ left.out) left.split))) apart;
-      beaten = All-append (Gone all) left.out gone
-          (All-weaker (λ y. beats t (number y) ≡ true) (Gone all) (λ y e. by_held all held (x ∷ (near ++ gone)) (lower (number y)) apart ∙ is (number y) ∙ e) left.out left.beaten) beaten;
+      behind = All-append (Gone all) left.out gone (All-weaker (λ y. (beats t (number y) ≡ true) ⊎ (k ≤ count_before before (near ++ x ∷ []) y)) (Gone all) out_behind left.out left.behind) behind;
     }
+      where
+        out_behind : (y : X) → (beats t (number y) ≡ true) ⊎ (k ≤ count_before before (near ++ x ∷ []) y) → Gone all y
+        out_behind y h = ⊎_elim
+            (λ e. Gone-beaten all y (by_held all held (x ∷ (near ++ gone)) (lower (number y)) apart ∙ is (number y) ∙ e))
+            (λ many. Gone-before all y (omega (
+              arith,
+              many,
+              count_permutation (λ z. before z y) (near ++ x ∷ []) (x ∷ near) (IsPermutation-to_front near x),
+              count_permutation (λ z. before z y) all (held ++ (x ∷ near ++ gone)) apart.split,
+              count_append (λ z. before z y) held (x ∷ near ++ gone),
+              count_append (λ z. before z y) (x ∷ near) gone,
+            )))
+            h
 
     -- an item is taken in, and another is held no more
     pub Keeps-offered : (all held near moved next : List X) (x other : X) (t : Threshold) → ((c : ℕ) → is_beaten_by number scale k moved c ≡ beats t c)
         → ((others : List X) → IsApart order k all held others → IsApart order k (x ∷ all) moved (other ∷ others))
-        → LeavesOut number t (near ++ other ∷ []) next → Keeps k scale all held near → Keeps k scale (x ∷ all) moved next
+        → LeavesOut number before k t (near ++ other ∷ []) next → Keeps all held near → Keeps (x ∷ all) moved next
     Keeps-offered all held near moved next x other t is apart left h =
-        shed (x ∷ all) moved near next h.gone other t is (apart (near ++ h.gone) h.apart) (Gone-still all held near x h) left
+        shed (x ∷ all) moved near next h.gone other t is (apart (near ++ h.gone) h.apart) (all_behind (x ∷ []) all h.gone h.behind) left
 
-    module _ (all held near : List X) (t : Threshold) (is : (c : ℕ) → is_beaten_by number scale k held c ≡ beats t c) (h : Keeps k scale all held near) where
+    module _ (all held near : List X) (t : Threshold) (is : (c : ℕ) → is_beaten_by number scale k held c ≡ beats t c) (h : Keeps all held near) where
       abbrev stays : X → Bool
       stays x = not (beats t (number x))
 
@@ -160,31 +187,48 @@ module _ {X : Type 0} (order : X → X → Ordering) (total : IsTotalOrder order
       now x = Keeps-beaten all held near (number x) h ∙ is (number x)
 
       leave : (xs : List X) → All (Gone all) (filter goes xs)
-      leave xs = All-weaker (λ x. goes x ≡ true) (Gone all) (λ x e. now x ∙ e) (filter goes xs) (filter_passes goes xs)
+      leave xs = All-weaker (λ x. goes x ≡ true) (Gone all) (λ x e. Gone-beaten all x (now x ∙ e)) (filter goes xs) (filter_passes goes xs)
 
-      -- the others are the contenders
-      pub Keeps-contenders : (taken : List X) → taken ≡ filter stays (held ++ near) → AreContenders number scale k all taken
-      Keeps-contenders taken made = record {
-        passed = filter goes (held ++ near) ++ h.gone;
-        split = subst (λ ys. IsPermutation all (ys ++ (filter goes (held ++ near) ++ h.gone))) (sym made)
-            (subst (λ ys. IsPermutation all ys) (append_assoc (filter stays (held ++ near)) (filter goes (held ++ near)) h.gone)
-            (IsPermutation-trans _ _ _ (subst (λ ys. IsPermutation all ys) (sym (append_assoc held near h.gone)) h.apart.split)
-            (IsPermutation-append_left h.gone (held ++ near) _ (IsPermutation-filter_both stays goes (λ x. sym (not_twice (goes x))) (held ++ near)))));
-        beaten = All-append (Gone all) (filter goes (held ++ near)) h.gone (leave (held ++ near)) h.beaten;
-        in_question = subst (All (λ x. is_beaten_by number scale k all (number x) ≡ false)) (sym made)
-            (All-weaker (λ x. stays x ≡ true) (λ x. is_beaten_by number scale k all (number x) ≡ false) (λ x e. now x ∙ sym (not_twice (goes x)) ∙ ap not e) (filter stays (held ++ near)) (filter_passes stays (held ++ near)));
+      -- of those that aren't beaten the first of each run are the contenders
+      pub Keeps-contenders : (run : ℕ) (full : Option ℕ) (middle taken : List X) → middle ≡ filter stays (held ++ near) → HoldsRuns before k middle run full taken
+          → AreContenders number scale before k all taken
+      Keeps-contenders run full middle taken made runs = record {
+        passed = runs.out ++ (filter goes (held ++ near) ++ h.gone);
+        split = split;
+        behind = All-append (Gone all) runs.out (filter goes (held ++ near) ++ h.gone)
+            (All-weaker (λ x. k ≤ count_before before taken x) (Gone all)
+            (λ x many. Gone-before all x (omega (arith, many, before_some before all taken (runs.out ++ (filter goes (held ++ near) ++ h.gone)) x split))) runs.out runs.behind)
+            (All-append (Gone all) (filter goes (held ++ near)) h.gone (leave (held ++ near)) h.behind);
+        in_question = All-append_left (λ x. is_beaten_by number scale k all (number x) ≡ false) taken runs.out
+            (All-permutation (λ x. is_beaten_by number scale k all (number x) ≡ false) middle (taken ++ runs.out) runs.split
+            (subst (All (λ x. is_beaten_by number scale k all (number x) ≡ false)) (sym made)
+            (All-weaker (λ x. stays x ≡ true) (λ x. is_beaten_by number scale k all (number x) ≡ false) (λ x e. now x ∙ sym (not_twice (goes x)) ∙ ap not e) (filter stays (held ++ near)) (filter_passes stays (held ++ near)))));
       }
+        where
+          parts : IsPermutation all (middle ++ (filter goes (held ++ near) ++ h.gone))
+          parts = subst (λ ys. IsPermutation all (ys ++ (filter goes (held ++ near) ++ h.gone))) (sym made)
+              (subst (λ ys. IsPermutation all ys) (append_assoc (filter stays (held ++ near)) (filter goes (held ++ near)) h.gone)
+              (IsPermutation-trans _ _ _ (subst (λ ys. IsPermutation all ys) (sym (append_assoc held near h.gone)) h.apart.split)
+              (IsPermutation-append_left h.gone (held ++ near) _ (IsPermutation-filter_both stays goes (λ x. sym (not_twice (goes x))) (held ++ near)))))
+
+          split : IsPermutation all (taken ++ (runs.out ++ (filter goes (held ++ near) ++ h.gone)))
+          split = subst (λ ys. IsPermutation all ys) (append_assoc taken runs.out (filter goes (held ++ near) ++ h.gone))
+              (IsPermutation-trans _ _ _ parts (IsPermutation-append_left (filter goes (held ++ near) ++ h.gone) middle (taken ++ runs.out) runs.split))
 
     -- items that are beaten needn't come in
-    pub Keeps-passed : (all held near more : List X) → All (Gone all) more → Keeps k scale all held near → Keeps k scale (more ++ all) held near
+    pub Keeps-passed : (all held near more : List X) → All (λ x. is_beaten_by number scale k all (number x) ≡ true) more → Keeps all held near → Keeps (more ++ all) held near
     Keeps-passed all held near [] beaten h = h
     Keeps-passed all held near (x ∷ xs) beaten h =
-        let inner = Keeps-passed all held near xs (All-tail (Gone all) x xs beaten) h in
-        let now = behind xs all (lo x) (beaten 0 x (omega arith)) in
-        let held_now = sym (Keeps-beaten (xs ++ all) held near (number x) inner) ∙ now in
-        Keeps-gone (x ∷ (xs ++ all)) held near inner.gone x
-        (apart_kept order total k (xs ++ all) held (near ++ inner.gone) x (full held x held_now) (above held x inner.apart.few held_now) inner.apart)
-        (Gone-still (xs ++ all) held near x inner) held_now
+        let inner = Keeps-passed all held near xs (All-tail (λ y. is_beaten_by number scale k all (number y) ≡ true) x xs beaten) h in
+        let e : is_beaten_by number scale k held (number x) ≡ true = sym (Keeps-beaten all held near (number x) h) ∙ beaten 0 x (omega arith) in
+        let apart = apart_kept order total k (xs ++ all) held (near ++ inner.gone) x (full held x e) (above held x inner.apart.few e) inner.apart in
+        record {
+          gone = x ∷ inner.gone;
+          apart = apart_rest order total k (x ∷ (xs ++ all)) held (x ∷ (near ++ inner.gone)) (near ++ x ∷ inner.gone) (IsPermutation-sym _ _ (IsPermutation-middle near x inner.gone)) apart;
+          behind = All-cons (Gone (x ∷ (xs ++ all))) x inner.gone
+              (Gone-beaten (x ∷ (xs ++ all)) x (by_held (x ∷ (xs ++ all)) held (x ∷ (near ++ inner.gone)) (lo x) apart ∙ e))
+              (all_behind (x ∷ []) (xs ++ all) inner.gone inner.behind);
+        }
       where
         full : (held : List X) (x : X) → is_beaten_by number scale k held (number x) ≡ true → k ≤ length held
         full held x e = ⊎_elim (λ room. absurd (both_ways _ (room_beats_none k scale held (number x) room) e)) (λ g. g) (cases_lt (length held) k)
@@ -196,34 +240,49 @@ module _ {X : Type 0} (order : X → X → Ordering) (total : IsTotalOrder order
             (cases_lt (up scale (get_or held i d)) (lo x))))
 
     -- nor need those whose numbers are at least one that is beaten
-    pub Keeps-skipped : (all held near more : List X) (n : ℕ) → is_beaten_by number scale k all n ≡ true → All (λ x. n ≤ number x) more → Keeps k scale all held near → Keeps k scale (more ++ all) held near
+    pub Keeps-skipped : (all held near more : List X) (n : ℕ) → is_beaten_by number scale k all n ≡ true → All (λ x. n ≤ number x) more → Keeps all held near → Keeps (more ++ all) held near
     Keeps-skipped all held near more n e above h =
-        Keeps-passed all held near more (All-weaker (λ x. n ≤ number x) (Gone all) (λ x up_to.
+        Keeps-passed all held near more (All-weaker (λ x. n ≤ number x) (λ x. is_beaten_by number scale k all (number x) ≡ true) (λ x up_to.
         subst (λ xs. is_beaten (up scale) k xs (lo x) ≡ true) (append-nil all) (beaten_more lo (up scale) lo k all [] (lower n) (lo x) (omega (arith, up_to)) e)) more above) h
 
-    -- how many contenders there are
-    pub contenders_count : (all taken : List X) → AreContenders number scale k all taken → length taken ≡ length (contenders lo (up scale) k all)
-    contenders_count all taken h =
+    -- they are at most as many as aren't beaten
+    pub contenders_few : (all taken : List X) → AreContenders number scale before k all taken → length taken ≤ length (contenders lo (up scale) k all)
+    contenders_few all taken h =
         let q : X → Bool = λ x. not (is_beaten (up scale) k all (lo x)) in
         let some = count_all q taken (All-weaker (λ x. is_beaten_by number scale k all (number x) ≡ false) (λ x. q x ≡ true) (λ x e. ap not e) taken h.in_question) in
-        let none = count_none q h.passed (All-weaker (Gone all) (λ x. q x ≡ false) (λ x e. ap not e) h.passed h.beaten) in
-        omega (arith, some, none, count_append q taken h.passed, count_permutation q all (taken ++ h.passed) h.split, length-filter q all)
+        omega (arith, some, count_append q taken h.passed, count_permutation q all (taken ++ h.passed) h.split, length-filter q all)
 
 -- ---- some items are left out
 
-module _ {X : Type 0} (number : X → ℕ) (t : Threshold) where
-  pub LeavesOut-none : (xs : List X) → LeavesOut number t xs xs
-  LeavesOut-none xs = record { out = []; split = subst (λ ys. IsPermutation xs ys) (sym (append-nil xs)) (IsPermutation-refl xs); beaten = All-nil _ }
+module _ {X : Type 0} (number : X → ℕ) (before : X → X → Bool) (k : ℕ) (t : Threshold) where
+  abbrev Out : List X → X → Type 0
+  Out xs x = (beats t (number x) ≡ true) ⊎ (k ≤ count_before before xs x)
 
-  pub LeavesOut-last : (xs : List X) (x : X) → beats t (number x) ≡ true → LeavesOut number t (xs ++ x ∷ []) xs
-  LeavesOut-last xs x e = record { out = x ∷ []; split = IsPermutation-refl (xs ++ x ∷ []); beaten = All-cons (λ y. beats t (number y) ≡ true) x [] e (All-nil _) }
+  pub LeavesOut-none : (xs : List X) → LeavesOut number before k t xs xs
+  LeavesOut-none xs = record { out = []; split = subst (λ ys. IsPermutation xs ys) (sym (append-nil xs)) (IsPermutation-refl xs); behind = All-nil _ }
 
-  pub LeavesOut-filter : (xs : List X) → LeavesOut number t xs (filter (λ x. not (beats t (number x))) xs)
-  LeavesOut-filter xs = record {
-    out = filter (λ x. beats t (number x)) xs;
-    split = IsPermutation-filter_both (λ x. not (beats t (number x))) (λ x. beats t (number x)) (λ x. sym (not_twice (beats t (number x)))) xs;
-    beaten = filter_passes (λ x. beats t (number x)) xs;
+  pub LeavesOut-last : (xs : List X) (x : X) → (beats t (number x) ≡ true) ⊎ (k ≤ count_before before xs x) → LeavesOut number before k t (xs ++ x ∷ []) xs
+  LeavesOut-last xs x h = record {
+    out = x ∷ [];
+    split = IsPermutation-refl (xs ++ x ∷ []);
+    behind = All-cons (Out (xs ++ x ∷ [])) x [] (⊎_elim (λ e. inl e) (λ many. inr (omega (arith, many, before_more before xs (x ∷ []) x))) h) (All-nil _);
   }
+
+  -- those above the threshold go, and of the others those that aren't among the first of their run
+  pub LeavesOut-purged : (run : ℕ) (full : Option ℕ) (xs middle ys : List X) → middle ≡ filter (λ x. not (beats t (number x))) xs → HoldsRuns before k middle run full ys → LeavesOut number before k t xs ys
+  LeavesOut-purged run full xs middle ys made runs = record {
+    out = runs.out ++ filter (λ x. beats t (number x)) xs;
+    split = split;
+    behind = All-append (Out xs) runs.out (filter (λ x. beats t (number x)) xs)
+        (All-weaker (λ x. k ≤ count_before before ys x) (Out xs) (λ x many. inr (omega (arith, many, before_some before xs ys (runs.out ++ filter (λ y. beats t (number y)) xs) x split))) runs.out runs.behind)
+        (All-weaker (λ x. beats t (number x) ≡ true) (Out xs) (λ x e. inl e) (filter (λ x. beats t (number x)) xs) (filter_passes (λ x. beats t (number x)) xs));
+  }
+    where
+      split : IsPermutation xs (ys ++ (runs.out ++ filter (λ x. beats t (number x)) xs))
+      split = subst (λ zs. IsPermutation xs zs) (append_assoc ys runs.out (filter (λ x. beats t (number x)) xs))
+          (IsPermutation-trans _ _ _ (subst (λ zs. IsPermutation xs (zs ++ filter (λ x. beats t (number x)) xs)) (sym made)
+          (IsPermutation-filter_both (λ x. not (beats t (number x))) (λ x. beats t (number x)) (λ x. sym (not_twice (beats t (number x)))) xs))
+          (IsPermutation-append_left (filter (λ x. beats t (number x)) xs) middle (ys ++ runs.out) runs.split))
 
 -- ---- what stands among others
 
@@ -234,9 +293,10 @@ module _ {X : Type 0} where
     split = subst (λ ys. IsPermutation (x ∷ (held ++ near)) ys) (sym (append-nil (moved ++ near))) (IsPermutation-append_left near (x ∷ held) moved pushed);
   }
 
-  pub among_swapped : (number : X → ℕ) (t : Threshold) (held near moved next : List X) (x other : X) → IsPermutation (x ∷ held) (other ∷ moved) → LeavesOut number t (near ++ other ∷ []) next
+  pub among_swapped : (number : X → ℕ) (before : X → X → Bool) (k : ℕ) (t : Threshold) (held near moved next : List X) (x other : X) → IsPermutation (x ∷ held) (other ∷ moved)
+      → LeavesOut number before k t (near ++ other ∷ []) next
       → AreAmong (moved ++ next) (x ∷ (held ++ near))
-  among_swapped number t held near moved next x other swapped left = record {
+  among_swapped number before k t held near moved next x other swapped left = record {
     others = left.out;
     split = subst (λ ys. IsPermutation (x ∷ (held ++ near)) ys) (sym (append_assoc moved next left.out))
         (IsPermutation-trans _ _ _ (IsPermutation-append_left near (x ∷ held) (other ∷ moved) swapped)

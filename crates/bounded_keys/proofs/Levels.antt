@@ -1,12 +1,14 @@
 -- Leaves at the first level and at the last have the digits of their beliefs there, and so the keys are where the first ones say.
-use Rattle.std.proofs.Common.{rules, ◌≡◌, ◌<◌, ◌≤◌, ℕ, ◌+◌, ◌*◌, ◌^◌, true, List, [], ◌∷◌, ◌++◌, length, map, get_or, refl, ap, subst, ◌∙◌, arith, append-nil, suc}
+use Rattle.std.proofs.Common.{rules, ◌≡◌, ◌⊎◌, inl, inr, ⊎_elim, ◌<◌, ◌≤◌, ℕ, ◌+◌, ◌*◌, ◌^◌, Bool, true, false, ◌||◌, nat_lt, sym, List, [], ◌∷◌, ◌++◌, length, map, get_or, refl, ap, subst, ◌∙◌, arith, append-nil, suc}
 use Rattle.std.specs.List.{All}
-use Rattle.std.specs.Cmp.{IsTotalOrder}
+use Rattle.std.specs.Cmp.{IsTotalOrder, nat_cmp_is}
 use Rattle.std.specs.Ordering.{is_lt, nat_cmp, ordering_then}
 use Rattle.std.specs.declared.cmp.Ordering.{Ordering}
-use Rattle.std.proofs.lemmas.Bool.{lt-ltb}
+use Rattle.std.specs.declared.cmp.Ordering.TheVariants.{Equal}
+use Rattle.std.proofs.lemmas.Bool.{lt-ltb, ltb-true}
 use Rattle.std.proofs.lemmas.Cmp.{nat_cmp_total, on_total, then_total}
 use Rattle.std.proofs.lemmas.List.Elements.{All-cons, All-head, All-nil, All-tail}
+use Rattle.std.proofs.lemmas.List.Sorted.{All-permutation}
 use Rattle.first_few.specs.First.{AreFirst}
 use Rattle.ri_base.specs.Ratio.{Ratio, ratio_of}
 use Rattle.ri_base.specs.declared.fraction.Fraction.{Fraction}
@@ -16,11 +18,15 @@ use Rattle.log_chain.specs.declared.chain.TheConstants.{FIRST, LAST}
 use Rattle.leaf_chains.specs.Chains.{AreAt, at_level, started}
 use Rattle.bounded_keys.specs.Digits.{belief, digits_at, early, late}
 use Rattle.bounded_keys.specs.Entries.{IsEarly, by_key, by_leading, in_question, settled}
-use Rattle.bounded_keys.specs.Kept.{AreContenders, lower, upper}
+use Rattle.bounded_keys.specs.Kept.{AreContenders, is_surely_before, lower, upper}
+use Rattle.bounded_keys.specs.Likeness.{is_before}
 use Rattle.bounded_keys.specs.declared.entry.Entry.{Entry}
 use Rattle.bounded_keys.specs.declared.entry.Settled.{Settled}
-use Rattle.bounded_keys.proofs.Beaten.{first_of_rest}
-use Rattle.bounded_keys.proofs.Kepts.{contenders_count}
+use Rattle.bounded_keys.proofs.Beaten.{first_of_behind}
+use Rattle.bounded_keys.proofs.Counts.{All-append_right, count_map, count_weaker}
+use Rattle.bounded_keys.proofs.Kepts.{contenders_few}
+use Rattle.bounded_keys.specs.LikenessLaws.{before_is}
+use Rattle.bounded_keys.proofs.Likenesses.{same_beliefs}
 
 -- ---- leaves
 
@@ -65,6 +71,13 @@ key_total {W = W} order total = then_total (on_total (λ (x : Settled W). x.key)
 less_then : (m n : ℕ) (o : Ordering) → m < n → is_lt (ordering_then (nat_cmp m n) o) ≡ true
 less_then m n o h = search (rules, lt-ltb)
 
+equal_then : (m n : ℕ) (o : Ordering) → m ≡ n → is_lt (ordering_then (nat_cmp m n) o) ≡ is_lt o
+equal_then m n o e = ap (λ c. is_lt (ordering_then c o)) (sym (nat_cmp_is m n Equal e))
+
+either : (a b : Bool) → (a || b) ≡ true → (a ≡ true) ⊎ (b ≡ true)
+either true b e = inl refl
+either false b e = inr e
+
 -- ---- keys
 
 module _ (key : List ℕ → ℕ) (leaves scale : ℕ)
@@ -79,15 +92,35 @@ module _ (key : List ℕ → ℕ) (leaves scale : ℕ)
       let high : key (digits_at (FIRST + 28) beliefs) + scale ≤ (key (digits_at FIRST beliefs) + scale) * 2 ^ 28 = most beliefs FIRST 28 in
       (omega (arith, first, last, low), omega (arith, first, last, high))
 
+  -- what surely stands before another is before it with all digits
+  surely_less : {W : Type 0} (order : W → W → Ordering) (y x : Entry W) → IsEarly key leaves y → IsEarly key leaves x
+      → is_surely_before (λ (z : Entry W). z.leading) scale (is_before order) y x ≡ true → is_lt (by_key order (settled key y) (settled key x)) ≡ true
+  surely_less order y x of_y of_x e = ⊎_elim
+      (λ l. less_then (settled key y).key (settled key x).key (order y.window x.window)
+      (omega (arith, ltb-true (upper scale y.leading) (lower x.leading) l, (enclosed y of_y).1, (enclosed x of_x).0)))
+      (λ l. let is = before_is order y x l in
+      let same : (settled key y).key ≡ (settled key x).key = ap key (last_digits y.leaves ∙ ap (digits_at LAST) (same_beliefs y.leaves x.leaves is.0) ∙ sym (last_digits x.leaves)) in
+      equal_then (settled key y).key (settled key x).key (order y.window x.window) same ∙ ap is_lt is.1)
+      (either (nat_lt (upper scale y.leading) (lower x.leading)) (is_before order y x) e)
+
   -- the first of the contenders are the first of all
   pub first_settled : {W : Type 0} (order : W → W → Ordering) → IsTotalOrder order → (k : ℕ) (all taken : List (Entry W)) (held : List (Settled W))
-      → All (λ x. IsEarly key leaves x) all → AreContenders (λ x. x.leading) scale k all taken
+      → All (λ x. IsEarly key leaves x) all → AreContenders (λ x. x.leading) scale (is_before order) k all taken
       → AreFirst (by_key order) k (map (settled key) taken ++ []) held → AreFirst (by_key order) k (map (settled key) all) held
   first_settled {W = W} order total k all taken held early contenders f =
-      first_of_rest (λ (x : Entry W). lower x.leading) (λ x. upper scale x.leading) (λ x. (settled key x).key) (by_key order) (key_total order total) (settled key)
-      (λ a b l. less_then (settled key a).key (settled key b).key (order a.window b.window) l) k all taken contenders.passed held
-      (λ i d within. enclosed (get_or all i d) (early i d within)) contenders.split contenders.beaten
+      first_of_behind (by_key order) (key_total order total) (settled key) k all taken contenders.passed held contenders.split
+      (λ i d within.
+      let x : Entry W = get_or contenders.passed i d in
+      let of_x = All-append_right (λ y. IsEarly key leaves y) taken contenders.passed (All-permutation (λ y. IsEarly key leaves y) all (taken ++ contenders.passed) contenders.split early) i d within in
+      omega (
+        arith,
+        contenders.behind i d within,
+        count_weaker (λ y. is_surely_before (λ (z : Entry W). z.leading) scale (is_before order) y x) (λ y. is_lt (by_key order (settled key y) (settled key x))) all
+            (λ j e inside l. surely_less order (get_or all j e) x (early j e inside) of_x l),
+        count_map (settled key) (λ y. is_lt (by_key order y (settled key x))) all,
+      ))
       (subst (λ ys. AreFirst (by_key order) k ys held) (append-nil (map (settled key) taken)) f)
 
-pub taken_count : {W : Type 0} (scale k : ℕ) (all taken : List (Entry W)) → AreContenders (λ x. x.leading) scale k all taken → length taken ≡ length (in_question scale k all)
-taken_count {W = W} scale k all taken h = contenders_count by_leading leading_total (λ (x : Entry W). x.leading) (λ a b. refl) k scale all taken h
+pub taken_few : {W : Type 0} (scale : ℕ) (before : Entry W → Entry W → Bool) (k : ℕ) (all taken : List (Entry W)) → AreContenders (λ x. x.leading) scale before k all taken
+    → length taken ≤ length (in_question scale k all)
+taken_few {W = W} scale before k all taken h = contenders_few by_leading leading_total (λ (x : Entry W). x.leading) (λ a b. refl) k scale before all taken h

@@ -4,5 +4,7 @@ pub mod Beaten
 pub mod Counts
 pub mod Kepts
 pub mod Levels
+pub mod Likenesses
 pub mod Orders
+pub mod RunLemmas
 pub mod Taken

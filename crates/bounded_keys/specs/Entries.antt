@@ -8,6 +8,7 @@ use Rattle.leaf_chains.specs.Chains.{AreAt}
 use Rattle.bounded_keys.specs.Bounds.{contenders}
 use Rattle.bounded_keys.specs.Digits.{late}
 use Rattle.bounded_keys.specs.Kept.{IsKept, Kept, lower, upper}
+use Rattle.bounded_keys.specs.Likeness.{is_before}
 use Rattle.bounded_keys.specs.declared.entry.Entry.{Entry}
 use Rattle.bounded_keys.specs.declared.entry.Settled.{Settled}
 
@@ -29,9 +30,9 @@ pub record IsEarly {W : Type 0} (key : List ℕ → ℕ) (leaves : ℕ) (x : Ent
 abbrev pub settled : {W : Type 0} → (List ℕ → ℕ) → Entry W → Settled W
 settled key x = record { key = key (map digits_of (late x.leaves)); window = x.window; leaves = late x.leaves }
 
--- these entries were offered
-abbrev pub WereOffered : {W : Type 0} → List (Entry W) → Kept (Entry W) → Type 0
-WereOffered all kept = IsKept by_leading (λ x. x.leading) all kept
+-- these entries were offered, whose windows are in this order
+abbrev pub WereOffered : {W : Type 0} → (W → W → Ordering) → List (Entry W) → Kept (Entry W) → Type 0
+WereOffered order all kept = IsKept by_leading (λ x. x.leading) (is_before order) all kept
 
 -- of some entries those that may be among the first k by their keys at the last level
 abbrev pub in_question : {W : Type 0} → ℕ → ℕ → List (Entry W) → List (Entry W)

@@ -1,11 +1,12 @@
 -- Items that are kept of all that were offered: the first by numbers that lead their keys, and others that may still be among the
 -- first by their keys.
-use Rattle.std.specs.Prelude.{◌≡◌, ◌<◌, ◌≤◌, ◌+◌, ◌-◌, ◌*◌, ◌/◌, ◌^◌, ℕ, Bool, true, false, nat_lt, List, [], ◌++◌, length}
+use Rattle.std.specs.Prelude.{◌≡◌, ◌⊎◌, ◌<◌, ◌≤◌, ◌+◌, ◌-◌, ◌*◌, ◌/◌, ◌^◌, ℕ, Bool, true, false, ◌||◌, nat_lt, List, [], ◌++◌, length}
 use Rattle.std.specs.BinaryHeap.{IsUpperBound}
-use Rattle.std.specs.List.{All}
+use Rattle.std.specs.List.{All, count_by}
 use Rattle.std.specs.List.Sorted.{IsPermutation}
 use Rattle.std.specs.declared.cmp.Ordering.{Ordering}
 use Rattle.bounded_keys.specs.Bounds.{is_beaten}
+use Rattle.bounded_keys.specs.Runs.{count_before}
 use Rattle.bounded_keys.specs.declared.threshold.Threshold.{Threshold}
 use Rattle.bounded_keys.specs.declared.threshold.Threshold.TheVariants.{Above, Everything, Nothing}
 
@@ -35,17 +36,26 @@ pub record IsApart {X : Type 0} (order : X → X → Ordering) (k : ℕ) (all he
 abbrev pub is_beaten_by : {X : Type 0} → (X → ℕ) → ℕ → ℕ → List X → ℕ → Bool
 is_beaten_by number scale k xs c = is_beaten (λ x. upper scale (number x)) k xs (lower c)
 
--- of all items the first are held, others are kept, and the rest is gone, each of which is beaten
-pub record IsKept {X : Type 0} (order : X → X → Ordering) (number : X → ℕ) (all : List X) (kept : Kept X) : Type 0 where
+-- an item surely stands before another by their keys: its upper bound is below the other's lower bound, or it stands before it
+-- whatever their further digits are
+abbrev pub is_surely_before : {X : Type 0} → (X → ℕ) → ℕ → (X → X → Bool) → X → X → Bool
+is_surely_before number scale before y x = nat_lt (upper scale (number y)) (lower (number x)) || before y x
+
+-- at least k of these surely stand before it
+abbrev pub IsBehind : {X : Type 0} → (X → ℕ) → ℕ → (X → X → Bool) → ℕ → List X → X → Type 0
+IsBehind number scale before k xs x = k ≤ count_by (λ y. is_surely_before number scale before y x) xs
+
+-- of all items the first are held, others are kept, and the rest is gone, behind so many that it isn't among the first
+pub record IsKept {X : Type 0} (order : X → X → Ordering) (number : X → ℕ) (before : X → X → Bool) (all : List X) (kept : Kept X) : Type 0 where
   pub gone : List X
   pub apart : IsApart order kept.most all kept.held (kept.near ++ gone)
-  pub beaten : All (λ x. is_beaten_by number kept.scale kept.most all (number x) ≡ true) gone
+  pub behind : All (λ x. IsBehind number kept.scale before kept.most all x) gone
 
--- of all items these are the ones that aren't beaten, in any order
-pub record AreContenders {X : Type 0} (number : X → ℕ) (scale k : ℕ) (all taken : List X) : Type 0 where
+-- none of these is beaten, and the rest of all items is behind k of them
+pub record AreContenders {X : Type 0} (number : X → ℕ) (scale : ℕ) (before : X → X → Bool) (k : ℕ) (all taken : List X) : Type 0 where
   pub passed : List X
   pub split : IsPermutation all (taken ++ passed)
-  pub beaten : All (λ x. is_beaten_by number scale k all (number x) ≡ true) passed
+  pub behind : All (λ x. IsBehind number scale before k all x) passed
   pub in_question : All (λ x. is_beaten_by number scale k all (number x) ≡ false) taken
 
 -- how far the upper bound of a key goes beyond its leading number, in such numbers
@@ -58,11 +68,11 @@ beats Nothing c = false
 beats (Above number more) c = nat_lt (number + more) c
 beats Everything c = true
 
--- of some items others are left out, each of which is beaten
-pub record LeavesOut {X : Type 0} (number : X → ℕ) (threshold : Threshold) (xs ys : List X) : Type 0 where
+-- of some items others are left out, each of which is beaten, or has k of all before it
+pub record LeavesOut {X : Type 0} (number : X → ℕ) (before : X → X → Bool) (k : ℕ) (threshold : Threshold) (xs ys : List X) : Type 0 where
   pub out : List X
   pub split : IsPermutation xs (ys ++ out)
-  pub beaten : All (λ x. beats threshold (number x) ≡ true) out
+  pub behind : All (λ x. (beats threshold (number x) ≡ true) ⊎ (k ≤ count_before before xs x)) out
 
 -- each of these stands among the others, as often as it stands here
 pub record AreAmong {X : Type 0} (xs ys : List X) : Type 0 where

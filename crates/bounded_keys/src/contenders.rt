@@ -1,12 +1,14 @@
 // The first items by numbers that lead their keys, and those that may still be among the first by their keys.
-ghost use Rattle.std.specs.Prelude.{◌≡◌, ◌<◌, ◌≤◌, ◌∷◌, ◌++◌, [], ℕ, true, false, List, length, not, slice_index_or, IfOk, OnOk};
+ghost use Rattle.std.specs.Prelude.{◌≡◌, ◌<◌, ◌≤◌, ◌∷◌, ◌++◌, [], ℕ, true, false, List, length, slice_index_or, IfOk, OnOk};
 ghost use Rattle.std.specs.BinaryHeap.{IsHeap, IsUpperBound, heap_items, heap_len};
-ghost use Rattle.std.specs.List.{All, filter};
+ghost use Rattle.std.specs.List.{All};
 ghost use Rattle.std.specs.List.Sorted.{IsPermutation};
 ghost use Rattle.std.specs.Ordering.{is_lt};
-ghost use Rattle.bounded_keys.specs.Kept.{AreAmong, AreContenders, IsApart, IsKept, LeavesOut, beats, is_beaten_by};
+ghost use Rattle.bounded_keys.specs.Kept.{AreAmong, AreContenders, IsApart, IsKept, beats, is_beaten_by};
 
 use crate::Leading;
+use crate::near::{Near, drop_above};
+use crate::runs::first_of_runs;
 use crate::threshold::Threshold;
 use std::alloc::{AllocError, Global};
 use std::collections::BinaryHeap;
@@ -17,22 +19,22 @@ use std::marker::Model;
 #[derive(Drop)]
 pub struct Contenders<T: Leading> {
     heap: BinaryHeap<T>,
-    near: Vec<T>,
+    near: Near<T>,
     most: usize,
     scale: u64,
-    limit: usize,
 }
 
 impl<T: Leading> Model for Contenders<T> {
     ghost use Rattle.std.specs.Prelude.{◌≤◌};
     ghost use Rattle.std.specs.BinaryHeap.{IsHeap, heap_items, heap_len};
     ghost use Rattle.bounded_keys.specs.Kept.{Kept};
+    ghost use Rattle.bounded_keys.specs.Runs.{IsFull};
 
     ghost Value = { Kept T };
 
-    ghost view = { λ c. record { most = c.most; scale = c.scale; held = heap_items c.heap; near = c.near.items } };
+    ghost view = { λ c. record { most = c.most; scale = c.scale; held = heap_items c.heap; near = c.near.items.items } };
 
-    ghost invariant = { λ c. IsHeap T.cmp (heap_items c.heap) × (heap_len c.heap ≤ c.most) };
+    ghost invariant = { λ c. IsHeap T.cmp (heap_items c.heap) × (heap_len c.heap ≤ c.most) × IsFull T.before c.most c.near.full c.near.items.items };
 }
 
 /// What is beaten by what is held.
@@ -97,47 +99,18 @@ fn displaced<T: Leading + Drop>(heap: &mut BinaryHeap<T>, item: T) -> T
     }
 }
 
-/// Keeps those that aren't above the threshold.
-fn drop_above<T: Leading + Drop>(items: &mut Vec<T>, threshold: Threshold)
-    ensures { items.new.items ≡ filter (λ x. not (beats threshold (T.number x))) items.old.items }
-{
-    items.retain(|x| !threshold.beats(x.leading()));
-}
-
-/// Keeps an item with others, unless it is above the threshold. Where these are more than a limit, those above it go, and the limit
-/// is twice as many as are left.
-fn keep_near<T: Leading + Drop>(
-    near: &mut Vec<T>,
-    limit: &mut usize,
-    threshold: Threshold,
-    item: T,
-) -> Result<(), AllocError>
-    ensures { OnOk result (LeavesOut T.number threshold (near.old.items ++ item ∷ []) near.new.items) }
-{
-    if threshold.beats(item.leading()) {
-        return Ok(());
-    }
-    near.push(item)?;
-    if near.len() > *limit {
-        drop_above(near, threshold);
-        *limit = near.len().saturating_mul(2).max(*limit);
-    }
-    Ok(())
-}
-
 impl<T: Leading + Drop> Contenders<T> {
     /// Nothing was offered yet; of what comes at most so many are held. The keys are of this scale.
     pub fn new(alloc: Global, most: usize, scale: u64) -> Contenders<T>
         ensures most { result.most ≡ most }
         ensures scale { result.scale ≡ scale }
-        ensures kept { IsKept T.cmp T.number [] result }
+        ensures kept { IsKept T.cmp T.number T.before [] result }
     {
         Contenders {
             heap: BinaryHeap::new(alloc),
-            near: Vec::new(alloc),
+            near: Near::new(alloc, most),
             most,
             scale,
-            limit: most,
         }
     }
 
@@ -151,8 +124,8 @@ impl<T: Leading + Drop> Contenders<T> {
     /// Whether a key that this number leads is surely above those of the first: at least so many may be held whose keys are surely
     /// less. So items needn't be offered whose numbers are at least this one.
     pub fn is_beaten(&self, number: u128) -> bool
-        ensures exact { (all : List T) → IsKept T.cmp T.number all self.now → result ≡ is_beaten_by T.number self.now.scale self.now.most all number }
-        ensures skipped { result ≡ true → (all more : List T) → IsKept T.cmp T.number all self.now → All (λ x. number ≤ T.number x) more → IsKept T.cmp T.number (more ++ all) self.now }
+        ensures exact { (all : List T) → IsKept T.cmp T.number T.before all self.now → result ≡ is_beaten_by T.number self.now.scale self.now.most all number }
+        ensures skipped { result ≡ true → (all more : List T) → IsKept T.cmp T.number T.before all self.now → All (λ x. number ≤ T.number x) more → IsKept T.cmp T.number T.before (more ++ all) self.now }
     {
         threshold_of(&self.heap, self.most, self.scale).beats(number)
     }
@@ -161,7 +134,7 @@ impl<T: Leading + Drop> Contenders<T> {
     pub fn offer(&mut self, item: T) -> Result<(), AllocError>
         ensures most { self.new.most ≡ self.old.most }
         ensures scale { self.new.scale ≡ self.old.scale }
-        ensures kept { OnOk result ((all : List T) → IsKept T.cmp T.number all self.old → IsKept T.cmp T.number (item ∷ all) self.new) }
+        ensures kept { OnOk result ((all : List T) → IsKept T.cmp T.number T.before all self.old → IsKept T.cmp T.number T.before (item ∷ all) self.new) }
         ensures among { OnOk result (AreAmong (self.new.held ++ self.new.near) (item ∷ (self.old.held ++ self.old.near))) }
     {
         if self.heap.len() < self.most {
@@ -170,7 +143,7 @@ impl<T: Leading + Drop> Contenders<T> {
         }
         let other = displaced(&mut self.heap, item);
         let threshold = threshold_of(&self.heap, self.most, self.scale);
-        keep_near(&mut self.near, &mut self.limit, threshold, other)?;
+        self.near.keep(self.most, threshold, other)?;
         Ok(())
     }
 
@@ -179,7 +152,7 @@ impl<T: Leading + Drop> Contenders<T> {
         ensures most { self.new.most ≡ self.old.most }
         ensures scale { self.new.scale ≡ self.old.scale }
         ensures none { OnOk result (items.new.items ≡ []) }
-        ensures kept { OnOk result ((all : List T) → IsKept T.cmp T.number all self.old → IsKept T.cmp T.number (items.old.items ++ all) self.new) }
+        ensures kept { OnOk result ((all : List T) → IsKept T.cmp T.number T.before all self.old → IsKept T.cmp T.number T.before (items.old.items ++ all) self.new) }
         ensures among { OnOk result (AreAmong (self.new.held ++ self.new.near) (items.old.items ++ (self.old.held ++ self.old.near))) }
     {
         while let Some(item) = items.pop() {
@@ -188,16 +161,23 @@ impl<T: Leading + Drop> Contenders<T> {
         Ok(())
     }
 
-    /// Those that may be among the first by their keys.
-    pub fn into_contenders(self) -> Result<Vec<T>, AllocError>
-        ensures contenders { IfOk result (λ v. (all : List T) → IsKept T.cmp T.number all self → AreContenders T.number self.scale self.most all v.items) }
+    /// Those that may be among the first by their keys, for all that is known.
+    pub fn into_contenders(self, alloc: Global) -> Result<Vec<T>, AllocError>
+        ensures contenders { IfOk result (λ v. (all : List T) → IsKept T.cmp T.number T.before all self → AreContenders T.number self.scale T.before self.most all v.items) }
         ensures among { IfOk result (λ v. AreAmong v.items (self.held ++ self.near)) }
     {
         let threshold = threshold_of(&self.heap, self.most, self.scale);
-        let Contenders { heap, mut near, .. } = self;
+        let Contenders {
+            heap,
+            near,
+            most,
+            ..
+        } = self;
+        let mut near = near.items;
         let mut all = heap.into_vec();
         all.append(&mut near)?;
         drop_above(&mut all, threshold);
-        Ok(all)
+        let runs = first_of_runs(alloc, all, most)?;
+        Ok(runs.items)
     }
 }

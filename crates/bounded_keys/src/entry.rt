@@ -7,11 +7,13 @@ ghost use Rattle.leaf_chains.specs.Chains.{AreAt};
 ghost use Rattle.bounded_keys.specs.Digits.{belief, digits_at, early, late};
 ghost use Rattle.bounded_keys.specs.Entries.{IsEarly, settled};
 
+use crate::likeness::by_beliefs;
 use crate::{Combination, Leading};
 use leaf_chains::{digits_all, extend_all, start_all};
 use log_chain::{FIRST, LAST, LogChain};
 use ri_base::{Fraction, Fractions, List, NoMemory, Steps};
 use std::alloc::Global;
+use std::cmp::Ordering;
 use std::mem::size_of;
 use std::sync::ledger::Ledger;
 
@@ -41,16 +43,33 @@ pub struct Settled<W> {
     pub leaves: Leaves,
 }
 
-impl<W> Leading for Entry<W> {
+impl<W: Ord> Leading for Entry<W> {
     ghost use Rattle.std.proofs.Common.{refl};
+    ghost use Rattle.bounded_keys.specs.Likeness.{is_before};
+    ghost use Rattle.bounded_keys.specs.LikenessLaws.{before_follow};
 
     ghost number = { λ x. x.leading };
+
+    ghost before = { λ a b. is_before W.cmp a b };
 
     fn leading(&self) -> u128 {
         self.leading
     }
 
+    fn is_before(&self, other: &Entry<W>) -> bool {
+        by_beliefs(self.leaves.as_slice(), other.leaves.as_slice()).is_eq()
+            && self.window.cmp(&other.window).is_lt()
+    }
+
+    fn in_runs(&self, other: &Entry<W>) -> Ordering {
+        by_beliefs(self.leaves.as_slice(), other.leaves.as_slice()).then(
+            self.window.cmp(&other.window),
+        )
+    }
+
     ghost by_number = { λ a b. refl };
+
+    ghost follow = { before_follow W.cmp W.total };
 }
 
 /// Leaves of these beliefs, with their digits at the first level.

@@ -43,17 +43,15 @@ impl<W: Ord + Drop> Contenders<Entry<W>> {
     ) -> Result<Vec<Settled<W>>, NoMemory>
         requires scale { self.scale ≡ C.scale combination.now }
         requires early { All (λ x. IsEarly (C.key_of combination.now) (C.leaves combination.now) x) (self.held ++ self.near) }
-        ensures front { IfOk result (λ v. (all : List (Entry W)) → WereOffered all self → All (λ x. IsEarly (C.key_of combination.now) (C.leaves combination.now) x) all
+        ensures front { IfOk result (λ v. (all : List (Entry W)) → WereOffered W.cmp all self → All (λ x. IsEarly (C.key_of combination.now) (C.leaves combination.now) x) all
             → IsFront (by_key W.cmp) self.most (map (settled (C.key_of combination.now)) all) v.items) }
         ensures few { IfOk result (λ v. length v.items ≤ self.most) }
         ensures among { IfOk result (λ v. AreAmong v.items (map (settled (C.key_of combination.now)) (self.held ++ self.near))) }
-        ensures cost { OnOk result ((all : List (Entry W)) → WereOffered all self
-            → squares.new ≡ squares.old + (LAST - FIRST) * C.leaves combination.now * length (in_question self.scale self.most all)) }
-        ensures within { (all : List (Entry W)) → WereOffered all self
+        ensures within { (all : List (Entry W)) → WereOffered W.cmp all self
             → squares.new ≤ squares.old + (LAST - FIRST) * C.leaves combination.now * length (in_question self.scale self.most all) }
     {
         let mut first = FirstFew::new(alloc, self.most());
-        let entries = self.into_contenders()?;
+        let entries = self.into_contenders(alloc)?;
         offer_settled(alloc, combination, entries, &mut first, squares)?;
         Ok(first.into_sorted())
     }

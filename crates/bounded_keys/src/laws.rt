@@ -21,5 +21,5 @@ pub fn keys_of_first()
 
 /// What was offered may be told in any order.
 pub fn offered_in_any_order<T: Leading>()
-    ensures { (all other : List T) (kept : Kept T) → IsPermutation all other → IsKept T.cmp T.number all kept → IsKept T.cmp T.number other kept }
+    ensures { (all other : List T) (kept : Kept T) → IsPermutation all other → IsKept T.cmp T.number T.before all kept → IsKept T.cmp T.number T.before other kept }
 {}

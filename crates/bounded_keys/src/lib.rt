@@ -7,6 +7,9 @@ mod entry;
 mod first;
 mod laws;
 mod leading;
+mod likeness;
+mod near;
+mod runs;
 mod threshold;
 
 pub use combination::Combination;

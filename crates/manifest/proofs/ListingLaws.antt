@@ -1,5 +1,5 @@
 -- A manifest keeps its rules in the order of reading exactly where its lists and the numbers of its files keep theirs.
-use Rattle.std.proofs.Common.{◌≡◌, ◌≤◌, ◌<◌, ◌+◌, ◌^◌, ◌||◌, ◌&&◌, not, ℕ, Bool, true, false, List, [], ◌∷◌, ◌++◌, length, map, nat_le, nat_lt, refl, sym, ap, subst, ◌∙◌, arith}
+use Rattle.std.proofs.Common.{◌≡◌, ◌≤◌, ◌<◌, ◌^◌, ◌||◌, ◌&&◌, not, ℕ, Bool, true, false, List, [], ◌∷◌, ◌++◌, nat_le, nat_lt, refl, sym, ap, subst, ◌∙◌, arith}
 use Rattle.std.specs.Bool.{nat_eq}
 use Rattle.std.specs.List.{list_any}
 use Rattle.std.specs.Ordering.{match_ordering, nat_cmp}
@@ -8,8 +8,7 @@ use Rattle.std.specs.declared.cmp.Ordering.{Ordering}
 use Rattle.std.specs.declared.cmp.Ordering.TheVariants.{Less, Equal, Greater}
 use Rattle.std.proofs.lemmas.Bool.Decides.{nat_tests}
 use Rattle.ri_base.specs.Reading.{AllFit}
-use Rattle.ri_base.specs.declared.limits.TheConstants.{MAX_PRIORS}
-use Rattle.manifest.specs.Entries.{Behind, BehindPrior, behind, behind_prior, is_number, is_stale, with_number, with_numbers}
+use Rattle.manifest.specs.Entries.{Behind, BehindPrior, behind, behind_prior, is_number, with_number, with_numbers}
 use Rattle.manifest.specs.Files.{numbers_of}
 use Rattle.manifest.specs.Fits.{FitPriors, FitSegments, FitStale, FitsNumber, FitsPrior, FitsSegment, FitsStale, IsManifest}
 use Rattle.manifest.specs.Listing.{AreNamed, AreNumbered, AreRising, FitEntries, IsListing, IsNoneOf, all_numbers, listing, prior_numbers}

@@ -2,6 +2,7 @@
 #![tactic(auto)]
 
 mod entries;
+mod magic;
 mod manifest;
 mod prior;
 mod prior_reading;

@@ -1,22 +1,19 @@
 // The rows of a prior, of bytes.
 ghost use Rattle.std.specs.Prelude.{◌≡◌, ◌<◌, ◌==◌, ◌&&◌, [], ℕ, length, map, option_map, Ok, IfOk, nat_le};
-ghost use Rattle.std.specs.Bool.{nat_eq};
-ghost use Rattle.std.specs.Cmp.Lexicographic.{pointwise};
 ghost use Rattle.std.specs.Int.{w32, w64};
 ghost use Rattle.ri_base.specs.FieldAnswers.{AnswersPart, Gives};
-ghost use Rattle.ri_base.specs.Fields.{ruled, ruled_byte, ruled_front};
+ghost use Rattle.ri_base.specs.Fields.{ruled, ruled_byte};
 ghost use Rattle.ri_base.specs.Reading.{repeat};
 ghost use Rattle.ri_base.specs.Ratio.{ratio_of};
 ghost use Rattle.ri_base.specs.declared.limits.TheConstants.{MAX_PRIOR_ROWS};
 ghost use Rattle.ri_base.specs.declared.seg_fault.FileName.TheVariants as files;
 ghost use Rattle.ri_base.specs.declared.seg_fault.PartName.TheVariants as parts;
 ghost use Rattle.manifest.specs.PriorFits.{IsPrior};
-ghost use Rattle.manifest.specs.Priors.{PriorTable, belief, is_p, is_q, prior_fields, prior_file, prior_magic, prior_text, rest, row, row_of, rows};
+ghost use Rattle.manifest.specs.Priors.{PriorTable, belief, is_p, is_q, prior_fields, prior_file, prior_text, rest, row, row_of, rows};
 
+use crate::magic::magic_at;
 use crate::prior::PriorRows;
-use ri_base::file_fields::{
-    Broken, byte_at, docno_behind_at, fault_of, front_at, kept, u32_at, u64_at,
-};
+use ri_base::file_fields::{Broken, byte_at, docno_behind_at, fault_of, kept, u32_at, u64_at};
 use ri_base::limits::{MAX_PRIOR_ROWS, PRIOR_LIMIT};
 use ri_base::{Docno, FileName, Fraction, PartName, SegFault};
 use std::alloc::Global;
@@ -108,18 +105,6 @@ fn rest_at(bytes: &[u8]) -> Result<(Option<Fraction>, &[u8]), Broken>
     Ok((Some(fraction), behind))
 }
 
-#[tactic(auto, unfolding(ri_base::specs::Fields::ruled_front))]
-fn magic_at(bytes: &[u8]) -> Result<(&[u8], &[u8]), Broken>
-    ensures { Gives (λ x. (x.0.now, x.1.now)) result (ruled_front 8 (λ x. pointwise nat_eq x prior_magic) bytes.now) }
-{
-    let (front, rest) = front_at(8, bytes)?;
-    if front == b"indripri".as_slice() {
-        Ok((front, rest))
-    } else {
-        Err(Broken::At(bytes.len()))
-    }
-}
-
 /// The belief of the documents without a row, and the rows.
 #[tactic(auto, unfolding(crate::specs::Priors::prior_fields))]
 fn prior_at(
@@ -128,7 +113,7 @@ fn prior_at(
 ) -> Result<(Option<Fraction>, Vec<(Docno, Fraction)>, &[u8]), Broken>
     ensures { Gives (λ x. (record { rest = option_map ratio_of x.0; rows = map row_of x.1.items }, x.2.now)) result (prior_fields bytes.now) }
 {
-    let (_magic, rest) = magic_at(bytes)?;
+    let (_magic, rest) = magic_at(b"indripri".as_slice(), bytes)?;
     let (fraction, rest) = rest_at(rest)?;
     let (rows, rest) = rows_at(alloc, rest)?;
     Ok((fraction, rows, rest))

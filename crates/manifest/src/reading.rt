@@ -1,34 +1,21 @@
 // The manifest of bytes.
 ghost use Rattle.std.specs.Prelude.{◌≡◌, ◌==◌, ◌^◌, ◌<◌, [], ℕ, length, map, Ok, IfOk, nat_le};
-ghost use Rattle.std.specs.Bool.{nat_eq};
-ghost use Rattle.std.specs.Cmp.Lexicographic.{pointwise};
 ghost use Rattle.std.specs.Int.{w32, w64};
 ghost use Rattle.ri_base.specs.FieldAnswers.{AnswersPart, Gives};
-ghost use Rattle.ri_base.specs.Fields.{ruled, ruled_front};
+ghost use Rattle.ri_base.specs.Fields.{ruled};
 ghost use Rattle.ri_base.specs.declared.seg_fault.FileName.TheVariants as files;
 ghost use Rattle.ri_base.specs.declared.seg_fault.PartName.TheVariants as parts;
-ghost use Rattle.manifest.specs.Files.{lists, magic, manifest, manifest_fields, opening};
+ghost use Rattle.manifest.specs.Files.{lists, manifest, manifest_fields, opening};
 ghost use Rattle.manifest.specs.Fits.{IsManifest};
 ghost use Rattle.manifest.specs.Spelling.{manifest_text};
 ghost use Rattle.manifest.specs.declared.manifest.Manifest.{Manifest};
 
 use crate::entries::{priors_at, segments_at, stale_at};
+use crate::magic::magic_at;
 use crate::manifest::{Manifest, PriorEntry, SegEntry};
-use ri_base::file_fields::{Broken, fault_of, front_at, kept, u32_at, u64_at};
+use ri_base::file_fields::{Broken, fault_of, kept, u32_at, u64_at};
 use ri_base::{FileName, List, PartName, SegFault};
 use std::alloc::Global;
-
-#[tactic(auto, unfolding(ri_base::specs::Fields::ruled_front))]
-fn magic_at(bytes: &[u8]) -> Result<(&[u8], &[u8]), Broken>
-    ensures { Gives (λ x. (x.0.now, x.1.now)) result (ruled_front 8 (λ x. pointwise nat_eq x magic) bytes.now) }
-{
-    let (front, rest) = front_at(8, bytes)?;
-    if front == b"indriman".as_slice() {
-        Ok((front, rest))
-    } else {
-        Err(Broken::At(bytes.len()))
-    }
-}
 
 #[tactic(auto, unfolding(ri_base::specs::Fields::ruled))]
 fn version_at(bytes: &[u8]) -> Result<(u32, &[u8]), Broken>
@@ -51,7 +38,7 @@ fn next_at(bytes: &[u8]) -> Result<(u64, &[u8]), Broken>
 fn opening_at(bytes: &[u8]) -> Result<(u64, &[u8]), Broken>
     ensures { Gives (λ x. (x.0, x.1.now)) result (opening bytes.now) }
 {
-    let (_magic, rest) = magic_at(bytes)?;
+    let (_magic, rest) = magic_at(b"indriman".as_slice(), bytes)?;
     let (_version, rest) = version_at(rest)?;
     next_at(rest)
 }

@@ -1,5 +1,5 @@
 -- The bounds that a table tells are those of the definition.
-use Rattle.std.proofs.Common.{◌≡◌, ◌<◌, ◌≤◌, ◌+◌, ℕ, zero, suc, List, [], ◌∷◌, ◌++◌, length, take, get_or, add-one, max, refl, ap, subst, ◌∙◌, arith}
+use Rattle.std.proofs.Common.{◌≡◌, ◌<◌, ◌≤◌, ◌+◌, ℕ, zero, suc, List, [], ◌∷◌, ◌++◌, Option, None, Some, length, take, get_or, add-one, max, refl, ap, subst, ◌∙◌, arith}
 use Rattle.std.specs.Prelude.{All, zip}
 use Rattle.std.specs.List.{AllZip}
 use Rattle.ri_base.specs.Documents.{Document}
@@ -12,10 +12,26 @@ use Rattle.query_check.specs.Leaves.{LeafTree, extents, prior}
 use Rattle.belief_nodes.specs.Priors.{Prior}
 use Rattle.belief_nodes.proofs.Lists.{all_first, all_rest}
 use Rattle.range_bounds.specs.Bounds.{AreBounds, IsLeafBound, IsToldBound, least_scored}
-use Rattle.range_bounds.specs.Ranges.{least_length}
-use Rattle.range_bounds.specs.Tables.{TellsLeaf, names_of, terms_of, told_most}
+use Rattle.range_bounds.specs.Ranges.{least_length, range_documents}
+use Rattle.range_bounds.specs.Tables.{AreCountsOf, IsTableOf, TellsLeaf, TellsRange, counts_at, names_of, terms_of, told_most}
 use Rattle.range_bounds.specs.declared.range_counts.RangeCounts.{RangeCounts}
 use Rattle.range_bounds.specs.declared.table.RangeTable.{RangeTable}
+
+-- ---- the counts of a range
+
+some_inside : (ranges : List (Option RangeCounts)) (range : ℕ) (counts : RangeCounts) → get_or ranges range None ≡ Some counts → range < length ranges
+some_inside [] range counts e = absurd cc
+some_inside (x ∷ xs) zero counts e = omega arith
+some_inside (x ∷ xs) (suc range) counts e = let rest = some_inside xs range counts e in omega (arith, rest)
+
+-- those that a table has are those of the documents
+pub counts_told : (leaves : List LeafTree) (docs : List Document) (table : RangeTable) (range : ℕ) (counts : RangeCounts) → IsTableOf leaves docs table → counts_at table range ≡ Some counts
+    → AreCountsOf leaves (terms_of table) (names_of table) (range_documents docs range) counts
+counts_told leaves docs table range counts is_table e =
+    let inside = some_inside table.ranges.items range counts e in
+    subst (TellsRange leaves (terms_of table) (names_of table) (range_documents docs range)) e (is_table.each range (omega (arith, inside, is_table.few)))
+
+-- ---- bounds
 
 bound_told : (kind : RuleKind) (priors : List Prior) (range : Range) (table : RangeTable) (docs : List Document) (counts : RangeCounts) (l : LeafTree) (s : LeafStats) (r : Ratio) → counts.least ≡ least_length docs
     → TellsLeaf (terms_of table) (names_of table) docs counts l → IsToldBound kind priors range table counts l s r → IsLeafBound kind priors range docs l s r

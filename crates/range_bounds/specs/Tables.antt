@@ -1,10 +1,11 @@
 -- What a table of ranges tells of the documents of a part.
-use Rattle.std.specs.Prelude.{◌≡◌, ◌<◌, ◌≤◌, ⊤, ℕ, ◌*◌, List, length, position, slice_index_or}
+use Rattle.std.specs.Prelude.{◌≡◌, ◌<◌, ⊤, ℕ, ◌+◌, ◌*◌, Bool, List, Option, None, Some, is_some, length, position, slice_index_or}
 use Rattle.std.specs.List.{All, AllZip}
 use Rattle.std.specs.Option.{option_map_or}
 use Rattle.std.specs.Str.{bytes_eq}
 use Rattle.ri_base.specs.Documents.{Document, IsDocument}
 use Rattle.ri_base.specs.Expression.{ExprTree}
+use Rattle.extent_lists.specs.Extents.{Ext}
 use Rattle.query_check.specs.Leaves.{LeafTree, extents, prior}
 use Rattle.range_bounds.specs.Most.{most, most_by}
 use Rattle.range_bounds.specs.Ranges.{least_length, range_documents}
@@ -34,11 +35,24 @@ pub record AreCountsOf (leaves : List LeafTree) (terms names : List (List ℕ)) 
   pub least : counts.least ≡ least_length docs
   pub most : All (TellsLeaf terms names docs counts) leaves
 
--- there are such counts for each 64 of the documents
-pub record AreAllCounts (leaves : List LeafTree) (terms names : List (List ℕ)) (docs : List Document) (ranges : List RangeCounts) : Type 0 where
-  pub whole : length docs ≤ 64 * length ranges
-  pub each : (range : ℕ) (d : RangeCounts) → range < length ranges
-      → AreCountsOf leaves terms names (range_documents docs range) (slice_index_or ranges range d)
+-- a leaf has no extent in a document; a prior has none anywhere
+abbrev pub IsAbsent : Document → LeafTree → Type 0
+IsAbsent d (extents x context) = (b e : ℕ) → Ext x d b e → ⊥
+IsAbsent d (prior n) = ⊤
+
+-- no leaf has an extent in any of these documents
+abbrev pub AreAbsent : List LeafTree → List Document → Type 0
+AreAbsent leaves docs = All (λ d. All (IsAbsent d) leaves) docs
+
+-- what is told of these documents: their counts, or nothing where no leaf has an extent
+abbrev pub TellsRange : List LeafTree → List (List ℕ) → List (List ℕ) → List Document → Option RangeCounts → Type 0
+TellsRange leaves terms names docs None = AreAbsent leaves docs
+TellsRange leaves terms names docs (Some counts) = AreCountsOf leaves terms names docs counts
+
+-- each 64 of the documents are told of so
+pub record AreAllCounts (leaves : List LeafTree) (terms names : List (List ℕ)) (docs : List Document) (ranges : List (Option RangeCounts)) : Type 0 where
+  pub few : 64 * length ranges < length docs + 64
+  pub each : (range : ℕ) → 64 * range < length docs → TellsRange leaves terms names (range_documents docs range) (slice_index_or ranges range None)
 
 -- the terms and the names that a table counts
 abbrev pub terms_of : RangeTable → List (List ℕ)
@@ -47,11 +61,14 @@ terms_of table = table.terms.keys
 abbrev pub names_of : RangeTable → List (List ℕ)
 names_of table = table.names.keys
 
--- how many ranges it has
-abbrev pub range_count : RangeTable → ℕ
-range_count table = length table.ranges.items
+-- the counts of a range, where it has them
+abbrev pub counts_at : RangeTable → ℕ → Option RangeCounts
+counts_at table range = slice_index_or table.ranges.items range None
 
--- it has the counts of each range of these documents for these leaves
+abbrev pub has_counts : RangeTable → ℕ → Bool
+has_counts table range = is_some (counts_at table range)
+
+-- it has the counts of each range of these documents for these leaves, but of those in which none has an extent
 abbrev pub IsTableOf : List LeafTree → List Document → RangeTable → Type 0
 IsTableOf leaves docs table = AreAllCounts leaves (terms_of table) (names_of table) docs table.ranges.items
 

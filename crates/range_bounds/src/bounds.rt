@@ -1,5 +1,5 @@
 // The bounds of the leaves of a query.
-ghost use Rattle.std.specs.Prelude.{◌≡◌, ◌<◌, ◌≤◌, ℕ, List, length, map, Contains, IfOk, OnOk};
+ghost use Rattle.std.specs.Prelude.{◌≡◌, ◌<◌, ◌≤◌, ℕ, true, List, length, map, Contains, IfOk, OnOk};
 ghost use Rattle.std.specs.List.{All};
 ghost use Rattle.ri_base.specs.Documents.{Document};
 ghost use Rattle.ri_base.specs.Pair.{Pair};
@@ -14,7 +14,7 @@ ghost use Rattle.belief_nodes.specs.Priors.{IsGreatestOf, prior_at, prior_fracti
 ghost use Rattle.windows.specs.Windows.{windows};
 ghost use Rattle.range_bounds.specs.Bounds.{AreBounds, AreCovered, IsToldBound, beliefs_in, least_scored};
 ghost use Rattle.range_bounds.specs.Ranges.{range_documents};
-ghost use Rattle.range_bounds.specs.Tables.{IsTableOf, range_count};
+ghost use Rattle.range_bounds.specs.Tables.{IsTableOf, has_counts};
 
 use crate::beliefs::ask_rule;
 use crate::most::most;
@@ -28,7 +28,7 @@ use std::alloc::Global;
 
 impl RangeTable {
     /// For each leaf, in order of their numbers, a fraction that its belief doesn't exceed in any window of any document of
-    /// the range. The table was made for these leaves.
+    /// the range. The table was made for these leaves, and has the counts of the range.
     pub fn bound_fractions<F: Fn(u32, u32, u64, u64) -> Fraction>(
         &self,
         alloc: Global,
@@ -38,7 +38,7 @@ impl RangeTable {
         plugs: &[Box<dyn BeliefNode>],
     ) -> Result<Fractions, NoMemory>
         requires rule { Computes F.pre F.post rule.now.kind rule.now.f }
-        requires range { range < range_count self.now }
+        requires range { has_counts self.now range ≡ true }
         requires plugs { All (HasPrior (length plugs.now)) (network_tree network.now).leaves }
         ensures each { IfOk result (λ bounds. length bounds ≡ length (network_tree network.now).leaves) }
         ensures exact { (docs : List Document) → IsTableOf (network_tree network.now).leaves docs self.now → IfOk result
@@ -60,7 +60,7 @@ impl RangeTable {
     {
         ask_rule(rule);
         let stats = network.stats();
-        let counts = &self.ranges[range as usize];
+        let counts = self.counts(range).unwrap();
         let mut bounds = Vec::with_capacity(alloc, stats.len())?;
         for (i, leaf) in network.leaves().iter().enumerate() {
             let stat = stats[i];

@@ -1,22 +1,27 @@
 // The table of the ranges of a part.
-ghost use Rattle.std.specs.Prelude.{◌≡◌, nat_lt};
-ghost use Rattle.range_bounds.specs.Tables.{range_count};
+ghost use Rattle.std.specs.Prelude.{◌≡◌, is_some};
+ghost use Rattle.std.specs.Option.{option_copied};
+ghost use Rattle.range_bounds.specs.Tables.{counts_at, has_counts};
 
 use crate::range_counts::RangeCounts;
 use indexmap::IndexSet;
 use ri_base::{Name, Term};
 
-/// For each range of 64 ids of a part what is counted of its documents, marked ones included.
+/// For each range of 64 ids of a part what is counted of its documents, marked ones included, or nothing where no leaf of the query can occur.
 #[derive(Drop)]
 pub struct RangeTable {
     pub(crate) terms: IndexSet<Term>,
     pub(crate) names: IndexSet<Name>,
-    pub(crate) ranges: Vec<RangeCounts>,
+    pub(crate) ranges: Vec<Option<RangeCounts>>,
 }
 
 impl RangeTable {
     /// The table of ranges with these counts, of these terms and of the fields of these names.
-    pub fn new(terms: IndexSet<Term>, names: IndexSet<Name>, ranges: Vec<RangeCounts>) -> RangeTable
+    pub fn new(
+        terms: IndexSet<Term>,
+        names: IndexSet<Name>,
+        ranges: Vec<Option<RangeCounts>>,
+    ) -> RangeTable
         ensures { result ≡ record { terms = terms; names = names; ranges = ranges } }
     {
         RangeTable {
@@ -26,10 +31,21 @@ impl RangeTable {
         }
     }
 
+    /// The counts of a range, where it has them.
+    pub(crate) fn counts(&self, range: u32) -> Option<&RangeCounts>
+        ensures value { option_copied result ≡ counts_at self.now range }
+        ensures variant { is_some result ≡ has_counts self.now range }
+    {
+        match self.ranges.get(range as usize) {
+            Some(counts) => counts.as_ref(),
+            None => None,
+        }
+    }
+
     /// Whether it has the counts of a range.
     pub fn has(&self, range: u32) -> bool
-        ensures { result ≡ nat_lt range (range_count self.now) }
+        ensures { result ≡ has_counts self.now range }
     {
-        (range as usize) < self.ranges.len()
+        self.counts(range).is_some()
     }
 }

@@ -64,7 +64,7 @@ same_from range k i t (d ∷ docs) small low high =
     same_entry range k i (places t d) (entries_from (k + 1) t docs) small here (same_from range (k + 1) i t docs small (omega (arith, low)) (omega (arith, high)))
 
 -- an entry of the block stands for each document of the range that has the term
-has_block-term : (t : List ℕ) (range : ℕ) (docs : List Document) (i : ℕ) → i < 64 → list_any (λ e. e.id % 64 == i) (block_of t range docs) ≡ has_term t (document_at docs (64 * range + i))
+pub has_block-term : (t : List ℕ) (range : ℕ) (docs : List Document) (i : ℕ) → i < 64 → list_any (λ e. e.id % 64 == i) (block_of t range docs) ≡ has_term t (document_at docs (64 * range + i))
 unfolding block_of
 has_block-term t range docs i small =
     let s = 64 * range in

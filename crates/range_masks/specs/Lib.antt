@@ -1,3 +1,4 @@
+pub mod Held
 pub mod Masks
 pub mod May
 pub mod Next

@@ -1,18 +1,24 @@
-//! Which documents of a range of 64 ids may have an extent of an expression, by the terms that they have.
+//! Which documents of a range of 64 ids may have an extent of an expression, by the terms that they have; and the blocks of some terms
+//! for such a range, opened once.
 #![tactic(auto)]
 
 mod bits;
+mod blocks;
 mod expression;
 mod laws;
 mod next;
+mod opening;
 mod part;
 mod query;
+mod reader;
 mod sealed;
 mod term_masks;
 
 pub use bits::has_id;
+pub use blocks::RangeBlocks;
 pub use expression::expression_mask;
-pub use laws::extents_may;
+pub use laws::{blocks_stay, extents_may};
 pub use next::{next_leaf_range, next_query_range, next_range};
 pub use query::{leaf_mask, query_mask};
+pub use reader::RangeReader;
 pub use term_masks::TermMasks;

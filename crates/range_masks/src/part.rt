@@ -34,7 +34,7 @@ impl<'a, T: Store> TermMasks for PartReader<'a, T> {
 }
 
 /// Which documents of the range have the term, in a part of either kind.
-fn mask_in_part<T: Store>(
+pub(crate) fn mask_in_part<T: Store>(
     alloc: Global,
     part: &Part,
     store: &mut T,
@@ -106,7 +106,7 @@ fn mask_of_block<T: Store, L: Ledger>(
 }
 
 /// Which ids, counted within their range, the entries of a block have.
-fn mask_of_entries(entries: &[BlockEntry]) -> u64
+pub(crate) fn mask_of_entries(entries: &[BlockEntry]) -> u64
     ensures { (i : ℕ) → i < 64 → bit_at result i ≡ cond (list_any (λ e. e.id % 64 == i) entries.now) 1 0 }
 {
     let mut mask = 0;

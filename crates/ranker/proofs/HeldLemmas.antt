@@ -10,10 +10,10 @@ use Rattle.smoothing.specs.declared.rule.RuleKind.{RuleKind}
 use Rattle.belief_nodes.specs.Network.{NetworkTree}
 use Rattle.belief_nodes.specs.Priors.{Prior}
 use Rattle.first_few.specs.First.{IsFront}
-use Rattle.bounded_keys.specs.Entries.{IsEarly, WereOffered, by_key, settled}
+use Rattle.bounded_keys.specs.Entries.{IsEarly, by_key, settled}
 use Rattle.bounded_keys.specs.declared.entry.Entry.{Entry}
 use Rattle.bounded_keys.specs.declared.entry.Settled.{Settled}
-use Rattle.ranker.specs.First.{Advances, AreEntries, HoldsFirst, KeptEntries, counted, key_by, settled_candidate, window_order}
+use Rattle.ranker.specs.First.{Advances, AreEntries, HoldsFirst, KeptEntries, WereOffered, counted, key_by, settled_candidate, window_order}
 use Rattle.ranker.specs.Held.{HoldsEntries, IsHeld, is_open}
 use Rattle.ranker.specs.Ranking.{IsAnswerBy, candidate_of}
 use Rattle.ranker.specs.Windows.{KeepsWindows}

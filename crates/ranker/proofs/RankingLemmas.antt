@@ -25,12 +25,12 @@ use Rattle.document_scoring.specs.Rows.{Adds, row_candidate}
 use Rattle.document_scoring.specs.declared.scoring.Row.{Row}
 use Rattle.first_few.specs.First.{IsFront}
 use Rattle.bounded_keys.specs.Digits.{belief, early, late}
-use Rattle.bounded_keys.specs.Entries.{IsEarly, WereOffered, by_key, by_leading, settled}
+use Rattle.bounded_keys.specs.Entries.{IsEarly, by_key, by_leading, settled}
 use Rattle.bounded_keys.specs.declared.entry.Entry.{Entry}
 use Rattle.bounded_keys.specs.declared.entry.Settled.{Settled}
 use Rattle.bounded_keys.proofs.Kepts.{Keeps-same}
 use Rattle.bounded_keys.proofs.Levels.{early_beliefs, early_length, early_level, leading_total}
-use Rattle.ranker.specs.First.{HoldsFirst, KeptEntries, early_of, key_by, late_of, settled_candidate, window_of, window_order}
+use Rattle.ranker.specs.First.{HoldsFirst, KeptEntries, WereOffered, early_of, key_by, late_of, settled_candidate, window_of, window_order}
 use Rattle.ranker.specs.Ranking.{IsAnswerBy, IsRankingBy, candidate_of, hit_order}
 use Rattle.ranker.specs.declared.window.Window.{Window}
 use Rattle.ranker.proofs.Fractions.{fractions_same}

@@ -13,10 +13,10 @@ use Rattle.document_scoring.specs.Candidates.{Candidate, candidates}
 use Rattle.document_scoring.specs.Rows.{row_candidate}
 use Rattle.document_scoring.specs.declared.scoring.Row.{Row}
 use Rattle.bounded_keys.specs.Digits.{early}
-use Rattle.bounded_keys.specs.Entries.{WereOffered, in_question}
+use Rattle.bounded_keys.specs.Entries.{in_question}
 use Rattle.bounded_keys.specs.declared.entry.Entry.{Entry}
 use Rattle.bounded_keys.proofs.Levels.{early_digits}
-use Rattle.ranker.specs.First.{AreEntries, HoldsFirst, KeptEntries, early_cost, early_of, key_by, window_of}
+use Rattle.ranker.specs.First.{AreEntries, HoldsFirst, KeptEntries, WereOffered, early_cost, early_of, key_by, window_of}
 use Rattle.ranker.specs.Held.{IsHeld}
 use Rattle.ranker.specs.Squares.{entry_by, late_cost, spent}
 use Rattle.ranker.specs.declared.held.Held.{Held}

@@ -15,13 +15,13 @@ use Rattle.belief_nodes.specs.Network.{NetworkTree}
 use Rattle.document_scoring.specs.Candidates.{Candidate, IsWindowOf}
 use Rattle.document_scoring.specs.Rows.{AddsRows, row_candidate}
 use Rattle.document_scoring.specs.declared.scoring.Row.{Row}
-use Rattle.bounded_keys.specs.Entries.{IsEarly, WereOffered, settled}
+use Rattle.bounded_keys.specs.Entries.{IsEarly, settled}
 use Rattle.bounded_keys.specs.Kept.{AreAmong}
 use Rattle.bounded_keys.specs.declared.entry.Entry.{Entry}
 use Rattle.bounded_keys.specs.declared.entry.Settled.{Settled}
 use Rattle.bounded_keys.proofs.Among.{all_among}
 use Rattle.bounded_keys.proofs.Levels.{early_beliefs}
-use Rattle.ranker.specs.First.{AreEntries, KeptEntries, early_of, entry_candidate, key_by, scale_of, settled_candidate}
+use Rattle.ranker.specs.First.{AreEntries, KeptEntries, WereOffered, early_of, entry_candidate, key_by, scale_of, settled_candidate}
 use Rattle.ranker.specs.Ranking.{candidate_of}
 use Rattle.ranker.specs.Windows.{AreWindows, HasWindows, HoldsWindows, IsWindowIn, KeepsWindows}
 use Rattle.ranker.specs.declared.held.Held.{Held}

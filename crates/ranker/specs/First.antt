@@ -13,7 +13,7 @@ use Rattle.belief_nodes.specs.Keys.{key}
 use Rattle.belief_nodes.specs.Network.{NetworkTree}
 use Rattle.belief_nodes.specs.Priors.{Prior}
 use Rattle.bounded_keys.specs.Digits.{belief, early}
-use Rattle.bounded_keys.specs.Entries.{IsEarly, WereOffered, settled}
+use Rattle.bounded_keys.specs.Entries.{IsEarly, WereOffered as WereOfferedBy, settled}
 use Rattle.bounded_keys.specs.Kept.{Kept}
 use Rattle.bounded_keys.specs.declared.entry.Entry.{Entry}
 use Rattle.bounded_keys.specs.declared.entry.Settled.{Settled}
@@ -54,6 +54,10 @@ settled_candidate x = record { docno = x.window.docno; begin = x.window.begin; e
 -- what is held and kept of entries
 abbrev pub KeptEntries : Type 0
 KeptEntries = Kept (Entry Window)
+
+-- these entries were offered
+abbrev pub WereOffered : List (Entry Window) → KeptEntries → Type 0
+WereOffered all kept = WereOfferedBy window_order all kept
 
 -- these are entries of the network's leaves, with their keys at the first level, under its scale
 pub record AreEntries (network : NetworkTree) (kept : KeptEntries) : Type 0 where

@@ -1,9 +1,8 @@
 // Candidates with their keys at the first level.
 ghost use Rattle.std.specs.Prelude.{◌≡◌, ◌≤◌, ◌+◌, ◌++◌, List, length, map, All, IfOk, OnOk};
 ghost use Rattle.belief_nodes.specs.Network.{network_tree};
-ghost use Rattle.bounded_keys.specs.Entries.{WereOffered};
 ghost use Rattle.bounded_keys.specs.Kept.{AreAmong};
-ghost use Rattle.ranker.specs.First.{early_cost, early_of};
+ghost use Rattle.ranker.specs.First.{WereOffered, early_cost, early_of};
 
 use crate::keys::NetworkKeys;
 use crate::window::Window;

@@ -3,6 +3,7 @@ use Rattle.std.proofs.Common.{◌≡◌, ℕ, List, [], Option, Some, IfSome, re
 use Rattle.disk_index.specs.Snapshots.{Marked}
 use Rattle.holdings.specs.Contents.{Contents, all_closed}
 use Rattle.holdings.specs.Parts.{sealed}
+use Rattle.holdings.specs.declared.limits.Limits.{Limits}
 use Rattle.merge_job.specs.Merge.{Merging}
 use Rattle.store_ends.specs.Files.{Files}
 use Rattle.repository.specs.Merges.{merge_begun, merge_of, with_merge}
@@ -16,11 +17,12 @@ use Rattle.repository.proofs.TieLemmas.{begins-same}
 use Rattle.repository.proofs.TurnLemmas.{reads-merge}
 
 -- by what was held, the snapshot and the job
-pub begun-is : (s : State) (h : Contents) (job : Merging) (l : List Marked) (most : ℕ) → h ≡ all_closed s.held → job ≡ record { snapshot = l; most = most; copied = [] } → l ≡ (sealed s.held.parts).closed → most ≡ s.held.limits.part_docs
+pub begun-is : (s : State) (limits : Limits) {h : Contents} {job : Merging} {l : List Marked} → h ≡ all_closed s.held → job ≡ record { snapshot = l; most = limits.part_docs; copied = [] } → l ≡ (sealed s.held.parts).closed → limits ≡ h.limits
     → record { held = h; next = s.next; stale = s.stale; priors = s.priors; merge = Some job; usable = s.usable } ≡ merge_begun s
-begun-is s h job l most closed job_is parts most_is =
+begun-is s limits {h} {job} {l} closed job_is parts limits_are =
+    let most_is : limits.part_docs ≡ s.held.limits.part_docs = ap (λ (x : Limits). x.part_docs) (limits_are ∙ ap (λ (x : Contents). x.limits) closed) in
     let made : job ≡ merge_of s =
-    job_is ∙ ap (λ (x : List Marked). record { snapshot = x; most = most; copied = [] }) parts ∙ ap (λ (k : ℕ). record { snapshot = (sealed s.held.parts).closed; most = k; copied = [] }) most_is in
+    job_is ∙ ap (λ (x : List Marked). record { snapshot = x; most = limits.part_docs; copied = [] }) parts ∙ ap (λ (k : ℕ). record { snapshot = (sealed s.held.parts).closed; most = k; copied = [] }) most_is in
     ap (λ (x : Contents). with_merge (with_held s x) (Some job)) closed ∙ ap (λ (m : Merging). with_merge (with_held s (all_closed s.held)) (Some m)) made
 
 pub numbered-merge : (s : State) (o : Option Merging) → IsNumbered s → IsNumbered (with_merge s o)

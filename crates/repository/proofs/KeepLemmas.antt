@@ -78,12 +78,6 @@ merging-closed told s open_now =
     IfSome-map s.merge (IsMerging told s) (IsMerging told (with_held s (all_closed s.held)))
     (λ m merging. merging-held told s (all_closed s.held) m (backed-closed told s merging.backed) (alike-sealed told m.snapshot s.held.parts merging.alike) merging) open_now
 
--- whatever a call answers that changes what is held, or leaves it
-pub merging-call : {A E : Type 0} (told : Option Files) (s : State) (r : Result A E) (h now : Contents) → OnOk r (h ≡ now) → OnErr r (h ≡ s.held) → (IsOpenMerging told s → IsOpenMerging told (with_held s now)) → IsOpenMerging told s
-    → IsOpenMerging told (with_held s h)
-merging-call told s (Ok a) h now done kept into open_now = subst (λ (x : Contents). IsOpenMerging told (with_held s x)) (sym done) (into open_now)
-merging-call told s (Err e) h now done kept into open_now = subst (λ (x : Contents). IsOpenMerging told (with_held s x)) (sym kept) open_now
-
 -- ---- a merge is opened
 
 pub backed-merge : (told : Option Files) (s : State) (o : Option Merging) → IsBacked told s → IsBacked told (with_merge s o)

@@ -102,11 +102,10 @@ stored-marked told k (m ∷ ms) all = All-cons (IsStored told) (marked_with k m)
 pub backed-deleted : (told : Option Files) (s : State) (k : List ℕ) → IsBacked told s → IsBacked told (with_held s (deleted s.held k))
 backed-deleted told s k backed = backed-held told s (deleted s.held k) backed (numbers-marked k s.held.parts.closed) (stored-marked told k s.held.parts.closed backed.parts)
 
--- over a call that adds or deletes, whatever it answers
-pub backed-call : {A E : Type 0} (told : Option Files) (s : State) (r : Result A E) (h now : Contents) → OnOk r (h ≡ now) → OnErr r (h ≡ s.held) → (IsBacked told s → IsBacked told (with_held s now)) → IsBacked told s
-    → IsBacked told (with_held s h)
-backed-call told s (Ok a) h now done kept into backed = subst (λ (x : Contents). IsBacked told (with_held s x)) (sym done) (into backed)
-backed-call told s (Err e) h now done kept into backed = subst (λ (x : Contents). IsBacked told (with_held s x)) (sym kept) (backed-held told s s.held backed refl backed.parts)
+-- over a call that changes what is held or leaves it, whatever it answers
+pub held-call : {A E : Type 0} (P : State → Type 0) (s : State) (r : Result A E) (h now : Contents) → OnOk r (h ≡ now) → OnErr r (h ≡ s.held) → (P s → P (with_held s now)) → P s → P (with_held s h)
+held-call P s (Ok a) h now done kept into was = subst (λ (x : Contents). P (with_held s x)) (sym done) (into was)
+held-call P s (Err e) h now done kept into was = subst (λ (x : Contents). P (with_held s x)) (sym kept) was
 
 -- ---- what is held can be listed
 
@@ -135,20 +134,15 @@ sized-with p d sized = by (has_room p d)
     by true = sized
     by false = sized-sealed p sized
 
--- over a call that adds, whatever it answers
-pub numbered-added : {A E : Type 0} (s : State) (d : Document) (r : Result A E) (h : Contents) → OnOk r (h ≡ added s.held d) → OnErr r (h ≡ s.held) → IsNumbered s → IsNumbered (with_held s h)
-numbered-added s d (Ok a) h done kept n =
-    subst (λ (x : Contents). IsNumbered (with_held s x)) (sym done) (numbered-held s (added s.held d) n (numbers-with s.held.parts d) (sized-with s.held.parts d n.sized))
-numbered-added s d (Err e) h done kept n = subst (λ (x : Contents). IsNumbered (with_held s x)) (sym kept) (numbered-held s s.held n refl n.sized)
+pub numbered-added : (s : State) (d : Document) → IsNumbered s → IsNumbered (with_held s (added s.held d))
+numbered-added s d n = numbered-held s (added s.held d) n (numbers-with s.held.parts d) (sized-with s.held.parts d n.sized)
 
 sized-marked : (k : List ℕ) (ms : List Marked) → All IsSized ms → All IsSized (map (marked_with k) ms)
 sized-marked k [] all = All-nil IsSized
 sized-marked k (m ∷ ms) all = All-cons IsSized (marked_with k m) (map (marked_with k) ms) (All-head IsSized m ms all) (sized-marked k ms (All-tail IsSized m ms all))
 
-pub numbered-deleted : {A E : Type 0} (s : State) (k : List ℕ) (r : Result A E) (h : Contents) → OnOk r (h ≡ deleted s.held k) → OnErr r (h ≡ s.held) → IsNumbered s → IsNumbered (with_held s h)
-numbered-deleted s k (Ok a) h done kept n =
-    subst (λ (x : Contents). IsNumbered (with_held s x)) (sym done) (numbered-held s (deleted s.held k) n (numbers-marked k s.held.parts.closed) (sized-marked k s.held.parts.closed n.sized))
-numbered-deleted s k (Err e) h done kept n = subst (λ (x : Contents). IsNumbered (with_held s x)) (sym kept) (numbered-held s s.held n refl n.sized)
+pub numbered-deleted : (s : State) (k : List ℕ) → IsNumbered s → IsNumbered (with_held s (deleted s.held k))
+numbered-deleted s k n = numbered-held s (deleted s.held k) n (numbers-marked k s.held.parts.closed) (sized-marked k s.held.parts.closed n.sized)
 
 -- ---- the part that is being filled is closed
 

@@ -1,5 +1,5 @@
 -- An open merge stays tied to the parts that are held.
-use Rattle.std.proofs.Common.{◌≡◌, ◌≤◌, inl, inr, ℕ, Bool, true, false, List, [], ◌∷◌, ◌++◌, length, map, Option, None, Some, IfSome, Result, Ok, Err, refl, ap, sym, subst, ◌∙◌, arith}
+use Rattle.std.proofs.Common.{◌≡◌, ◌≤◌, ◌⊎◌, inl, inr, ℕ, Bool, true, false, List, [], ◌∷◌, ◌++◌, length, map, Option, None, Some, IfSome, Result, Ok, Err, refl, ap, sym, subst, ◌∙◌, arith}
 use Rattle.std.specs.List.{AllZip}
 use Rattle.std.specs.Prelude.{OnErr, OnOk}
 use Rattle.ri_base.specs.Documents.{Document}
@@ -15,9 +15,11 @@ use Rattle.holdings.specs.Parts.{Parts, sealed}
 use Rattle.merge_job.specs.Marks.{HasGrown}
 use Rattle.merge_job.specs.Merge.{Merging}
 use Rattle.repository.specs.Saved.{AllSaved, IsSaved, SavedSource}
+use Rattle.repository.specs.States.{IsNumbered, State}
+use Rattle.repository.specs.Steps.{with_held}
 use Rattle.repository.specs.Ties.{Begins, IsSourceOf, IsTied}
 use Rattle.repository.proofs.SaveLemmas.{source-outlines}
-use Rattle.repository.proofs.StepLemmas.{Closes, closes-by, closes-with}
+use Rattle.repository.proofs.StepLemmas.{Closes, closed-call, closes-by, closes-with, numbered-closed}
 
 pub IfSome-map : {A : Type 0} (o : Option A) (P Q : A → Type 0) → ((x : A) → P x → Q x) → IfSome o P → IfSome o Q
 IfSome-map None P Q into some = some
@@ -121,13 +123,16 @@ tied-saved b others next after h k m saved tied =
       most_is = tied.most_is ∙ sym (ap (λ (x : Contents). x.limits.part_docs) saved.rest);
     }
 
--- whatever a call answers that changes what is held, or leaves it
-pub tied-call : {A E : Type 0} (r : Result A E) (h g now : Contents) (o : Option Merging) → OnOk r (g ≡ now) → OnErr r (g ≡ h) → ((m : Merging) → IsTied h m → IsTied now m) → IfSome o (IsTied h) → IfSome o (IsTied g)
-tied-call (Ok a) h g now o done kept into tied = subst (λ (x : Contents). IfSome o (IsTied x)) (sym done) (IfSome-map o (IsTied h) (IsTied now) into tied)
-tied-call (Err e) h g now o done kept into tied = subst (λ (x : Contents). IfSome o (IsTied x)) (sym kept) tied
-
 pub tied-all_closed : (h : Contents) (o : Option Merging) → IfSome o (IsTied h) → IfSome o (IsTied (all_closed h))
 tied-all_closed h o tied = IfSome-map o (IsTied h) (IsTied (all_closed h)) (λ m t. tied-closed h m t) tied
+
+-- what a usable repository keeps, over a call that closes the part that is being filled or leaves all as it was
+pub kept-closed : {A E : Type 0} (s : State) (r : Result A E) (h : Contents) → OnOk r (h ≡ all_closed s.held) → OnErr r ((h ≡ s.held) ⊎ (h ≡ all_closed s.held)) → (s.usable ≡ true → IsNumbered s) × (s.usable ≡ true → IfSome s.merge (IsTied s.held))
+    → (s.usable ≡ true → IsNumbered (with_held s h)) × (s.usable ≡ true → IfSome s.merge (IsTied h))
+kept-closed s r h done left kept = (
+  λ usable. (let numbered = kept.0 usable in closed-call IsNumbered s r h done left numbered (numbered-closed s numbered)),
+  λ usable. (let tied = kept.1 usable in closed-call (λ (x : State). IfSome x.merge (IsTied x.held)) s r h done left tied (tied-all_closed s.held s.merge tied)),
+)
 
 pub tied-all_saved : (b : Option Files) (others : List ℕ) (next after : ℕ) (h k : Contents) (o : Option Merging) → AllSaved b others next after h k → IfSome o (IsTied h) → IfSome o (IsTied k)
 tied-all_saved b others next after h k o saved tied = IfSome-map o (IsTied h) (IsTied k) (λ m t. tied-saved b others next after h k m saved t) tied

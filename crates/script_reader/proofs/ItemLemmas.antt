@@ -1,6 +1,6 @@
 -- The items of a script, line by line.
-use Rattle.std.proofs.Common.{ℕ, zero, suc, ◌≡◌, ◌<◌, ◌≤◌, ◌+◌, ◌-◌, min, Bool, true, false, List, [], ◌∷◌, ◌++◌, Option, Result, Ok, Err, length, take, drop, refl, sym, ap, ◌∙◌, arith, length-append, length-drop, length-take, append_assoc, add-zero, add-one}
-use Rattle.std.specs.Prelude.{Some, None, nat_lt, ◌==◌, is_some, IfSome, IfOk, OnOk}
+use Rattle.std.proofs.Common.{ℕ, zero, suc, ◌≡◌, ◌<◌, ◌≤◌, ◌+◌, ◌-◌, min, Bool, true, false, List, [], ◌∷◌, ◌++◌, Option, Ok, Err, length, take, drop, refl, sym, ap, subst, ◌∙◌, arith, length-append, length-drop, length-take, append_assoc, add-zero, add-one}
+use Rattle.std.specs.Prelude.{Some, None, nat_lt, ◌==◌, is_some, IfSome}
 use Rattle.std.specs.Io.KnownBytes.{IsAtEnd, prepend_known}
 use Rattle.std.proofs.lemmas.Bool.{le-ltb, lt-ltb, ltb-false, ltb-true}
 use Rattle.std.proofs.Math.Seq.{drop-nil}
@@ -433,14 +433,6 @@ given_rest place missing n passed old mid left left_now rest few offset =
 
 -- ANSWERS
 
-pub ok_then : {A E : Type 0} (P Q : A → Type 0) (r : Result A E) → IfOk r P → ((x : A) → P x → Q x) → IfOk r Q
-ok_then P Q (Ok x) p each = each x p
-ok_then P Q (Err e) p each = tt
-
-pub on_ok_then : {A E : Type 0} (P Q : Type 0) (r : Result A E) → OnOk r P → (P → Q) → OnOk r Q
-on_ok_then P Q (Ok x) p each = each p
-on_ok_then P Q (Err e) p each = tt
-
 pub line_event : (e : SomeEvent) → IsLineEvent e → is_end_event e ≡ false
 line_event (event.Document d) h = absurd h
 line_event (event.Delete docno) h = refl
@@ -484,16 +476,7 @@ refused_is Memory offset old new is gives = absurd is
 
 -- behind a refusal in the text the count of the source is what it was
 pub text_stays : {X : Type 0} (refusal : TrecRefusal) (before now : ℕ) → IsTextRefusal refusal → StaysUnlessRead {X = X} (Err refusal) before now → now ≡ before
-text_stays (NoDocno at) before now is stays = stays (λ e. cc)
-text_stays (DocnoEmpty at) before now is stays = stays (λ e. cc)
-text_stays (DocnoBad at) before now is stays = stays (λ e. cc)
-text_stays (DocnoLong at) before now is stays = stays (λ e. cc)
-text_stays (DocOpen at) before now is stays = stays (λ e. cc)
-text_stays (NotADoc at) before now is stays = stays (λ e. cc)
-text_stays (DocTooLarge at) before now is stays = stays (λ e. cc)
-text_stays Read before now is stays = absurd is
-text_stays Ended before now is stays = absurd is
-text_stays Memory before now is stays = absurd is
+text_stays refusal before now is stays = stays (λ e. let read : refusal ≡ Read = cc in subst IsTextRefusal read is)
 
 -- A SCRIPT READ TO ITS END
 

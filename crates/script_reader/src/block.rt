@@ -10,7 +10,7 @@ use trec_reader::{DocReader, RawDoc, TrecRefusal};
 
 /// The next document in what the reader has ahead and the next `missing` bytes of the source. `missing` falls by what is
 /// taken of them.
-#[tactic(auto, using(crate::proofs::BlockLemmas::same_rest, crate::proofs::BlockLemmas::same_short, crate::proofs::BlockLemmas::same_layers))]
+#[tactic(auto, using(crate::proofs::BlockLemmas::same_behind))]
 pub fn next_raw<S: Source>(
     documents: &mut DocReader,
     missing: &mut u64,

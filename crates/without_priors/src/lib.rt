@@ -2,7 +2,7 @@
 #![tactic(auto)]
 
 ghost use Rattle.std.specs.Prelude.{map, All};
-ghost use Rattle.std.specs.Bool.{OnTrue};
+ghost use Rattle.std.specs.Bool.{OnFalse, OnTrue};
 ghost use Rattle.query_check.specs.Leaves.{leaf_tree};
 ghost use Rattle.belief_nodes.specs.Leaves.{HasPrior};
 
@@ -10,7 +10,8 @@ use query_check::LeafKind;
 
 /// Whether the leaf is no prior.
 fn is_no_prior(leaf: &LeafKind) -> bool
-    ensures { OnTrue result (HasPrior 0 (leaf_tree leaf.now)) }
+    ensures yes { OnTrue result (HasPrior 0 (leaf_tree leaf.now)) }
+    ensures no { OnFalse result (HasPrior 0 (leaf_tree leaf.now) → ⊥) }
 {
     match leaf {
         LeafKind::Extents(_, _) => true,
@@ -20,7 +21,8 @@ fn is_no_prior(leaf: &LeafKind) -> bool
 
 /// Whether no leaf is a prior.
 pub fn have_no_prior(leaves: &[LeafKind]) -> bool
-    ensures { OnTrue result (All (HasPrior 0) (map leaf_tree leaves.now)) }
+    ensures yes { OnTrue result (All (HasPrior 0) (map leaf_tree leaves.now)) }
+    ensures no { OnFalse result (All (HasPrior 0) (map leaf_tree leaves.now) → ⊥) }
 {
     for leaf in leaves {
         if !is_no_prior(leaf) {

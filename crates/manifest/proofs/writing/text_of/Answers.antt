@@ -1,10 +1,5 @@
-use Rattle.std.proofs.Common.{◌≡◌, ◌∙◌, List, ℕ, ap, sym, subst}
+use Rattle.std.proofs.Common.{sym, subst}
 use Rattle.manifest.specs.Fits.{IsManifest}
-use Rattle.manifest.specs.Listing.{listing}
-use Rattle.manifest.specs.Spelling.{manifest_text}
-use Rattle.manifest.specs.declared.manifest.Manifest.{Manifest}
-use Rattle.manifest.specs.declared.manifest.PriorEntry.{PriorEntry}
-use Rattle.manifest.specs.declared.manifest.SegEntry.{SegEntry}
 use Rattle.manifest.proofs.writing.text_of.Goals as goal
 
 pub listing_bytes-requires : goal.listing_bytes-requires

@@ -1,12 +1,11 @@
 use Rattle.std.proofs.Common.{rules, arith, ◌≡◌, ◌+◌, [], ◌∷◌, ◌++◌, append_assoc, List, map, length, ap, subst, ◌∙◌}
 use Rattle.std.proofs.lemmas.List.{length-append}
 use Rattle.belief_nodes.specs.Network.{network_tree}
-use Rattle.bounded_keys.specs.Entries.{WereOffered}
 use Rattle.bounded_keys.specs.Kept.{AreAmong}
 use Rattle.bounded_keys.specs.declared.entry.Entry.{Entry}
 use Rattle.bounded_keys.proofs.Kepts.{among_step}
 use Rattle.document_scoring.specs.declared.scoring.Row.{Row}
-use Rattle.ranker.specs.First.{early_cost, early_of}
+use Rattle.ranker.specs.First.{WereOffered, early_cost, early_of}
 use Rattle.ranker.specs.declared.window.Window.{Window}
 use Rattle.ranker.proofs.Lists.{All-front, All-last}
 use Rattle.ranker.proofs.PassedLemmas.{cost-sum}

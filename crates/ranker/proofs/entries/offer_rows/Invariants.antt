@@ -1,10 +1,9 @@
 use Rattle.std.proofs.Common.{◌≡◌, ◌≤◌, ◌+◌, ◌++◌, All, List, length, map}
 use Rattle.belief_nodes.specs.Network.{network_tree}
-use Rattle.bounded_keys.specs.Entries.{WereOffered}
 use Rattle.bounded_keys.specs.Kept.{AreAmong}
 use Rattle.bounded_keys.specs.declared.entry.Entry.{Entry}
 use Rattle.document_scoring.specs.declared.scoring.Row.{Row}
-use Rattle.ranker.specs.First.{early_cost, early_of}
+use Rattle.ranker.specs.First.{WereOffered, early_cost, early_of}
 use Rattle.ranker.specs.declared.window.Window.{Window}
 use Rattle.ranker.proofs.entries.offer_rows.Given as goal
 

@@ -6,8 +6,8 @@ abbrev pub invariant-loop-item : goal.invariant-loop-item
 invariant-loop-item g l = record {
   most : l.self.most ≡ l.fn.self.most;
   scale : l.self.scale ≡ l.fn.self.scale;
-  kept : (all : List g.row.T.Denot) → IsKept g.T.Ord.cmp g.T.Leading.number all l.fn.self
-      → (taken : List g.row.T.Denot) × (l.fn.items.items ≡ l.items.items ++ taken) × IsKept g.T.Ord.cmp g.T.Leading.number (taken ++ all) l.self;
+  kept : (all : List g.row.T.Denot) → IsKept g.T.Ord.cmp g.T.Leading.number g.T.Leading.before all l.fn.self
+      → (taken : List g.row.T.Denot) × (l.fn.items.items ≡ l.items.items ++ taken) × IsKept g.T.Ord.cmp g.T.Leading.number g.T.Leading.before (taken ++ all) l.self;
   among : (taken : List g.row.T.Denot) × (l.fn.items.items ≡ l.items.items ++ taken) × AreAmong (l.self.held ++ l.self.near) (taken ++ (l.fn.self.held ++ l.fn.self.near));
 }
 

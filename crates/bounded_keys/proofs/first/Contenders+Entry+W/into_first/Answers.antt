@@ -5,7 +5,9 @@ use Rattle.bounded_keys.specs.Digits.{digits_at}
 use Rattle.bounded_keys.specs.Entries.{IsEarly, by_key, settled}
 use Rattle.bounded_keys.specs.Kept.{AreAmong}
 use Rattle.bounded_keys.proofs.Among.{all_among, among_mapped, front_among, front_few}
-use Rattle.bounded_keys.proofs.Levels.{first_settled, taken_count}
+use Rattle.bounded_keys.specs.Likeness.{is_before}
+use Rattle.bounded_keys.proofs.Levels.{first_settled, taken_few}
+use Rattle.bounded_keys.proofs.Taken.{within_more}
 use Rattle.bounded_keys.proofs.first.Contenders+Entry+W.into_first.Goals as goal
 
 pub offer_settled-requires : goal.offer_settled-requires
@@ -15,18 +17,13 @@ offer_settled-requires g c =
 
 pub returns-in_err-offer_settled-clause-within : goal.returns-in_err-offer_settled-clause-within
 returns-in_err-offer_settled-clause-within g c = λ all offered.
-    subst (λ n. c.offer_settled.new.squares ≤ c.args.squares.now + 28 * g.C.Combination.leaves c.args.combination.now * n)
-    (taken_count c.args.self.scale c.args.self.most all c.in_ok-entries.entries.items (c.in_ok-entries.ensures.contenders all offered)) c.offer_settled.ensures.within
+    within_more c.offer_settled.new.squares c.args.squares.now (28 * g.C.Combination.leaves c.args.combination.now) _ _ c.offer_settled.ensures.within
+    (taken_few c.args.self.scale (is_before g.W.Ord.cmp) c.args.self.most all c.in_ok-entries.entries.items (c.in_ok-entries.ensures.contenders all offered))
 
 pub returns-clause-within : goal.returns-clause-within
 returns-clause-within g c = λ all offered.
-    subst (λ n. c.offer_settled.new.squares ≤ c.args.squares.now + 28 * g.C.Combination.leaves c.args.combination.now * n)
-    (taken_count c.args.self.scale c.args.self.most all c.in_ok-entries.entries.items (c.in_ok-entries.ensures.contenders all offered)) c.offer_settled.ensures.within
-
-pub returns-clause-cost : goal.returns-clause-cost
-returns-clause-cost g c = λ all offered.
-    subst (λ n. c.offer_settled.new.squares ≡ c.args.squares.now + 28 * g.C.Combination.leaves c.args.combination.now * n)
-    (taken_count c.args.self.scale c.args.self.most all c.in_ok-entries.entries.items (c.in_ok-entries.ensures.contenders all offered)) c.in_ok-offer_settled.ensures.cost
+    within_more c.offer_settled.new.squares c.args.squares.now (28 * g.C.Combination.leaves c.args.combination.now) _ _ c.offer_settled.ensures.within
+    (taken_few c.args.self.scale (is_before g.W.Ord.cmp) c.args.self.most all c.in_ok-entries.entries.items (c.in_ok-entries.ensures.contenders all offered))
 
 pub returns-clause-front : goal.returns-clause-front
 returns-clause-front g c = λ all offered early.

@@ -1,5 +1,6 @@
 use Rattle.std.proofs.Common.{rules, ◌≡◌, ◌<◌, ◌≤◌, ◌+◌, ◌∙◌, ◌++◌, ◌∷◌, [], List, length, get_or, map, take, sym, ap, subst, arith}
 use Rattle.std.specs.Prelude.{All}
+use Rattle.std.specs.Option.{option_copied}
 use Rattle.std.proofs.Math.ListN.{get_or-map}
 use Rattle.std.proofs.lemmas.List.{get_or_default, length-map, map-append, take_all}
 use Rattle.ri_base.specs.Ratio.{ratio_of}
@@ -15,7 +16,7 @@ use Rattle.range_bounds.specs.Tables.{AreCountsOf, names_of, terms_of}
 use Rattle.range_bounds.specs.declared.range_counts.RangeCounts.{RangeCounts}
 use Rattle.range_bounds.proofs.Covers.{all_covered}
 use Rattle.range_bounds.proofs.Leads.{all_are_beliefs, are_beliefs, each_told, keys_lead}
-use Rattle.range_bounds.proofs.Told.{AreToldBounds, bounds_length, bounds_more, bounds_told}
+use Rattle.range_bounds.proofs.Told.{AreToldBounds, bounds_length, bounds_more, bounds_told, counts_told}
 use Rattle.range_bounds.proofs.table.RangeTable.bound_fractions.Goals as goal
 
 pub leaf_bound-bound-requires-clause-plugs : goal.leaf_bound-bound-requires-clause-plugs
@@ -33,7 +34,7 @@ loop-i-preserved g c =
     let kind = c.args.rule.now.kind in
     let priors = map (λ b. (goal.BeliefNode-dyn g (b.vtable, b.value)).meaning b.value) c.args.plugs.now in
     let table = c.args.self.now in
-    let counts = c.index-counts.result.now in
+    let counts = c.unwrap-counts.result.now in
     let network = c.args.network.now in
     let leaves : List LeafTree = map leaf_tree network.leaves.items in
     let items = c.leaves-leaf-items.result.now in
@@ -63,7 +64,7 @@ returns-clause-each g c =
     let kind = c.args.rule.now.kind in
     let priors = map (λ b. (goal.BeliefNode-dyn g (b.vtable, b.value)).meaning b.value) c.args.plugs.now in
     let table = c.args.self.now in
-    let counts : RangeCounts = c.index-counts.result.now in
+    let counts : RangeCounts = c.unwrap-counts.result.now in
     let network = c.args.network.now in
     let leaves : List LeafTree = map leaf_tree network.leaves.items in
     let items = c.leaves-leaf-items.result.now in
@@ -82,7 +83,7 @@ returns-clause-exact g c = λ docs is_table.
     let kind = c.args.rule.now.kind in
     let priors = map (λ b. (goal.BeliefNode-dyn g (b.vtable, b.value)).meaning b.value) c.args.plugs.now in
     let table = c.args.self.now in
-    let counts : RangeCounts = c.index-counts.result.now in
+    let counts : RangeCounts = c.unwrap-counts.result.now in
     let network = c.args.network.now in
     let leaves : List LeafTree = map leaf_tree network.leaves.items in
     let items = c.leaves-leaf-items.result.now in
@@ -90,8 +91,7 @@ returns-clause-exact g c = λ docs is_table.
     let told : map leaf_tree items ≡ leaves = c.leaves-leaf-items.ensures in
     let long : length (map leaf_tree items) ≤ i = rw (length-map items leaf_tree) c.loop-i-test.false in
     let end : length leaves ≤ i = subst (λ (ls : List LeafTree). length ls ≤ i) told long in
-    let counts_at : counts ≡ get_or c.args.self.now.ranges.items c.args.range counts = search rules in
-    let counted : AreCountsOf leaves (terms_of table) (names_of table) (range_documents docs c.args.range) counts = subst (AreCountsOf leaves (terms_of table) (names_of table) (range_documents docs c.args.range)) (sym counts_at) (is_table.each c.args.range counts c.requires.range) in
+    let counted : AreCountsOf leaves (terms_of table) (names_of table) (range_documents docs c.args.range) counts = counts_told leaves docs table c.args.range counts is_table (sym c.counts.ensures.value ∙ ap option_copied c.unwrap-counts.ensures) in
     let all : AreToldBounds kind priors network.range table counts leaves network.stats.items (map ratio_of c.loop-i.bounds.items) =
     subst (λ (ls : List LeafTree). AreToldBounds kind priors network.range table counts ls network.stats.items (map ratio_of c.loop-i.bounds.items)) (take_all i leaves end)
     (subst (λ (ss : List LeafStats). AreToldBounds kind priors network.range table counts (take i leaves) ss (map ratio_of c.loop-i.bounds.items)) (take_all i network.stats.items (omega (arith, end, network.kept.each))) c.loop-i.invariant) in
@@ -103,9 +103,8 @@ returns-clause-covers g c = λ docs d w is_table has in_it.
     let priors = map (λ b. (goal.BeliefNode-dyn g (b.vtable, b.value)).meaning b.value) c.args.plugs.now in
     let network = c.args.network.now in
     let leaves : List LeafTree = map leaf_tree network.leaves.items in
-    let counts : RangeCounts = get_or c.args.self.now.ranges.items c.args.range c.index-counts.result.now in
-    let counted : AreCountsOf leaves (terms_of c.args.self.now) (names_of c.args.self.now) (range_documents docs c.args.range) counts = is_table.each c.args.range c.index-counts.result.now c.requires.range in
-    all_covered kind priors network.range (range_documents docs c.args.range) d w counted.formed has in_it leaves network.stats.items _ network.kept.counted (returns-clause-exact g c docs is_table)
+    let formed = (counts_told leaves docs c.args.self.now c.args.range c.unwrap-counts.result.now is_table (sym c.counts.ensures.value ∙ ap option_copied c.unwrap-counts.ensures)).formed in
+    all_covered kind priors network.range (range_documents docs c.args.range) d w formed has in_it leaves network.stats.items _ network.kept.counted (returns-clause-exact g c docs is_table)
 
 pub returns-clause-beliefs : goal.returns-clause-beliefs
 returns-clause-beliefs g c = λ docs d w is_table has in_it.
@@ -114,9 +113,8 @@ returns-clause-beliefs g c = λ docs d w is_table has in_it.
     let network = c.args.network.now in
     let leaves : List LeafTree = map leaf_tree network.leaves.items in
     let told : All IsPrior priors = each_told _ c.args.plugs.now (λ b. (g.dyn-1-met b.vtable).0.beliefs b.value) in
-    let counts : RangeCounts = get_or c.args.self.now.ranges.items c.args.range c.index-counts.result.now in
-    let counted : AreCountsOf leaves (terms_of c.args.self.now) (names_of c.args.self.now) (range_documents docs c.args.range) counts = is_table.each c.args.range c.index-counts.result.now c.requires.range in
-    all_are_beliefs kind priors network.range (range_documents docs c.args.range) d w counted.formed has in_it c.ask_rule.ensures told leaves network.stats.items network.kept.counted
+    let formed = (counts_told leaves docs c.args.self.now c.args.range c.unwrap-counts.result.now is_table (sym c.counts.ensures.value ∙ ap option_copied c.unwrap-counts.ensures)).formed in
+    all_are_beliefs kind priors network.range (range_documents docs c.args.range) d w formed has in_it c.ask_rule.ensures told leaves network.stats.items network.kept.counted
 
 pub returns-clause-keys : goal.returns-clause-keys
 returns-clause-keys g c = λ docs d w k is_table has in_it.
@@ -126,7 +124,6 @@ returns-clause-keys g c = λ docs d w k is_table has in_it.
     let leaves : List LeafTree = map leaf_tree network.leaves.items in
     let bounds = c.of.result in
     let told : All IsPrior priors = each_told _ c.args.plugs.now (λ b. (g.dyn-1-met b.vtable).0.beliefs b.value) in
-    let counts : RangeCounts = get_or c.args.self.now.ranges.items c.args.range c.index-counts.result.now in
-    let counted : AreCountsOf leaves (terms_of c.args.self.now) (names_of c.args.self.now) (range_documents docs c.args.range) counts = is_table.each c.args.range c.index-counts.result.now c.requires.range in
-    keys_lead kind priors network.range (range_documents docs c.args.range) d w counted.formed has in_it c.ask_rule.ensures told leaves network.stats.items (map ratio_of bounds) (scaled_tree network.tree) k network.kept.counted (are_beliefs bounds)
+    let formed = (counts_told leaves docs c.args.self.now c.args.range c.unwrap-counts.result.now is_table (sym c.counts.ensures.value ∙ ap option_copied c.unwrap-counts.ensures)).formed in
+    keys_lead kind priors network.range (range_documents docs c.args.range) d w formed has in_it c.ask_rule.ensures told leaves network.stats.items (map ratio_of bounds) (scaled_tree network.tree) k network.kept.counted (are_beliefs bounds)
     (returns-clause-exact g c docs is_table)

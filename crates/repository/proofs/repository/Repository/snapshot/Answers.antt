@@ -4,18 +4,12 @@ use Rattle.repository.specs.States.{IsBacked, IsNumbered, ReadsAs, State}
 use Rattle.repository.specs.Ties.{IsTied}
 use Rattle.repository.proofs.KeepLemmas.{merging-closed}
 use Rattle.repository.proofs.StepLemmas.{backed-closed, closed-call, numbered-closed, reads-closed}
-use Rattle.repository.proofs.TieLemmas.{tied-all_closed}
+use Rattle.repository.proofs.TieLemmas.{kept-closed}
 use Rattle.repository.proofs.Views.{seen}
 use Rattle.repository.proofs.repository.Repository.snapshot.Goals as goal
 
 pub invariant_of-self : goal.invariant_of-self
-invariant_of-self c =
-    let view = seen c.self.view_is in (
-      λ usable. (let numbered = c.self.invariant.0 usable in
-          closed-call IsNumbered view c.snapshot.result c.snapshot.new.self c.snapshot.ensures.closed c.snapshot.ensures.left numbered (numbered-closed view numbered)),
-      λ usable. (let tied = c.self.invariant.1 usable in
-          closed-call (λ (x : State). IfSome x.merge (IsTied x.held)) view c.snapshot.result c.snapshot.new.self c.snapshot.ensures.closed c.snapshot.ensures.left tied (tied-all_closed view.held view.merge tied)),
-    )
+invariant_of-self c = kept-closed (seen c.self.view_is) c.snapshot.result c.snapshot.new.self c.snapshot.ensures.closed c.snapshot.ensures.left c.self.invariant
 
 pub returns-clause-reads : goal.returns-clause-reads
 returns-clause-reads c = λ told col reads.

@@ -1,0 +1,119 @@
+-- What is kept of runs, one item after the other.
+use Rattle.std.proofs.Common.{◌≡◌, ◌<◌, ◌≤◌, ◌+◌, ◌-◌, ℕ, Bool, true, false, is_some, List, [], ◌∷◌, ◌++◌, length, get_or, Option, None, refl, sym, ap, subst, ◌∙◌, arith, append_assoc, ⊎_elim}
+use Rattle.std.specs.Option.{SomeIff}
+use Rattle.std.specs.List.Sorted.{IsPermutation}
+use Rattle.std.proofs.lemmas.Bool.{both_ways}
+use Rattle.std.proofs.lemmas.List.{get_or_append_left, get_or_default, length-append}
+use Rattle.std.proofs.Math.Seq.{get_or-append_seam}
+use Rattle.std.proofs.lemmas.List.Elements.{All-cons, All-nil, All-weaker}
+use Rattle.std.proofs.lemmas.List.Sorted.{IsPermutation-append_left, IsPermutation-cons, IsPermutation-middle, IsPermutation-refl, IsPermutation-sym, IsPermutation-to_front, IsPermutation-trans}
+use Rattle.bounded_keys.specs.Runs.{Continues, HoldsRuns, IsFull, Reaches, count_before}
+use Rattle.bounded_keys.specs.Kept.{AreAmong}
+use Rattle.bounded_keys.proofs.Counts.{bit, count_append, count_cons, count_permutation}
+
+module _ {X : Type 0} (before : X → X → Bool) where
+  -- more items, of which as many or more stand before an item
+  pub before_more : (xs ys : List X) (x : X) → count_before before xs x ≤ count_before before (xs ++ ys) x
+  before_more xs ys x = omega (arith, count_append (λ y. before y x) xs ys)
+
+  pub before_some : (xs ys zs : List X) (x : X) → IsPermutation xs (ys ++ zs) → count_before before ys x ≤ count_before before xs x
+  before_some xs ys zs x p = omega (arith, count_append (λ y. before y x) ys zs, count_permutation (λ y. before y x) xs (ys ++ zs) p)
+
+  before_one : (xs : List X) (z x : X) → before z x ≡ true → count_before before xs x + 1 ≤ count_before before (xs ++ z ∷ []) x
+  before_one xs z x e =
+      let b : bit (before z x) ≡ 1 = ap bit e in
+      omega (arith, b, count_append (λ y. before y x) xs (z ∷ []), count_cons (λ y. before y x) z [])
+
+  reaches_more : (k i : ℕ) (xs ys : List X) → i < length xs → Reaches before k i xs → Reaches before k i (xs ++ ys)
+  reaches_more k i xs ys within h x f =
+      let same : get_or (xs ++ ys) i x ≡ get_or xs i x = get_or_append_left xs ys x i within in
+      omega (arith, h x (subst (λ y. before y x ≡ true) same f), before_more xs ys x)
+
+  -- a place stays full when more comes
+  pub full_more : (k : ℕ) (full : Option ℕ) (xs ys : List X) → IsFull before k full xs → IsFull before k full (xs ++ ys)
+  full_more k full xs ys h i e =
+      let g = h i e in
+      let longer : length (xs ++ ys) ≡ length xs + length ys = length-append xs ys in
+      (omega (arith, g.0, longer), reaches_more k i xs ys g.0 g.1)
+
+  pub full_none : (k : ℕ) (full : Option ℕ) (xs : List X) → full ≡ None → IsFull before k full xs
+  full_none k full xs e i f = absurd (both_ways false refl (sym (ap is_some e) ∙ ap is_some f))
+
+  -- ---- one item after the other
+
+  pub runs_none : (k : ℕ) (full : Option ℕ) → full ≡ None → HoldsRuns before k [] 0 full []
+  runs_none k full e = record {
+    out = [];
+    split = IsPermutation-refl [];
+    behind = All-nil _;
+    last = λ m few _ x f. omega (arith, few);
+    whole = full_none k full [] e;
+  }
+
+  module _ (follow : (a b c : X) → before a b ≡ true → before b c ≡ true → before a c ≡ true) where
+    -- what the last item stands before, the items of its run stand before
+    pub runs_kept : (k run next : ℕ) (full : Option ℕ) (taken kept : List X) (z : X) → Continues before kept run z next → HoldsRuns before k taken run full kept
+        → HoldsRuns before k (z ∷ taken) next full (kept ++ z ∷ [])
+    runs_kept k run next full taken kept z more h = record {
+      out = h.out;
+      split = IsPermutation-trans _ _ _ (IsPermutation-cons z _ _ h.split) (IsPermutation-append_left h.out (z ∷ kept) (kept ++ z ∷ []) (IsPermutation-sym _ _ (IsPermutation-to_front kept z)));
+      behind = All-weaker (λ x. k ≤ count_before before kept x) (λ x. k ≤ count_before before (kept ++ z ∷ []) x) (λ x e. omega (arith, e, before_more kept (z ∷ []) x)) h.out h.behind;
+      last = λ m few small x f.
+          let place : length (kept ++ z ∷ []) - 1 ≡ length kept = let l : length (kept ++ z ∷ []) ≡ length kept + 1 = length-append kept (z ∷ []) in omega (arith, l) in
+          let at : get_or (kept ++ z ∷ []) (length (kept ++ z ∷ []) - 1) x ≡ z = ap (λ i. get_or (kept ++ z ∷ []) i x) place ∙ get_or-append_seam kept z [] x in
+          let now : before z x ≡ true = subst (λ y. before y x ≡ true) at f in
+          let one = before_one kept z x now in
+          ⊎_elim
+          (λ begun. omega (arith, few, begun, one))
+          (λ goes. reach m few small x now one goes)
+          more;
+      whole = full_more k full kept (z ∷ []) h.whole;
+    }
+      where
+        reach : (m : ℕ) → m ≤ next → m ≤ k → (x : X) → before z x ≡ true → count_before before kept x + 1 ≤ count_before before (kept ++ z ∷ []) x
+            → (0 < length kept) × (before (get_or kept (length kept - 1) z) z ≡ true) × (next ≤ run + 1) → m ≤ count_before before (kept ++ z ∷ []) x
+        reach m few small x now one goes =
+            let on = follow (get_or kept (length kept - 1) z) z x goes.1 now in
+            let at : get_or kept (length kept - 1) z ≡ get_or kept (length kept - 1) x = get_or_default kept (length kept - 1) z x (omega (arith, goes.0)) in
+            let many = h.last (m - 1) (omega (arith, few, goes.2)) (omega (arith, small)) x (subst (λ y. before y x ≡ true) at on) in
+            omega (arith, many, one)
+
+    -- one of whose run so many are kept
+    pub runs_reach : (k run next : ℕ) (full : Option ℕ) (taken kept : List X) (z : X) → Continues before kept run z next → k < next → HoldsRuns before k taken run full kept
+        → Reaches before k (length kept - 1) kept
+    runs_reach k run next full taken kept z more long h x f = ⊎_elim
+        (λ begun. omega (arith, begun, long))
+        (λ goes. h.last k (omega (arith, goes.2, long)) (omega arith) x f)
+        more
+
+    pub runs_left : (k run next : ℕ) (full now : Option ℕ) (taken kept : List X) (z : X) → Continues before kept run z next → k < next → IsFull before k now kept
+        → HoldsRuns before k taken run full kept → HoldsRuns before k (z ∷ taken) next now kept
+    runs_left k run next full now taken kept z more long whole h = record {
+      out = z ∷ h.out;
+      split = IsPermutation-trans _ _ _ (IsPermutation-cons z _ _ h.split) (IsPermutation-sym _ _ (IsPermutation-middle kept z h.out));
+      behind = All-cons (λ x. k ≤ count_before before kept x) z h.out
+          (⊎_elim (λ begun. omega (arith, begun, long)) (λ goes. h.last k (omega (arith, goes.2, long)) (omega arith) z goes.1) more) h.behind;
+      last = λ m few small x f.
+          let many = runs_reach k run next full taken kept z more long h x f in
+          omega (arith, many, small);
+      whole = whole;
+    }
+
+  -- the last place
+  pub full_last : (k : ℕ) (full : Option ℕ) (kept : List X) → Reaches before k (length kept - 1) kept → SomeIff full (1 ≤ length kept) (length kept - 1) → IsFull before k full kept
+  full_last k full kept h at i e =
+      let g : (1 ≤ length kept) × (i ≡ length kept - 1) = subst (λ (o : Option ℕ). SomeIff o (1 ≤ length kept) (length kept - 1)) e at in
+      (omega (arith, g.0, g.1), subst (λ j. Reaches before k j kept) (sym g.1) h)
+
+  -- ---- what is kept at the end
+
+  pub runs_among : (k run : ℕ) (full : Option ℕ) (taken kept all : List X) → HoldsRuns before k taken run full kept → AreAmong taken all → AreAmong kept all
+  runs_among k run full taken kept all h among = record {
+    others = h.out ++ among.others;
+    split = subst (λ ys. IsPermutation all ys) (append_assoc kept h.out among.others)
+        (IsPermutation-trans _ _ _ among.split (IsPermutation-append_left among.others taken (kept ++ h.out) h.split));
+  }
+
+  -- items in another order
+  pub runs_same : (k run : ℕ) (full : Option ℕ) (taken other kept : List X) → IsPermutation other taken → HoldsRuns before k taken run full kept → HoldsRuns before k other run full kept
+  runs_same k run full taken other kept p h = record { out = h.out; split = IsPermutation-trans _ _ _ p h.split; behind = h.behind; last = h.last; whole = h.whole }

@@ -1,0 +1,74 @@
+// The first items of each run of those that stand before each other whatever their further digits are.
+ghost use Rattle.std.specs.Prelude.{◌≡◌, ◌∷◌, [], List, IfOk, OnOk};
+ghost use Rattle.bounded_keys.specs.Runs.{Continues, HoldsRuns};
+
+use crate::Leading;
+use std::alloc::{AllocError, Global};
+
+/// Of items that were taken the first of each run, at most so many. It tells where the last item stands that is kept of the longest run
+/// of which some were left out.
+#[derive(Drop)]
+pub struct Runs<T: Leading> {
+    pub items: Vec<T>,
+    pub full: Option<usize>,
+    most: usize,
+    run: usize,
+    longest: usize,
+}
+
+/// How many items a run has with this one, which continues the run of the last of some items or begins one.
+fn run_with<T: Leading + Drop>(items: &[T], run: usize, item: &T) -> usize
+    ensures { Continues T.before items.now run item.now result }
+{
+    match items.last() {
+        Some(last) if last.is_before(item) => run.saturating_add(1),
+        _ => 1,
+    }
+}
+
+impl<T: Leading + Drop> Runs<T> {
+    fn new(alloc: Global, most: usize) -> Runs<T>
+        ensures most { result.most ≡ most }
+        ensures runs { HoldsRuns T.before most [] result.run result.full result.items.items }
+    {
+        Runs {
+            items: Vec::new(alloc),
+            full: None,
+            most,
+            run: 0,
+            longest: most,
+        }
+    }
+
+    /// Takes the next item in, unless so many of its run are kept.
+    fn take(&mut self, item: T) -> Result<(), AllocError>
+        ensures most { self.new.most ≡ self.old.most }
+        ensures runs { OnOk result ((taken : List T) → HoldsRuns T.before self.old.most taken self.old.run self.old.full self.old.items.items
+            → HoldsRuns T.before self.old.most (item ∷ taken) self.new.run self.new.full self.new.items.items) }
+    {
+        self.run = run_with(&self.items, self.run, &item);
+        if self.run <= self.most {
+            self.items.push(item)?;
+        } else if self.run > self.longest {
+            self.longest = self.run;
+            self.full = self.items.len().checked_sub(1);
+        }
+        Ok(())
+    }
+}
+
+/// The first of each run of some items, at most so many.
+pub fn first_of_runs<T: Leading + Drop>(
+    alloc: Global,
+    mut items: Vec<T>,
+    most: usize,
+) -> Result<Runs<T>, AllocError>
+    ensures { IfOk result (λ runs. HoldsRuns T.before most items.items runs.run runs.full runs.items.items) }
+{
+    items.sort_unstable_by(|a, b| b.in_runs(a));
+    let mut runs = Runs::new(alloc, most);
+    while let Some(item) = items.pop() {
+        runs.take(item)?;
+    }
+    Ok(runs)
+}

@@ -1,0 +1,38 @@
+use Rattle.std.proofs.Common.{◌≡◌, ℕ, List, Option, sym, subst, ◌∙◌, arith}
+use Rattle.std.proofs.lemmas.List.{take_all}
+use Rattle.store_ends.specs.Files.{Files}
+use Rattle.disk_index.specs.Cache.{IsCacheBacked}
+use Rattle.disk_index.specs.QuietLaws.{CacheKeeps-after, IsCacheBacked-kept, IsQuiet-then}
+use Rattle.disk_index.specs.Reads.{IsBacked}
+use Rattle.range_masks.specs.Held.{HasAll}
+use Rattle.range_masks.proofs.HeldLemmas.{has-more}
+use Rattle.range_masks.proofs.opening.open_on_disk.Goals as goal
+
+pub returns-in_err-open_block-clause-cache : goal.returns-in_err-open_block-clause-cache
+returns-in_err-open_block-clause-cache g c = CacheKeeps-after _ _ _ _ _ _ c.loop-term.invariant.quiet.same_files c.loop-term.invariant.cache c.in_err-open_block.ensures.cache
+
+pub loop-term-preserved : goal.loop-term-preserved
+loop-term-preserved g c =
+    let inv = c.loop-term.invariant in
+    let opened = c.in_ok-open_block.ensures in
+    record {
+      quiet = IsQuiet-then g.T.Store.files g.T.Store.layers g.T.Store.clock g.T.Store.since g.T.Store.longest g.T.Store.held g.T.Store.faults _ _ _ inv.quiet opened.quiet;
+      later = omega (arith, inv.later, opened.later);
+      cache = CacheKeeps-after _ _ _ _ _ _ inv.quiet.same_files inv.cache opened.cache;
+      range = opened.range ∙ inv.range;
+      opened = omega (arith, inv.opened, opened.opened);
+      cost = omega (arith, inv.cost, opened.cost);
+      fits = opened.fits inv.fits;
+      exact = λ docs b kept.
+          let own = subst (λ (f : Option Files). IsBacked f c.args.index.now docs) (sym inv.quiet.same_files) b in
+          let still = subst (λ (f : Option Files). IsCacheBacked f c.loop-term.cache) (sym inv.quiet.same_files) (IsCacheBacked-kept _ (λ n. n ≡ c.args.index.now.number) c.args.cache.now c.loop-term.cache inv.cache kept) in
+          opened.exact docs own still (inv.exact docs b kept);
+      each = λ docs b kept.
+          let own = subst (λ (f : Option Files). IsBacked f c.args.index.now docs) (sym inv.quiet.same_files) b in
+          let still = subst (λ (f : Option Files). IsCacheBacked f c.loop-term.cache) (sym inv.quiet.same_files) (IsCacheBacked-kept _ (λ n. n ≡ c.args.index.now.number) c.args.cache.now c.loop-term.cache inv.cache kept) in
+          has-more c.args.terms.now c.loop-term.term-index c.term-item.result c.loop-term.held c.open_block.new.held c.loop-term-test.true c.term-item.is (opened.has docs own still) opened.still (inv.each docs b kept);
+    }
+
+pub returns-clause-each : goal.returns-clause-each
+returns-clause-each g c = λ docs b kept.
+    subst (λ (l : List (List ℕ)). HasAll l c.loop-term.held) (take_all c.loop-term.term-index c.args.terms.now c.loop-term-test.false) (c.loop-term.invariant.each docs b kept)

@@ -1,0 +1,104 @@
+// A part that is read by the blocks that are held of a range.
+ghost use Rattle.std.specs.Prelude.{◌≡◌};
+ghost use Rattle.std.proofs.Props.{props};
+ghost use Rattle.disk_index.specs.Parts.{outlines_of, source_of};
+ghost use Rattle.range_masks.specs.Held.{FitDocuments};
+
+use crate::part::mask_in_part;
+use crate::{RangeBlocks, TermMasks};
+use disk_index::{BlockCache, Part};
+use ri_base::{Docno, FieldSpan, Positions, Postings, SegFault, Term};
+use std::alloc::Global;
+use store_ends::Store;
+
+/// A part, blocks of a range of it that are held, and the store and the cache that it is read by, all lent.
+#[derive(Drop)]
+pub struct RangeReader<'a, T: Store> {
+    pub part: &'a Part,
+    pub held: &'a RangeBlocks,
+    pub store: &'a mut T,
+    pub cache: &'a mut BlockCache,
+    pub ghost fits: { FitDocuments (outlines_of (source_of part.now)) held.now } by { Prim.hlevel props },
+}
+
+impl<'a, T: Store> RangeReader<'a, T> {
+    /// Takes no memory.
+    pub fn new(
+        part: &'a Part,
+        held: &'a RangeBlocks,
+        store: &'a mut T,
+        cache: &'a mut BlockCache,
+    ) -> RangeReader<'a, T>
+        requires { FitDocuments (outlines_of (source_of part.now)) held.now }
+        ensures part { result.part.now ≡ part.now }
+        ensures held { result.held.now ≡ held.now }
+        ensures store { result.store.now ≡ store.entry.now }
+        ensures same_store { result.store.ghost_name ≡ store.entry.ghost_name }
+        ensures cache { result.cache.now ≡ cache.entry.now }
+        ensures same_cache { result.cache.ghost_name ≡ cache.entry.ghost_name }
+    {
+        RangeReader {
+            part,
+            held,
+            store,
+            cache,
+        }
+    }
+}
+
+impl<'a, T: Store> Postings for RangeReader<'a, T> {
+    ghost use Rattle.std.specs.Prelude.{◌≡◌};
+    ghost use Rattle.disk_index.specs.Cache.{IsCacheBacked};
+    ghost use Rattle.disk_index.specs.Parts.{IsPartBacked, IsQuietReader, reads, source_of};
+    ghost use Rattle.range_masks.specs.Held.{AreAnswersOf};
+
+    ghost documents = { λ s. reads (T.files s.store.now) (source_of s.part.now) };
+
+    ghost faults = { λ s. T.faults s.store.now };
+
+    ghost sound = { λ s. IsPartBacked (T.files s.store.now) (source_of s.part.now) × IsCacheBacked (T.files s.store.now) s.cache.now × AreAnswersOf (reads (T.files s.store.now) (source_of s.part.now)) s.held.now };
+
+    ghost quiet = { λ r s. IsQuietReader T.files T.layers T.clock T.since T.longest T.held T.faults (source_of r.part.now) (source_of s.part.now) r.store.ghost_name s.store.ghost_name r.cache.ghost_name s.cache.ghost_name r.store.now s.store.now r.cache.now s.cache.now };
+
+    fn docs(&self) -> u32 {
+        self.part.docs()
+    }
+
+    fn docno(&self, id: u32) -> &Docno {
+        self.part.docno(id)
+    }
+
+    fn length(&self, id: u32) -> u32 {
+        self.part.length(id)
+    }
+
+    fn spans(&self, id: u32) -> &[FieldSpan] {
+        self.part.spans(id)
+    }
+
+    fn positions(&mut self, alloc: Global, term: &Term, id: u32) -> Result<Positions, SegFault> {
+        match self.held.places(term, id) {
+            Some(places) => Ok(Positions::of(places.to_vec(alloc)?)),
+            None => { self.part.positions(alloc, self.store, self.cache, term, id) }
+        }
+    }
+
+    ghost use Rattle.disk_index.specs.QuietLaws.{IsQuietReader-same, IsQuietReader-then};
+
+    ghost quiet_same = { λ s. IsQuietReader-same _ _ _ _ _ _ _ _ _ _ _ _ };
+
+    ghost quiet_then = { λ r s t first second. IsQuietReader-then _ _ _ _ _ _ _ _ _ _ _ _ _ _ _ _ _ _ _ _ _ _ first second };
+}
+
+impl<'a, T: Store> TermMasks for RangeReader<'a, T> {
+    fn term_mask(&mut self, alloc: Global, term: &Term, range: u32) -> Result<u64, SegFault> {
+        match self.held.mask(term, range) {
+            Some(mask) => Ok(mask),
+            None => mask_in_part(alloc, self.part, self.store, self.cache, term, range),
+        }
+    }
+
+    fn next_term_range(&self, term: &Term, from: u32) -> Option<u32> {
+        self.part.next_with(term, from)
+    }
+}

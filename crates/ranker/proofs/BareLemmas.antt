@@ -125,8 +125,13 @@ module _ (parts : List Marked) (at : Place) (count : ℕ) (bare : AreBare (part_
           (λ i low high. let b = bare i low (omega (arith, high, few)) in ahead.here.may.none i low b.known b.clear)))
 
       IsHeld-bare : (most : ℕ) (held : Held) → is_open held ≡ true → IsHeld kind priors filters network (passed told parts at) most held → IsHeld kind priors filters network (passed told parts (place_on at docs)) most held
-      IsHeld-bare most (Open rows) is h = (Advances-on (counted rows 0)).step [] most h
+      IsHeld-bare most (Open rows) is h = (Advances-on (counted rows 0 0)).step [] most h
       IsHeld-bare most (Ended hits) is h = absurd (false≢true is)
+
+  -- they end where what is known does, or before
+  pub bare-end : (docs : ℕ) → docs ≤ count → at.id ≤ at.ahead.end → at.id + docs ≤ at.ahead.end
+  bare-end zero few back = omega (arith, back)
+  bare-end (suc docs) few back = let b = last (suc docs) (omega (arith, few)) few in let known = b.known in omega (arith, known)
 
   -- ---- none of them, or so many
 

@@ -33,9 +33,9 @@ module _ (kind : RuleKind) (priors : List Prior) (filters : List FilterTree) (ne
       IsAnswerBy-front kind priors filters network docs most kept front hits told keys open_held shown
 
   -- documents behind those that were passed
-  pub IsHeld-on : (old new : List Document) (most : ℕ) (was : Held) (kept next : KeptEntries) (a b : ℕ) → was ≡ Open kept → Advances kind priors filters network old new (counted kept a) (counted next b)
+  pub IsHeld-on : (old new : List Document) (most : ℕ) (was : Held) (kept next : KeptEntries) (a b p q : ℕ) → was ≡ Open kept → Advances kind priors filters network old new (counted kept a p) (counted next b q)
       → IsHeld kind priors filters network old most was → IsHeld kind priors filters network new most (Open next)
-  IsHeld-on old new most was kept next a b is on h = on.step [] most (subst (λ (x : Held). IsHeld kind priors filters network old most x) is h)
+  IsHeld-on old new most was kept next a b p q is on h = on.step [] most (subst (λ (x : Held). IsHeld kind priors filters network old most x) is h)
 
   -- where all documents are passed, what is held are the results
   pub IsHeld-answer : (docs all : List Document) (most : ℕ) (held : Held) (hits : List Hit) → held ≡ Ended hits → docs ≡ all → IsHeld kind priors filters network docs most held → IsAnswerBy kind priors filters network all most hits

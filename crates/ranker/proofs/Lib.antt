@@ -1,9 +1,12 @@
 pub mod AheadLemmas
+pub mod AskedLemmas
 pub mod BareLemmas
 pub mod DocumentLemmas
 pub mod Fractions
 pub mod HeldLemmas
+pub mod LeastLemmas
 pub mod Lists
+pub mod OpenedLemmas
 pub mod PassedLemmas
 pub mod PlaceLemmas
 pub mod RankingLemmas

@@ -12,10 +12,9 @@ use Rattle.belief_nodes.specs.Priors.{Prior}
 use Rattle.deletion_list.specs.Marks.{marked_count}
 use Rattle.disk_index.specs.Snapshots.{unmarked}
 use Rattle.document_scoring.specs.Candidates.{candidates}
-use Rattle.bounded_keys.specs.Entries.{WereOffered}
 use Rattle.bounded_keys.specs.declared.entry.Entry.{Entry}
 use Rattle.range_masks.specs.May.{query_may}
-use Rattle.ranker.specs.First.{Advances, Counted, HoldsFirst, early_cost, early_of}
+use Rattle.ranker.specs.First.{Advances, AsksWithin, Counted, HoldsFirst, KeptEntries, WereOffered, counted, early_cost, early_of}
 use Rattle.ranker.specs.Passed.{live_ids}
 use Rattle.ranker.specs.Least.{AreFrom}
 use Rattle.ranker.specs.declared.window.Window.{Window}
@@ -78,6 +77,13 @@ unmarked-ids (x ∷ xs) (false ∷ marks) (suc i) h = ap suc (unmarked-ids xs ma
 pub cost-sum : (network : NetworkTree) (m n : ℕ) → early_cost network (m + n) ≡ early_cost network m + early_cost network n
 cost-sum network m n = omega arith
 
+pub cost-more : (network : NetworkTree) (m n : ℕ) → m ≤ n → early_cost network m ≤ early_cost network n
+cost-more network m n le =
+    let whole : m + (n - m) ≡ n = omega (arith, le) in
+    let all : early_cost network (m + (n - m)) ≡ early_cost network n = ap (early_cost network) whole in
+    let both = cost-sum network m (n - m) in
+    omega (arith, all, both)
+
 module _ (kind : RuleKind) (priors : List Prior) (filters : List FilterTree) (network : NetworkTree) where
   abbrev pub spent_on : List Document → ℕ
   spent_on ds = early_cost network (length (candidates kind priors filters network ds))
@@ -111,6 +117,16 @@ module _ (kind : RuleKind) (priors : List Prior) (filters : List FilterTree) (ne
       → Advances kind priors filters network old new few next
   Advances-then old mid new few held next first second = record { step = λ before most h. second.step before most (first.step before most h); cost = let a = first.cost in let b = second.cost in omega (arith, a, b) }
 
+  -- behind bounds that were asked for
+  pub Advances-asks : (old new : List Document) (kept next : KeptEntries) (a b d was mid now : ℕ) → AsksWithin network was mid a b → mid ≤ now
+      → Advances kind priors filters network old new (counted kept b 0) (counted next d 0) → Advances kind priors filters network old new (counted kept a was) (counted next d now)
+  Advances-asks old new kept next a b d was mid now asks le h = record { step = h.step; cost = let c = h.cost in let more = cost-more network mid now le in omega (arith, asks, c, more) }
+
+  -- behind the bounds of other ranges
+  pub Advances-further : (old new : List Document) (kept next : KeptEntries) (a b was now others all : ℕ) → others + now ≤ all
+      → Advances kind priors filters network old new (counted kept a was) (counted next b now) → Advances kind priors filters network old new (counted kept a (others + was)) (counted next b all)
+  Advances-further old new kept next a b was now others all le h = record { step = h.step; cost = let c = h.cost in let more = cost-more network (others + now) all le in omega (arith, c, more) }
+
   -- a document behind any others changes nothing of what is held
   abbrev PassesBy : Counted → Document → Type 0
   PassesBy few d = (before : List Document) (most : ℕ) → HoldsFirst kind priors filters network before most few.kept → HoldsFirst kind priors filters network (before ++ d ∷ []) most few.kept
@@ -136,11 +152,12 @@ module _ (kind : RuleKind) (priors : List Prior) (filters : List FilterTree) (ne
         record { step = λ before most h. subst (λ (ds : List Document). HoldsFirst kind priors filters network (before ++ ds) most few.kept) (sym same) h; cost = let e : spent_on (unmarked (take (i + 1) docs) marks) ≡ spent_on (unmarked (take i docs) marks) = ap spent_on same in omega (arith, e) }
 
     -- a live document whose candidates are held with those of any documents before it
-    pub Advances-live : (next : Counted) → i < length docs → length marks ≡ length docs → get_or marks i false ≡ false
+    pub Advances-live : (next : Counted) → next.asked ≡ few.asked → i < length docs → length marks ≡ length docs → get_or marks i false ≡ false
         → ((before : List Document) (most : ℕ) → HoldsFirst kind priors filters network before most few.kept → HoldsFirst kind priors filters network (before ++ document_at docs i ∷ []) most next.kept)
         → next.squares ≤ few.squares + early_cost network (length (candidates kind priors filters network (document_at docs i ∷ [])))
         → Advances kind priors filters network (unmarked (take i docs) marks) (unmarked (take (i + 1) docs) marks) few next
-    Advances-live next lt whole live one few_squares =
+    Advances-live next asked lt whole live one few_squares =
+        let bounds : early_cost network next.asked ≡ early_cost network few.asked = ap (early_cost network) asked in
         let d : List Document = document_at docs i ∷ [] in
         let seen : List Document = unmarked (take i docs) marks in
         let same : unmarked (take (i + 1) docs) marks ≡ seen ++ d = unmarked-more docs marks i lt whole ∙ ap (λ (b : Bool). seen ++ cond b [] d) live in
@@ -148,13 +165,13 @@ module _ (kind : RuleKind) (priors : List Prior) (filters : List FilterTree) (ne
           step = λ before most h.
               let here : (before ++ seen) ++ d ≡ before ++ unmarked (take (i + 1) docs) marks = append_assoc before seen d ∙ ap (λ (ds : List Document). before ++ ds) (sym same) in
               subst (λ (ds : List Document). HoldsFirst kind priors filters network ds most next.kept) here (one (before ++ seen) most h);
-          cost = let e : spent_on (unmarked (take (i + 1) docs) marks) ≡ spent_on seen + spent_on d = ap spent_on same ∙ cost-append seen d in omega (arith, e, few_squares);
+          cost = let e : spent_on (unmarked (take (i + 1) docs) marks) ≡ spent_on seen + spent_on d = ap spent_on same ∙ cost-append seen d in omega (arith, e, few_squares, bounds);
         }
 
     -- a live document that changes nothing of what is held
     pub Advances-by : i < length docs → length marks ≡ length docs → get_or marks i false ≡ false → PassesBy few (document_at docs i)
         → Advances kind priors filters network (unmarked (take i docs) marks) (unmarked (take (i + 1) docs) marks) few few
-    Advances-by lt whole live by = Advances-live few lt whole live by (omega arith)
+    Advances-by lt whole live by = Advances-live few refl lt whole live by (omega arith)
 
     -- a live document that has nothing to show
     pub Advances-unseen : i < length docs → length marks ≡ length docs → get_or marks i false ≡ false → query_may filters network.leaves (document_at docs i) ≡ false

@@ -163,7 +163,7 @@ pub IsAheadAt-behind : (kind : RuleKind) (priors : List Prior) (filters : List F
 IsAheadAt-behind kind priors filters network tables told parts at to most m is each h = by (nat_lt to.docs most)
   where
     by : (b : Bool) → IsAheadAt kind priors filters network tables told parts (if b then record { part = at.part + 1; id = 0; credit = at.credit + to.docs; ahead = nothing_known } else record { part = at.part; id = to.id; credit = at.credit + to.docs; ahead = to.ahead })
-    by true = record { here = IsKnown-nothing kind priors filters network tables (at.part + 1) (reads told (part_at parts (at.part + 1)).source) 0 (each (at.part + 1)); each = each }
+    by true = record { here = IsKnown-nothing kind priors filters network tables (at.part + 1) (reads told (part_at parts (at.part + 1)).source) (each (at.part + 1)); each = each }
     by false = record { here = subst (λ (p : Marked). IsKnown kind priors filters network tables at.part (reads told p.source) to.id to.ahead) (sym is) h; each = each }
 
 -- by the files as they were, and what the priors told, before

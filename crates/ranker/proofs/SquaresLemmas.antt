@@ -22,6 +22,7 @@ use Rattle.ranker.specs.Squares.{entry_by, late_cost, spent}
 use Rattle.ranker.specs.declared.held.Held.{Held}
 use Rattle.ranker.specs.declared.held.Held.TheVariants.{Open}
 use Rattle.ranker.specs.declared.window.Window.{Window}
+use Rattle.ranker.proofs.PassedLemmas.{cost-more}
 
 -- ---- entries of candidates
 
@@ -61,38 +62,44 @@ module _ (network : NetworkTree) where
   -- ---- steps
 
   module _ (most : ℕ) where
-    spent_open : (more : Bool) (cs : List Candidate) → more ≡ true → spent network most more cs ≡ early_cost network (length cs)
-    spent_open more cs is =
-        let e : spent network most more cs ≡ early_cost network (length cs) + 0 = ap (λ (b : Bool). early_cost network (length cs) + (if b then 0 else late_cost network most cs)) is in
+    spent_open : (more : Bool) (asked : ℕ) (cs : List Candidate) → more ≡ true → spent network most more asked cs ≡ early_cost network (asked + length cs)
+    spent_open more asked cs is =
+        let e : spent network most more asked cs ≡ early_cost network (asked + length cs) + 0 = ap (λ (b : Bool). early_cost network (asked + length cs) + (if b then 0 else late_cost network most cs)) is in
         omega (arith, e)
 
-    spent_ended : (more : Bool) (cs : List Candidate) → more ≡ false → spent network most more cs ≡ early_cost network (length cs) + late_cost network most cs
-    spent_ended more cs is = ap (λ (b : Bool). early_cost network (length cs) + (if b then 0 else late_cost network most cs)) is
+    spent_ended : (more : Bool) (asked : ℕ) (cs : List Candidate) → more ≡ false → spent network most more asked cs ≡ early_cost network (asked + length cs) + late_cost network most cs
+    spent_ended more asked cs is = ap (λ (b : Bool). early_cost network (asked + length cs) + (if b then 0 else late_cost network most cs)) is
 
     -- as long as some documents are left
-    pub squares_on : (was now : Bool) (old new : List Candidate) (a b : ℕ) → was ≡ true → now ≡ true → b + early_cost network (length old) ≤ a + early_cost network (length new)
-        → b + spent network most was old ≤ a + spent network most now new
-    squares_on was now old new a b more still le = let x = spent_open was old more in let y = spent_open now new still in omega (arith, x, y, le)
+    pub squares_on : (was now : Bool) (p q : ℕ) (old new : List Candidate) (a b : ℕ) → was ≡ true → now ≡ true → b + early_cost network (p + length old) ≤ a + early_cost network (q + length new)
+        → b + spent network most was p old ≤ a + spent network most now q new
+    squares_on was now p q old new a b more still le = let x = spent_open was p old more in let y = spent_open now q new still in omega (arith, x, y, le)
 
     -- where none is left
-    pub squares_end : (was now : Bool) (old new : List Candidate) (a b d : ℕ) → was ≡ true → now ≡ false → b + early_cost network (length old) ≤ a + early_cost network (length new) → d ≤ b + late_cost network most new
-        → d + spent network most was old ≤ a + spent network most now new
-    squares_end was now old new a b d more ended le late = let x = spent_open was old more in let y = spent_ended now new ended in omega (arith, x, y, le, late)
+    pub squares_end : (was now : Bool) (p q : ℕ) (old new : List Candidate) (a b d : ℕ) → was ≡ true → now ≡ false → b + early_cost network (p + length old) ≤ a + early_cost network (q + length new) → d ≤ b + late_cost network most new
+        → d + spent network most was p old ≤ a + spent network most now q new
+    squares_end was now p q old new a b d more ended le late = let x = spent_open was p old more in let y = spent_ended now q new ended in omega (arith, x, y, le, late)
 
-    -- by all candidates, of which those before a place are a front
-    pub squares_whole : (was : Bool) (old front all : List Candidate) (a b : ℕ) → was ≡ true → b + early_cost network (length old) ≤ a + early_cost network (length front) → early_cost network (length front) ≤ early_cost network (length all)
-        → b + spent network most was old ≤ a + spent network most false all
-    squares_whole was old front all a b more le less = let x = spent_open was old more in let y = spent_ended false all refl in omega (arith, x, y, le, less)
+    -- by all candidates, of which those before a place are a front, and by all ranges
+    pub squares_whole : (was : Bool) (p q r : ℕ) (old front all : List Candidate) (a b : ℕ) → was ≡ true → q ≤ r → b + early_cost network (p + length old) ≤ a + early_cost network (q + length front) → early_cost network (length front) ≤ early_cost network (length all)
+        → b + spent network most was p old ≤ a + spent network most false r all
+    squares_whole was p q r old front all a b more asked le less =
+        let x = spent_open was p old more in
+        let y = spent_ended false r all refl in
+        let z = cost-more network q r asked in
+        omega (arith, x, y, z, le, less)
 
-    -- by all candidates, which have all been met
-    pub squares_met : (was : Bool) (old met all : List Candidate) (a b d : ℕ) → was ≡ true → met ≡ all → b + early_cost network (length old) ≤ a + early_cost network (length met) → d ≤ b + late_cost network most met
-        → d + spent network most was old ≤ a + spent network most false all
-    squares_met was old met all a b d more same le late =
-        let whole = squares_end was false old met a b d more refl le late in
-        subst (λ (cs : List Candidate). d + spent network most was old ≤ a + spent network most false cs) same whole
+    -- by all candidates, which have all been met, and by all ranges
+    pub squares_met : (was : Bool) (p q r : ℕ) (old met all : List Candidate) (a b d : ℕ) → was ≡ true → q ≤ r → met ≡ all → b + early_cost network (p + length old) ≤ a + early_cost network (q + length met) → d ≤ b + late_cost network most met
+        → d + spent network most was p old ≤ a + spent network most false r all
+    squares_met was p q r old met all a b d more asked same le late =
+        let z = cost-more network q r asked in
+        let whole = squares_end was false p r old met a b d more refl (omega (arith, le, z)) late in
+        subst (λ (cs : List Candidate). d + spent network most was p old ≤ a + spent network most false r cs) same whole
 
     -- where it has ended before
-    pub squares_ended : (was : Bool) (old all : List Candidate) (a : ℕ) → was ≡ false → old ≡ all → a + spent network most was old ≤ a + spent network most false all
-    squares_ended was old all a ended same =
-        let e : spent network most was old ≡ spent network most false all = ap (λ (b : Bool). spent network most b old) ended ∙ ap (spent network most false) same in
-        omega (arith, e)
+    pub squares_ended : (was : Bool) (p r : ℕ) (old all : List Candidate) (a : ℕ) → was ≡ false → p ≤ r → old ≡ all → a + spent network most was p old ≤ a + spent network most false r all
+    squares_ended was p r old all a ended asked same =
+        let e : spent network most was p old ≡ spent network most false p all = ap (λ (b : Bool). spent network most b p old) ended ∙ ap (spent network most false p) same in
+        let z = cost-more network p r asked in
+        omega (arith, e, z)

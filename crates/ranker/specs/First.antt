@@ -72,26 +72,31 @@ pub record HoldsFirst (kind : RuleKind) (priors : List Prior) (filters : List Fi
   pub room : kept.most ≡ most
   pub offered : WereOffered (map (early_of network) rows) kept
 
--- what is held and kept, and a count of squarings
+-- what is held and kept, a count of squarings, and one of the bounds of ranges that were asked for
 pub record Counted : Type 0 where
   pub kept : KeptEntries
   pub squares : ℕ
+  pub asked : ℕ
 
-abbrev pub counted : KeptEntries → ℕ → Counted
-counted kept squares = record { kept = kept; squares = squares }
+abbrev pub counted : KeptEntries → ℕ → ℕ → Counted
+counted kept squares asked = record { kept = kept; squares = squares; asked = asked }
 
--- the squarings of so many candidates up to the first level
+-- the squarings of so many candidates or bounds up to the first level
 abbrev pub early_cost : NetworkTree → ℕ → ℕ
 early_cost network count = FIRST * length network.leaves * count
 
--- no more squarings were done than those of the candidates of the new documents that the old ones don't have
-abbrev pub SpendsWithin : RuleKind → List Prior → List FilterTree → NetworkTree → List Document → List Document → ℕ → ℕ → Type 0
-SpendsWithin kind priors filters network old new before now =
-    now + early_cost network (length (candidates kind priors filters network old)) ≤ before + early_cost network (length (candidates kind priors filters network new))
+-- no more squarings were done than those of so many bounds more
+abbrev pub AsksWithin : NetworkTree → ℕ → ℕ → ℕ → ℕ → Type 0
+AsksWithin network was asked before now = now + early_cost network was ≤ before + early_cost network asked
+
+-- no more squarings were done than those of the candidates of the new documents that the old ones don't have, and of so many bounds more
+abbrev pub SpendsWithin : RuleKind → List Prior → List FilterTree → NetworkTree → List Document → List Document → ℕ → ℕ → ℕ → ℕ → Type 0
+SpendsWithin kind priors filters network old new was asked before now =
+    now + early_cost network (was + length (candidates kind priors filters network old)) ≤ before + early_cost network (asked + length (candidates kind priors filters network new))
 
 -- Behind any documents: where the first candidates of these and the old ones were held, those of these and the new ones are held now. No
--- more squarings were done than those of the new candidates.
+-- more squarings were done than those of the new candidates and of the bounds that were asked for.
 pub record Advances (kind : RuleKind) (priors : List Prior) (filters : List FilterTree) (network : NetworkTree) (old new : List Document) (was now : Counted) : Type 0 where
   pub step : (before : List Document) (most : ℕ)
       → HoldsFirst kind priors filters network (before ++ old) most was.kept → HoldsFirst kind priors filters network (before ++ new) most now.kept
-  pub cost : SpendsWithin kind priors filters network old new was.squares now.squares
+  pub cost : SpendsWithin kind priors filters network old new was.asked now.asked was.squares now.squares

@@ -1,5 +1,5 @@
 -- How far a search has come.
-use Rattle.std.specs.Prelude.{◌≡◌, ◌<◌, ◌≤◌, ◌+◌, ◌%◌, ◌^◌, if◌then◌else◌, nat_lt, ℕ, zero, suc, Bool, true, false, List, [], ◌∷◌, ◌++◌, Option, None, Some, length, slice_get, take, slice_index_or}
+use Rattle.std.specs.Prelude.{◌≡◌, ◌<◌, ◌≤◌, ◌+◌, ◌*◌, ◌/◌, ◌%◌, ◌^◌, ◌==◌, if◌then◌else◌, nat_lt, ℕ, zero, suc, Bool, true, false, List, [], ◌∷◌, ◌++◌, Option, None, Some, length, slice_get, take, slice_index_or}
 use Rattle.std.specs.Int.{bit_at}
 use Rattle.ri_base.specs.Collection.{document_at}
 use Rattle.ri_base.specs.Documents.{Document}
@@ -32,9 +32,19 @@ pub record IsPassed (marks : List Bool) (id most : ℕ) (to : Passed) : Type 0 w
   pub docs : live_ids marks to.id ≡ live_ids marks id + to.docs
   pub few : to.docs ≤ most
 
+-- whether the mask of a range is read, and no bit of it is set
+abbrev pub is_clear : Option ℕ → Bool
+is_clear None = false
+is_clear (Some mask) = mask == 0
+
+-- the bit of an id in the mask of its range; as long as that isn't read, its document may have something to show
+abbrev pub bit_of : Option ℕ → ℕ → ℕ
+bit_of None id = 1
+bit_of (Some mask) id = bit_at mask (id % 64)
+
 -- From an id of a part on, before the end of what is known, no document whose bit isn't set may have something to show.
 pub record IsAhead (filters : List FilterTree) (leaves : List LeafTree) (docs : List Document) (id : ℕ) (ahead : Ahead) : Type 0 where
-  pub none : (i : ℕ) → id ≤ i → i < ahead.end → bit_at ahead.mask (i % 64) ≡ 0 → query_may filters leaves (document_at docs i) ≡ false
+  pub none : (i : ℕ) → id ≤ i → i < ahead.end → bit_of ahead.mask i ≡ 0 → query_may filters leaves (document_at docs i) ≡ false
 
 -- a live document of a part before the end of what is known, whose bit isn't set
 pub record IsBare (m : Marked) (ahead : Ahead) (id : ℕ) : Type 0 where
@@ -42,14 +52,14 @@ pub record IsBare (m : Marked) (ahead : Ahead) (id : ℕ) : Type 0 where
   pub inside : id < size m.source
   pub live : slice_index_or m.marks id false ≡ false
   pub known : id < ahead.end
-  pub clear : bit_at ahead.mask (id % 64) ≡ 0
+  pub clear : bit_of ahead.mask id ≡ 0
 
 -- so many documents from an id on are such
 abbrev pub AreBare : Marked → Ahead → ℕ → ℕ → Type 0
 AreBare m ahead id count = (i : ℕ) → id ≤ i → i < id + count → IsBare m ahead i
 
 abbrev pub nothing_known : Ahead
-nothing_known = record { end = 0; mask = 0; bound = None }
+nothing_known = record { end = 0; mask = None; bound = None }
 
 -- the live documents of a part before an id
 abbrev pub live_before : Option Files → Marked → ℕ → List Document
@@ -67,11 +77,20 @@ passed told parts at = live told (take at.part parts) ++ live_before told (part_
 abbrev pub IsTold : NetworkTree → List RangeTable → ℕ → List Document → Type 0
 IsTold network tables number docs = (t : RangeTable) → slice_get tables number ≡ Some t → IsTableOf network.leaves docs t
 
+-- What is known from an id on ends there or behind it, inside of so many documents, where a range of 64 ids ends. Where some may have
+-- something to show, that is the range of this id.
+pub record IsSpan (size id : ℕ) (ahead : Ahead) : Type 0 where
+  pub back : id ≤ ahead.end
+  pub inside : ahead.end ≤ size
+  pub whole : ahead.end < size → ahead.end % 64 ≡ 0
+  pub short : is_clear ahead.mask ≡ false → ahead.end ≤ 64 * (id / 64 + 1)
+
 -- What is known from an id of a part on: also what is told of the keys of the candidates before its end, and by a table of ranges.
 pub record IsKnown (kind : RuleKind) (priors : List Prior) (filters : List FilterTree) (network : NetworkTree) (tables : List RangeTable) (number : ℕ) (docs : List Document) (id : ℕ) (ahead : Ahead) : Type 0 where
   pub may : IsAhead filters network.leaves docs id ahead
   pub least : (n i : ℕ) → ahead.bound ≡ Some n → id ≤ i → i < ahead.end → AreFrom kind priors network n (document_at docs i)
   pub told : IsTold network tables number docs
+  pub span : IsSpan (length docs) id ahead
 
 -- what is known at a place is so of the documents of its part, as they read by these files, and each part has its own table
 pub record IsAheadAt (kind : RuleKind) (priors : List Prior) (filters : List FilterTree) (network : NetworkTree) (tables : List RangeTable) (told : Option Files) (parts : List Marked) (at : Place) : Type 0 where
@@ -95,3 +114,25 @@ pub record IsBareTo (parts : List Marked) (at : Place) (count to : ℕ) : Type 0
   pub left : to ≤ count
   pub ids : at.id + to ≤ at.credit + 2 ^ 32
   pub bare : (docs : ℕ) → at.credit + docs < to → AreBare (part_at parts at.part) at.ahead at.id docs
+
+-- how many ranges of 64 ids so many ids have
+abbrev pub ranges_of : ℕ → ℕ
+ranges_of size = (size + 63) / 64
+
+-- the ranges before that of an id, and with a bound up to the end of what is known
+abbrev pub asked_by : Option ℕ → ℕ → ℕ → ℕ
+asked_by None id end = id / 64
+asked_by (Some least) id end = ranges_of end
+
+-- of how many ranges of a part, at most, a bound was asked for before an id
+abbrev pub asked_of : ℕ → Ahead → ℕ
+asked_of id ahead = asked_by ahead.bound id ahead.end
+
+-- how many ranges parts have
+abbrev pub ranges_in : List Marked → ℕ
+ranges_in [] = 0
+ranges_in (m ∷ parts) = ranges_of (size m.source) + ranges_in parts
+
+-- of how many ranges of the parts, at most, a bound was asked for before a place
+abbrev pub asked_at : List Marked → Place → ℕ
+asked_at parts at = ranges_in (take at.part parts) + asked_of at.id at.ahead

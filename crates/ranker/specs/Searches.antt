@@ -12,7 +12,7 @@ use Rattle.disk_index.specs.Parts.{reads}
 use Rattle.disk_index.specs.Snapshots.{live}
 use Rattle.document_scoring.specs.Candidates.{candidates}
 use Rattle.ranker.specs.Held.{IsHeld, is_open}
-use Rattle.ranker.specs.Passed.{IsAheadAt, IsTold, part_at, passed}
+use Rattle.ranker.specs.Passed.{IsAheadAt, IsTold, asked_at, part_at, passed, ranges_in}
 use Rattle.ranker.specs.Ranking.{IsAnswerBy}
 use Rattle.ranker.specs.Squares.{spent}
 use Rattle.ranker.specs.declared.search.Search.{Search}
@@ -45,10 +45,10 @@ pub record IsSameSearch (old new : Search) : Type 0 where
   pub network : network_tree new.network ≡ network_tree old.network
   pub most : new.most ≡ old.most
 
--- what the search has spent on squarings, by the documents that it has passed
+-- what the search has spent on squarings at most, by the documents that it has passed and the ranges that it has come to
 abbrev pub spent_by : RuleKind → List Prior → Option Files → Search → ℕ
-spent_by kind priors told s = spent (network_tree s.network) s.most (is_open s.held) (candidates kind priors (filters_of s) (network_tree s.network) (passed told s.snapshot s.at))
+spent_by kind priors told s = spent (network_tree s.network) s.most (is_open s.held) (asked_at s.snapshot s.at) (candidates kind priors (filters_of s) (network_tree s.network) (passed told s.snapshot s.at))
 
--- what it spends on squarings in the whole, by all its documents
+-- what it spends on squarings in the whole, by all its documents and ranges
 abbrev pub whole_cost : RuleKind → List Prior → Option Files → Search → ℕ
-whole_cost kind priors told s = spent (network_tree s.network) s.most false (candidates kind priors (filters_of s) (network_tree s.network) (searched told s))
+whole_cost kind priors told s = spent (network_tree s.network) s.most false (ranges_in s.snapshot) (candidates kind priors (filters_of s) (network_tree s.network) (searched told s))

@@ -3,7 +3,7 @@ ghost use Rattle.std.specs.Prelude.{◌≡◌, ◌<◌, ◌≤◌, ◌+◌, ◌%
 ghost use Rattle.std.specs.Int.{bit_at};
 ghost use Rattle.store_ends.specs.Files.{Files};
 ghost use Rattle.disk_index.specs.Snapshots.{IsSnapshot, live};
-ghost use Rattle.ranker.specs.Passed.{AreBare, IsBareTo, IsPlace, part_at};
+ghost use Rattle.ranker.specs.Passed.{AreBare, IsBareTo, IsPlace, bit_of, part_at};
 
 use crate::place::{Ahead, Place};
 use deletion_list::DelList;
@@ -14,7 +14,7 @@ const MOST: u32 = 64;
 
 /// How many ids from one on have no bit in the mask, one behind the other: any number where none is set, and else no more than are left
 /// of its range.
-fn clear_run(mask: u64, id: u32) -> u32
+fn clear_bits(mask: u64, id: u32) -> u32
     ensures { (i : ℕ) → id ≤ i → i < id + result → bit_at mask (i % 64) ≡ 0 }
 {
     if mask == 0 {
@@ -22,6 +22,16 @@ fn clear_run(mask: u64, id: u32) -> u32
     }
     let place = id % 64;
     (mask >> place).trailing_zeros().min(64 - place)
+}
+
+/// The same where the mask may not be read: none then.
+fn clear_run(mask: Option<u64>, id: u32) -> u32
+    ensures { (i : ℕ) → id ≤ i → i < id + result → bit_of mask i ≡ 0 }
+{
+    match mask {
+        Some(mask) => clear_bits(mask, id),
+        None => 0,
+    }
 }
 
 /// How many of so many ids from one on aren't marked, one behind the other: all, without a look at each, where no id is marked, and

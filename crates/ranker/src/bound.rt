@@ -1,19 +1,18 @@
 // Ranges whose candidates can't be among the first.
-ghost use Rattle.std.specs.Prelude.{ℕ, ◌≡◌, ◌≤◌, ◌<◌, ◌++◌, true, List, Option, Some, All, Contains, length, map, IfOk, IfSome};
+ghost use Rattle.std.specs.Prelude.{ℕ, ◌≡◌, ◌≤◌, ◌<◌, ◌+◌, ◌++◌, true, false, List, None, Some, All, Contains, length, map, IfOk, IfSome};
 ghost use Rattle.ri_base.specs.Documents.{Document};
 ghost use Rattle.ri_base.specs.Query.{FilterTree};
 ghost use Rattle.smoothing.specs.Fractions.{Computes};
 ghost use Rattle.belief_nodes.specs.Leaves.{HasPrior};
 ghost use Rattle.belief_nodes.specs.Network.{network_tree};
-ghost use Rattle.bounded_keys.specs.Entries.{WereOffered};
 ghost use Rattle.range_bounds.specs.Ranges.{range_documents};
-ghost use Rattle.range_bounds.specs.Tables.{IsTableOf, range_count};
+ghost use Rattle.range_bounds.specs.Tables.{IsTableOf, has_counts};
+ghost use Rattle.ranker.specs.First.{AsksWithin, WereOffered, early_cost};
 ghost use Rattle.ranker.specs.Least.{AreFrom};
-ghost use Rattle.ranker.specs.Passed.{IsKnown, IsTold};
+ghost use Rattle.ranker.specs.Passed.{IsKnown, IsSpan, IsTold, asked_of, is_clear, ranges_of};
 
 use crate::keys::NetworkKeys;
 use crate::place::Ahead;
-use crate::ranges::end_of;
 use crate::window::Window;
 use belief_nodes::{BeliefNode, Network};
 use bounded_keys::{Contenders, Entry, leading_key};
@@ -21,11 +20,9 @@ use range_bounds::RangeTable;
 use ri_base::{Fraction, NoMemory, Postings, Steps};
 use smoothing::Rule;
 use std::alloc::Global;
-use std::marker::Brand;
-use std::sync::ledger::{Blank, Ledger};
+use std::sync::ledger::Ledger;
 
-/// A number that the keys at the first level of the candidates of a range aren't below. The blank says which counter takes the
-/// squarings.
+/// A number that the keys at the first level of the candidates of a range aren't below.
 fn least_key<F: Fn(u32, u32, u64, u64) -> Fraction, L: Ledger>(
     alloc: Global,
     network: &Network,
@@ -33,30 +30,21 @@ fn least_key<F: Fn(u32, u32, u64, u64) -> Fraction, L: Ledger>(
     plugs: &[Box<dyn BeliefNode>],
     table: &RangeTable,
     range: u32,
-    blank: Blank,
+    squares: &mut Steps<L>,
 ) -> Result<u128, NoMemory>
     requires rule { Computes F.pre F.post rule.now.kind rule.now.f }
     requires plugs { All (HasPrior (length plugs.now)) (network_tree network.now).leaves }
-    requires range { range < range_count table.now }
-    requires name { blank.name ≡ L.name }
-    requires parts { blank.parts ≡ L.parts }
-    requires some { 0 < blank.parts }
-    ensures { (docs : List Document) (d : Document) → IsTableOf (network_tree network.now).leaves docs table.now → Contains (range_documents docs range) d
+    requires range { has_counts table.now range ≡ true }
+    ensures least { (docs : List Document) (d : Document) → IsTableOf (network_tree network.now).leaves docs table.now → Contains (range_documents docs range) d
         → IfOk result (λ least. AreFrom rule.now.kind (map (λ plug. meaning plug) plugs.now) (network_tree network.now) least d) }
+    ensures cost { squares.new ≤ squares.old + early_cost (network_tree network.now) 1 }
 {
-    let mut squares = Steps::<L>::new(blank);
     let bounds = table.bound_fractions(alloc, network, rule, range, plugs)?;
-    let least = leading_key(
-        alloc,
-        &NetworkKeys { network },
-        bounds.as_slice(),
-        &mut squares,
-    )?;
-    Ok(least)
+    leading_key(alloc, &NetworkKeys { network }, bounds.as_slice(), squares)
 }
 
 /// The same of a range of a part, where its table has it.
-pub fn bound_of<F: Fn(u32, u32, u64, u64) -> Fraction>(
+fn bound_of<F: Fn(u32, u32, u64, u64) -> Fraction, L: Ledger>(
     alloc: Global,
     network: &Network,
     rule: &Rule<F>,
@@ -64,11 +52,14 @@ pub fn bound_of<F: Fn(u32, u32, u64, u64) -> Fraction>(
     tables: &[RangeTable],
     number: usize,
     range: u32,
+    squares: &mut Steps<L>,
 ) -> Result<Option<u128>, NoMemory>
     requires rule { Computes F.pre F.post rule.now.kind rule.now.f }
     requires plugs { All (HasPrior (length plugs.now)) (network_tree network.now).leaves }
-    ensures { (docs : List Document) (d : Document) → IsTold (network_tree network.now) tables.now number docs → Contains (range_documents docs range) d
+    ensures bound { (docs : List Document) (d : Document) → IsTold (network_tree network.now) tables.now number docs → Contains (range_documents docs range) d
         → IfOk result (λ bound. IfSome bound (λ least. AreFrom rule.now.kind (map (λ plug. meaning plug) plugs.now) (network_tree network.now) least d)) }
+    ensures none { IfOk result (λ bound. bound ≡ None → squares.new ≡ squares.old) }
+    ensures cost { squares.new ≤ squares.old + early_cost (network_tree network.now) 1 }
 {
     if number >= tables.len() {
         return Ok(None);
@@ -77,12 +68,13 @@ pub fn bound_of<F: Fn(u32, u32, u64, u64) -> Fraction>(
     if !table.has(range) {
         return Ok(None);
     }
-    let least = least_key::<F, Brand>(alloc, network, rule, plugs, table, range, Blank::new(1))?;
+    let least = least_key(alloc, network, rule, plugs, table, range, squares)?;
     Ok(Some(least))
 }
 
-/// What is known from the first id of a range on, with a bound where the table of the part tells one. Elsewhere it stays as it is.
-pub fn bounded<P: Postings, F: Fn(u32, u32, u64, u64) -> Fraction>(
+/// What is known from an id of a range on, with the bound of the range, where the table of the part tells it. It is asked for once, and
+/// not before so many candidates are held that some number is beaten.
+pub fn bounded<P: Postings, F: Fn(u32, u32, u64, u64) -> Fraction, L: Ledger>(
     alloc: Global,
     network: &Network,
     rule: &Rule<F>,
@@ -92,20 +84,25 @@ pub fn bounded<P: Postings, F: Fn(u32, u32, u64, u64) -> Fraction>(
     number: usize,
     id: u32,
     ahead: Ahead,
+    first: &Contenders<Entry<Window>>,
+    squares: &mut Steps<L>,
 ) -> Result<Ahead, NoMemory>
     requires rule { Computes F.pre F.post rule.now.kind rule.now.f }
     requires plugs { All (HasPrior (length plugs.now)) (network_tree network.now).leaves }
-    requires id { id < length (P.documents part.now) }
+    requires some { id < ahead.end }
+    requires open { is_clear ahead.mask ≡ false }
     ensures known { (filters : List FilterTree) → IsKnown rule.now.kind (map (λ plug. meaning plug) plugs.now) filters (network_tree network.now) tables.now number (P.documents part.now) id ahead
         → IfOk result (IsKnown rule.now.kind (map (λ plug. meaning plug) plugs.now) filters (network_tree network.now) tables.now number (P.documents part.now) id) }
     ensures end { IfOk result (λ to. to.end ≡ ahead.end) }
     ensures mask { IfOk result (λ to. to.mask ≡ ahead.mask) }
+    ensures cost { IsSpan (length (P.documents part.now)) id ahead → IfOk result (λ to. AsksWithin (network_tree network.now) (asked_of id ahead) (asked_of id to) squares.old squares.new) }
+    ensures within { IsSpan (length (P.documents part.now)) id ahead → AsksWithin (network_tree network.now) (asked_of id ahead) (ranges_of (length (P.documents part.now))) squares.old squares.new }
 {
-    let range = id / 64;
-    if ahead.bound.is_some() || id % 64 != 0 || ahead.end > end_of(range, part.docs()) {
+    if ahead.bound.is_some() || !first.is_beaten(u128::MAX) {
         return Ok(ahead);
     }
-    let bound = bound_of(alloc, network, rule, plugs, tables, number, range)?;
+    let range = id / 64;
+    let bound = bound_of(alloc, network, rule, plugs, tables, number, range, squares)?;
     Ok(Ahead { bound, ..ahead })
 }
 

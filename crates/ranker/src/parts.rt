@@ -1,5 +1,5 @@
 // Parts with their marks, one stretch of documents behind the other.
-ghost use Rattle.std.specs.Prelude.{◌≡◌, ◌<◌, ◌≤◌, true, length, map, take, All, Err, IfErr, IfOk, OnOk};
+ghost use Rattle.std.specs.Prelude.{◌≡◌, ◌<◌, ◌≤◌, true, false, length, map, take, All, Err, IfErr, IfOk, OnOk};
 ghost use Rattle.ri_base.specs.Faults.{IsOutside};
 ghost use Rattle.ri_base.specs.Keeps.{Keeps, Rose};
 ghost use Rattle.ri_base.specs.Query.{filter_tree, is_range};
@@ -8,27 +8,27 @@ ghost use Rattle.belief_nodes.specs.Leaves.{HasPrior};
 ghost use Rattle.belief_nodes.specs.Network.{network_tree};
 ghost use Rattle.disk_index.specs.Snapshots.{unmarked};
 ghost use Rattle.ranker.specs.First.{Advances, SpendsWithin, counted};
-ghost use Rattle.ranker.specs.Passed.{IsAhead, IsKnown, IsPassed};
+ghost use Rattle.ranker.specs.Passed.{IsAhead, IsKnown, IsPassed, asked_of, is_clear, ranges_of};
 ghost use Rattle.ranker.specs.Windows.{KeepsWindows};
 
-use crate::ahead::ahead_of;
+use crate::ahead::{ahead_of, masked};
 use crate::bound::{bounded, is_beaten};
 use crate::documents::pass_document;
 use crate::place::{Ahead, Passed};
-use crate::unseen::pass_unseen;
+use crate::unseen::{pass_dead, pass_unseen};
 use crate::window::Window;
 use belief_nodes::{BeliefNode, Network};
 use bounded_keys::{Contenders, Entry};
 use deletion_list::DelList;
 use range_bounds::RangeTable;
-use range_masks::{TermMasks, has_id};
+use range_masks::TermMasks;
 use ri_base::{Filter, Fraction, SegFault, Steps};
 use smoothing::Rule;
 use std::alloc::Global;
 use std::sync::ledger::Ledger;
 
 /// Passes the documents from an id on up to the end of what is known, at most so many live ones. Those are looked at that are live and
-/// whose bit is set.
+/// may have candidates.
 fn pass_masked<P: TermMasks, F: Fn(u32, u32, u64, u64) -> Fraction, L: Ledger>(
     alloc: Global,
     filters: &[Filter],
@@ -51,15 +51,16 @@ fn pass_masked<P: TermMasks, F: Fn(u32, u32, u64, u64) -> Fraction, L: Ledger>(
     requires end { id < ahead.end }
     ensures keeps { Keeps P.documents P.faults P.sound P.quiet part.old part.new }
     ensures first { P.sound part.old → IsAhead (map filter_tree filters.now) (network_tree network.now).leaves (P.documents part.old) id ahead → IfOk result (λ to.
-        Advances rule.now.kind (map (λ plug. meaning plug) plugs.old) (map filter_tree filters.now) (network_tree network.now) (unmarked (take id (P.documents part.old)) marks.now) (unmarked (take to.id (P.documents part.old)) marks.now) (counted first.old squares.old) (counted first.new squares.new)) }
+        Advances rule.now.kind (map (λ plug. meaning plug) plugs.old) (map filter_tree filters.now) (network_tree network.now) (unmarked (take id (P.documents part.old)) marks.now) (unmarked (take to.id (P.documents part.old)) marks.now) (counted first.old squares.old 0) (counted first.new squares.new 0)) }
     ensures within { P.sound part.old → IsAhead (map filter_tree filters.now) (network_tree network.now).leaves (P.documents part.old) id ahead
-        → SpendsWithin rule.now.kind (map (λ plug. meaning plug) plugs.old) (map filter_tree filters.now) (network_tree network.now) (unmarked (take id (P.documents part.old)) marks.now) (unmarked (P.documents part.old) marks.now) squares.old squares.new }
+        → SpendsWithin rule.now.kind (map (λ plug. meaning plug) plugs.old) (map filter_tree filters.now) (network_tree network.now) (unmarked (take id (P.documents part.old)) marks.now) (unmarked (P.documents part.old) marks.now) 0 0 squares.old squares.new }
     ensures windows { OnOk result (KeepsWindows (network_tree network.now) (unmarked (P.documents part.old) marks.now) first.old first.new) }
     ensures ahead { P.sound part.old → IsAhead (map filter_tree filters.now) (network_tree network.now).leaves (P.documents part.old) id ahead → IfOk result (λ to.
         IsAhead (map filter_tree filters.now) (network_tree network.now).leaves (P.documents part.old) to.id to.ahead) }
     ensures passed { IfOk result (IsPassed marks.now id most) }
     ensures forward { IfOk result (λ to. 0 < most → id < to.id) }
     ensures back { IfOk result (λ to. id ≤ to.id) }
+    ensures inside { IfOk result (λ to. to.id ≤ ahead.end) }
     ensures same { IfOk result (λ to. to.ahead ≡ ahead) }
     ensures stay { map (λ plug. meaning plug) plugs.new ≡ map (λ plug. meaning plug) plugs.old }
     ensures honest { P.sound part.old → IfErr result IsOutside }
@@ -77,7 +78,7 @@ fn pass_masked<P: TermMasks, F: Fn(u32, u32, u64, u64) -> Fraction, L: Ledger>(
             plugs,
             part,
             marks,
-            has_id(ahead.mask, at),
+            ahead.may_have(at),
             at,
             first,
             squares,
@@ -92,8 +93,56 @@ fn pass_masked<P: TermMasks, F: Fn(u32, u32, u64, u64) -> Fraction, L: Ledger>(
     })
 }
 
+/// The same where the mask of the range may not be read yet: it is read then. Where no bit is set no document is looked at.
+fn pass_open<P: TermMasks, F: Fn(u32, u32, u64, u64) -> Fraction, L: Ledger>(
+    alloc: Global,
+    filters: &[Filter],
+    network: &Network,
+    rule: &Rule<F>,
+    plugs: &mut [Box<dyn BeliefNode>],
+    part: &mut P,
+    marks: &DelList,
+    tables: &[RangeTable],
+    number: usize,
+    id: u32,
+    ahead: Ahead,
+    most: u64,
+    first: &mut Contenders<Entry<Window>>,
+    squares: &mut Steps<L>,
+) -> Result<Passed, SegFault>
+    requires rule { Computes F.pre F.post rule.now.kind rule.now.f }
+    requires id { id < length (P.documents part.old) }
+    requires marks { length marks.now ≡ length (P.documents part.old) }
+    requires shown { is_range (network_tree network.now).range ≡ true }
+    requires plugs { All (HasPrior (length plugs.old)) (network_tree network.now).leaves }
+    requires some { id < ahead.end }
+    requires open { is_clear ahead.mask ≡ false }
+    ensures keeps { Keeps P.documents P.faults P.sound P.quiet part.old part.new }
+    ensures first { P.sound part.old → IsKnown rule.now.kind (map (λ plug. meaning plug) plugs.old) (map filter_tree filters.now) (network_tree network.now) tables.now number (P.documents part.old) id ahead → IfOk result (λ to.
+        Advances rule.now.kind (map (λ plug. meaning plug) plugs.old) (map filter_tree filters.now) (network_tree network.now) (unmarked (take id (P.documents part.old)) marks.now) (unmarked (take to.id (P.documents part.old)) marks.now) (counted first.old squares.old (asked_of id ahead)) (counted first.new squares.new (asked_of to.id to.ahead))) }
+    ensures within { P.sound part.old → IsKnown rule.now.kind (map (λ plug. meaning plug) plugs.old) (map filter_tree filters.now) (network_tree network.now) tables.now number (P.documents part.old) id ahead
+        → SpendsWithin rule.now.kind (map (λ plug. meaning plug) plugs.old) (map filter_tree filters.now) (network_tree network.now) (unmarked (take id (P.documents part.old)) marks.now) (unmarked (P.documents part.old) marks.now) (asked_of id ahead) (ranges_of (length (P.documents part.old))) squares.old squares.new }
+    ensures windows { OnOk result (KeepsWindows (network_tree network.now) (unmarked (P.documents part.old) marks.now) first.old first.new) }
+    ensures ahead { P.sound part.old → IsKnown rule.now.kind (map (λ plug. meaning plug) plugs.old) (map filter_tree filters.now) (network_tree network.now) tables.now number (P.documents part.old) id ahead → IfOk result (λ to.
+        IsKnown rule.now.kind (map (λ plug. meaning plug) plugs.old) (map filter_tree filters.now) (network_tree network.now) tables.now number (P.documents part.old) to.id to.ahead) }
+    ensures passed { IfOk result (IsPassed marks.now id most) }
+    ensures forward { IfOk result (λ to. 0 < most → id < to.id) }
+    ensures stay { map (λ plug. meaning plug) plugs.new ≡ map (λ plug. meaning plug) plugs.old }
+    ensures honest { P.sound part.old → IfErr result IsOutside }
+    ensures store { result ≡ Err SegFault.Store → Rose (P.faults part.old) (P.faults part.new) }
+{
+    let open = masked(alloc, filters, network, part, id, ahead)?;
+    if open.is_clear() {
+        return Ok(pass_unseen(marks, open, id, most));
+    }
+    pass_masked(
+        alloc, filters, network, rule, plugs, part, marks, id, open, most, first, squares,
+    )
+}
+
 /// Passes documents from an id on, at most so many live ones: up to the end of what is known of the id, or, where nothing is, of what
-/// is found out. Where no bit is set no document is looked at, and none where the candidates of the range can't be among the first.
+/// is found out. None is looked at where none may have candidates, and where those of the range can't be among the first: then its
+/// mask isn't read.
 fn pass_on<P: TermMasks, F: Fn(u32, u32, u64, u64) -> Fraction, L: Ledger>(
     alloc: Global,
     filters: &[Filter],
@@ -117,9 +166,9 @@ fn pass_on<P: TermMasks, F: Fn(u32, u32, u64, u64) -> Fraction, L: Ledger>(
     requires plugs { All (HasPrior (length plugs.old)) (network_tree network.now).leaves }
     ensures keeps { Keeps P.documents P.faults P.sound P.quiet part.old part.new }
     ensures first { P.sound part.old → IsKnown rule.now.kind (map (λ plug. meaning plug) plugs.old) (map filter_tree filters.now) (network_tree network.now) tables.now number (P.documents part.old) id ahead → IfOk result (λ to.
-        Advances rule.now.kind (map (λ plug. meaning plug) plugs.old) (map filter_tree filters.now) (network_tree network.now) (unmarked (take id (P.documents part.old)) marks.now) (unmarked (take to.id (P.documents part.old)) marks.now) (counted first.old squares.old) (counted first.new squares.new)) }
+        Advances rule.now.kind (map (λ plug. meaning plug) plugs.old) (map filter_tree filters.now) (network_tree network.now) (unmarked (take id (P.documents part.old)) marks.now) (unmarked (take to.id (P.documents part.old)) marks.now) (counted first.old squares.old (asked_of id ahead)) (counted first.new squares.new (asked_of to.id to.ahead))) }
     ensures within { P.sound part.old → IsKnown rule.now.kind (map (λ plug. meaning plug) plugs.old) (map filter_tree filters.now) (network_tree network.now) tables.now number (P.documents part.old) id ahead
-        → SpendsWithin rule.now.kind (map (λ plug. meaning plug) plugs.old) (map filter_tree filters.now) (network_tree network.now) (unmarked (take id (P.documents part.old)) marks.now) (unmarked (P.documents part.old) marks.now) squares.old squares.new }
+        → SpendsWithin rule.now.kind (map (λ plug. meaning plug) plugs.old) (map filter_tree filters.now) (network_tree network.now) (unmarked (take id (P.documents part.old)) marks.now) (unmarked (P.documents part.old) marks.now) (asked_of id ahead) (ranges_of (length (P.documents part.old))) squares.old squares.new }
     ensures windows { OnOk result (KeepsWindows (network_tree network.now) (unmarked (P.documents part.old) marks.now) first.old first.new) }
     ensures ahead { P.sound part.old → IsKnown rule.now.kind (map (λ plug. meaning plug) plugs.old) (map filter_tree filters.now) (network_tree network.now) tables.now number (P.documents part.old) id ahead → IfOk result (λ to.
         IsKnown rule.now.kind (map (λ plug. meaning plug) plugs.old) (map filter_tree filters.now) (network_tree network.now) tables.now number (P.documents part.old) to.id to.ahead) }
@@ -129,16 +178,22 @@ fn pass_on<P: TermMasks, F: Fn(u32, u32, u64, u64) -> Fraction, L: Ledger>(
     ensures honest { P.sound part.old → IfErr result IsOutside }
     ensures store { result ≡ Err SegFault.Store → Rose (P.faults part.old) (P.faults part.new) }
 {
-    let found = ahead_of(alloc, filters, network, part, id, ahead)?;
-    if found.mask == 0 {
+    let found = ahead_of(filters, network, part, id, ahead);
+    if found.is_clear() {
         return Ok(pass_unseen(marks, found, id, most));
     }
-    let known = bounded(alloc, network, rule, plugs, part, tables, number, id, found)?;
+    if marks.is_marked(id) {
+        return Ok(pass_dead(marks, found, id));
+    }
+    let known = bounded(
+        alloc, network, rule, plugs, part, tables, number, id, found, first, squares,
+    )?;
     if is_beaten(first, known.bound) {
         return Ok(pass_unseen(marks, known, id, most));
     }
-    pass_masked(
-        alloc, filters, network, rule, plugs, part, marks, id, known, most, first, squares,
+    pass_open(
+        alloc, filters, network, rule, plugs, part, marks, tables, number, id, known, most, first,
+        squares,
     )
 }
 
@@ -166,9 +221,9 @@ pub fn pass_part<P: TermMasks, F: Fn(u32, u32, u64, u64) -> Fraction, L: Ledger>
     requires plugs { All (HasPrior (length plugs.old)) (network_tree network.now).leaves }
     ensures keeps { Keeps P.documents P.faults P.sound P.quiet part.old part.new }
     ensures first { P.sound part.old → IsKnown rule.now.kind (map (λ plug. meaning plug) plugs.old) (map filter_tree filters.now) (network_tree network.now) tables.now number (P.documents part.old) id ahead → IfOk result (λ to.
-        Advances rule.now.kind (map (λ plug. meaning plug) plugs.old) (map filter_tree filters.now) (network_tree network.now) (unmarked (take id (P.documents part.old)) marks.now) (unmarked (take to.id (P.documents part.old)) marks.now) (counted first.old squares.old) (counted first.new squares.new)) }
+        Advances rule.now.kind (map (λ plug. meaning plug) plugs.old) (map filter_tree filters.now) (network_tree network.now) (unmarked (take id (P.documents part.old)) marks.now) (unmarked (take to.id (P.documents part.old)) marks.now) (counted first.old squares.old (asked_of id ahead)) (counted first.new squares.new (asked_of to.id to.ahead))) }
     ensures within { P.sound part.old → IsKnown rule.now.kind (map (λ plug. meaning plug) plugs.old) (map filter_tree filters.now) (network_tree network.now) tables.now number (P.documents part.old) id ahead
-        → SpendsWithin rule.now.kind (map (λ plug. meaning plug) plugs.old) (map filter_tree filters.now) (network_tree network.now) (unmarked (take id (P.documents part.old)) marks.now) (unmarked (P.documents part.old) marks.now) squares.old squares.new }
+        → SpendsWithin rule.now.kind (map (λ plug. meaning plug) plugs.old) (map filter_tree filters.now) (network_tree network.now) (unmarked (take id (P.documents part.old)) marks.now) (unmarked (P.documents part.old) marks.now) (asked_of id ahead) (ranges_of (length (P.documents part.old))) squares.old squares.new }
     ensures windows { OnOk result (KeepsWindows (network_tree network.now) (unmarked (P.documents part.old) marks.now) first.old first.new) }
     ensures ahead { P.sound part.old → IsKnown rule.now.kind (map (λ plug. meaning plug) plugs.old) (map filter_tree filters.now) (network_tree network.now) tables.now number (P.documents part.old) id ahead → IfOk result (λ to.
         IsKnown rule.now.kind (map (λ plug. meaning plug) plugs.old) (map filter_tree filters.now) (network_tree network.now) tables.now number (P.documents part.old) to.id to.ahead) }

@@ -1,11 +1,13 @@
 // Places in parts.
 
-/// What is known of the documents of a part before an id: those may have candidates whose bit in the mask is set, by their place in
-/// their range of 64 ids; and, where it was looked for, a number that the keys of their candidates at the first level aren't below.
+use range_masks::has_id;
+
+/// What is known of the documents of a part before an id. Where the mask of their range is read, those may have candidates whose bit
+/// is set, by their place in the range. Where a bound was asked for, the keys of their candidates at the first level aren't below it.
 #[derive(Clone, Copy, Debug)]
 pub struct Ahead {
     pub end: u32,
-    pub mask: u64,
+    pub mask: Option<u64>,
     pub bound: Option<u128>,
 }
 
@@ -28,8 +30,8 @@ pub struct Place {
 }
 
 impl Ahead {
-    ghost use Rattle.std.specs.Prelude.{◌≡◌};
-    ghost use Rattle.ranker.specs.Passed.{nothing_known};
+    ghost use Rattle.std.specs.Prelude.{◌≡◌, cond};
+    ghost use Rattle.ranker.specs.Passed.{bit_of, is_clear, nothing_known};
 
     /// Nothing is known.
     pub fn nothing() -> Ahead
@@ -37,8 +39,28 @@ impl Ahead {
     {
         Ahead {
             end: 0,
-            mask: 0,
+            mask: None,
             bound: None,
+        }
+    }
+
+    /// Whether it is known that no document has candidates.
+    pub fn is_clear(self) -> bool
+        ensures { result ≡ is_clear self.mask }
+    {
+        match self.mask {
+            Some(mask) => mask == 0,
+            None => false,
+        }
+    }
+
+    /// Whether the document of an id may have candidates.
+    pub fn may_have(self, id: u32) -> bool
+        ensures { cond result 1 0 ≡ bit_of self.mask id }
+    {
+        match self.mask {
+            Some(mask) => has_id(mask, id),
+            None => true,
         }
     }
 }

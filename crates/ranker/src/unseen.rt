@@ -1,5 +1,5 @@
 // Documents that are passed without a look at them.
-ghost use Rattle.std.specs.Prelude.{◌≡◌, ◌<◌, ◌≤◌, ◌+◌, ◌-◌, true, length, min};
+ghost use Rattle.std.specs.Prelude.{◌≡◌, ◌<◌, ◌≤◌, ◌+◌, ◌-◌, ℕ, true, false, length, min, slice_index_or};
 ghost use Rattle.deletion_list.specs.Marks.{marked_count};
 ghost use Rattle.ranker.specs.Passed.{IsPassed};
 
@@ -49,6 +49,23 @@ fn is_whole(marks: &DelList, id: u32, end: u32, most: u64) -> bool
     ensures { result ≡ true → (id ≡ 0) × (end ≡ length marks.now) × (length marks.now - marked_count marks.now ≤ most) }
 {
     id == 0 && end == marks.len() && u64::from(marks.live_count()) <= most
+}
+
+/// Passes a dead document.
+pub fn pass_dead(marks: &DelList, ahead: Ahead, id: u32) -> Passed
+    requires id { id < length marks.now }
+    requires dead { slice_index_or marks.now id false ≡ true }
+    ensures passed { (most : ℕ) → IsPassed marks.now id most result }
+    ensures next { result.id ≡ id + 1 }
+    ensures same { result.ahead ≡ ahead }
+{
+    let size = marks.len();
+    prove!(id < size);
+    Passed {
+        id: id + 1,
+        docs: 0,
+        ahead,
+    }
 }
 
 /// Passes the ids of a part with these marks from an id on up to the end of what is known, at most so many live ones. Where none is

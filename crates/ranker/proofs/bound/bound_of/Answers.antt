@@ -3,10 +3,10 @@ use Rattle.std.proofs.lemmas.Option.{slice_get-get_or}
 use Rattle.range_bounds.specs.declared.table.RangeTable.{RangeTable}
 use Rattle.ranker.proofs.bound.bound_of.Goals as goal
 
-pub returns : goal.returns
-returns g c = λ docs d told has.
+pub returns-clause-bound : goal.returns-clause-bound
+returns-clause-bound g c = λ docs d told has.
     let tables = c.args.tables.now in
     let table = c.index-tables-number.result in
     let inside : c.args.number < length tables = omega (arith, c.if-number-tables.false) in
     let there = slice_get-get_or tables c.args.number table inside ∙ ap (λ (t : RangeTable). Some t) (sym c.index-tables-number.is) in
-    c.in_ok-least.ensures docs d (told table there) has
+    c.in_ok-least.ensures.least docs d (told table there) has

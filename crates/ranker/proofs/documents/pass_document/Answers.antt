@@ -1,4 +1,4 @@
-use Rattle.std.proofs.Common.{map, sym, arith, ◌∙◌}
+use Rattle.std.proofs.Common.{map, refl, sym, arith, ◌∙◌}
 use Rattle.ri_base.specs.Query.{filter_tree}
 use Rattle.belief_nodes.specs.Network.{network_tree}
 use Rattle.ranker.specs.First.{counted}
@@ -10,7 +10,7 @@ use Rattle.ranker.proofs.documents.pass_document.Goals as goal
 
 pub returns-then-is_marked-clause-first : goal.returns-then-is_marked-clause-first
 returns-then-is_marked-clause-first g c = λ sound none.
-    Advances-dead c.args.rule.now.kind (map (λ b. (goal.BeliefNode-dyn g (b.vtable, b.value)).meaning b.value) c.args.plugs.now) (map filter_tree c.args.filters.now) (network_tree c.args.network.now) (g.P.Postings.documents c.args.part.now) c.args.marks.now c.args.id (counted c.args.first.now c.args.squares.now)
+    Advances-dead c.args.rule.now.kind (map (λ b. (goal.BeliefNode-dyn g (b.vtable, b.value)).meaning b.value) c.args.plugs.now) (map filter_tree c.args.filters.now) (network_tree c.args.network.now) (g.P.Postings.documents c.args.part.now) c.args.marks.now c.args.id (counted c.args.first.now c.args.squares.now 0)
     c.requires.id c.requires.marks (sym c.is_marked.ensures ∙ c.if-is_marked.true)
 
 pub returns-then-is_marked-clause-docs : goal.returns-then-is_marked-clause-docs
@@ -23,7 +23,7 @@ returns-then-is_marked-clause-windows g c = KeepsWindows-same _ _ _
 
 pub returns-then-not-may_have-clause-first : goal.returns-then-not-may_have-clause-first
 returns-then-not-may_have-clause-first g c = λ sound none.
-    Advances-unseen c.args.rule.now.kind (map (λ b. (goal.BeliefNode-dyn g (b.vtable, b.value)).meaning b.value) c.args.plugs.now) (map filter_tree c.args.filters.now) (network_tree c.args.network.now) (g.P.Postings.documents c.args.part.now) c.args.marks.now c.args.id (counted c.args.first.now c.args.squares.now)
+    Advances-unseen c.args.rule.now.kind (map (λ b. (goal.BeliefNode-dyn g (b.vtable, b.value)).meaning b.value) c.args.plugs.now) (map filter_tree c.args.filters.now) (network_tree c.args.network.now) (g.P.Postings.documents c.args.part.now) c.args.marks.now c.args.id (counted c.args.first.now c.args.squares.now 0)
     c.requires.id c.requires.marks (sym c.is_marked.ensures ∙ c.if-is_marked.false) (none c.if-not-may_have.true)
 
 pub returns-then-not-may_have-clause-docs : goal.returns-then-not-may_have-clause-docs
@@ -36,8 +36,8 @@ returns-then-not-may_have-clause-windows g c = KeepsWindows-same _ _ _
 
 pub returns-clause-first : goal.returns-clause-first
 returns-clause-first g c = λ sound none.
-    Advances-live c.args.rule.now.kind (map (λ b. (goal.BeliefNode-dyn g (b.vtable, b.value)).meaning b.value) c.args.plugs.now) (map filter_tree c.args.filters.now) (network_tree c.args.network.now) (g.P.Postings.documents c.args.part.now) c.args.marks.now c.args.id (counted c.args.first.now c.args.squares.now) (counted c.offer_document.new.first c.offer_document.new.squares)
-    c.requires.id c.requires.marks (sym c.is_marked.ensures ∙ c.if-is_marked.false) (c.in_ok-offer_document.ensures.first sound) (c.in_ok-offer_document.ensures.cost sound)
+    Advances-live c.args.rule.now.kind (map (λ b. (goal.BeliefNode-dyn g (b.vtable, b.value)).meaning b.value) c.args.plugs.now) (map filter_tree c.args.filters.now) (network_tree c.args.network.now) (g.P.Postings.documents c.args.part.now) c.args.marks.now c.args.id (counted c.args.first.now c.args.squares.now 0) (counted c.offer_document.new.first c.offer_document.new.squares 0)
+    refl c.requires.id c.requires.marks (sym c.is_marked.ensures ∙ c.if-is_marked.false) (c.in_ok-offer_document.ensures.first sound) (c.in_ok-offer_document.ensures.cost sound)
 
 pub returns-clause-docs : goal.returns-clause-docs
 returns-clause-docs g c = ids-live c.args.marks.now c.args.id (omega (arith, c.requires.id, c.requires.marks)) (sym c.is_marked.ensures ∙ c.if-is_marked.false)
@@ -51,12 +51,12 @@ returns-clause-windows g c =
 
 pub returns-then-is_marked-clause-within : goal.returns-then-is_marked-clause-within
 returns-then-is_marked-clause-within g c = λ sound none.
-    (Advances-dead c.args.rule.now.kind (map (λ b. (goal.BeliefNode-dyn g (b.vtable, b.value)).meaning b.value) c.args.plugs.now) (map filter_tree c.args.filters.now) (network_tree c.args.network.now) (g.P.Postings.documents c.args.part.now) c.args.marks.now c.args.id (counted c.args.first.now c.args.squares.now)
+    (Advances-dead c.args.rule.now.kind (map (λ b. (goal.BeliefNode-dyn g (b.vtable, b.value)).meaning b.value) c.args.plugs.now) (map filter_tree c.args.filters.now) (network_tree c.args.network.now) (g.P.Postings.documents c.args.part.now) c.args.marks.now c.args.id (counted c.args.first.now c.args.squares.now 0)
     c.requires.id c.requires.marks (sym c.is_marked.ensures ∙ c.if-is_marked.true)).cost
 
 pub returns-then-not-may_have-clause-within : goal.returns-then-not-may_have-clause-within
 returns-then-not-may_have-clause-within g c = λ sound none.
-    (Advances-unseen c.args.rule.now.kind (map (λ b. (goal.BeliefNode-dyn g (b.vtable, b.value)).meaning b.value) c.args.plugs.now) (map filter_tree c.args.filters.now) (network_tree c.args.network.now) (g.P.Postings.documents c.args.part.now) c.args.marks.now c.args.id (counted c.args.first.now c.args.squares.now)
+    (Advances-unseen c.args.rule.now.kind (map (λ b. (goal.BeliefNode-dyn g (b.vtable, b.value)).meaning b.value) c.args.plugs.now) (map filter_tree c.args.filters.now) (network_tree c.args.network.now) (g.P.Postings.documents c.args.part.now) c.args.marks.now c.args.id (counted c.args.first.now c.args.squares.now 0)
     c.requires.id c.requires.marks (sym c.is_marked.ensures ∙ c.if-is_marked.false) (none c.if-not-may_have.true)).cost
 
 pub returns-in_err-offer_document-clause-within : goal.returns-in_err-offer_document-clause-within

@@ -1,5 +1,4 @@
-use Rattle.std.proofs.Common.{◌≡◌, ◌≤◌, ◌+◌, ◌%◌, false, cond, List, map, take, refl, ap, sym, subst, ◌∙◌, arith}
-use Rattle.std.specs.Int.{bit_at}
+use Rattle.std.proofs.Common.{◌≡◌, ◌≤◌, ◌+◌, false, cond, List, map, take, refl, ap, sym, subst, ◌∙◌, arith}
 use Rattle.ri_base.specs.Collection.{document_at}
 use Rattle.ri_base.specs.Documents.{Document}
 use Rattle.ri_base.specs.Query.{filter_tree}
@@ -8,6 +7,7 @@ use Rattle.disk_index.specs.Snapshots.{unmarked}
 use Rattle.extent_lists.proofs.KeepsLemmas.{Keeps-then}
 use Rattle.range_masks.specs.May.{query_may}
 use Rattle.ranker.specs.First.{counted}
+use Rattle.ranker.specs.Passed.{bit_of}
 use Rattle.ranker.specs.Windows.{KeepsWindows}
 use Rattle.ranker.proofs.AheadLemmas.{IsAhead-on}
 use Rattle.ranker.proofs.PassedLemmas.{Advances-read, Advances-same, Advances-then}
@@ -45,13 +45,13 @@ loop-at-preserved g c =
       keeps = Keeps-then _ _ _ _ g.met.P.Postings.quiet_then _ _ _ keeps c.pass_document.ensures.keeps;
       stay = c.pass_document.ensures.stay ∙ c.loop-at.invariant.stay;
       so_far = λ sound known.
-          let none : c.has_id.result ≡ false → query_may filters network.leaves (document_at read at) ≡ false =
+          let none : c.may_have.result ≡ false → query_may filters network.leaves (document_at read at) ≡ false =
           λ clear.
-          let bit : bit_at c.args.ahead.mask (at % 64) ≡ 0 = sym c.has_id.ensures ∙ ap (λ b. cond b 1 0) clear in
+          let bit : bit_of c.args.ahead.mask at ≡ 0 = sym c.may_have.ensures ∙ ap (λ b. cond b 1 0) clear in
           subst (λ (ds : List Document). query_may filters network.leaves (document_at ds at) ≡ false) (sym keeps.documents_stay) (known.none at low (omega (arith, test)) bit) in
-          Advances-then kind priors filters network (unmarked (take c.args.id docs) marks) (unmarked (take at docs) marks) (unmarked (take (at + 1) docs) marks) (counted c.args.first.now c.args.squares.now) (counted c.loop-at.first c.loop-at.squares) (counted c.pass_document.new.first c.pass_document.new.squares)
+          Advances-then kind priors filters network (unmarked (take c.args.id docs) marks) (unmarked (take at docs) marks) (unmarked (take (at + 1) docs) marks) (counted c.args.first.now c.args.squares.now 0) (counted c.loop-at.first c.loop-at.squares 0) (counted c.pass_document.new.first c.pass_document.new.squares 0)
           (c.loop-at.invariant.so_far sound known)
-          (Advances-read kind _ priors filters network read docs marks at (at + 1) (counted c.loop-at.first c.loop-at.squares) (counted c.pass_document.new.first c.pass_document.new.squares) c.loop-at.invariant.stay keeps.documents_stay (c.in_ok-passed.ensures.first (keeps.sound_stays sound) none));
+          (Advances-read kind _ priors filters network read docs marks at (at + 1) (counted c.loop-at.first c.loop-at.squares 0) (counted c.pass_document.new.first c.pass_document.new.squares 0) c.loop-at.invariant.stay keeps.documents_stay (c.in_ok-passed.ensures.first (keeps.sound_stays sound) none));
       windows = KeepsWindows-then network (unmarked docs marks) c.args.first.now c.loop-at.first c.pass_document.new.first c.loop-at.invariant.windows
           (subst (λ (ds : List Document). KeepsWindows network (unmarked ds marks) c.loop-at.first c.pass_document.new.first) keeps.documents_stay c.in_ok-passed.ensures.windows);
       ids = omega (arith, c.loop-at.invariant.ids, c.in_ok-passed.ensures.docs);
@@ -94,8 +94,8 @@ returns-after-loop-at-clause-within g c = λ sound known.
     let network = network_tree c.args.network.now in
     let docs = g.P.Postings.documents c.args.part.now in
     let marks = c.args.marks.now in
-    within-more kind priors filters network (unmarked (take c.args.id docs) marks) (unmarked (take c.loop-at.at docs) marks) (unmarked docs marks) c.args.squares.now c.loop-at.squares (c.loop-at.invariant.so_far sound known).cost
-    (cost-take kind priors filters network docs marks c.loop-at.at)
+    within-more kind priors filters network (unmarked (take c.args.id docs) marks) (unmarked (take c.loop-at.at docs) marks) (unmarked docs marks) 0 0 0 c.args.squares.now c.loop-at.squares (c.loop-at.invariant.so_far sound known).cost
+    (cost-take kind priors filters network docs marks c.loop-at.at) (omega arith)
 
 pub returns-else-docs-most-clause-within : goal.returns-else-docs-most-clause-within
 returns-else-docs-most-clause-within g c = λ sound known.
@@ -105,8 +105,8 @@ returns-else-docs-most-clause-within g c = λ sound known.
     let network = network_tree c.args.network.now in
     let docs = g.P.Postings.documents c.args.part.now in
     let marks = c.args.marks.now in
-    within-more kind priors filters network (unmarked (take c.args.id docs) marks) (unmarked (take c.loop-at.at docs) marks) (unmarked docs marks) c.args.squares.now c.loop-at.squares (c.loop-at.invariant.so_far sound known).cost
-    (cost-take kind priors filters network docs marks c.loop-at.at)
+    within-more kind priors filters network (unmarked (take c.args.id docs) marks) (unmarked (take c.loop-at.at docs) marks) (unmarked docs marks) 0 0 0 c.args.squares.now c.loop-at.squares (c.loop-at.invariant.so_far sound known).cost
+    (cost-take kind priors filters network docs marks c.loop-at.at) (omega arith)
 
 pub returns-in_err-passed-clause-within : goal.returns-in_err-passed-clause-within
 returns-in_err-passed-clause-within g c = λ sound known.
@@ -122,12 +122,12 @@ returns-in_err-passed-clause-within g c = λ sound known.
     let started = c.loop-at.invariant.from in
     let low : c.args.id ≤ at = omega (arith, started) in
     let test = c.loop-at-test.true in
-    let none : c.has_id.result ≡ false → query_may filters network.leaves (document_at read at) ≡ false =
+    let none : c.may_have.result ≡ false → query_may filters network.leaves (document_at read at) ≡ false =
     λ clear.
-    let bit : bit_at c.args.ahead.mask (at % 64) ≡ 0 = sym c.has_id.ensures ∙ ap (λ b. cond b 1 0) clear in
+    let bit : bit_of c.args.ahead.mask at ≡ 0 = sym c.may_have.ensures ∙ ap (λ b. cond b 1 0) clear in
     subst (λ (ds : List Document). query_may filters network.leaves (document_at ds at) ≡ false) (sym keeps.documents_stay) (known.none at low (omega (arith, test)) bit) in
     let next = within-to kind _ priors filters network read docs marks at (at + 1) c.loop-at.squares c.pass_document.new.squares c.loop-at.invariant.stay keeps.documents_stay (c.pass_document.ensures.within (keeps.sound_stays sound) none) in
-    within-more kind priors filters network (unmarked (take c.args.id docs) marks) (unmarked (take (at + 1) docs) marks) (unmarked docs marks) c.args.squares.now c.pass_document.new.squares
-    (within-then kind priors filters network (unmarked (take c.args.id docs) marks) (unmarked (take at docs) marks) (unmarked (take (at + 1) docs) marks) c.args.squares.now c.loop-at.squares c.pass_document.new.squares
+    within-more kind priors filters network (unmarked (take c.args.id docs) marks) (unmarked (take (at + 1) docs) marks) (unmarked docs marks) 0 0 0 c.args.squares.now c.pass_document.new.squares
+    (within-then kind priors filters network (unmarked (take c.args.id docs) marks) (unmarked (take at docs) marks) (unmarked (take (at + 1) docs) marks) 0 0 0 c.args.squares.now c.loop-at.squares c.pass_document.new.squares
     (c.loop-at.invariant.so_far sound known).cost next)
-    (cost-take kind priors filters network docs marks (at + 1))
+    (cost-take kind priors filters network docs marks (at + 1)) (omega arith)

@@ -13,7 +13,7 @@ invariant-loop-at g l = record {
   keeps : Keeps g.P.Postings.documents g.P.Postings.faults g.P.Postings.sound g.P.Postings.quiet l.fn.part l.part;
   stay : map (λ b. (goal.BeliefNode-dyn g (b.vtable, b.value)).meaning b.value) l.plugs ≡ map (λ b. (goal.BeliefNode-dyn g (b.vtable, b.value)).meaning b.value) l.fn.plugs;
   so_far : g.P.Postings.sound l.fn.part → IsAhead (map filter_tree l.filters) (network_tree l.network).leaves (g.P.Postings.documents l.fn.part) l.id l.ahead
-      → Advances l.rule.kind (map (λ b. (goal.BeliefNode-dyn g (b.vtable, b.value)).meaning b.value) l.fn.plugs) (map filter_tree l.filters) (network_tree l.network) (unmarked (take l.id (g.P.Postings.documents l.fn.part)) l.marks) (unmarked (take l.at (g.P.Postings.documents l.fn.part)) l.marks) (counted l.fn.first l.fn.squares) (counted l.first l.squares);
+      → Advances l.rule.kind (map (λ b. (goal.BeliefNode-dyn g (b.vtable, b.value)).meaning b.value) l.fn.plugs) (map filter_tree l.filters) (network_tree l.network) (unmarked (take l.id (g.P.Postings.documents l.fn.part)) l.marks) (unmarked (take l.at (g.P.Postings.documents l.fn.part)) l.marks) (counted l.fn.first l.fn.squares 0) (counted l.first l.squares 0);
   windows : KeepsWindows (network_tree l.network) (unmarked (g.P.Postings.documents l.fn.part) l.marks) l.fn.first l.first;
   ids : live_ids l.marks l.at ≡ live_ids l.marks l.id + l.docs;
   from : l.id + l.docs ≤ l.at;

@@ -1,191 +1,309 @@
-use Rattle.std.proofs.Common.{◌≤◌, map, take, length, sym, arith}
+use Rattle.std.proofs.Common.{◌≤◌, length, map, take, sym, subst, ◌∙◌, arith}
 use Rattle.ri_base.specs.Query.{filter_tree}
 use Rattle.belief_nodes.specs.Network.{network_tree}
 use Rattle.disk_index.specs.Snapshots.{unmarked}
-use Rattle.ranker.specs.First.{counted}
-use Rattle.ranker.specs.Passed.{IsKnown}
-use Rattle.ranker.proofs.AheadLemmas.{IsKnown-found, IsKnown-masked, IsKnown-on, IsKnown-read, bare}
-use Rattle.ranker.proofs.PassedLemmas.{Advances-bare, Advances-beaten}
+use Rattle.ranker.specs.First.{Advances, counted}
+use Rattle.ranker.specs.Passed.{IsKnown, asked_of, ranges_of}
+use Rattle.ranker.proofs.AheadLemmas.{IsKnown-found, IsKnown-on, bare}
+use Rattle.ranker.proofs.AskedLemmas.{asked-all, asked-found, asked-on, asks-same, asks-then}
+use Rattle.ranker.proofs.OpenedLemmas.{Advances-bounded}
+use Rattle.ranker.proofs.PassedLemmas.{Advances-asks, Advances-bare, Advances-beaten, Advances-dead}
 use Rattle.ranker.proofs.WindowLemmas.{KeepsWindows-same}
-use Rattle.ranker.proofs.WithinLemmas.{cost-take, within-same}
+use Rattle.ranker.proofs.WithinLemmas.{cost-take, within-asks, within-bounded, within-same}
 use Rattle.ranker.proofs.parts.pass_on.Goals as goal
 
 -- ---- no document may have candidates
 
-pub returns-then-found-eq0-clause-first : goal.returns-then-found-eq0-clause-first
-returns-then-found-eq0-clause-first g c = λ sound known.
+pub returns-then-is_clear-clause-first : goal.returns-then-is_clear-clause-first
+returns-then-is_clear-clause-first g c = λ sound known.
     let kind = c.args.rule.now.kind in
     let priors = map (λ b. (goal.BeliefNode-dyn g (b.vtable, b.value)).meaning b.value) c.args.plugs.now in
     let filters = map filter_tree c.args.filters.now in
     let network = network_tree c.args.network.now in
     let docs = g.P.Postings.documents c.args.part.now in
     let marks = c.args.marks.now in
-    let found : g.P.Postings.sound c.args.part.now → IsKnown kind priors filters network c.args.tables.now c.args.number docs c.args.id c.args.ahead → IsKnown kind priors filters network c.args.tables.now c.args.number docs c.args.id c.in_ok-found.found =
-    λ sound known. IsKnown-found kind priors filters network c.args.tables.now c.args.number docs c.args.id c.args.ahead c.in_ok-found.found c.in_ok-found.ensures.fresh (c.in_ok-found.ensures.ahead sound known.may) known in
+    let tables = c.args.tables.now in
+    let number = c.args.number in
+    let id = c.args.id in
+    let ahead = c.args.ahead in
+    let found = c.ahead_of-found.result in
+    let foundly : IsKnown kind priors filters network tables number docs id found = IsKnown-found kind priors filters network tables number docs id ahead found c.ahead_of-found.ensures.found (c.ahead_of-found.ensures.ahead sound known.may) (c.ahead_of-found.ensures.span known.span) known in
+    let asked = asked-found (length docs) id ahead found c.ahead_of-found.ensures.found known.span c.requires.id in
     let to = c.pass_unseen.result in
     let inside = c.pass_unseen.ensures.passed.inside in
     let within = c.pass_unseen.ensures.inside in
-    Advances-bare kind priors filters network docs marks (counted c.args.first.now c.args.squares.now) c.args.id to.id c.pass_unseen.ensures.back (omega (arith, inside, c.requires.marks)) c.requires.marks
-    (λ i low high. bare filters network.leaves docs c.args.id c.in_ok-found.found c.if-found-eq0.true (found sound known).may i low (omega (arith, high, within)))
+    let clear = sym c.is_clear.ensures ∙ c.if-is_clear.true in
+    let on = asked-on id to.id found to.ahead c.pass_unseen.ensures.back c.pass_unseen.ensures.same in
+    Advances-asks kind priors filters network (unmarked (take id docs) marks) (unmarked (take to.id docs) marks) c.args.first.now c.args.first.now c.args.squares.now c.args.squares.now c.args.squares.now (asked_of id ahead) (asked_of id found) (asked_of to.id to.ahead)
+    (asks-same network (asked_of id ahead) (asked_of id found) c.args.squares.now asked) on
+    (Advances-bare kind priors filters network docs marks (counted c.args.first.now c.args.squares.now 0) id to.id c.pass_unseen.ensures.back (omega (arith, inside, c.requires.marks)) c.requires.marks
+    (λ i low high. bare filters network.leaves docs id found clear foundly.may i low (omega (arith, high, within))))
 
-pub returns-then-found-eq0-clause-ahead : goal.returns-then-found-eq0-clause-ahead
-returns-then-found-eq0-clause-ahead g c = λ sound known.
+pub returns-then-is_clear-clause-ahead : goal.returns-then-is_clear-clause-ahead
+returns-then-is_clear-clause-ahead g c = λ sound known.
     let kind = c.args.rule.now.kind in
     let priors = map (λ b. (goal.BeliefNode-dyn g (b.vtable, b.value)).meaning b.value) c.args.plugs.now in
     let filters = map filter_tree c.args.filters.now in
     let network = network_tree c.args.network.now in
     let docs = g.P.Postings.documents c.args.part.now in
     let marks = c.args.marks.now in
-    let found : g.P.Postings.sound c.args.part.now → IsKnown kind priors filters network c.args.tables.now c.args.number docs c.args.id c.args.ahead → IsKnown kind priors filters network c.args.tables.now c.args.number docs c.args.id c.in_ok-found.found =
-    λ sound known. IsKnown-found kind priors filters network c.args.tables.now c.args.number docs c.args.id c.args.ahead c.in_ok-found.found c.in_ok-found.ensures.fresh (c.in_ok-found.ensures.ahead sound known.may) known in
+    let tables = c.args.tables.now in
+    let number = c.args.number in
+    let id = c.args.id in
+    let ahead = c.args.ahead in
+    let found = c.ahead_of-found.result in
+    let foundly : IsKnown kind priors filters network tables number docs id found = IsKnown-found kind priors filters network tables number docs id ahead found c.ahead_of-found.ensures.found (c.ahead_of-found.ensures.ahead sound known.may) (c.ahead_of-found.ensures.span known.span) known in
     let to = c.pass_unseen.result in
-    IsKnown-on kind priors filters network c.args.tables.now c.args.number docs c.args.id to.id c.in_ok-found.found to.ahead c.pass_unseen.ensures.back c.pass_unseen.ensures.same (found sound known)
+    let inside = c.pass_unseen.ensures.passed.inside in
+    let within = c.pass_unseen.ensures.inside in
+    IsKnown-on kind priors filters network tables number docs id to.id found to.ahead c.pass_unseen.ensures.back within c.pass_unseen.ensures.same foundly
 
-pub returns-then-found-eq0-clause-windows : goal.returns-then-found-eq0-clause-windows
-returns-then-found-eq0-clause-windows g c = KeepsWindows-same _ _ _
+pub returns-then-is_clear-clause-windows : goal.returns-then-is_clear-clause-windows
+returns-then-is_clear-clause-windows g c = KeepsWindows-same _ _ _
+
+pub returns-then-is_clear-clause-within : goal.returns-then-is_clear-clause-within
+returns-then-is_clear-clause-within g c = λ sound known.
+    let kind = c.args.rule.now.kind in
+    let priors = map (λ b. (goal.BeliefNode-dyn g (b.vtable, b.value)).meaning b.value) c.args.plugs.now in
+    let filters = map filter_tree c.args.filters.now in
+    let network = network_tree c.args.network.now in
+    let docs = g.P.Postings.documents c.args.part.now in
+    let marks = c.args.marks.now in
+    let tables = c.args.tables.now in
+    let number = c.args.number in
+    let id = c.args.id in
+    let ahead = c.args.ahead in
+    let found = c.ahead_of-found.result in
+    let foundly : IsKnown kind priors filters network tables number docs id found = IsKnown-found kind priors filters network tables number docs id ahead found c.ahead_of-found.ensures.found (c.ahead_of-found.ensures.ahead sound known.may) (c.ahead_of-found.ensures.span known.span) known in
+    let asked = asked-found (length docs) id ahead found c.ahead_of-found.ensures.found known.span c.requires.id in
+    within-asks kind priors filters network (unmarked (take id docs) marks) (unmarked docs marks) (asked_of id ahead) (asked_of id found) (ranges_of (length docs)) c.args.squares.now c.args.squares.now c.args.squares.now
+    (asks-same network (asked_of id ahead) (asked_of id found) c.args.squares.now asked) (asked-all (length docs) id found foundly.span)
+    (within-same kind priors filters network (unmarked (take id docs) marks) (unmarked docs marks) c.args.squares.now (cost-take kind priors filters network docs marks id))
+
+-- ---- the document is dead
+
+pub returns-then-is_marked-clause-first : goal.returns-then-is_marked-clause-first
+returns-then-is_marked-clause-first g c = λ sound known.
+    let kind = c.args.rule.now.kind in
+    let priors = map (λ b. (goal.BeliefNode-dyn g (b.vtable, b.value)).meaning b.value) c.args.plugs.now in
+    let filters = map filter_tree c.args.filters.now in
+    let network = network_tree c.args.network.now in
+    let docs = g.P.Postings.documents c.args.part.now in
+    let marks = c.args.marks.now in
+    let tables = c.args.tables.now in
+    let number = c.args.number in
+    let id = c.args.id in
+    let ahead = c.args.ahead in
+    let found = c.ahead_of-found.result in
+    let foundly : IsKnown kind priors filters network tables number docs id found = IsKnown-found kind priors filters network tables number docs id ahead found c.ahead_of-found.ensures.found (c.ahead_of-found.ensures.ahead sound known.may) (c.ahead_of-found.ensures.span known.span) known in
+    let asked = asked-found (length docs) id ahead found c.ahead_of-found.ensures.found known.span c.requires.id in
+    let to = c.pass_dead.result in
+    let next = c.pass_dead.ensures.next in
+    let on = asked-on id to.id found to.ahead (omega (arith, next)) c.pass_dead.ensures.same in
+    Advances-asks kind priors filters network (unmarked (take id docs) marks) (unmarked (take to.id docs) marks) c.args.first.now c.args.first.now c.args.squares.now c.args.squares.now c.args.squares.now (asked_of id ahead) (asked_of id found) (asked_of to.id to.ahead)
+    (asks-same network (asked_of id ahead) (asked_of id found) c.args.squares.now asked) on
+    (subst (λ n. Advances kind priors filters network (unmarked (take id docs) marks) (unmarked (take n docs) marks) (counted c.args.first.now c.args.squares.now 0) (counted c.args.first.now c.args.squares.now 0)) (sym next)
+    (Advances-dead kind priors filters network docs marks id (counted c.args.first.now c.args.squares.now 0) c.requires.id c.requires.marks (sym c.is_marked.ensures ∙ c.if-is_marked.true)))
+
+pub returns-then-is_marked-clause-ahead : goal.returns-then-is_marked-clause-ahead
+returns-then-is_marked-clause-ahead g c = λ sound known.
+    let kind = c.args.rule.now.kind in
+    let priors = map (λ b. (goal.BeliefNode-dyn g (b.vtable, b.value)).meaning b.value) c.args.plugs.now in
+    let filters = map filter_tree c.args.filters.now in
+    let network = network_tree c.args.network.now in
+    let docs = g.P.Postings.documents c.args.part.now in
+    let marks = c.args.marks.now in
+    let tables = c.args.tables.now in
+    let number = c.args.number in
+    let id = c.args.id in
+    let ahead = c.args.ahead in
+    let found = c.ahead_of-found.result in
+    let foundly : IsKnown kind priors filters network tables number docs id found = IsKnown-found kind priors filters network tables number docs id ahead found c.ahead_of-found.ensures.found (c.ahead_of-found.ensures.ahead sound known.may) (c.ahead_of-found.ensures.span known.span) known in
+    let to = c.pass_dead.result in
+    let next = c.pass_dead.ensures.next in
+    IsKnown-on kind priors filters network tables number docs id to.id found to.ahead (omega (arith, next)) (omega (arith, next, c.ahead_of-found.ensures.some)) c.pass_dead.ensures.same foundly
+
+pub returns-then-is_marked-clause-passed : goal.returns-then-is_marked-clause-passed
+returns-then-is_marked-clause-passed g c = c.pass_dead.ensures.passed c.args.most
+
+pub returns-then-is_marked-clause-windows : goal.returns-then-is_marked-clause-windows
+returns-then-is_marked-clause-windows g c = KeepsWindows-same _ _ _
+
+pub returns-then-is_marked-clause-within : goal.returns-then-is_marked-clause-within
+returns-then-is_marked-clause-within g c = λ sound known.
+    let kind = c.args.rule.now.kind in
+    let priors = map (λ b. (goal.BeliefNode-dyn g (b.vtable, b.value)).meaning b.value) c.args.plugs.now in
+    let filters = map filter_tree c.args.filters.now in
+    let network = network_tree c.args.network.now in
+    let docs = g.P.Postings.documents c.args.part.now in
+    let marks = c.args.marks.now in
+    let tables = c.args.tables.now in
+    let number = c.args.number in
+    let id = c.args.id in
+    let ahead = c.args.ahead in
+    let found = c.ahead_of-found.result in
+    let foundly : IsKnown kind priors filters network tables number docs id found = IsKnown-found kind priors filters network tables number docs id ahead found c.ahead_of-found.ensures.found (c.ahead_of-found.ensures.ahead sound known.may) (c.ahead_of-found.ensures.span known.span) known in
+    let asked = asked-found (length docs) id ahead found c.ahead_of-found.ensures.found known.span c.requires.id in
+    within-asks kind priors filters network (unmarked (take id docs) marks) (unmarked docs marks) (asked_of id ahead) (asked_of id found) (ranges_of (length docs)) c.args.squares.now c.args.squares.now c.args.squares.now
+    (asks-same network (asked_of id ahead) (asked_of id found) c.args.squares.now asked) (asked-all (length docs) id found foundly.span)
+    (within-same kind priors filters network (unmarked (take id docs) marks) (unmarked docs marks) c.args.squares.now (cost-take kind priors filters network docs marks id))
+
+-- ---- no bound is told
+
+pub returns-in_err-known-clause-within : goal.returns-in_err-known-clause-within
+returns-in_err-known-clause-within g c = λ sound known.
+    let kind = c.args.rule.now.kind in
+    let priors = map (λ b. (goal.BeliefNode-dyn g (b.vtable, b.value)).meaning b.value) c.args.plugs.now in
+    let filters = map filter_tree c.args.filters.now in
+    let network = network_tree c.args.network.now in
+    let docs = g.P.Postings.documents c.args.part.now in
+    let marks = c.args.marks.now in
+    let tables = c.args.tables.now in
+    let number = c.args.number in
+    let id = c.args.id in
+    let ahead = c.args.ahead in
+    let found = c.ahead_of-found.result in
+    let foundly : IsKnown kind priors filters network tables number docs id found = IsKnown-found kind priors filters network tables number docs id ahead found c.ahead_of-found.ensures.found (c.ahead_of-found.ensures.ahead sound known.may) (c.ahead_of-found.ensures.span known.span) known in
+    let asked = asked-found (length docs) id ahead found c.ahead_of-found.ensures.found known.span c.requires.id in
+    let asks = asks-then network (asked_of id ahead) (asked_of id found) (ranges_of (length docs)) c.args.squares.now c.args.squares.now c.bounded.new.squares (asks-same network (asked_of id ahead) (asked_of id found) c.args.squares.now asked) (c.bounded.ensures.within foundly.span) in
+    within-asks kind priors filters network (unmarked (take id docs) marks) (unmarked docs marks) (asked_of id ahead) (ranges_of (length docs)) (ranges_of (length docs)) c.args.squares.now c.bounded.new.squares c.bounded.new.squares asks (omega arith)
+    (within-same kind priors filters network (unmarked (take id docs) marks) (unmarked docs marks) c.bounded.new.squares (cost-take kind priors filters network docs marks id))
 
 -- ---- no candidate of the range can be among the first
 
 pub returns-then-is_beaten-clause-first : goal.returns-then-is_beaten-clause-first
-returns-then-is_beaten-clause-first g c = λ sound told.
+returns-then-is_beaten-clause-first g c = λ sound known.
     let kind = c.args.rule.now.kind in
     let priors = map (λ b. (goal.BeliefNode-dyn g (b.vtable, b.value)).meaning b.value) c.args.plugs.now in
     let filters = map filter_tree c.args.filters.now in
     let network = network_tree c.args.network.now in
     let docs = g.P.Postings.documents c.args.part.now in
     let marks = c.args.marks.now in
-    let found : g.P.Postings.sound c.args.part.now → IsKnown kind priors filters network c.args.tables.now c.args.number docs c.args.id c.args.ahead → IsKnown kind priors filters network c.args.tables.now c.args.number docs c.args.id c.in_ok-found.found =
-    λ sound known. IsKnown-found kind priors filters network c.args.tables.now c.args.number docs c.args.id c.args.ahead c.in_ok-found.found c.in_ok-found.ensures.fresh (c.in_ok-found.ensures.ahead sound known.may) known in
-    let keeps = c.ahead_of.ensures.keeps in
-    let read = g.P.Postings.documents c.ahead_of.new.part in
-    let bounded : g.P.Postings.sound c.args.part.now → IsKnown kind priors filters network c.args.tables.now c.args.number docs c.args.id c.args.ahead → IsKnown kind priors filters network c.args.tables.now c.args.number read c.args.id c.in_ok-known.known =
-    λ sound known. c.in_ok-known.ensures.known filters (IsKnown-read kind priors filters network c.args.tables.now c.args.number docs read c.args.id c.in_ok-found.found (sym keeps.documents_stay) (found sound known)) in
-    let here : g.P.Postings.sound c.args.part.now → IsKnown kind priors filters network c.args.tables.now c.args.number docs c.args.id c.args.ahead → IsKnown kind priors filters network c.args.tables.now c.args.number docs c.args.id c.in_ok-known.known =
-    λ sound known. IsKnown-read kind priors filters network c.args.tables.now c.args.number read docs c.args.id c.in_ok-known.known keeps.documents_stay (bounded sound known) in
+    let tables = c.args.tables.now in
+    let number = c.args.number in
+    let id = c.args.id in
+    let ahead = c.args.ahead in
+    let found = c.ahead_of-found.result in
+    let foundly : IsKnown kind priors filters network tables number docs id found = IsKnown-found kind priors filters network tables number docs id ahead found c.ahead_of-found.ensures.found (c.ahead_of-found.ensures.ahead sound known.may) (c.ahead_of-found.ensures.span known.span) known in
+    let asked = asked-found (length docs) id ahead found c.ahead_of-found.ensures.found known.span c.requires.id in
+    let now = c.in_ok-known.known in
+    let bounded : IsKnown kind priors filters network tables number docs id now = c.in_ok-known.ensures.known filters foundly in
+    let asks = asks-then network (asked_of id ahead) (asked_of id found) (asked_of id now) c.args.squares.now c.args.squares.now c.bounded.new.squares (asks-same network (asked_of id ahead) (asked_of id found) c.args.squares.now asked) (c.in_ok-known.ensures.cost foundly.span) in
     let to = c.pass_unseen-then-is_beaten.result in
     let inside = c.pass_unseen-then-is_beaten.ensures.passed.inside in
     let within = c.pass_unseen-then-is_beaten.ensures.inside in
+    let on = asked-on id to.id now to.ahead c.pass_unseen-then-is_beaten.ensures.back c.pass_unseen-then-is_beaten.ensures.same in
     let beaten = c.is_beaten.ensures c.if-is_beaten.true in
     let stats = c.args.network.now.kept.each in
     let leaves : length network.leaves ≤ length network.stats = omega (arith, stats) in
-    Advances-beaten kind priors filters network docs marks (counted c.args.first.now c.args.squares.now) c.args.id to.id beaten.0 c.pass_unseen-then-is_beaten.ensures.back (omega (arith, inside, c.requires.marks)) c.requires.marks leaves beaten.2
-    (λ i low high. (here sound told).least beaten.0 i beaten.1 low (omega (arith, high, within)))
+    Advances-asks kind priors filters network (unmarked (take id docs) marks) (unmarked (take to.id docs) marks) c.args.first.now c.args.first.now c.args.squares.now c.bounded.new.squares c.bounded.new.squares (asked_of id ahead) (asked_of id now) (asked_of to.id to.ahead) asks on
+    (Advances-beaten kind priors filters network docs marks (counted c.args.first.now c.bounded.new.squares 0) id to.id beaten.0 c.pass_unseen-then-is_beaten.ensures.back (omega (arith, inside, c.requires.marks)) c.requires.marks leaves beaten.2
+    (λ i low high. bounded.least beaten.0 i beaten.1 low (omega (arith, high, within))))
 
 pub returns-then-is_beaten-clause-ahead : goal.returns-then-is_beaten-clause-ahead
-returns-then-is_beaten-clause-ahead g c = λ sound told.
+returns-then-is_beaten-clause-ahead g c = λ sound known.
     let kind = c.args.rule.now.kind in
     let priors = map (λ b. (goal.BeliefNode-dyn g (b.vtable, b.value)).meaning b.value) c.args.plugs.now in
     let filters = map filter_tree c.args.filters.now in
     let network = network_tree c.args.network.now in
     let docs = g.P.Postings.documents c.args.part.now in
     let marks = c.args.marks.now in
-    let found : g.P.Postings.sound c.args.part.now → IsKnown kind priors filters network c.args.tables.now c.args.number docs c.args.id c.args.ahead → IsKnown kind priors filters network c.args.tables.now c.args.number docs c.args.id c.in_ok-found.found =
-    λ sound known. IsKnown-found kind priors filters network c.args.tables.now c.args.number docs c.args.id c.args.ahead c.in_ok-found.found c.in_ok-found.ensures.fresh (c.in_ok-found.ensures.ahead sound known.may) known in
-    let keeps = c.ahead_of.ensures.keeps in
-    let read = g.P.Postings.documents c.ahead_of.new.part in
-    let bounded : g.P.Postings.sound c.args.part.now → IsKnown kind priors filters network c.args.tables.now c.args.number docs c.args.id c.args.ahead → IsKnown kind priors filters network c.args.tables.now c.args.number read c.args.id c.in_ok-known.known =
-    λ sound known. c.in_ok-known.ensures.known filters (IsKnown-read kind priors filters network c.args.tables.now c.args.number docs read c.args.id c.in_ok-found.found (sym keeps.documents_stay) (found sound known)) in
-    let here : g.P.Postings.sound c.args.part.now → IsKnown kind priors filters network c.args.tables.now c.args.number docs c.args.id c.args.ahead → IsKnown kind priors filters network c.args.tables.now c.args.number docs c.args.id c.in_ok-known.known =
-    λ sound known. IsKnown-read kind priors filters network c.args.tables.now c.args.number read docs c.args.id c.in_ok-known.known keeps.documents_stay (bounded sound known) in
+    let tables = c.args.tables.now in
+    let number = c.args.number in
+    let id = c.args.id in
+    let ahead = c.args.ahead in
+    let found = c.ahead_of-found.result in
+    let foundly : IsKnown kind priors filters network tables number docs id found = IsKnown-found kind priors filters network tables number docs id ahead found c.ahead_of-found.ensures.found (c.ahead_of-found.ensures.ahead sound known.may) (c.ahead_of-found.ensures.span known.span) known in
+    let asked = asked-found (length docs) id ahead found c.ahead_of-found.ensures.found known.span c.requires.id in
+    let now = c.in_ok-known.known in
+    let bounded : IsKnown kind priors filters network tables number docs id now = c.in_ok-known.ensures.known filters foundly in
+    let asks = asks-then network (asked_of id ahead) (asked_of id found) (asked_of id now) c.args.squares.now c.args.squares.now c.bounded.new.squares (asks-same network (asked_of id ahead) (asked_of id found) c.args.squares.now asked) (c.in_ok-known.ensures.cost foundly.span) in
     let to = c.pass_unseen-then-is_beaten.result in
-    IsKnown-on kind priors filters network c.args.tables.now c.args.number docs c.args.id to.id c.in_ok-known.known to.ahead c.pass_unseen-then-is_beaten.ensures.back c.pass_unseen-then-is_beaten.ensures.same (here sound told)
+    let inside = c.pass_unseen-then-is_beaten.ensures.passed.inside in
+    let within = c.pass_unseen-then-is_beaten.ensures.inside in
+    IsKnown-on kind priors filters network tables number docs id to.id now to.ahead c.pass_unseen-then-is_beaten.ensures.back within c.pass_unseen-then-is_beaten.ensures.same bounded
 
 pub returns-then-is_beaten-clause-windows : goal.returns-then-is_beaten-clause-windows
 returns-then-is_beaten-clause-windows g c = KeepsWindows-same _ _ _
 
--- ---- those with a bit are looked at
+pub returns-then-is_beaten-clause-within : goal.returns-then-is_beaten-clause-within
+returns-then-is_beaten-clause-within g c = λ sound known.
+    let kind = c.args.rule.now.kind in
+    let priors = map (λ b. (goal.BeliefNode-dyn g (b.vtable, b.value)).meaning b.value) c.args.plugs.now in
+    let filters = map filter_tree c.args.filters.now in
+    let network = network_tree c.args.network.now in
+    let docs = g.P.Postings.documents c.args.part.now in
+    let marks = c.args.marks.now in
+    let tables = c.args.tables.now in
+    let number = c.args.number in
+    let id = c.args.id in
+    let ahead = c.args.ahead in
+    let found = c.ahead_of-found.result in
+    let foundly : IsKnown kind priors filters network tables number docs id found = IsKnown-found kind priors filters network tables number docs id ahead found c.ahead_of-found.ensures.found (c.ahead_of-found.ensures.ahead sound known.may) (c.ahead_of-found.ensures.span known.span) known in
+    let asked = asked-found (length docs) id ahead found c.ahead_of-found.ensures.found known.span c.requires.id in
+    let now = c.in_ok-known.known in
+    let bounded : IsKnown kind priors filters network tables number docs id now = c.in_ok-known.ensures.known filters foundly in
+    let asks = asks-then network (asked_of id ahead) (asked_of id found) (asked_of id now) c.args.squares.now c.args.squares.now c.bounded.new.squares (asks-same network (asked_of id ahead) (asked_of id found) c.args.squares.now asked) (c.in_ok-known.ensures.cost foundly.span) in
+    within-asks kind priors filters network (unmarked (take id docs) marks) (unmarked docs marks) (asked_of id ahead) (asked_of id now) (ranges_of (length docs)) c.args.squares.now c.bounded.new.squares c.bounded.new.squares asks (asked-all (length docs) id now bounded.span)
+    (within-same kind priors filters network (unmarked (take id docs) marks) (unmarked docs marks) c.bounded.new.squares (cost-take kind priors filters network docs marks id))
+
+-- ---- the range is gone over
 
 pub returns-clause-first : goal.returns-clause-first
-returns-clause-first g c = λ sound told.
+returns-clause-first g c = λ sound known.
     let kind = c.args.rule.now.kind in
     let priors = map (λ b. (goal.BeliefNode-dyn g (b.vtable, b.value)).meaning b.value) c.args.plugs.now in
     let filters = map filter_tree c.args.filters.now in
     let network = network_tree c.args.network.now in
     let docs = g.P.Postings.documents c.args.part.now in
     let marks = c.args.marks.now in
-    let found : g.P.Postings.sound c.args.part.now → IsKnown kind priors filters network c.args.tables.now c.args.number docs c.args.id c.args.ahead → IsKnown kind priors filters network c.args.tables.now c.args.number docs c.args.id c.in_ok-found.found =
-    λ sound known. IsKnown-found kind priors filters network c.args.tables.now c.args.number docs c.args.id c.args.ahead c.in_ok-found.found c.in_ok-found.ensures.fresh (c.in_ok-found.ensures.ahead sound known.may) known in
-    let keeps = c.ahead_of.ensures.keeps in
-    let read = g.P.Postings.documents c.ahead_of.new.part in
-    let bounded : g.P.Postings.sound c.args.part.now → IsKnown kind priors filters network c.args.tables.now c.args.number docs c.args.id c.args.ahead → IsKnown kind priors filters network c.args.tables.now c.args.number read c.args.id c.in_ok-known.known =
-    λ sound known. c.in_ok-known.ensures.known filters (IsKnown-read kind priors filters network c.args.tables.now c.args.number docs read c.args.id c.in_ok-found.found (sym keeps.documents_stay) (found sound known)) in
-    rw keeps.documents_stay at (c.pass_masked.ensures.first (keeps.sound_stays sound) (bounded sound told).may)
+    let tables = c.args.tables.now in
+    let number = c.args.number in
+    let id = c.args.id in
+    let ahead = c.args.ahead in
+    let found = c.ahead_of-found.result in
+    let foundly : IsKnown kind priors filters network tables number docs id found = IsKnown-found kind priors filters network tables number docs id ahead found c.ahead_of-found.ensures.found (c.ahead_of-found.ensures.ahead sound known.may) (c.ahead_of-found.ensures.span known.span) known in
+    let asked = asked-found (length docs) id ahead found c.ahead_of-found.ensures.found known.span c.requires.id in
+    let now = c.in_ok-known.known in
+    let bounded : IsKnown kind priors filters network tables number docs id now = c.in_ok-known.ensures.known filters foundly in
+    let asks = asks-then network (asked_of id ahead) (asked_of id found) (asked_of id now) c.args.squares.now c.args.squares.now c.bounded.new.squares (asks-same network (asked_of id ahead) (asked_of id found) c.args.squares.now asked) (c.in_ok-known.ensures.cost foundly.span) in
+    Advances-bounded kind priors filters network docs marks id c.pass_open.result c.args.first.now c.pass_open.new.first c.args.squares.now c.bounded.new.squares c.pass_open.new.squares (asked_of id ahead) (asked_of id now) asks
+    (c.pass_open.ensures.first sound bounded)
 
 pub returns-clause-ahead : goal.returns-clause-ahead
-returns-clause-ahead g c = λ sound told.
+returns-clause-ahead g c = λ sound known.
     let kind = c.args.rule.now.kind in
     let priors = map (λ b. (goal.BeliefNode-dyn g (b.vtable, b.value)).meaning b.value) c.args.plugs.now in
     let filters = map filter_tree c.args.filters.now in
     let network = network_tree c.args.network.now in
     let docs = g.P.Postings.documents c.args.part.now in
     let marks = c.args.marks.now in
-    let found : g.P.Postings.sound c.args.part.now → IsKnown kind priors filters network c.args.tables.now c.args.number docs c.args.id c.args.ahead → IsKnown kind priors filters network c.args.tables.now c.args.number docs c.args.id c.in_ok-found.found =
-    λ sound known. IsKnown-found kind priors filters network c.args.tables.now c.args.number docs c.args.id c.args.ahead c.in_ok-found.found c.in_ok-found.ensures.fresh (c.in_ok-found.ensures.ahead sound known.may) known in
-    let keeps = c.ahead_of.ensures.keeps in
-    let read = g.P.Postings.documents c.ahead_of.new.part in
-    let bounded : g.P.Postings.sound c.args.part.now → IsKnown kind priors filters network c.args.tables.now c.args.number docs c.args.id c.args.ahead → IsKnown kind priors filters network c.args.tables.now c.args.number read c.args.id c.in_ok-known.known =
-    λ sound known. c.in_ok-known.ensures.known filters (IsKnown-read kind priors filters network c.args.tables.now c.args.number docs read c.args.id c.in_ok-found.found (sym keeps.documents_stay) (found sound known)) in
-    let here : g.P.Postings.sound c.args.part.now → IsKnown kind priors filters network c.args.tables.now c.args.number docs c.args.id c.args.ahead → IsKnown kind priors filters network c.args.tables.now c.args.number docs c.args.id c.in_ok-known.known =
-    λ sound known. IsKnown-read kind priors filters network c.args.tables.now c.args.number read docs c.args.id c.in_ok-known.known keeps.documents_stay (bounded sound known) in
-    IsKnown-masked kind priors filters network c.args.tables.now c.args.number docs c.args.id c.in_ok-known.known c.pass_masked.result c.pass_masked.ensures.back c.pass_masked.ensures.same (here sound told)
-
-pub returns-clause-windows : goal.returns-clause-windows
-returns-clause-windows g c = rw c.ahead_of.ensures.keeps.documents_stay at c.pass_masked.ensures.windows
-
--- ---- squarings
-
-pub returns-in_err-found-clause-within : goal.returns-in_err-found-clause-within
-returns-in_err-found-clause-within g c = λ sound told.
-    let kind = c.args.rule.now.kind in
-    let priors = map (λ b. (goal.BeliefNode-dyn g (b.vtable, b.value)).meaning b.value) c.args.plugs.now in
-    let filters = map filter_tree c.args.filters.now in
-    let network = network_tree c.args.network.now in
-    let docs = g.P.Postings.documents c.args.part.now in
-    let marks = c.args.marks.now in
-    within-same kind priors filters network (unmarked (take c.args.id docs) marks) (unmarked docs marks) c.args.squares.now (cost-take kind priors filters network docs marks c.args.id)
-
-pub returns-then-found-eq0-clause-within : goal.returns-then-found-eq0-clause-within
-returns-then-found-eq0-clause-within g c = λ sound told.
-    let kind = c.args.rule.now.kind in
-    let priors = map (λ b. (goal.BeliefNode-dyn g (b.vtable, b.value)).meaning b.value) c.args.plugs.now in
-    let filters = map filter_tree c.args.filters.now in
-    let network = network_tree c.args.network.now in
-    let docs = g.P.Postings.documents c.args.part.now in
-    let marks = c.args.marks.now in
-    within-same kind priors filters network (unmarked (take c.args.id docs) marks) (unmarked docs marks) c.args.squares.now (cost-take kind priors filters network docs marks c.args.id)
-
-pub returns-in_err-known-clause-within : goal.returns-in_err-known-clause-within
-returns-in_err-known-clause-within g c = λ sound told.
-    let kind = c.args.rule.now.kind in
-    let priors = map (λ b. (goal.BeliefNode-dyn g (b.vtable, b.value)).meaning b.value) c.args.plugs.now in
-    let filters = map filter_tree c.args.filters.now in
-    let network = network_tree c.args.network.now in
-    let docs = g.P.Postings.documents c.args.part.now in
-    let marks = c.args.marks.now in
-    within-same kind priors filters network (unmarked (take c.args.id docs) marks) (unmarked docs marks) c.args.squares.now (cost-take kind priors filters network docs marks c.args.id)
-
-pub returns-then-is_beaten-clause-within : goal.returns-then-is_beaten-clause-within
-returns-then-is_beaten-clause-within g c = λ sound told.
-    let kind = c.args.rule.now.kind in
-    let priors = map (λ b. (goal.BeliefNode-dyn g (b.vtable, b.value)).meaning b.value) c.args.plugs.now in
-    let filters = map filter_tree c.args.filters.now in
-    let network = network_tree c.args.network.now in
-    let docs = g.P.Postings.documents c.args.part.now in
-    let marks = c.args.marks.now in
-    within-same kind priors filters network (unmarked (take c.args.id docs) marks) (unmarked docs marks) c.args.squares.now (cost-take kind priors filters network docs marks c.args.id)
+    let tables = c.args.tables.now in
+    let number = c.args.number in
+    let id = c.args.id in
+    let ahead = c.args.ahead in
+    let found = c.ahead_of-found.result in
+    let foundly : IsKnown kind priors filters network tables number docs id found = IsKnown-found kind priors filters network tables number docs id ahead found c.ahead_of-found.ensures.found (c.ahead_of-found.ensures.ahead sound known.may) (c.ahead_of-found.ensures.span known.span) known in
+    let now = c.in_ok-known.known in
+    let bounded : IsKnown kind priors filters network tables number docs id now = c.in_ok-known.ensures.known filters foundly in
+    c.pass_open.ensures.ahead sound bounded
 
 pub returns-clause-within : goal.returns-clause-within
-returns-clause-within g c = λ sound told.
+returns-clause-within g c = λ sound known.
     let kind = c.args.rule.now.kind in
     let priors = map (λ b. (goal.BeliefNode-dyn g (b.vtable, b.value)).meaning b.value) c.args.plugs.now in
     let filters = map filter_tree c.args.filters.now in
     let network = network_tree c.args.network.now in
     let docs = g.P.Postings.documents c.args.part.now in
     let marks = c.args.marks.now in
-    let found : g.P.Postings.sound c.args.part.now → IsKnown kind priors filters network c.args.tables.now c.args.number docs c.args.id c.args.ahead → IsKnown kind priors filters network c.args.tables.now c.args.number docs c.args.id c.in_ok-found.found =
-    λ sound known. IsKnown-found kind priors filters network c.args.tables.now c.args.number docs c.args.id c.args.ahead c.in_ok-found.found c.in_ok-found.ensures.fresh (c.in_ok-found.ensures.ahead sound known.may) known in
-    let keeps = c.ahead_of.ensures.keeps in
-    let read = g.P.Postings.documents c.ahead_of.new.part in
-    let bounded : g.P.Postings.sound c.args.part.now → IsKnown kind priors filters network c.args.tables.now c.args.number docs c.args.id c.args.ahead → IsKnown kind priors filters network c.args.tables.now c.args.number read c.args.id c.in_ok-known.known =
-    λ sound known. c.in_ok-known.ensures.known filters (IsKnown-read kind priors filters network c.args.tables.now c.args.number docs read c.args.id c.in_ok-found.found (sym keeps.documents_stay) (found sound known)) in
-    rw keeps.documents_stay at (c.pass_masked.ensures.within (keeps.sound_stays sound) (bounded sound told).may)
+    let tables = c.args.tables.now in
+    let number = c.args.number in
+    let id = c.args.id in
+    let ahead = c.args.ahead in
+    let found = c.ahead_of-found.result in
+    let foundly : IsKnown kind priors filters network tables number docs id found = IsKnown-found kind priors filters network tables number docs id ahead found c.ahead_of-found.ensures.found (c.ahead_of-found.ensures.ahead sound known.may) (c.ahead_of-found.ensures.span known.span) known in
+    let asked = asked-found (length docs) id ahead found c.ahead_of-found.ensures.found known.span c.requires.id in
+    let now = c.in_ok-known.known in
+    let bounded : IsKnown kind priors filters network tables number docs id now = c.in_ok-known.ensures.known filters foundly in
+    let asks = asks-then network (asked_of id ahead) (asked_of id found) (asked_of id now) c.args.squares.now c.args.squares.now c.bounded.new.squares (asks-same network (asked_of id ahead) (asked_of id found) c.args.squares.now asked) (c.in_ok-known.ensures.cost foundly.span) in
+    within-bounded kind priors filters network (unmarked (take id docs) marks) (unmarked docs marks) (asked_of id ahead) (asked_of id now) (ranges_of (length docs)) c.args.squares.now c.bounded.new.squares c.pass_open.new.squares asks (c.pass_open.ensures.within sound bounded)

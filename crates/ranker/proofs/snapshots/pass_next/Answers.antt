@@ -1,13 +1,16 @@
-use Rattle.std.proofs.Common.{map, ap, sym, subst, ◌∙◌, arith}
+use Rattle.std.proofs.Common.{◌≡◌, length, map, take, ap, sym, subst, ◌∙◌, arith}
 use Rattle.std.proofs.lemmas.Result.{err_from_is_err_and}
 use Rattle.ri_base.specs.Query.{filter_tree}
 use Rattle.belief_nodes.specs.Network.{network_tree}
 use Rattle.disk_index.specs.Parts.{IsPartBacked, reads, size}
 use Rattle.disk_index.specs.Snapshots.{Marked, live, live_in}
 use Rattle.disk_index.proofs.AmongLemmas.{backed-at, blocks-among}
+use Rattle.disk_index.proofs.RebuiltLemmas.{reads-length}
 use Rattle.ranker.specs.First.{Advances, counted}
-use Rattle.ranker.specs.Passed.{IsAheadAt, IsKnown, IsPlace, behind, passed}
+use Rattle.ranker.specs.Passed.{IsAheadAt, IsKnown, IsPlace, asked_at, asked_of, behind, part_at, passed, ranges_in, ranges_of}
 use Rattle.ranker.specs.declared.place.Place.{Place}
+use Rattle.ranker.proofs.AskedLemmas.{asked-all, asked-behind, ranges-front}
+use Rattle.ranker.proofs.PassedLemmas.{Advances-further}
 use Rattle.ranker.proofs.PlaceLemmas.{Advances-place, IsAheadAt-behind, IsPlace-behind, credit-behind, credit-few, part-behind, part-is}
 use Rattle.ranker.proofs.DocumentLemmas.{live-among}
 use Rattle.ranker.proofs.WindowLemmas.{KeepsWindows-among}
@@ -43,9 +46,16 @@ returns-clause-first g c = λ backed cached known.
     let kind = c.args.rule.now.kind in
     let filters = map filter_tree c.args.filters.now in
     let network = network_tree c.args.network.now in
-    subst (λ (p : Place). Advances kind priors filters network (passed told parts at) (passed told parts p) (counted c.args.first.now c.args.squares.now) (counted c.pass_marked.new.first c.pass_marked.new.squares)) (sym c.place_behind.ensures)
-    (Advances-place parts at to c.args.most kind priors filters network told (counted c.args.first.now c.args.squares.now) (counted c.pass_marked.new.first c.pass_marked.new.squares) m is c.requires.some c.in_ok-to.ensures.end
-    (c.in_ok-to.ensures.first own cached (subst (λ (p : Marked). IsKnown kind priors filters network c.args.tables.now at.part (reads told p.source) at.id at.ahead) is known.here)))
+    let here = subst (λ (p : Marked). IsKnown kind priors filters network c.args.tables.now at.part (reads told p.source) at.id at.ahead) is known.here in
+    let to_known : IsKnown kind priors filters network c.args.tables.now at.part (reads told m.source) to.id to.ahead = c.in_ok-to.ensures.ahead own cached here in
+    let all = asked-all (length (reads told m.source)) to.id to.ahead to_known.span in
+    let same : ranges_of (length (reads told m.source)) ≡ ranges_of (size (part_at parts at.part).source) = ap ranges_of (reads-length told m.source ∙ ap (λ (p : Marked). size p.source) (sym is)) in
+    let asked = asked-behind parts at to c.args.most c.requires.some (omega (arith, all, same)) in
+    subst (λ (p : Place). Advances kind priors filters network (passed told parts at) (passed told parts p) (counted c.args.first.now c.args.squares.now (asked_at parts at)) (counted c.pass_marked.new.first c.pass_marked.new.squares (asked_at parts p))) (sym c.place_behind.ensures)
+    (Advances-further kind priors filters network (passed told parts at) (passed told parts (behind at to c.args.most)) c.args.first.now c.pass_marked.new.first c.args.squares.now c.pass_marked.new.squares (asked_of at.id at.ahead) (asked_of to.id to.ahead)
+    (ranges_in (take at.part parts)) (asked_at parts (behind at to c.args.most)) asked
+    (Advances-place parts at to c.args.most kind priors filters network told (counted c.args.first.now c.args.squares.now (asked_of at.id at.ahead)) (counted c.pass_marked.new.first c.pass_marked.new.squares (asked_of to.id to.ahead)) m is c.requires.some c.in_ok-to.ensures.end
+    (c.in_ok-to.ensures.first own cached here)))
 
 pub returns-clause-ahead : goal.returns-clause-ahead
 returns-clause-ahead g c = λ backed cached known.
@@ -115,7 +125,9 @@ returns-in_err-to-clause-within g c = λ backed cached known.
     let network = network_tree c.args.network.now in
     let is = part-is parts at.part m c.requires.some c.index-parts-at.is in
     let own : IsPartBacked told m.source = backed-at parts at.part m c.requires.some c.index-parts-at.is told backed in
-    within-part kind priors filters network told parts at m c.args.squares.now c.pass_marked.new.squares is c.requires.some
+    let read : ranges_of (length (reads told m.source)) ≡ ranges_of (size (part_at parts at.part).source) = ap ranges_of (reads-length told m.source ∙ ap (λ (p : Marked). size p.source) (sym is)) in
+    let front = ranges-front parts at.part in
+    within-part kind priors filters network told parts at m (asked_of at.id at.ahead) (ranges_of (length (reads told m.source))) (ranges_in (take at.part parts)) (ranges_in parts) c.args.squares.now c.pass_marked.new.squares is c.requires.some (omega (arith, read, front))
     (c.pass_marked.ensures.within own cached (subst (λ (p : Marked). IsKnown kind priors filters network c.args.tables.now at.part (reads told p.source) at.id at.ahead) is known.here))
 
 pub returns-clause-within : goal.returns-clause-within
@@ -130,5 +142,7 @@ returns-clause-within g c = λ backed cached known.
     let network = network_tree c.args.network.now in
     let is = part-is parts at.part m c.requires.some c.index-parts-at.is in
     let own : IsPartBacked told m.source = backed-at parts at.part m c.requires.some c.index-parts-at.is told backed in
-    within-part kind priors filters network told parts at m c.args.squares.now c.pass_marked.new.squares is c.requires.some
+    let read : ranges_of (length (reads told m.source)) ≡ ranges_of (size (part_at parts at.part).source) = ap ranges_of (reads-length told m.source ∙ ap (λ (p : Marked). size p.source) (sym is)) in
+    let front = ranges-front parts at.part in
+    within-part kind priors filters network told parts at m (asked_of at.id at.ahead) (ranges_of (length (reads told m.source))) (ranges_in (take at.part parts)) (ranges_in parts) c.args.squares.now c.pass_marked.new.squares is c.requires.some (omega (arith, read, front))
     (c.pass_marked.ensures.within own cached (subst (λ (p : Marked). IsKnown kind priors filters network c.args.tables.now at.part (reads told p.source) at.id at.ahead) is known.here))

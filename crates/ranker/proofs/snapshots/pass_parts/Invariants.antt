@@ -5,7 +5,7 @@ use Rattle.belief_nodes.specs.Network.{network_tree}
 use Rattle.disk_index.specs.Cache.{CacheKeeps, IsCacheBacked}
 use Rattle.disk_index.specs.Snapshots.{AreBacked, IsFileAmong, live}
 use Rattle.ranker.specs.First.{Advances, counted}
-use Rattle.ranker.specs.Passed.{IsAheadAt, IsPlace, passed}
+use Rattle.ranker.specs.Passed.{IsAheadAt, IsPlace, asked_at, passed}
 use Rattle.ranker.specs.Windows.{KeepsWindows}
 use Rattle.ranker.proofs.snapshots.pass_parts.Given as goal
 
@@ -14,7 +14,7 @@ invariant-loop-left g l = record {
   stay : map (λ b. (goal.BeliefNode-dyn g (b.vtable, b.value)).meaning b.value) l.plugs ≡ map (λ b. (goal.BeliefNode-dyn g (b.vtable, b.value)).meaning b.value) l.fn.plugs;
   so_far : AreBacked (g.T.Store.files l.fn.store) l.parts → IsCacheBacked (g.T.Store.files l.fn.store) l.fn.cache
       → IsAheadAt l.rule.kind (map (λ b. (goal.BeliefNode-dyn g (b.vtable, b.value)).meaning b.value) l.fn.plugs) (map filter_tree l.filters) (network_tree l.network) l.tables (g.T.Store.files l.fn.store) l.parts l.fn.at
-      → Advances l.rule.kind (map (λ b. (goal.BeliefNode-dyn g (b.vtable, b.value)).meaning b.value) l.fn.plugs) (map filter_tree l.filters) (network_tree l.network) (passed (g.T.Store.files l.fn.store) l.parts l.fn.at) (passed (g.T.Store.files l.fn.store) l.parts l.at) (counted l.fn.first l.fn.squares) (counted l.first l.squares);
+      → Advances l.rule.kind (map (λ b. (goal.BeliefNode-dyn g (b.vtable, b.value)).meaning b.value) l.fn.plugs) (map filter_tree l.filters) (network_tree l.network) (passed (g.T.Store.files l.fn.store) l.parts l.fn.at) (passed (g.T.Store.files l.fn.store) l.parts l.at) (counted l.fn.first l.fn.squares (asked_at l.parts l.fn.at)) (counted l.first l.squares (asked_at l.parts l.at));
   ahead : AreBacked (g.T.Store.files l.fn.store) l.parts → IsCacheBacked (g.T.Store.files l.fn.store) l.fn.cache
       → IsAheadAt l.rule.kind (map (λ b. (goal.BeliefNode-dyn g (b.vtable, b.value)).meaning b.value) l.fn.plugs) (map filter_tree l.filters) (network_tree l.network) l.tables (g.T.Store.files l.fn.store) l.parts l.fn.at
       → IsAheadAt l.rule.kind (map (λ b. (goal.BeliefNode-dyn g (b.vtable, b.value)).meaning b.value) l.fn.plugs) (map filter_tree l.filters) (network_tree l.network) l.tables (g.T.Store.files l.fn.store) l.parts l.at;

@@ -9,7 +9,7 @@ use Rattle.ranker.proofs.search.Search.new.Goals as goal
 pub returns-clause-taken : goal.returns-clause-taken
 returns-clause-taken c = λ kind priors told tables. record {
   held = c.first_held-held.ensures.held kind priors _ _;
-  ahead = record { here = IsKnown-on kind priors _ _ _ 0 _ 0 0 nothing_known c.nothing.result (omega arith) c.nothing.ensures (IsKnown-nothing kind priors _ _ _ 0 _ 0 (tables 0)); each = tables };
+  ahead = record { here = IsKnown-on kind priors _ _ _ 0 _ 0 0 nothing_known c.nothing.result (omega arith) (omega arith) c.nothing.ensures (IsKnown-nothing kind priors _ _ _ 0 _ (tables 0)); each = tables };
 }
 
 pub invariant_of-result : goal.invariant_of-result

@@ -6,7 +6,7 @@ use Rattle.disk_index.specs.Parts.{reads}
 use Rattle.ranker.specs.Passed.{IsBareTo, part_at}
 use Rattle.ranker.specs.Searches.{filters_of}
 use Rattle.ranker.proofs.AheadLemmas.{IsKnown-on}
-use Rattle.ranker.proofs.BareLemmas.{IsBareTo-on, IsHeld-few, IsPlace-few}
+use Rattle.ranker.proofs.BareLemmas.{IsBareTo-on, IsHeld-few, IsPlace-few, bare-end}
 use Rattle.ranker.proofs.search.Search.step.Goals as goal
 
 pub overflow_add-self : goal.overflow_add-self
@@ -64,7 +64,8 @@ returns-then-passes_bare-clause-taken g c = λ backed cached h.
       held = IsHeld-few s.snapshot s.at c.args.docs (here.bare c.args.docs low) c.args.rule.now.kind priors (filters_of s) (network_tree s.network) s.tables.items told h.ahead c.args.docs s.most s.held (omega arith)
           (s.open c.requires.usable told ∙ lt-ltb _ _ (omega (arith, low, left, s.count told))) h.held;
       ahead = record {
-        here = IsKnown-on c.args.rule.now.kind priors (filters_of s) (network_tree s.network) s.tables.items s.at.part (reads told (part_at s.snapshot s.at.part).source) s.at.id (s.at.id + c.args.docs) s.at.ahead s.at.ahead (omega arith) refl h.ahead.here;
+        here = IsKnown-on c.args.rule.now.kind priors (filters_of s) (network_tree s.network) s.tables.items s.at.part (reads told (part_at s.snapshot s.at.part).source) s.at.id (s.at.id + c.args.docs) s.at.ahead s.at.ahead (omega arith)
+            (bare-end s.snapshot s.at c.args.docs (here.bare c.args.docs low) c.args.docs (omega arith) h.ahead.here.span.back) refl h.ahead.here;
         each = h.ahead.each;
       };
     }

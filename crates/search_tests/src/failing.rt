@@ -45,7 +45,8 @@ fn calls(alloc: Global, skips: bool) -> Option<u64> {
     for call in 0..100 {
         match searches(alloc, BEFORE + 1 + call, skips)? {
             (None, Some(true)) => {}
-            (Some(true), Some(true)) => return Some(call),
+            // this is a call of the next search
+            (Some(true), _) => return Some(call),
             _ => return None,
         }
     }
@@ -56,5 +57,5 @@ fn calls(alloc: Global, skips: bool) -> Option<u64> {
 fn at_each_call(rt: HostRuntime) {
     assert!(rt; calls(rt.alloc(), false) == Some(CALLS));
     // the tables are read too
-    assert!(rt; calls(rt.alloc(), true) > Some(CALLS));
+    assert!(rt; calls(rt.alloc(), true).is_some_and(|calls| calls > CALLS));
 }

@@ -3,12 +3,14 @@
 
 usage: bench/parts.py [--rounds N] [--mega N] [--documents N] [--program FILE]
 
-The program that is measured is file_counts. It opens the segment of a folder, or counts a word or searches for a query over it,
-once for each line that it is sent. `rt run` in crates/file_counts builds it, and proves it first.
+The program that is measured is file_counts. It opens the segment of a folder, or counts the leaves of a query, makes the tables of its
+ranges or searches for it, once for each line that it is sent. `rt run` in crates/file_counts builds it, and proves it first.
 
     usual words     a segment of 20 MB, which --mega changes; the word n comes about one n-th as often as the word 1
     documents       60,000 short documents, which --documents changes
     searched        as many, with three words of a tenth of them each and one of 500
+    alike, mixed,   as many, with three words of a tenth of them each: once in 16 words; up to four times in 16 to 64 words, in no
+    early           order; and in 16 words four times in the first thousand documents, and once in the others
 
 A row of an opening has MB of what is read in a second of processor time, the best of the rounds, and the peak of memory for
 each byte of that. Only the header, the documents and the dictionary may be read, and one page beside them: the store reads its
@@ -17,13 +19,20 @@ many where it is counted again, which must be none. What the system counted for 
 
 A row of a search has the time of the best of the rounds, once its words are counted and its blocks are kept, by one step of all
 documents and by steps of one. The exponent is the logarithm of how much more time a word of 500 documents takes among four times as
-many documents, over that of 4.
+many documents, over that of 4. Below it stands the same with the tables of the ranges, which are made for each search, and what they
+take. These searches are for 1,000 results.
+
+A search for 10 results has two rows: what the opening, the first counts and the search take without tables; and with tables, what these
+and the search take, and how many times as much this is as the search without. It is bounded for the documents of `early` alone. Where
+documents are alike, or their counts and lengths vary in no order, few ranges have no document that may be among the first 10 by what is
+known of the range, or none: there the tables are made for little or for nothing, and the row says what they cost.
 
 The status is 1 where a row is beyond its bound, or where the program reads or says something else than it must.
 """
 import argparse
 import math
 import os
+import random
 import struct
 import sys
 import tempfile
@@ -44,6 +53,7 @@ TOKENS = 8
 TENTHS, RARE, FEW = (1, 2, 3), 4, 500
 SEARCHED = {"absent": 0.1, f"w{RARE}": 3, " ".join(f"w{word}" for word in TENTHS): 60}
 STEPS, SEARCH_EXPONENT = 1.3, 0.3
+MANY, TEN, HALF = 1000, 10, 0.5
 
 
 @dataclass(frozen=True)
@@ -88,11 +98,29 @@ def searched_tokens(documents):
     return tokens_of
 
 
-def postings_of(documents, tokens_of):
-    """Of each word the places in each document, by documents."""
+# Of each shape: how often a document has a word that it has, and how many words it has.
+SHAPES = {
+    "alike": lambda document, dice: (1, 16),
+    "mixed": lambda document, dice: (dice.choice((1, 1, 1, 1, 2, 2, 3, 4)), dice.randint(16, 64)),
+    "early": lambda document, dice: (4 if document < 1000 else 1, 16),
+}
+
+
+def shaped_tokens(shape):
+    """The words of a document, of which each of three is in one of ten."""
+    def tokens_of(document):
+        dice = random.Random(document)
+        times, length = shape(document, dice)
+        tokens = [word for word in TENTHS if dice.random() < 0.1 for _ in range(times)]
+        return tokens + [100 + (document * k) % WORDS for k in range(1, length - len(tokens) + 1)]
+    return tokens_of
+
+
+def postings_of(documents):
+    """Of each word the places in each document, by documents. These are given by their words."""
     found = defaultdict(dict)
-    for document in range(documents):
-        for at, word in enumerate(tokens_of(document)):
+    for document, tokens in enumerate(documents):
+        for at, word in enumerate(tokens):
             found[b"w%d" % word].setdefault(document, []).append(at)
     return found
 
@@ -108,8 +136,10 @@ def blocks_of(postings):
 
 def segment(documents, tokens_of=tokens_of):
     """The segment of so many documents, and of each word how often it occurs and its blocks."""
-    outlines = b"".join(number(1, len(name)) + name + number(4, TOKENS) + number(2, 0) for name in (b"d%d" % i for i in range(documents)))
-    found = {word: (sum(map(len, postings.values())), blocks_of(postings)) for word, postings in sorted(postings_of(documents, tokens_of).items())}
+    words = [tokens_of(document) for document in range(documents)]
+    names = [b"d%d" % document for document in range(documents)]
+    outlines = b"".join(number(1, len(name)) + name + number(4, len(tokens)) + number(2, 0) for name, tokens in zip(names, words))
+    found = {word: (sum(map(len, postings.values())), blocks_of(postings)) for word, postings in sorted(postings_of(words).items())}
     dictionary_at = 64 + len(outlines)
     blocks_at = dictionary_at + sum(1 + len(word) + 4 + 16 * len(blocks) for word, (_, blocks) in found.items())
     place, dictionary, content = blocks_at, [], []
@@ -119,7 +149,7 @@ def segment(documents, tokens_of=tokens_of):
             dictionary.append(number(4, key) + number(8, place) + number(4, len(block)))
             content.append(block)
             place += len(block)
-    header = b"indriseg" + number(4, 1) + number(4, documents) + number(8, documents * TOKENS) + number(4, len(found)) + number(4, 0)
+    header = b"indriseg" + number(4, 1) + number(4, documents) + number(8, sum(map(len, words))) + number(4, len(found)) + number(4, 0)
     for at in (64, dictionary_at, blocks_at, place):
         header += number(8, at)
     return header + outlines + b"".join(dictionary) + b"".join(content), found
@@ -186,14 +216,36 @@ class Table:
         )
         print(f"{'count, ' + word:<24}", "   ".join(cells), flush=True)
 
-    def seconds(self, folder, documents, step, query):
-        """The time of a search by steps of so many documents, once its words are counted and its blocks are kept."""
-        with Reader(self.program, "search", folder, documents, step) as run:
+    def best(self, query, *words):
+        """What is said of a query, and the best time of the rounds, once its words are counted and its blocks are kept."""
+        with Reader(self.program, *words) as run:
             first = run.ask(query)
             again = [run.ask(query) for _ in range(self.rounds)]
         for one in again:
             self.wanted("said", one.said, first.said)
         return first.said, min(one.seconds for one in again)
+
+    def first_times(self, query, folder, documents):
+        """The time until the segment is open, and that of the first counts of a query."""
+        with Reader(self.program, "count", folder, documents) as run:
+            opening = run.seconds()
+            return opening, run.ask(query).seconds
+
+    def steps(self, command, folder, documents, query, bound=None, most=None, behind=()):
+        """A row of a search by one step and by steps of one; what it says of the results."""
+        said, whole = self.best(query, command, folder, documents, MANY, documents)
+        said_by_one, by_one = self.best(query, command, folder, documents, MANY, 1)
+        self.wanted("said by steps of one", said_by_one, said)
+        ratio = by_one / whole
+        shown, steps = f"{1000 * whole:6.3f} ms", f"{1000 * by_one:6.2f} ms by steps of one, {ratio:4.2f} times"
+        cells = (
+            said,
+            self.bounded(shown, 1000 * whole <= bound, f"at most {bound} ms") if bound else shown,
+            self.bounded(steps, ratio <= most, f"at most {most}") if most else steps,
+            *behind,
+        )
+        print(f"{command + ', ' + query:<24}", "   ".join(cells), flush=True)
+        return said
 
     def searched(self, documents):
         folders = {}
@@ -201,20 +253,34 @@ class Table:
             folders[count] = self.made(f"searched {count}")
             (folders[count] / NAME).write_bytes(segment(count, searched_tokens(count))[0])
         for query, bound in SEARCHED.items():
-            said, whole = self.seconds(folders[documents], documents, documents, query)
-            said_by_one, by_one = self.seconds(folders[documents], documents, 1, query)
-            self.wanted("said by steps of one", said_by_one, said)
-            ratio = by_one / whole
-            steps = f"{1000 * by_one:6.2f} ms by steps of one, {ratio:4.2f} times"
-            cells = (
-                said,
-                self.bounded(f"{1000 * whole:6.3f} ms", 1000 * whole <= bound, f"at most {bound} ms"),
-                self.bounded(steps, ratio <= STEPS, f"at most {STEPS}") if bound == max(SEARCHED.values()) else steps,
-            )
-            print(f"{'search, ' + query:<24}", "   ".join(cells), flush=True)
-        times = [self.seconds(folders[count], count, count, f"w{RARE}")[1] for count in (documents, documents // 4)]
+            folder = folders[documents]
+            said = self.steps("search", folder, documents, query, bound, STEPS if bound == max(SEARCHED.values()) else None)
+            tables = self.best(query, "table", folder, documents)[1]
+            said_with = self.steps("skip", folder, documents, query, behind=[f"tables {1000 * tables:6.3f} ms of it"])
+            self.wanted("said with tables", said_with, said)
+        times = [self.best(f"w{RARE}", "search", folders[count], count, MANY, count)[1] for count in (documents, documents // 4)]
         exponent = math.log(times[0] / times[1]) / math.log(4)
         print(f"{'search, exponent':<24}", self.bounded(f"{exponent:4.2f}", exponent <= SEARCH_EXPONENT, f"at most {SEARCH_EXPONENT}"), flush=True)
+
+    def first_ten(self, name, documents):
+        """The first ten of documents of a shape, without tables and with them."""
+        folder, query = self.made(name), " ".join(f"w{word}" for word in TENTHS)
+        (folder / NAME).write_bytes(segment(documents, shaped_tokens(SHAPES[name]))[0])
+        opening, counts = self.first_times(query, folder, documents)
+        said, without = self.best(query, "search", folder, documents, TEN, documents)
+        said_with, both = self.best(query, "skip", folder, documents, TEN, documents)
+        self.wanted("said with tables", said_with, said)
+        tables = self.best(query, "table", folder, documents)[1]
+        cells = (f"opening {1000 * opening:6.2f} ms", f"counts {1000 * counts:6.2f} ms", f"search {1000 * without:6.2f} ms")
+        print(f"{'10 of them, ' + name:<24}", "   ".join(cells), flush=True)
+        ratio = both / without
+        shown = f"both {ratio:4.2f} times the search without"
+        cells = (
+            f"tables {1000 * tables:7.2f} ms",
+            f"search {1000 * max(both - tables, 0):6.2f} ms",
+            self.bounded(shown, ratio <= HALF, f"at most {HALF}") if name == "early" else shown,
+        )
+        print(f"{'  with tables':<24}", "   ".join(cells), flush=True)
 
     def usual_words(self, size):
         spread, each = COLLECTIONS["usual words"]
@@ -250,6 +316,8 @@ def main():
         table.usual_words(chosen.mega * MEGA)
         table.documents(chosen.documents)
         table.searched(chosen.documents)
+        for name in SHAPES:
+            table.first_ten(name, chosen.documents)
     sys.exit(0 if table.is_within else 1)
 
 

@@ -5,24 +5,29 @@
 //!   file, to which the bytes go.
 //! - `read FILE`: the segment in this file.
 //! - `open FOLDER N`: the segment 1 of N documents in this folder.
-//! - `count FOLDER N`: that segment, which is opened once. Each line is a word that is counted.
-//! - `search FOLDER N STEP`: the same, and each line is a query that is searched for by steps of STEP documents.
+//! - `count FOLDER N`: that segment, which is opened once. Each line is a query, whose leaves are counted.
+//! - `table FOLDER N`: the same, and tables of the ranges are made for the leaves.
+//! - `search FOLDER N MOST STEP`: each line is a query that is searched for, for at most MOST results, by steps of STEP documents.
+//! - `skip FOLDER N MOST STEP`: the same, by tables of the ranges that are made first.
 #![tactic(auto)]
 
 mod documents;
 mod parts;
 mod queries;
 mod searches;
+mod sums;
+mod tasks;
 
 use anyhow::{Context, Result, bail};
 use documents::sealed_of;
 use parts::{Counted, docs_once_open};
 use ri_base::{Doc, FileName, Postings, SegFault};
-use searches::found;
+use searches::Wanted;
 use seg_codec::{read_segment, seg_bytes};
 use std::alloc::Global;
 use std::{env, fs};
 use store_ends::FolderStore;
+use tasks::{Task, answer};
 
 fn write_segments(rt: &HostRuntime, documents: u32, spread: u64) -> Result<()> {
     let sealed = sealed_of(rt.alloc(), documents, spread)?;
@@ -95,41 +100,24 @@ fn open_segments(rt: &HostRuntime, folder: &str, docs: u32) -> Result<()> {
     Ok(())
 }
 
-fn count_words(rt: &HostRuntime, folder: &str, docs: u32) -> Result<()> {
-    let mut store = FolderStore::new(rt, folder)?;
-    let mut counted = Counted::new(rt.alloc(), &mut store, docs)?;
-    println!(rt; "{folder}")?;
-    for line in rt.lines(rt.alloc()) {
-        let word = line?;
-        let found = counted.count(rt.alloc(), &mut store, word.as_str())?;
-        println!(rt; "{} of {}", found.cf, found.total)?;
-    }
-    Ok(())
-}
-
-/// The first 1,000 results of each query are searched for.
-fn search(rt: &HostRuntime, folder: &str, docs: u32, step: u64) -> Result<()> {
+/// The task is done for each query.
+fn ask(rt: &HostRuntime, folder: &str, docs: u32, task: Task) -> Result<()> {
     let mut store = FolderStore::new(rt, folder)?;
     let mut counted = Counted::new(rt.alloc(), &mut store, docs)?;
     println!(rt; "{folder}")?;
     for line in rt.lines(rt.alloc()) {
         let text = line?;
-        let count = found(
-            rt.alloc(),
-            &mut counted,
-            text.as_str(),
-            1000,
-            step,
-            &mut store,
-        )?;
-        println!(rt; "{count} results")?;
+        let said = answer(rt.alloc(), &mut counted, task, text.as_str(), &mut store)?;
+        println!(rt; "{said}")?;
     }
     Ok(())
 }
 
-/// The number that stands next among the words.
-fn number_of(word: Option<String>) -> Result<u64> {
-    Ok(word.context("no number")?.parse::<u64>()?)
+/// What a search is wanted for, by the two numbers that stand next among the words.
+fn wanted(most: Option<String>, docs: Option<String>, skips: bool) -> Result<Task> {
+    let most = most.context("no number of results")?.parse::<u32>()?;
+    let docs = docs.context("no step")?.parse::<u64>()?;
+    Ok(Task::Search(Wanted { most, docs, skips }))
 }
 
 fn main(rt: HostRuntime) -> Result<()> {
@@ -140,11 +128,14 @@ fn main(rt: HostRuntime) -> Result<()> {
         return read_segments(&rt, &word);
     }
     let number = words.next().context("no number")?;
-    match command.as_str() {
-        "write" => write_segments(&rt, word.parse::<u32>()?, number.parse::<u64>()?),
-        "open" => open_segments(&rt, &word, number.parse::<u32>()?),
-        "count" => count_words(&rt, &word, number.parse::<u32>()?),
-        "search" => search(&rt, &word, number.parse::<u32>()?, number_of(words.next())?),
+    let task = match command.as_str() {
+        "write" => return write_segments(&rt, word.parse::<u32>()?, number.parse::<u64>()?),
+        "open" => return open_segments(&rt, &word, number.parse::<u32>()?),
+        "count" => Task::Count,
+        "table" => Task::Table,
+        "search" => wanted(words.next(), words.next(), false)?,
+        "skip" => wanted(words.next(), words.next(), true)?,
         _ => bail!("no such command"),
-    }
+    };
+    ask(&rt, &word, number.parse::<u32>()?, task)
 }

@@ -1,9 +1,12 @@
 // A segment that is opened, and what is counted over its documents.
-use anyhow::{Context, Result, bail};
+use anyhow::{Result, bail};
 use counts::Counts;
 use deletion_list::DelList;
 use disk_index::{BlockCache, DiskIndex, MarkedPart, Part, Snapshot, fits_snapshot};
-use ri_base::{ExtentExpr, LeafStats, Name, Term};
+use query_check::LeafKind;
+use range_bounds::RangeTable;
+use range_tables::tables;
+use ri_base::{ExtentExpr, LeafStats, Name};
 use std::alloc::{AllocError, Global};
 use std::num::NonZeroUsize;
 use std::rc::Rc;
@@ -55,11 +58,6 @@ pub struct Counted {
     blocks: BlockCache,
 }
 
-fn word_of(alloc: Global, text: &str) -> Result<ExtentExpr> {
-    let term = Term::new(alloc, text.as_bytes())?.context("no term")?;
-    Ok(ExtentExpr::Word(term))
-}
-
 impl Counted {
     /// Of the segment 1 of so many documents. Nothing is kept yet.
     pub fn new<T: Store>(alloc: Global, store: &mut T, docs: u32) -> Result<Counted> {
@@ -90,6 +88,17 @@ impl Counted {
         )
     }
 
+    /// The tables of the ranges of its parts for these leaves.
+    pub fn tables<T: Store>(
+        &mut self,
+        alloc: Global,
+        store: &mut T,
+        leaves: &[LeafKind],
+    ) -> Result<Vec<RangeTable>> {
+        let parts = self.snapshot.parts();
+        Ok(tables(alloc, leaves, parts, store, &mut self.blocks)?)
+    }
+
     /// The same snapshot once more.
     pub fn shared(&self, alloc: Global) -> Result<Snapshot> {
         Ok(Snapshot::of(alloc, self.snapshot.parts())?)
@@ -98,16 +107,5 @@ impl Counted {
     /// The blocks that are kept.
     pub fn blocks(&mut self) -> &mut BlockCache {
         &mut self.blocks
-    }
-
-    /// How often a word occurs, and in how many words.
-    pub fn count<T: Store>(
-        &mut self,
-        alloc: Global,
-        store: &mut T,
-        text: &str,
-    ) -> Result<LeafStats> {
-        let word = word_of(alloc, text)?;
-        self.leaf(alloc, store, &word, None)
     }
 }

@@ -2,6 +2,7 @@
 ghost use Rattle.std.specs.Prelude.{◌<◌, ◌≤◌, length, IfSome};
 ghost use Rattle.ri_base.specs.Documents.{AreFields};
 
+use crate::made::made_terms;
 use ri_base::{Doc, Docno, FieldSpan, Name, Spans, Term, Terms};
 use std::alloc::Global;
 
@@ -17,7 +18,8 @@ static WORDS: [&str; 9] = [
     "a",
 ];
 
-/// Of the first 130 documents two have the word `e`, in later ranges than the first. Those from 200 on have all the same words.
+/// Of the first 130 documents two have the word `e`, in later ranges than the first. Those from 200 on have all the same words, and those
+/// from 1000 on have others.
 fn words_of(number: u32) -> &'static str {
     if number >= 200 {
         return "a b";
@@ -49,6 +51,17 @@ fn terms(alloc: Global, words: &str) -> Option<Terms>
     }
 }
 
+/// The words of a document, at most a hundred.
+fn terms_of(alloc: Global, number: u32) -> Option<Terms>
+    ensures { IfSome result (λ terms. length terms ≤ 100) }
+{
+    if number < 1000 {
+        terms(alloc, words_of(number))
+    } else {
+        made_terms(alloc, number)
+    }
+}
+
 /// A field `t` of the first of so many words.
 fn first_word(alloc: Global, words: u32) -> Option<Spans>
     requires { 0 < words }
@@ -61,12 +74,12 @@ fn first_word(alloc: Global, words: u32) -> Option<Spans>
 }
 
 pub fn docno(alloc: Global, number: u32) -> Option<Docno> {
-    let text = format!(in alloc; "d{}", 1000 - number.min(999)).ok()?;
+    let text = format!(in alloc; "d{}", 1000 - number % 1000).ok()?;
     Docno::new(alloc, text.as_bytes()).ok()?
 }
 
 pub fn doc(alloc: Global, number: u32) -> Option<Doc> {
-    let terms = terms(alloc, words_of(number))?;
+    let terms = terms_of(alloc, number)?;
     let count = terms.len();
     if count == 0 {
         return None;

@@ -6,6 +6,8 @@ mod documents;
 #[cfg(test)]
 mod failing;
 #[cfg(test)]
+mod made;
+#[cfg(test)]
 mod opened;
 #[cfg(test)]
 mod orders;
@@ -13,6 +15,8 @@ mod orders;
 mod queries;
 #[cfg(test)]
 mod searches;
+#[cfg(test)]
+mod skipping;
 #[cfg(test)]
 mod stats;
 #[cfg(test)]

@@ -32,7 +32,7 @@ fn made(alloc: Global, store: &mut MemStore, part: u32) -> Option<Repository> {
     let limits = Limits {
         part_docs: part,
         held_docs: 1000,
-        held_tokens: 10_000,
+        held_tokens: 100_000,
     };
     Repository::open(alloc, store, limits).ok()?
 }
@@ -100,15 +100,16 @@ fn snapshot_of(alloc: Global, store: &mut MemStore, documents: Documents) -> Opt
     }
 }
 
-pub fn cache_of(alloc: Global) -> Option<BlockCache> {
-    BlockCache::new(alloc, NonZeroUsize::MIN).ok()
+/// Nothing is kept, and there is room for so many blocks.
+pub fn cache_of(alloc: Global, slots: usize) -> Option<BlockCache> {
+    BlockCache::new(alloc, NonZeroUsize::new(slots)?).ok()
 }
 
 /// A snapshot of the live documents. In its store these calls fail.
 pub fn open(alloc: Global, documents: Documents, fails: Vec<StoreFail>) -> Option<Opened> {
     let mut store = MemStore::new(alloc, Vec::new(alloc), fails);
     let snapshot = snapshot_of(alloc, &mut store, documents)?;
-    let cache = cache_of(alloc)?;
+    let cache = cache_of(alloc, 1)?;
     Some(Opened {
         snapshot,
         store,

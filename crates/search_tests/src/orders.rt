@@ -1,6 +1,6 @@
 // Orders of results that were worked out by hand.
 use crate::opened::{Documents, Opened, open};
-use crate::searches::{Row, is_order};
+use crate::searches::{Row, Wanted, is_order};
 use std::alloc::Global;
 
 /// The documents 0, 2, 3, 5, 6 and 8 are live. They have the words `a b c`, `c a a b`, `b c`, `c c a`, `c` and `a`, 14 together, and
@@ -77,36 +77,36 @@ static TIES: [Row; 2] = [
     ),
 ];
 
-/// Whether a query has these results, by steps of so many documents, where one is asked for, where as many as the row has, and where one
-/// more; eleven at most.
-fn is_right(alloc: Global, opened: &mut Opened, row: &Row, docs: u64) -> bool {
+/// Whether a query has these results where one is asked for, where as many as the row has, and where one more; eleven at most.
+fn is_right(alloc: Global, opened: &mut Opened, row: &Row, docs: u64, skips: bool) -> bool {
     let (_, docnos) = row;
     let count = docnos.split_whitespace().count().min(11) as u32;
     for most in [1, count, (count + 1).min(11)] {
-        if is_order(alloc, opened, row, most, docs) != Some(true) {
+        let wanted = Wanted { most, docs, skips };
+        if is_order(alloc, opened, row, wanted) != Some(true) {
             return false;
         }
     }
     true
 }
 
-/// The first of these rows with other results, by steps of so many documents, if one has others.
-fn first_wrong(alloc: Global, opened: &mut Opened, rows: &[Row], docs: u64) -> Option<usize> {
-    for (i, row) in rows.iter().enumerate() {
-        if !is_right(alloc, opened, row, docs) {
-            return Some(i);
+/// Whether these rows have their results, by steps of so many documents.
+fn rows_are_right(alloc: Global, opened: &mut Opened, rows: &[Row], docs: u64) -> bool {
+    for row in rows {
+        if !is_right(alloc, opened, row, docs, false) || !is_right(alloc, opened, row, docs, true) {
+            return false;
         }
     }
-    None
+    true
 }
 
-/// Whether these rows have their results, by whatever steps.
+/// Whether these rows have their results, by whatever steps, whether ranges are skipped or not.
 fn are_right(alloc: Global, documents: Documents, rows: &[Row]) -> bool {
     let Some(mut opened) = open(alloc, documents, Vec::new(alloc)) else {
         return false;
     };
     for docs in [1, 2, 3, 7, 1000] {
-        if first_wrong(alloc, &mut opened, rows, docs).is_some() {
+        if !rows_are_right(alloc, &mut opened, rows, docs) {
             return false;
         }
     }

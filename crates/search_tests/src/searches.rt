@@ -9,30 +9,52 @@ ghost use Rattle.belief_nodes.specs.Network.{network_tree};
 use crate::opened::{Opened, shared};
 use crate::queries::query;
 use crate::stats::all_stats;
-use belief_nodes::BeliefNode;
+use query_check::LeafKind;
+use range_bounds::RangeTable;
+use range_tables::tables;
 use ranker::Search;
-use ri_base::{Fraction, Hit};
+use ri_base::{Fraction, Hit, Hits};
 use smoothing::{Rule, RuleKind, dirichlet_fraction};
 use std::alloc::Global;
 
 /// A query, and the docnos of its results in order, with one space between them.
 pub type Row = (&'static str, &'static str);
 
-/// A search for a query, for at most so many results, that has passed no document yet.
-fn begin(alloc: Global, opened: &mut Opened, text: &str, most: u32) -> Option<Search>
+/// How a query is searched for: for at most so many results, by steps of so many documents, and whether tables of the ranges are made, by
+/// which ranges are skipped.
+#[derive(Clone, Copy)]
+pub struct Wanted {
+    pub most: u32,
+    pub docs: u64,
+    pub skips: bool,
+}
+
+/// The tables of the ranges of the parts for these leaves.
+fn tables_of(alloc: Global, leaves: &[LeafKind], opened: &mut Opened) -> Option<Vec<RangeTable>> {
+    let parts = opened.snapshot.parts();
+    tables(alloc, leaves, parts, &mut opened.store, &mut opened.cache).ok()
+}
+
+/// A search for a query that has passed no document yet.
+fn begin(alloc: Global, opened: &mut Opened, text: &str, wanted: Wanted) -> Option<Search>
     ensures { IfSome result (λ s. All (HasPrior 0) (network_tree s.network).leaves) }
 {
     let checked = query(alloc, text)?;
     let stats = all_stats(alloc, &checked.leaves, opened)?;
+    let tables = if wanted.skips {
+        tables_of(alloc, &checked.leaves, opened)?
+    } else {
+        Vec::new(alloc)
+    };
     let snapshot = shared(alloc, &opened.snapshot)?;
-    Search::new(alloc, snapshot, checked, &stats, most).ok()
+    Search::new(alloc, snapshot, checked, &stats, tables, wanted.most).ok()
 }
 
-/// Passes so many documents, with a mu of 1; whether all are passed by now.
+/// Passes so many documents, with a mu of 1; whether all are passed by now. No prior is asked for.
 fn step(alloc: Global, search: &mut Search, opened: &mut Opened, docs: u64) -> Option<bool>
     requires usable { search.old.usable ≡ true }
-    requires plugs { All (HasPrior 0) (network_tree search.old.network).leaves }
-    ensures plugs { All (HasPrior 0) (network_tree search.new.network).leaves }
+    requires priors { All (HasPrior 0) (network_tree search.old.network).leaves }
+    ensures priors { All (HasPrior 0) (network_tree search.new.network).leaves }
 {
     let rule = Rule::new(
         RuleKind::Dirichlet { mu: 1 },
@@ -41,23 +63,16 @@ fn step(alloc: Global, search: &mut Search, opened: &mut Opened, docs: u64) -> O
             ensures { ratio_of result ≡ dirichlet 1 tf len cf total }
         { dirichlet_fraction(1, tf, len, cf, total) },
     );
-    let mut plugs: Vec<Box<dyn BeliefNode>> = Vec::new(alloc);
-    let answer = search.step(
-        alloc,
-        docs,
-        &rule,
-        &mut plugs,
-        &mut opened.store,
-        &mut opened.cache,
-    );
-    answer.ok()
+    let store = &mut opened.store;
+    let cache = &mut opened.cache;
+    search.step(alloc, docs, &rule, &mut [], store, cache).ok()
 }
 
-/// Whether the search passes all documents by steps of so many, 200 steps at most.
+/// Whether the search passes all documents by steps of so many, a thousand steps at most.
 fn passes(alloc: Global, search: &mut Search, opened: &mut Opened, docs: u64) -> bool
     requires { All (HasPrior 0) (network_tree search.old.network).leaves }
 {
-    for _ in 0..200 {
+    for _ in 0..1000 {
         if !search.usable() {
             return false;
         }
@@ -68,6 +83,22 @@ fn passes(alloc: Global, search: &mut Search, opened: &mut Opened, docs: u64) ->
         }
     }
     false
+}
+
+fn results(alloc: Global, search: &Search) -> Option<Hits> {
+    if !search.usable() {
+        return None;
+    }
+    search.results()?.clone_in(alloc).ok()
+}
+
+/// The results of a query; nothing where a call fails.
+pub fn found(alloc: Global, opened: &mut Opened, text: &str, wanted: Wanted) -> Option<Hits> {
+    let mut search = begin(alloc, opened, text, wanted)?;
+    if !passes(alloc, &mut search, opened, wanted.docs) {
+        return None;
+    }
+    results(alloc, &search)
 }
 
 /// Whether these have the first docnos of the text, so many at most, in order.
@@ -82,29 +113,9 @@ fn have_docnos(hits: &[Hit], docnos: &str, most: u32) -> bool {
     wanted.next().is_none()
 }
 
-/// Whether the search has the first of these results, so many at most.
-fn has_results(search: &Search, docnos: &str, most: u32) -> bool {
-    if !search.usable() {
-        return false;
-    }
-    match search.results() {
-        Some(hits) => have_docnos(hits.as_slice(), docnos, most),
-        None => false,
-    }
-}
-
-/// Whether a search for at most so many results has just the first ones of the row, by steps of so many documents; nothing where it fails.
-pub fn is_order(
-    alloc: Global,
-    opened: &mut Opened,
-    row: &Row,
-    most: u32,
-    docs: u64,
-) -> Option<bool> {
+/// Whether a search has just the first results of the row; nothing where it fails.
+pub fn is_order(alloc: Global, opened: &mut Opened, row: &Row, wanted: Wanted) -> Option<bool> {
     let (text, docnos) = row;
-    let mut search = begin(alloc, opened, text, most)?;
-    if !passes(alloc, &mut search, opened, docs) {
-        return None;
-    }
-    Some(has_results(&search, docnos, most))
+    let hits = found(alloc, opened, text, wanted)?;
+    Some(have_docnos(hits.as_slice(), docnos, wanted.most))
 }

@@ -84,7 +84,7 @@ fn are_kept(alloc: Global, opened: &mut Opened, counts: &mut Counts) -> Option<b
         return Some(false);
     }
     opened.store = MemStore::new(alloc, Vec::new(alloc), Vec::new(alloc));
-    opened.cache = cache_of(alloc)?;
+    opened.cache = cache_of(alloc, 1)?;
     Some(are_told(alloc, opened, counts, &LATER))
 }
 

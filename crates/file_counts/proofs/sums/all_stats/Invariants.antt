@@ -1,7 +1,7 @@
 use Rattle.std.proofs.Common.{◌≡◌, length}
 use Rattle.std.specs.List.{All}
 use Rattle.belief_nodes.specs.Leaves.{AreLeafStats}
-use Rattle.file_counts.proofs.searches.all_stats.Given as goal
+use Rattle.file_counts.proofs.sums.all_stats.Given as goal
 
 abbrev pub invariant-loop-leaf : goal.invariant-loop-leaf
 invariant-loop-leaf g l = record {

@@ -1,0 +1,83 @@
+// What is done with a query.
+use crate::parts::Counted;
+use crate::queries::query;
+use crate::searches::{Wanted, found};
+use crate::sums::all_stats;
+use anyhow::Result;
+use ri_base::{Hit, LeafStats};
+use std::alloc::Global;
+use store_ends::Store;
+
+/// What is done with each query.
+#[derive(Clone, Copy)]
+pub enum Task {
+    /// Its leaves are counted.
+    Count,
+    /// They are counted, and the tables of the ranges are made for them.
+    Table,
+    /// It is searched for.
+    Search(Wanted),
+}
+
+/// How often each leaf occurs, and in how many words.
+fn sums_text(alloc: Global, stats: &[LeafStats]) -> Result<String> {
+    let mut text = String::new(alloc);
+    for leaf in stats {
+        if !text.is_empty() {
+            text.push_str(", ")?;
+        }
+        write!(text, "{} of {}", leaf.cf, leaf.total)?;
+    }
+    Ok(text)
+}
+
+fn count<T: Store>(
+    alloc: Global,
+    counted: &mut Counted,
+    text: &str,
+    store: &mut T,
+) -> Result<String> {
+    let checked = query(alloc, text)?;
+    let stats = all_stats(alloc, counted, &checked.leaves, store)?;
+    sums_text(alloc, &stats)
+}
+
+fn make_tables<T: Store>(
+    alloc: Global,
+    counted: &mut Counted,
+    text: &str,
+    store: &mut T,
+) -> Result<String> {
+    let checked = query(alloc, text)?;
+    let _stats = all_stats(alloc, counted, &checked.leaves, store)?;
+    let tables = counted.tables(alloc, store, &checked.leaves)?;
+    Ok(format!(in alloc; "{} tables", tables.len())?)
+}
+
+/// How many hits there are, and the key of the last one.
+fn hits_text(alloc: Global, hits: &[Hit]) -> Result<String> {
+    let mut text = String::new(alloc);
+    match hits.last() {
+        Some(hit) => write!(text, "{} results, keys up to {}", hits.len(), hit.key)?,
+        None => write!(text, "no results")?,
+    }
+    Ok(text)
+}
+
+/// What came of the task for this query.
+pub fn answer<T: Store>(
+    alloc: Global,
+    counted: &mut Counted,
+    task: Task,
+    text: &str,
+    store: &mut T,
+) -> Result<String> {
+    match task {
+        Task::Count => count(alloc, counted, text, store),
+        Task::Table => make_tables(alloc, counted, text, store),
+        Task::Search(wanted) => {
+            let hits = found(alloc, counted, text, wanted, store)?;
+            hits_text(alloc, hits.as_slice())
+        }
+    }
+}

@@ -11,7 +11,7 @@ ghost use Rattle.disk_index.specs.Cache.{CacheKeeps, IsCacheBacked};
 ghost use Rattle.disk_index.specs.Parts.{IsFileOf, IsPartBacked, reads, size};
 ghost use Rattle.disk_index.specs.Snapshots.{AreBacked, IsFileAmong, IsSnapshot, live, live_in};
 ghost use Rattle.ranker.specs.First.{Advances, SpendsWithin, counted};
-ghost use Rattle.ranker.specs.Passed.{IsAheadAt, IsKnown, IsPassed, IsPlace, asked_at, asked_of, behind, live_before, passed, ranges_in, ranges_of};
+ghost use Rattle.ranker.specs.Passed.{IsAheadAt, IsKnown, IsPassed, IsPlace, asked_at, asked_of, behind, layout, live_before, live_ranges, passed, ranges_of};
 ghost use Rattle.ranker.specs.Windows.{KeepsWindows};
 
 use crate::parts::pass_part;
@@ -51,10 +51,10 @@ fn pass_marked<T: Store, F: Fn(u32, u32, u64, u64) -> Fraction, L: Ledger>(
     requires plugs { All (HasPrior (length plugs.old)) (network_tree network.now).leaves }
     ensures first { IsPartBacked (T.files store.old) marked.now.source → IsCacheBacked (T.files store.old) cache.old
         → IsKnown rule.now.kind (map (λ plug. meaning plug) plugs.old) (map filter_tree filters.now) (network_tree network.now) tables.now number (reads (T.files store.old) marked.now.source) id ahead → IfOk result (λ to.
-        Advances rule.now.kind (map (λ plug. meaning plug) plugs.old) (map filter_tree filters.now) (network_tree network.now) (live_before (T.files store.old) marked.now id) (live_before (T.files store.old) marked.now to.id) (counted first.old squares.old (asked_of id ahead)) (counted first.new squares.new (asked_of to.id to.ahead))) }
+        Advances rule.now.kind (map (λ plug. meaning plug) plugs.old) (map filter_tree filters.now) (network_tree network.now) (live_before (T.files store.old) marked.now id) (live_before (T.files store.old) marked.now to.id) (counted first.old squares.old (asked_of marked.now.marks id ahead)) (counted first.new squares.new (asked_of marked.now.marks to.id to.ahead))) }
     ensures within { IsPartBacked (T.files store.old) marked.now.source → IsCacheBacked (T.files store.old) cache.old
         → IsKnown rule.now.kind (map (λ plug. meaning plug) plugs.old) (map filter_tree filters.now) (network_tree network.now) tables.now number (reads (T.files store.old) marked.now.source) id ahead
-        → SpendsWithin rule.now.kind (map (λ plug. meaning plug) plugs.old) (map filter_tree filters.now) (network_tree network.now) (live_before (T.files store.old) marked.now id) (live_in (T.files store.old) marked.now) (asked_of id ahead) (ranges_of (length (reads (T.files store.old) marked.now.source))) squares.old squares.new }
+        → SpendsWithin rule.now.kind (map (λ plug. meaning plug) plugs.old) (map filter_tree filters.now) (network_tree network.now) (live_before (T.files store.old) marked.now id) (live_in (T.files store.old) marked.now) (asked_of marked.now.marks id ahead) (live_ranges marked.now.marks (ranges_of (length (reads (T.files store.old) marked.now.source)))) squares.old squares.new }
     ensures windows { OnOk result (KeepsWindows (network_tree network.now) (live_in (T.files store.old) marked.now) first.old first.new) }
     ensures ahead { IsPartBacked (T.files store.old) marked.now.source → IsCacheBacked (T.files store.old) cache.old
         → IsKnown rule.now.kind (map (λ plug. meaning plug) plugs.old) (map filter_tree filters.now) (network_tree network.now) tables.now number (reads (T.files store.old) marked.now.source) id ahead → IfOk result (λ to.
@@ -137,7 +137,7 @@ fn pass_next<T: Store, F: Fn(u32, u32, u64, u64) -> Fraction, L: Ledger>(
     ensures first { AreBacked (T.files store.old) parts.now → IsCacheBacked (T.files store.old) cache.old → IsAheadAt rule.now.kind (map (λ plug. meaning plug) plugs.old) (map filter_tree filters.now) (network_tree network.now) tables.now (T.files store.old) parts.now at.old → OnOk result
         (Advances rule.now.kind (map (λ plug. meaning plug) plugs.old) (map filter_tree filters.now) (network_tree network.now) (passed (T.files store.old) parts.now at.old) (passed (T.files store.old) parts.now at.new) (counted first.old squares.old (asked_at parts.now at.old)) (counted first.new squares.new (asked_at parts.now at.new))) }
     ensures within { AreBacked (T.files store.old) parts.now → IsCacheBacked (T.files store.old) cache.old → IsAheadAt rule.now.kind (map (λ plug. meaning plug) plugs.old) (map filter_tree filters.now) (network_tree network.now) tables.now (T.files store.old) parts.now at.old
-        → SpendsWithin rule.now.kind (map (λ plug. meaning plug) plugs.old) (map filter_tree filters.now) (network_tree network.now) (passed (T.files store.old) parts.now at.old) (live (T.files store.old) parts.now) (asked_at parts.now at.old) (ranges_in parts.now) squares.old squares.new }
+        → SpendsWithin rule.now.kind (map (λ plug. meaning plug) plugs.old) (map filter_tree filters.now) (network_tree network.now) (passed (T.files store.old) parts.now at.old) (live (T.files store.old) parts.now) (asked_at parts.now at.old) (layout parts.now) squares.old squares.new }
     ensures windows { OnOk result (KeepsWindows (network_tree network.now) (live (T.files store.old) parts.now) first.old first.new) }
     ensures ahead { AreBacked (T.files store.old) parts.now → IsCacheBacked (T.files store.old) cache.old → IsAheadAt rule.now.kind (map (λ plug. meaning plug) plugs.old) (map filter_tree filters.now) (network_tree network.now) tables.now (T.files store.old) parts.now at.old → OnOk result
         (IsAheadAt rule.now.kind (map (λ plug. meaning plug) plugs.old) (map filter_tree filters.now) (network_tree network.now) tables.now (T.files store.old) parts.now at.new) }
@@ -184,7 +184,7 @@ pub fn pass_parts<T: Store, F: Fn(u32, u32, u64, u64) -> Fraction, L: Ledger>(
     ensures first { AreBacked (T.files store.old) parts.now → IsCacheBacked (T.files store.old) cache.old → IsAheadAt rule.now.kind (map (λ plug. meaning plug) plugs.old) (map filter_tree filters.now) (network_tree network.now) tables.now (T.files store.old) parts.now at.old → OnOk result
         (Advances rule.now.kind (map (λ plug. meaning plug) plugs.old) (map filter_tree filters.now) (network_tree network.now) (passed (T.files store.old) parts.now at.old) (passed (T.files store.old) parts.now at.new) (counted first.old squares.old (asked_at parts.now at.old)) (counted first.new squares.new (asked_at parts.now at.new))) }
     ensures within { AreBacked (T.files store.old) parts.now → IsCacheBacked (T.files store.old) cache.old → IsAheadAt rule.now.kind (map (λ plug. meaning plug) plugs.old) (map filter_tree filters.now) (network_tree network.now) tables.now (T.files store.old) parts.now at.old
-        → SpendsWithin rule.now.kind (map (λ plug. meaning plug) plugs.old) (map filter_tree filters.now) (network_tree network.now) (passed (T.files store.old) parts.now at.old) (live (T.files store.old) parts.now) (asked_at parts.now at.old) (ranges_in parts.now) squares.old squares.new }
+        → SpendsWithin rule.now.kind (map (λ plug. meaning plug) plugs.old) (map filter_tree filters.now) (network_tree network.now) (passed (T.files store.old) parts.now at.old) (live (T.files store.old) parts.now) (asked_at parts.now at.old) (layout parts.now) squares.old squares.new }
     ensures windows { OnOk result (KeepsWindows (network_tree network.now) (live (T.files store.old) parts.now) first.old first.new) }
     ensures ahead { AreBacked (T.files store.old) parts.now → IsCacheBacked (T.files store.old) cache.old → IsAheadAt rule.now.kind (map (λ plug. meaning plug) plugs.old) (map filter_tree filters.now) (network_tree network.now) tables.now (T.files store.old) parts.now at.old → OnOk result
         (IsAheadAt rule.now.kind (map (λ plug. meaning plug) plugs.old) (map filter_tree filters.now) (network_tree network.now) tables.now (T.files store.old) parts.now at.new) }

@@ -17,11 +17,13 @@ use Rattle.seg_codec.specs.declared.documents.Entry.{Entry}
 use Rattle.disk_index.specs.Blocks.{block_of, places_of}
 use Rattle.disk_index.specs.Faults.{ArePlacesIn}
 use Rattle.disk_index.proofs.EntryLemmas.{places_of-block}
-use Rattle.range_masks.specs.Held.{AreAnswersOf, AreBlocksOf, FitDocuments, HasAll, Held, IsEntryOf, answer, bit_answer, block_in}
+use Rattle.range_masks.specs.Held.{AreAnswersOf, AreBlocksOf, FitDocuments, HasAll, Held, IsEntryOf, answer, bit_answer, block_in, most_answer}
 use Rattle.range_masks.specs.Masks.{IsMask}
 use Rattle.range_masks.specs.May.{has_term}
+use Rattle.range_masks.specs.Most.{most_of_entries, most_places}
 use Rattle.range_masks.proofs.BlockLemmas.{has_block-term}
 use Rattle.range_masks.proofs.EntryLemmas.{places-among}
+use Rattle.range_masks.proofs.MostLemmas.{most_by_entries}
 
 -- ---- the blocks of documents answer as these documents
 
@@ -54,8 +56,19 @@ module _ (docs : List Document) (held : Held) (are : AreBlocksOf docs held) (ter
       by false e = tt
       by true e = tell (eqb-true range held.range e) (block_in held term) (are term)
 
+  most-told : (range : ℕ) → IfSome (most_answer held term range) (λ n. n ≡ most_places term range docs)
+  most-told range = by (range == held.range) refl
+    where
+      tell : (range ≡ held.range) → (o : Option (List BlockEntry)) → IfSome o (λ es. es ≡ block_of term held.range docs) → IfSome (option_map most_of_entries o) (λ n. n ≡ most_places term range docs)
+      tell here None is = tt
+      tell here (Some es) is = most_by_entries term range docs es (most_of_entries es) (own range here es is) refl
+
+      by : (b : Bool) → (range == held.range) ≡ b → IfSome (cond b (option_map most_of_entries (block_in held term)) None) (λ n. n ≡ most_places term range docs)
+      by false e = tt
+      by true e = tell (eqb-true range held.range e) (block_in held term) (are term)
+
 pub answers-of : (docs : List Document) (held : Held) → AreBlocksOf docs held → AreAnswersOf docs held
-answers-of docs held are = record { each = places-told docs held are; bits = bits-told docs held are }
+answers-of docs held are = record { each = places-told docs held are; bits = bits-told docs held are; most = most-told docs held are }
 
 -- what a block that is held tells of its range
 pub bits-held : (held : Held) (term : List ℕ) (range mask : ℕ) (es : List BlockEntry) → (range == held.range) ≡ true → block_in held term ≡ Some es
@@ -66,6 +79,11 @@ bits-held held term range mask es here at bits i small =
     let bit : Bool → ℕ = λ has. cond has 1 0 in
     let told : bit_answer held term range i ≡ Some (test es) = ap (λ b. cond b (option_map test (block_in held term)) None) here ∙ ap (option_map test) at in
     ap Some (bits i small) ∙ sym (ap (option_map bit) told)
+
+pub most-held : (held : Held) (term : List ℕ) (range most : ℕ) (es : List BlockEntry) → (range == held.range) ≡ true → block_in held term ≡ Some es → most ≡ most_of_entries es
+    → Some most ≡ most_answer held term range
+most-held held term range most es here at told =
+    ap Some told ∙ sym (ap (λ b. cond b (option_map most_of_entries (block_in held term)) None) here ∙ ap (option_map most_of_entries) at)
 
 -- a mask of the bits that they tell
 pub mask-told : (docs : List Document) (held : Held) (term : List ℕ) (range mask : ℕ) → AreAnswersOf docs held

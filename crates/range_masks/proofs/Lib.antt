@@ -3,5 +3,7 @@ pub mod EntryLemmas
 pub mod HeldLemmas
 pub mod MaskLemmas
 pub mod MayLemmas
+pub mod MostLemmas
 pub mod NextLemmas
 pub mod PostingLemmas
+pub mod RunLemmas

@@ -1,5 +1,5 @@
 -- The postings of a term, and which documents have it.
-use Rattle.std.proofs.Common.{◌≡◌, ◌<◌, ◌≤◌, ℕ, ◌+◌, ◌*◌, ◌/◌, ◌%◌, ◌==◌, Bool, true, false, ◌||◌, ◌⊎◌, inl, inr, ⊎_elim, cond, leb, ltb, List, [], ◌∷◌, ◌++◌, length, take, drop, get_or, unwrap_or, refl, sym, ap, subst, ◌∙◌, arith}
+use Rattle.std.proofs.Common.{◌≡◌, ◌≢◌, ◌<◌, ◌≤◌, ℕ, ◌+◌, ◌*◌, ◌/◌, ◌%◌, ◌==◌, Bool, true, false, ◌||◌, ◌⊎◌, inl, inr, ⊎_elim, cond, leb, ltb, List, [], ◌∷◌, ◌++◌, length, take, drop, get_or, unwrap_or, refl, sym, ap, subst, ◌∙◌, arith}
 use Rattle.std.specs.Int.{bit_at}
 use Rattle.std.specs.List.{All, list_any}
 use Rattle.std.specs.List.Sorted.{IsNonDecreasingBy, IsPartitionPoint}
@@ -8,17 +8,17 @@ use Rattle.std.proofs.lemmas.Bool.{cases_lt}
 use Rattle.std.proofs.lemmas.Bool.Decides.{eqb_tells}
 use Rattle.std.proofs.lemmas.List.{take-append-drop}
 use Rattle.std.proofs.lemmas.List.Elements.{All-head, All-tail, All-take, All-weaker}
-use Rattle.std.proofs.lemmas.List.Folds.{list_any-append, list_any_more, list_any_none}
+use Rattle.std.proofs.lemmas.List.Folds.{list_any_more}
+use Rattle.std.proofs.lemmas.List.Sorted.{IsNonDecreasingBy-drop, IsNonDecreasingBy-take}
 use Rattle.std.proofs.lemmas.Option.{slice_get_past}
 use Rattle.ri_base.specs.Collection.{document_at, empty_document}
 use Rattle.ri_base.specs.Documents.{Document}
 use Rattle.ri_base.specs.Places.{places, places_at, places_from, postings_from, postings_of}
 use Rattle.ri_base.specs.declared.places.Place.{Place}
-use Rattle.ri_base.proofs.ListLemmas.{All-drop_within, All-take_within}
+use Rattle.ri_base.proofs.ListLemmas.{All-drop_within, All-take_within, append_nil}
 use Rattle.ri_base.proofs.PlacesLemmas.{made_other, places_at-append, places_at-postings}
 use Rattle.range_masks.specs.Masks.{IsBlock, IsMask}
 use Rattle.range_masks.specs.May.{has_term}
-use Rattle.range_masks.proofs.MaskLemmas.{or_false}
 
 -- ---- a term has a place where the document has it
 
@@ -91,19 +91,19 @@ same_ids range i (p ∷ ps) small inside =
     ∙ ap (λ b. (p.id == 64 * range + i) || b) (same_ids range i ps small (All-tail P p ps inside))
 
 -- no id of an earlier or a later range
-below_other : (id range i : ℕ) → ltb (id / 64) range ≡ true → (id == 64 * range + i) ≡ false
-below_other id range i h = go (eqb_tells id (64 * range + i))
-  where
-    go : (((id == 64 * range + i) ≡ true) × (id ≡ 64 * range + i)) ⊎ (((id == 64 * range + i) ≡ false) × (id ≡ 64 * range + i → ⊥)) → (id == 64 * range + i) ≡ false
-    go (inl a) = let less : id / 64 < range = grind (arith, h) in absurd (omega (arith, less, a.1))
-    go (inr a) = a.0
+below_other : (id range i : ℕ) → ltb (id / 64) range ≡ true → id ≢ 64 * range + i
+below_other id range i h is = let less : id / 64 < range = grind (arith, h) in omega (arith, less, is)
 
-above_other : (id range i : ℕ) → i < 64 → leb (id / 64) range ≡ false → (id == 64 * range + i) ≡ false
-above_other id range i small h = go (eqb_tells id (64 * range + i))
-  where
-    go : (((id == 64 * range + i) ≡ true) × (id ≡ 64 * range + i)) ⊎ (((id == 64 * range + i) ≡ false) × (id ≡ 64 * range + i → ⊥)) → (id == 64 * range + i) ≡ false
-    go (inl a) = let more : range < id / 64 = grind (arith, h) in absurd (omega (arith, more, a.1, small))
-    go (inr a) = a.0
+above_other : (id range i : ℕ) → i < 64 → leb (id / 64) range ≡ false → id ≢ 64 * range + i
+above_other id range i small h is = let more : range < id / 64 = grind (arith, h) in omega (arith, more, is, small)
+
+pub places_at-others : (id : ℕ) (ps : List Place) → All (λ p. p.id ≢ id) ps → places_at id ps ≡ []
+places_at-others id [] all = refl
+places_at-others id (p ∷ ps) all =
+    let P : Place → Type 0 = λ q. q.id ≢ id in
+    let other : p.id ≢ id = All-head P p ps all in
+    let test : (p.id == id) ≡ false = grind (arith, other) in
+    ap (λ b. cond b (p.at ∷ places_at id ps) (places_at id ps)) test ∙ places_at-others id ps (All-tail P p ps all)
 
 own : (id range : ℕ) → ltb (id / 64) range ≡ false → leb (id / 64) range ≡ true → id / 64 ≡ range
 own id range h k =
@@ -112,11 +112,11 @@ own id range h k =
     omega (arith, from, to)
 
 -- what two searches for the ends of a range leave between them
-pub IsBlock-searched : (range first count : ℕ) (ps rest : List Place) → rest ≡ drop first ps → first ≤ length ps → count ≤ length rest
+pub IsBlock-searched : (range first count : ℕ) (ps rest : List Place) → rest ≡ drop first ps → first ≤ length ps → count ≤ length rest → IsNonDecreasingBy (λ p. p.id) ps
     → IsPartitionPoint (λ p. ltb (p.id / 64) range ≡ true) (λ p. ltb (p.id / 64) range ≡ false) ps first
     → IsPartitionPoint (λ p. leb (p.id / 64) range ≡ true) (λ p. leb (p.id / 64) range ≡ false) rest count
     → IsBlock range ps (take count rest)
-IsBlock-searched range first count ps rest is below within low high =
+IsBlock-searched range first count ps rest is below within up low high =
     let Before : Place → Type 0 = λ p. ltb (p.id / 64) range ≡ true in
     let From : Place → Type 0 = λ p. ltb (p.id / 64) range ≡ false in
     let UpTo : Place → Type 0 = λ p. leb (p.id / 64) range ≡ true in
@@ -124,19 +124,21 @@ IsBlock-searched range first count ps rest is below within low high =
     let from : All From rest = subst (All From) (sym is) (All-drop_within From ps first below low.1) in
     let upto : All UpTo (take count rest) = All-take_within UpTo rest count within high.0 in
     let from_too : All From (take count rest) = All-take From count rest from in
+    let id_of : Place → ℕ = λ p. p.id in
     record {
       inside = λ k d h. own (get_or (take count rest) k d).id range (from_too k d h) (upto k d h);
+      rising = IsNonDecreasingBy-take id_of count rest (subst (IsNonDecreasingBy id_of) (sym is) (IsNonDecreasingBy-drop id_of first ps up));
       whole = λ i small.
-          let test : Place → Bool = λ p. p.id == 64 * range + i in
-          let Other : Place → Type 0 = λ p. test p ≡ false in
+          let id = 64 * range + i in
+          let Other : Place → Type 0 = λ p. p.id ≢ id in
           let front : All Other (take first ps) = All-weaker Before Other (λ p h. below_other p.id range i h) (take first ps) (All-take_within Before ps first below low.0) in
           let back : All Other (drop count rest) = All-weaker After Other (λ p h. above_other p.id range i small h) (drop count rest) (All-drop_within After rest count within high.1) in
-          sym (ap (list_any test) (sym (take-append-drop first ps)) ∙ list_any-append test (take first ps) (drop first ps)
-          ∙ ap (λ b. b || list_any test (drop first ps)) (list_any_none test (take first ps) front)
-          ∙ ap (list_any test) (sym is)
-          ∙ ap (list_any test) (sym (take-append-drop count rest)) ∙ list_any-append test (take count rest) (drop count rest)
-          ∙ ap (λ b. list_any test (take count rest) || b) (list_any_none test (drop count rest) back)
-          ∙ or_false (list_any test (take count rest)));
+          sym (ap (places_at id) (sym (take-append-drop first ps)) ∙ places_at-append id (take first ps) (drop first ps)
+          ∙ ap (λ l. l ++ places_at id (drop first ps)) (places_at-others id (take first ps) front)
+          ∙ ap (places_at id) (sym is)
+          ∙ ap (places_at id) (sym (take-append-drop count rest)) ∙ places_at-append id (take count rest) (drop count rest)
+          ∙ ap (λ l. places_at id (take count rest) ++ l) (places_at-others id (drop count rest) back)
+          ∙ append_nil (places_at id (take count rest)));
     }
 
 -- postings by rising id are postings by rising range
@@ -161,11 +163,16 @@ module _ {A : Type 0} (id_of : A → ℕ) (block : List A) (k mask new : ℕ) wh
       → (i : ℕ) → i < 64 → bit_at new i ≡ cond (list_any (λ y. id_of y % 64 == i) (take (k + 1) block)) 1 0
   bits_more_at x inside is set so_far i small = bits_more x inside (subst (λ (y : A). IsSet (id_of y)) is set) so_far i small
 
+-- the places of a range's documents, among its postings
+pub places-block : (t : List ℕ) (range : ℕ) (docs : List Document) (all block : List Place) → all ≡ postings_of t docs → IsBlock range all block
+    → (i : ℕ) → i < 64 → places_at (64 * range + i) block ≡ places t (document_at docs (64 * range + i))
+places-block t range docs all block is h i small = let id = 64 * range + i in h.whole i small ∙ ap (places_at id) is ∙ at_any id t docs
+
 pub IsMask-block : (t : List ℕ) (range : ℕ) (docs : List Document) (all block : List Place) (mask : ℕ) → all ≡ postings_of t docs → IsBlock range all block
     → ((i : ℕ) → i < 64 → bit_at mask i ≡ cond (list_any (λ p. p.id % 64 == i) block) 1 0) → IsMask (has_term t) range docs mask
 IsMask-block t range docs all block mask is h bits = record {
   bits = λ i small.
       let id = 64 * range + i in
-      bits i small ∙ ap (λ b. cond b 1 0) (same_ids range i block small h.inside ∙ h.whole i small
-      ∙ ap (λ ps. list_any (λ p. p.id == id) ps) is ∙ some_at id (postings_of t docs) ∙ ap some (at_any id t docs) ∙ some_place t (document_at docs id));
+      bits i small ∙ ap (λ b. cond b 1 0) (same_ids range i block small h.inside ∙ some_at id block
+      ∙ ap some (places-block t range docs all block is h i small) ∙ some_place t (document_at docs id));
 }

@@ -15,6 +15,7 @@ use Rattle.disk_index.specs.Blocks.{block_of, places_of}
 use Rattle.disk_index.specs.Faults.{ArePlacesIn}
 use Rattle.disk_index.specs.Parts.{Source, InMemory, OnDisk}
 use Rattle.range_masks.specs.May.{has_term}
+use Rattle.range_masks.specs.Most.{most_of_entries, most_places}
 
 -- the range, the terms with the blocks that are held, and how many blocks were opened
 pub record Held : Type 0 where
@@ -34,14 +35,20 @@ answer held term id = if id / 64 == held.range then option_map (places_of id) (b
 abbrev pub bit_answer : Held → List ℕ → ℕ → ℕ → Option Bool
 bit_answer held term range i = if range == held.range then option_map (λ es. list_any (λ e. e.id % 64 == i) es) (block_in held term) else None
 
+-- how many places they tell that a term has at most in one document of a range; none are told of another range, or where the block
+-- isn't held
+abbrev pub most_answer : Held → List ℕ → ℕ → Option ℕ
+most_answer held term range = if range == held.range then option_map most_of_entries (block_in held term) else None
+
 -- each block is the one that these documents have
 abbrev pub AreBlocksOf : List Document → Held → Type 0
 AreBlocksOf docs held = (term : List ℕ) → IfSome (block_in held term) (λ es. es ≡ block_of term held.range docs)
 
--- each answer, on places and on which documents have a term, is that of these documents
+-- each answer, on places, on which documents have a term and on how many places it has there at most, is that of these documents
 pub record AreAnswersOf (docs : List Document) (held : Held) : Type 0 where
   pub each : (term : List ℕ) (id : ℕ) → id < length docs → IfSome (answer held term id) (λ ps. ps ≡ places term (document_at docs id))
   pub bits : (term : List ℕ) (range i : ℕ) → i < 64 → IfSome (bit_answer held term range i) (λ b. b ≡ has_term term (document_at docs (64 * range + i)))
+  pub most : (term : List ℕ) (range : ℕ) → IfSome (most_answer held term range) (λ n. n ≡ most_places term range docs)
 
 -- the entry of one of these documents, with rising places in it
 pub record IsEntryOf (outlines : List Entry) (e : BlockEntry) : Type 0 where

@@ -7,8 +7,9 @@ ghost use Rattle.ri_base.specs.Keeps.{Rose};
 ghost use Rattle.store_ends.specs.Files.{Files, IsQuiet};
 ghost use Rattle.disk_index.specs.Cache.{CacheKeeps, IsCacheBacked};
 ghost use Rattle.disk_index.specs.Parts.{IsFileOf, IsPartBacked, IsSourceFault, outlines_of, reads, source_of};
-ghost use Rattle.range_masks.specs.Held.{AreAnswersOf, AreBlocksOf, FitDocuments, HoldsEach, answer, bit_answer, block_in, most_opened};
+ghost use Rattle.range_masks.specs.Held.{AreAnswersOf, AreBlocksOf, FitDocuments, HoldsEach, answer, bit_answer, block_in, most_answer, most_opened};
 
+use crate::most::most_of_entries;
 use crate::opening::open_on_disk;
 use crate::part::mask_of_entries;
 use disk_index::{Block, BlockCache, Part};
@@ -121,6 +122,19 @@ impl RangeBlocks {
         }
         match self.blocks.get(term) {
             Some(block) => Some(mask_of_entries(block.entries())),
+            None => None,
+        }
+    }
+
+    /// How many places the term has at most in one document of the range, where the term's block is held.
+    pub(crate) fn most(&self, term: &Term, range: u32) -> Option<usize>
+        ensures { result ≡ most_answer self.now term.now range }
+    {
+        if range != self.range {
+            return None;
+        }
+        match self.blocks.get(term) {
+            Some(block) => Some(most_of_entries(block.entries())),
             None => None,
         }
     }

@@ -1,16 +1,18 @@
-//! Which documents of a range of 64 ids may have an extent of an expression, by the terms that they have; and the blocks of some terms
-//! for such a range, opened once.
+//! Which documents of a range of 64 ids may have an extent of an expression, by the terms that they have; how often one of them has a
+//! term at most; and the blocks of some terms for such a range, opened once.
 #![tactic(auto)]
 
 mod bits;
 mod blocks;
 mod expression;
 mod laws;
+mod most;
 mod next;
 mod opening;
 mod part;
 mod query;
 mod reader;
+mod runs;
 mod sealed;
 mod term_masks;
 

@@ -6,6 +6,7 @@ ghost use Rattle.ri_base.specs.Documents.{Document};
 ghost use Rattle.ri_base.specs.Faults.{IsOutside};
 ghost use Rattle.ri_base.specs.Keeps.{Rose};
 ghost use Rattle.store_ends.specs.Files.{IsQuiet};
+ghost use Rattle.disk_index.specs.Blocks.{block_of};
 ghost use Rattle.disk_index.specs.Cache.{CacheKeeps, IsCacheBacked};
 ghost use Rattle.disk_index.specs.Parts.{IsFileOf, IsPartBacked, reads, source_of};
 ghost use Rattle.disk_index.specs.Reads.{IsBacked};
@@ -14,8 +15,9 @@ ghost use Rattle.range_masks.specs.May.{has_term};
 
 use crate::TermMasks;
 use crate::bits::with_id;
+use crate::most::most_in_part;
 use crate::sealed::mask_in;
-use disk_index::{BlockCache, DiskIndex, Part, PartReader};
+use disk_index::{Block, BlockCache, DiskIndex, Part, PartReader};
 use ri_base::{SegFault, Steps, Term};
 use seg_codec::BlockEntry;
 use std::alloc::Global;
@@ -26,6 +28,10 @@ use store_ends::Store;
 impl<'a, T: Store> TermMasks for PartReader<'a, T> {
     fn term_mask(&mut self, alloc: Global, term: &Term, range: u32) -> Result<u64, SegFault> {
         mask_in_part(alloc, self.part, self.store, self.cache, term, range)
+    }
+
+    fn most_places(&mut self, alloc: Global, term: &Term, range: u32) -> Result<usize, SegFault> {
+        most_in_part(alloc, self.part, self.store, self.cache, term, range)
     }
 
     fn next_term_range(&self, term: &Term, from: u32) -> Option<u32> {
@@ -76,11 +82,12 @@ fn mask_on_disk<T: Store>(
     if !index.has_block(term, range) {
         return Ok(0);
     }
-    mask_of_block::<T, Brand>(alloc, index, store, cache, term, range, Blank::new(1))
+    let block = range_block::<T, Brand>(alloc, index, store, cache, term, range, Blank::new(1))?;
+    Ok(mask_of_entries(block.entries()))
 }
 
-/// The same by the block that is read, with a counter of its own.
-fn mask_of_block<T: Store, L: Ledger>(
+/// The block of the term for the range, read with a counter of its own.
+pub(crate) fn range_block<T: Store, L: Ledger>(
     alloc: Global,
     index: &DiskIndex,
     store: &mut T,
@@ -88,12 +95,12 @@ fn mask_of_block<T: Store, L: Ledger>(
     term: &Term,
     range: u32,
     blank: Blank,
-) -> Result<u64, SegFault>
+) -> Result<Block, SegFault>
     requires name { blank.name ≡ L.name }
     requires parts { blank.parts ≡ L.parts }
     requires some { 0 < blank.parts }
     ensures exact { (docs : List Document) → IsBacked (T.files store.old) index.now docs → IsCacheBacked (T.files store.old) cache.old
-        → IfOk result (IsMask (has_term term.now) range docs) }
+        → IfOk result (λ block. block ≡ block_of term.now range docs) }
     ensures honest { (docs : List Document) → IsBacked (T.files store.old) index.now docs → IfErr result IsOutside }
     ensures cache { CacheKeeps (T.files store.old) (λ n. n ≡ index.now.number) cache.old cache.new }
     ensures quiet { IsQuiet T.files T.layers T.clock T.since T.longest T.held store.old store.new }
@@ -101,8 +108,7 @@ fn mask_of_block<T: Store, L: Ledger>(
     ensures store { result ≡ Err SegFault.Store → Rose (T.faults store.old) (T.faults store.new) }
 {
     let mut blocks = Steps::<L>::new(blank);
-    let block = index.block(alloc, store, cache, term, range, &mut blocks)?;
-    Ok(mask_of_entries(block.entries()))
+    index.block(alloc, store, cache, term, range, &mut blocks)
 }
 
 /// Which ids, counted within their range, the entries of a block have.

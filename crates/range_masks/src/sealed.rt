@@ -5,9 +5,11 @@ ghost use Rattle.std.specs.List.{list_any};
 ghost use Rattle.std.specs.List.Sorted.{IsNonDecreasingBy};
 ghost use Rattle.range_masks.specs.Masks.{IsBlock, IsMask};
 ghost use Rattle.range_masks.specs.May.{has_term};
+ghost use Rattle.range_masks.specs.Most.{most_places};
 
 use crate::TermMasks;
 use crate::bits::with_id;
+use crate::runs::longest_run;
 use disk_index::{next_in_memory, term_postings};
 use ri_base::{Place, Sealed, SegFault, Term};
 use std::alloc::Global;
@@ -15,6 +17,10 @@ use std::alloc::Global;
 impl TermMasks for Sealed {
     fn term_mask(&mut self, _alloc: Global, term: &Term, range: u32) -> Result<u64, SegFault> {
         Ok(mask_in(self, term, range))
+    }
+
+    fn most_places(&mut self, _alloc: Global, term: &Term, range: u32) -> Result<usize, SegFault> {
+        Ok(most_in(self, term, range))
     }
 
     fn next_term_range(&self, term: &Term, from: u32) -> Option<u32> {
@@ -27,6 +33,13 @@ pub(crate) fn mask_in(index: &Sealed, term: &Term, range: u32) -> u64
     ensures { IsMask (has_term term.now) range index.now result }
 {
     mask_of_ids(block_of(term_postings(index, term), range))
+}
+
+/// How many places the term has at most in one document of the range.
+pub(crate) fn most_in(index: &Sealed, term: &Term, range: u32) -> usize
+    ensures { result ≡ most_places term.now range index.now }
+{
+    longest_run(block_of(term_postings(index, term), range))
 }
 
 /// Of postings by rising id those of the range.

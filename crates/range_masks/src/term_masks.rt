@@ -4,17 +4,26 @@ ghost use Rattle.ri_base.specs.Faults.{IsOutside};
 ghost use Rattle.ri_base.specs.Keeps.{Keeps, Rose};
 ghost use Rattle.range_masks.specs.Masks.{IsMask};
 ghost use Rattle.range_masks.specs.May.{has_term};
+ghost use Rattle.range_masks.specs.Most.{most_places};
 ghost use Rattle.range_masks.specs.Next.{IsPassed};
 
 use ri_base::{Postings, SegFault, Term};
 use std::alloc::Global;
 
-/// A part of the collection that tells which documents of a range have a term, by one look at the term's places there.
+/// A part of the collection that tells which documents of a range have a term, and how often one of them has it at most, each by one
+/// look at the term's places there.
 pub trait TermMasks: Postings {
     /// Which documents of the range have the term: bit i is that of the document with the id `64 * range + i`.
     fn term_mask(&mut self, alloc: Global, term: &Term, range: u32) -> Result<u64, SegFault>
         ensures keeps { Keeps Self.documents Self.faults Self.sound Self.quiet self.old self.new }
         ensures exact { Self.sound self.old → IfOk result (IsMask (has_term term.now) range (Self.documents self.old)) }
+        ensures honest { Self.sound self.old → IfErr result IsOutside }
+        ensures store { result ≡ Err SegFault.Store → Rose (Self.faults self.old) (Self.faults self.new) };
+
+    /// How many places the term has at most in one document of the range.
+    fn most_places(&mut self, alloc: Global, term: &Term, range: u32) -> Result<usize, SegFault>
+        ensures keeps { Keeps Self.documents Self.faults Self.sound Self.quiet self.old self.new }
+        ensures exact { Self.sound self.old → IfOk result (λ most. most ≡ most_places term.now range (Self.documents self.old)) }
         ensures honest { Self.sound self.old → IfErr result IsOutside }
         ensures store { result ≡ Err SegFault.Store → Rose (Self.faults self.old) (Self.faults self.new) };
 

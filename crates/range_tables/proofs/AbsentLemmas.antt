@@ -13,16 +13,19 @@ use Rattle.query_check.specs.Leaves.{LeafTree, extents, prior}
 use Rattle.range_masks.specs.May.{has_term, leaf_may, may, query_may, some_may}
 use Rattle.range_masks.specs.Next.{IsPassed}
 use Rattle.range_masks.proofs.MayLemmas.{may-Ext}
-use Rattle.range_masks.proofs.PostingLemmas.{some_place}
+use Rattle.range_masks.proofs.PostingLemmas.{some, some_place}
 use Rattle.range_bounds.specs.Most.{capped, each_occurs, most_by, most_of_first, total_most}
 use Rattle.range_bounds.specs.Ranges.{most_places, range_documents}
 use Rattle.range_bounds.specs.Tables.{IsAbsent}
 use Rattle.range_bounds.proofs.Togethers.{in_band, in_ordered, in_syn, in_unordered}
 use Rattle.range_tables.specs.Gaps.{AreAbsentTo}
-use Rattle.range_tables.proofs.MaskLemmas.{none_long}
 use Rattle.range_tables.proofs.SectionLemmas.{document_is}
 
 -- ---- a term
+
+none_long : (ps : List ℕ) → some ps ≡ false → length ps ≡ 0
+none_long [] h = refl
+none_long (p ∷ ps) h = absurd (both_ways true h refl)
 
 greatest_none : (a : ℕ) (ns : List ℕ) → All (λ n. n ≡ 0) ns → fold (λ m n. max m n) a ns ≡ a
 greatest_none a [] h = refl

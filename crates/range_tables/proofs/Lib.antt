@@ -1,7 +1,6 @@
 pub mod AbsentLemmas
 pub mod BeginLemmas
 pub mod Counted
-pub mod MaskLemmas
 pub mod NeedLemmas
 pub mod SectionLemmas
 pub mod TableLemmas

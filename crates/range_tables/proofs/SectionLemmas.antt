@@ -1,5 +1,5 @@
 -- Documents with the ids from one on up to another, one document more at a time.
-use Rattle.std.proofs.Common.{◌≡◌, ◌<◌, ◌≤◌, ◌+◌, ◌*◌, ◌-◌, ◌/◌, ℕ, zero, suc, min, List, [], ◌∷◌, ◌++◌, length, length-drop, map, take, drop, get_or, refl, sym, ap, subst, ◌∙◌, arith, ⊎_elim}
+use Rattle.std.proofs.Common.{◌≡◌, ◌<◌, ◌≤◌, ◌+◌, ◌*◌, ◌-◌, ℕ, zero, suc, min, List, [], ◌∷◌, ◌++◌, length, length-drop, map, take, drop, get_or, refl, sym, ap, subst, ◌∙◌, arith, ⊎_elim}
 use Rattle.std.specs.Prelude.{fold}
 use Rattle.std.specs.List.{All}
 use Rattle.std.proofs.lemmas.Bool.{cases_lt}
@@ -58,7 +58,3 @@ section_range docs range first end is to =
         ap (λ n. take n xs) all ∙ take_all (length xs) xs (omega arith) ∙ sym (take_all 64 xs (omega (arith, short))))
         (λ (long : 64 ≤ length xs). let some : min (length xs) 64 ≡ 64 = omega (arith, long) in ap (λ n. take n xs) some)
         (cases_lt (length xs) 64)
-
--- the same by the first id
-pub section_whole : (docs : List Document) (range first end : ℕ) → first ≡ 64 * range → end ≡ first + min (length docs - first) 64 → section docs first end ≡ range_documents docs (first / 64)
-section_whole docs range first end is to = section_range docs range first end is to ∙ ap (range_documents docs) (omega (arith, is))

@@ -40,12 +40,20 @@ fn some_has_word(all: &[ExtentExpr], term: &Term) -> bool
     false
 }
 
-/// Whether the leaf asks for the term and may occur in the range.
+/// Whether the expression is one term.
+fn is_word(expr: &ExtentExpr) -> bool {
+    matches!(expr, ExtentExpr::Word(_))
+}
+
+/// Whether the leaf asks for the term and may occur in the range. Of a leaf that is the term alone no more is asked: the places of the
+/// term there are looked up anyway.
 fn needs<P: TermMasks>(leaf: &LeafKind, term: &Term, part: &P, range: u32) -> bool
     ensures { P.sound part.now → result ≡ false → IsIdleIn (range_documents (P.documents part.now) range) term.now (leaf_tree leaf.now) }
 {
     match leaf {
-        LeafKind::Extents(expr, _) => has_word(expr, term) && may_occur(expr, part, range),
+        LeafKind::Extents(expr, _) => {
+            has_word(expr, term) && (is_word(expr) || may_occur(expr, part, range))
+        }
         LeafKind::Prior(_) => false,
     }
 }

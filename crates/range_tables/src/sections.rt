@@ -1,26 +1,22 @@
-// What is counted of the documents with the ids from one on up to another.
-ghost use Rattle.std.specs.Prelude.{◌≡◌, ◌≤◌, ◌<◌, ◌+◌, ◌*◌, ◌/◌, length, map, Err, IfErr, IfOk};
+// What is counted of the documents with the ids from one on up to another, and of those of a range.
+ghost use Rattle.std.specs.Prelude.{◌≡◌, ◌≤◌, ◌<◌, length, map, Err, IfErr, IfOk};
 ghost use Rattle.std.specs.List.{AllZip};
 ghost use Rattle.ri_base.specs.Collection.{document_at};
 ghost use Rattle.ri_base.specs.Documents.{IsDocument};
 ghost use Rattle.ri_base.specs.Faults.{IsOutside};
 ghost use Rattle.ri_base.specs.Keeps.{Keeps, Rose};
-ghost use Rattle.ri_base.specs.Places.{places};
 ghost use Rattle.ri_base.specs.declared.limits.TheConstants.{MAX_DOC_TOKENS};
 ghost use Rattle.query_check.specs.Leaves.{leaf_tree};
-ghost use Rattle.range_masks.specs.Masks.{IsMask};
-ghost use Rattle.range_masks.specs.May.{has_term};
 ghost use Rattle.range_bounds.specs.Most.{capped};
-ghost use Rattle.range_bounds.specs.Ranges.{least_length, most_begins, most_places, range_documents};
+ghost use Rattle.range_bounds.specs.Ranges.{least_length, most_begins, range_documents};
 ghost use Rattle.range_tables.specs.Needs.{IsTermCount};
 ghost use Rattle.range_tables.specs.Sections.{section};
 ghost use Rattle.range_bounds.specs.Tables.{AreFormed};
 
 use crate::begins::begin_count;
 use crate::needs::is_needed;
-use crate::table::RANGE_IDS;
 use query_check::LeafKind;
-use range_masks::{TermMasks, has_id};
+use range_masks::TermMasks;
 use ri_base::limits::MAX_DOC_TOKENS;
 use ri_base::{Name, NoMemory, Postings, SegFault, Term};
 use std::alloc::{AllocError, Global};
@@ -82,76 +78,6 @@ pub(crate) fn all_most_begins<P: Postings>(
     Ok(all)
 }
 
-/// How many places the term has in a document. The places are asked for only where the mask of the term has the document.
-fn place_count<P: TermMasks>(
-    alloc: Global,
-    part: &mut P,
-    term: &Term,
-    mask: u64,
-    id: u32,
-) -> Result<usize, SegFault>
-    requires { id < length (P.documents part.old) }
-    ensures keeps { Keeps P.documents P.faults P.sound P.quiet part.old part.new }
-    ensures exact { P.sound part.old → IsMask (has_term term.now) (id / 64) (P.documents part.old) mask → IfOk result
-        (λ count. count ≡ length (places term.now (document_at (P.documents part.old) id))) }
-    ensures honest { P.sound part.old → IfErr result IsOutside }
-    ensures store { result ≡ Err SegFault.Store → Rose (P.faults part.old) (P.faults part.new) }
-{
-    if !has_id(mask, id) {
-        return Ok(0);
-    }
-    let places = part.positions(alloc, term, id)?;
-    Ok(places.len())
-}
-
-/// How many places the term has at most in one document of a range with this mask for the term, whose ids go from one on up to
-/// another.
-fn most_by_mask<P: TermMasks>(
-    alloc: Global,
-    part: &mut P,
-    term: &Term,
-    mask: u64,
-    first: u32,
-    end: u32,
-) -> Result<u32, SegFault>
-    requires order { first ≤ end }
-    requires within { end ≤ length (P.documents part.old) }
-    requires few { end ≤ 64 * (first / 64) + 64 }
-    ensures keeps { Keeps P.documents P.faults P.sound P.quiet part.old part.new }
-    ensures exact { P.sound part.old → IsMask (has_term term.now) (first / 64) (P.documents part.old) mask → IfOk result
-        (λ most. most ≡ capped (most_places (section (P.documents part.old) first end) term.now)) }
-    ensures honest { P.sound part.old → IfErr result IsOutside }
-    ensures store { result ≡ Err SegFault.Store → Rose (P.faults part.old) (P.faults part.new) }
-{
-    let mut most = 0usize;
-    for id in first..end {
-        let count = place_count(alloc, part, term, mask, id)?;
-        most = most.max(count);
-    }
-    Ok(most.min(MAX_DOC_TOKENS) as u32)
-}
-
-/// How many places the term has at most in one document of the range.
-fn most_places<P: TermMasks>(
-    alloc: Global,
-    part: &mut P,
-    term: &Term,
-    first: u32,
-    end: u32,
-) -> Result<u32, SegFault>
-    requires order { first ≤ end }
-    requires within { end ≤ length (P.documents part.old) }
-    requires few { end ≤ 64 * (first / 64) + 64 }
-    ensures keeps { Keeps P.documents P.faults P.sound P.quiet part.old part.new }
-    ensures exact { P.sound part.old → IfOk result
-        (λ most. most ≡ capped (most_places (section (P.documents part.old) first end) term.now)) }
-    ensures honest { P.sound part.old → IfErr result IsOutside }
-    ensures store { result ≡ Err SegFault.Store → Rose (P.faults part.old) (P.faults part.new) }
-{
-    let mask = part.term_mask(alloc, term, first / RANGE_IDS)?;
-    most_by_mask(alloc, part, term, mask, first, end)
-}
-
 /// How many places the term has at most in one document of the range. Where no leaf that asks for the term may occur there, they
 /// aren't looked at, and it is 0.
 fn needed_places<P: TermMasks>(
@@ -159,23 +85,19 @@ fn needed_places<P: TermMasks>(
     part: &mut P,
     leaves: &[LeafKind],
     term: &Term,
-    first: u32,
-    end: u32,
+    range: u32,
 ) -> Result<u32, SegFault>
-    requires order { first ≤ end }
-    requires within { end ≤ length (P.documents part.old) }
-    requires few { end ≤ 64 * (first / 64) + 64 }
-    requires whole { section (P.documents part.old) first end ≡ range_documents (P.documents part.old) (first / 64) }
     ensures keeps { Keeps P.documents P.faults P.sound P.quiet part.old part.new }
     ensures exact { P.sound part.old → IfOk result
-        (IsTermCount (map leaf_tree leaves.now) (section (P.documents part.old) first end) term.now) }
+        (IsTermCount (map leaf_tree leaves.now) (range_documents (P.documents part.old) range) term.now) }
     ensures honest { P.sound part.old → IfErr result IsOutside }
     ensures store { result ≡ Err SegFault.Store → Rose (P.faults part.old) (P.faults part.new) }
 {
-    if !is_needed(leaves, term, part, first / RANGE_IDS) {
+    if !is_needed(leaves, term, part, range) {
         return Ok(0);
     }
-    most_places(alloc, part, term, first, end)
+    let most = part.most_places(alloc, term, range)?;
+    Ok(most.min(MAX_DOC_TOKENS) as u32)
 }
 
 /// The same of each term.
@@ -184,22 +106,17 @@ pub(crate) fn all_needed_places<P: TermMasks>(
     part: &mut P,
     leaves: &[LeafKind],
     terms: &[Term],
-    first: u32,
-    end: u32,
+    range: u32,
 ) -> Result<Vec<u32>, SegFault>
-    requires order { first ≤ end }
-    requires within { end ≤ length (P.documents part.old) }
-    requires few { end ≤ 64 * (first / 64) + 64 }
-    requires whole { section (P.documents part.old) first end ≡ range_documents (P.documents part.old) (first / 64) }
     ensures keeps { Keeps P.documents P.faults P.sound P.quiet part.old part.new }
     ensures exact { P.sound part.old → IfOk result
-        (λ v. AllZip (IsTermCount (map leaf_tree leaves.now) (section (P.documents part.old) first end)) terms.now v.items) }
+        (λ v. AllZip (IsTermCount (map leaf_tree leaves.now) (range_documents (P.documents part.old) range)) terms.now v.items) }
     ensures honest { P.sound part.old → IfErr result IsOutside }
     ensures store { result ≡ Err SegFault.Store → Rose (P.faults part.old) (P.faults part.new) }
 {
     let mut all = Vec::with_capacity(alloc, terms.len())?;
     for term in terms {
-        let most = needed_places(alloc, part, leaves, term, first, end)?;
+        let most = needed_places(alloc, part, leaves, term, range)?;
         all.push(most).map_err(AllocError::from)?;
     }
     Ok(all)

@@ -18,7 +18,7 @@ use ri_base::{Name, SegFault, Term};
 use std::alloc::{AllocError, Global};
 
 /// How many ids a range has.
-pub(crate) const RANGE_IDS: u32 = 64;
+const RANGE_IDS: u32 = 64;
 
 /// The table of the part for these leaves.
 pub fn table_of<P: TermMasks>(
@@ -124,7 +124,7 @@ fn range_counts<P: TermMasks>(
     let end = first + (docs - first).min(RANGE_IDS);
     let least = least_length(part, first, end);
     let begins = all_most_begins(alloc, part, names, first, end)?;
-    let places = all_needed_places(alloc, part, leaves, terms, first, end)?;
+    let places = all_needed_places(alloc, part, leaves, terms, range)?;
     Ok(RangeCounts::new(least, places, begins))
 }
 

@@ -20,4 +20,4 @@ returns c =
     IsPartitionPoint-from_clause (λ (p : Place). ltb (p.id / 64) range) ps first c.partition_point-first.ensures.partitioned (IsPartitionedBy-ltb (λ (p : Place). p.id / 64) ps range up) (λ a r f t. search rules) in
     let high : IsPartitionPoint (λ (p : Place). leb (p.id / 64) range ≡ true) (λ (p : Place). leb (p.id / 64) range ≡ false) rest count =
     IsPartitionPoint-from_clause (λ (p : Place). leb (p.id / 64) range) rest count c.partition_point-count.ensures.partitioned (IsPartitionedBy-leb (λ (p : Place). p.id / 64) rest range rises) (λ a r f t. search rules) in
-    IsBlock-searched range first count ps rest is c.partition_point-first.ensures.bound c.partition_point-count.ensures.bound low high
+    IsBlock-searched range first count ps rest is c.partition_point-first.ensures.bound c.partition_point-count.ensures.bound c.requires low high

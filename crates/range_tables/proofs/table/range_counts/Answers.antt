@@ -7,11 +7,8 @@ use Rattle.range_bounds.specs.Tables.{AreFormed}
 use Rattle.range_tables.specs.Needs.{IsTermCount}
 use Rattle.range_tables.specs.Sections.{section}
 use Rattle.range_tables.proofs.Counted.{tell_all}
-use Rattle.range_tables.proofs.SectionLemmas.{section_range, section_whole}
+use Rattle.range_tables.proofs.SectionLemmas.{section_range}
 use Rattle.range_tables.proofs.table.range_counts.Goals as goal
-
-pub all_needed_places-requires-clause-whole : goal.all_needed_places-requires-clause-whole
-all_needed_places-requires-clause-whole g c = section_whole (g.P.Postings.documents c.args.part.now) c.args.range _ _ (omega arith) (omega (arith, c.docs-docs.ensures, c.min.ensures))
 
 pub returns-clause-exact : goal.returns-clause-exact
 returns-clause-exact g c = λ sound.
@@ -20,8 +17,7 @@ returns-clause-exact g c = λ sound.
     let terms = c.args.terms.now in
     let items : Vec ℕ Global → List ℕ = λ v. v.items in
     let here : section docs (64 * c.args.range) _ ≡ range_documents docs c.args.range = section_range docs c.args.range _ _ (omega arith) (omega (arith, c.docs-docs.ensures, c.min.ensures)) in
-    let counted : AllZip (IsTermCount leaves (range_documents docs c.args.range)) terms c.in_ok-places.places.items = subst (λ ds. AllZip (IsTermCount leaves ds) terms c.in_ok-places.places.items) here (c.in_ok-places.ensures.exact sound) in
-    let placed = subst (λ ns. AllZip (IsTermCount leaves (range_documents docs c.args.range)) terms ns) (sym (ap items c.new.ensures.places)) counted in
+    let placed = subst (λ ns. AllZip (IsTermCount leaves (range_documents docs c.args.range)) terms ns) (sym (ap items c.new.ensures.places)) (c.in_ok-places.ensures.exact sound) in
     let begun = ap items c.new.ensures.begins ∙ c.in_ok-begins.ensures ∙ ap (λ ds. map (λ f. capped (most_begins ds f)) c.args.names.now) here in
     record {
       formed = subst AreFormed here c.least_length-least.ensures.formed;

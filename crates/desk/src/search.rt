@@ -1,5 +1,5 @@
 // A search over all documents of a snapshot.
-ghost use Rattle.std.specs.Prelude.{◌≡◌, true, length, map, All, Err, IfErr, IfOk, List, Option};
+ghost use Rattle.std.specs.Prelude.{◌≡◌, ◌⊎◌, [], true, length, map, All, Err, IfErr, IfOk, List, Option};
 ghost use Rattle.ri_base.specs.Faults.{IsOutside};
 ghost use Rattle.ri_base.specs.Keeps.{Rose};
 ghost use Rattle.ri_base.specs.Ratio.{ratio_of};
@@ -20,17 +20,43 @@ ghost use Rattle.desk.specs.Answer.{IsRule};
 ghost use Rattle.desk.specs.Searching.{HasSearched};
 
 use belief_nodes::BeliefNode;
-use disk_index::{BlockCache, Snapshot};
+use disk_index::{BlockCache, MarkedPart, Snapshot};
 use query_check::Checked;
 use range_tables::tables;
 use ranker::Search;
-use ri_base::{Fraction, Hits, LeafStats, SegFault};
+use ri_base::{Fraction, Hits, LeafStats, Range, SegFault};
 use smoothing::{Rule, RuleKind, dirichlet_fraction};
 use std::alloc::Global;
 use store_ends::Store;
 
-/// A search over the documents of a snapshot that has passed none yet, with the tables of the ranges of its parts. The statistics are
-/// those of the query's leaves, in order of their numbers.
+/// How often the leaves occur together; no more than `u64::MAX`.
+fn occurrences(stats: &[LeafStats]) -> u64 {
+    let mut all = 0u64;
+    for leaf in stats {
+        all = all.saturating_add(leaf.cf);
+    }
+    all
+}
+
+/// The parts of which a search for so many results may pass over a range. Of whole documents there are no more candidates than
+/// occurrences, so where these are fewer the results are never all held before the end, and no range is passed over.
+fn passable<'a>(
+    snapshot: &'a Snapshot,
+    range: &Range,
+    stats: &[LeafStats],
+    most: u32,
+) -> &'a [MarkedPart]
+    ensures { (result.now ≡ []) ⊎ (result.now ≡ snapshot.now) }
+{
+    let parts = snapshot.parts();
+    match range {
+        Range::Whole if occurrences(stats) < u64::from(most) => &parts[..0],
+        _ => parts,
+    }
+}
+
+/// A search over the documents of a snapshot that has passed none yet, with the tables of the ranges of its parts, or without any
+/// where it can pass over none. The statistics are those of the query's leaves, in order of their numbers.
 pub(crate) fn new_search<T: Store>(
     alloc: Global,
     snapshot: Snapshot,
@@ -54,7 +80,8 @@ pub(crate) fn new_search<T: Store>(
     ensures reads { OnlyReads T.files T.layers T.clock T.since T.longest T.held T.faults (IsFileAmong snapshot) store.old store.new cache.old cache.new }
     ensures store { result ≡ Err SegFault.Store → Rose (T.faults store.old) (T.faults store.new) }
 {
-    let tables = tables(alloc, &checked.leaves, snapshot.parts(), store, cache)?;
+    let parts = passable(&snapshot, &checked.range, stats, most);
+    let tables = tables(alloc, &checked.leaves, parts, store, cache)?;
     let search = Search::new(alloc, snapshot, checked, stats, tables, most)?;
     Ok(search)
 }

@@ -1,13 +1,14 @@
 -- Lines of docnos that are taken one by one.
-use Rattle.std.proofs.Common.{◌≡◌, ℕ, Bool, false, ◌||◌, List, [], ◌∷◌, ◌++◌, refl, ap, sym, ◌∙◌, subst, Option, Some, None}
+use Rattle.std.proofs.Common.{◌≡◌, ℕ, Bool, false, ◌||◌, List, [], ◌∷◌, ◌++◌, refl, sym, ◌∙◌, subst, Option, Some, None}
 use Rattle.std.specs.Io.KnownBytes.{prepend_known}
 use Rattle.std.specs.Option.{option_map, IfSome}
 use Rattle.command_pieces.specs.Faults.{IsCut}
 use Rattle.command_pieces.specs.Pieces.{some_refused}
-use Rattle.command_pieces.specs.Written.{AllWritten, CutBetween}
+use Rattle.command_pieces.specs.Written.{AllWritten, CutBetween, Plain}
 use Rattle.command_pieces.specs.declared.fault.Fault.{Fault}
-use Rattle.command_pieces.proofs.Cut.{all-then, all_none, cut-behind, cut-more, cut-then}
-use Rattle.command_pieces.proofs.Joining.{refused-append, refused-one}
+use Rattle.command_pieces.proofs.Cut.{all_none, cut-behind}
+use Rattle.command_pieces.proofs.InTurn.{cut-turn, refused-turn, state-next, turns-append, written-turn}
+use Rattle.command_pieces.proofs.Joining.{refused-one}
 use Rattle.docno_lines.specs.Docnos.{docno_answer, docnos_at}
 use Rattle.docno_lines.specs.declared.docno.DocnoLine.{DocnoLine}
 use Rattle.repository.specs.Stands.{Collection}
@@ -39,61 +40,43 @@ all-done Q done o p old new start f e q = all-taken (docnos_at 0) done (docnos_a
 
 -- ---- what is written of lines
 
+abbrev one_piece : Collection → DocnoLine → List Plain
+one_piece c line = line_piece c line ∷ []
+
 pieces-append : (c : Collection) (xs ys : List DocnoLine) → line_pieces c (xs ++ ys) ≡ line_pieces c xs ++ line_pieces (behind_lines c xs) ys
 unfolding line_pieces behind_lines
-pieces-append c [] ys = refl
-pieces-append c (x ∷ xs) ys = ap (λ ps. line_piece c x ∷ ps) (pieces-append (behind_line c x) xs ys)
-
-behind-append : (c : Collection) (xs ys : List DocnoLine) → behind_lines c (xs ++ ys) ≡ behind_lines (behind_lines c xs) ys
-unfolding behind_lines
-behind-append c [] ys = refl
-behind-append c (x ∷ xs) ys = behind-append (behind_line c x) xs ys
-
-pieces-one : (c : Collection) (line : DocnoLine) → line_pieces c (line ∷ []) ≡ line_piece c line ∷ []
-unfolding line_pieces
-pieces-one c line = refl
-
-behind-one : (c : Collection) (line : DocnoLine) → behind_lines c (line ∷ []) ≡ behind_line c line
-unfolding behind_lines
-behind-one c line = refl
-
-pieces-none : (c : Collection) → line_pieces c [] ≡ []
-unfolding line_pieces
-pieces-none c = refl
+pieces-append c xs ys = turns-append behind_line one_piece c xs ys
 
 pub behind-none : (c : Collection) → c ≡ behind_lines c []
 unfolding behind_lines
 behind-none c = refl
 
-pieces-next : (c : Collection) (done : List DocnoLine) (line : DocnoLine) → line_pieces c done ++ line_piece (behind_lines c done) line ∷ [] ≡ line_pieces c (done ++ line ∷ [])
-pieces-next c done line = ap (λ ps. line_pieces c done ++ ps) (sym (pieces-one (behind_lines c done) line)) ∙ sym (pieces-append c done (line ∷ []))
-
 pub behind-next : (c : Collection) (done : List DocnoLine) (line : DocnoLine) → behind_line (behind_lines c done) line ≡ behind_lines c (done ++ line ∷ [])
-behind-next c done line = sym (behind-append c done (line ∷ []) ∙ behind-one (behind_lines c done) line)
+unfolding behind_lines
+behind-next c done line = state-next behind_line c done line
 
 pub refused-start : (c : Collection) → false ≡ some_refused (line_pieces c [])
-refused-start c = sym (ap some_refused (pieces-none c))
+unfolding line_pieces
+refused-start c = refl
 
 pub written-start : (c : Collection) (taken : Option (List ℕ)) → AllWritten (line_pieces c []) taken taken
-written-start c taken = subst (λ ps. AllWritten ps taken taken) (sym (pieces-none c)) (all_none taken)
+unfolding line_pieces
+written-start c taken = all_none taken
 
 pub refused-next : (c : Collection) (done : List DocnoLine) (line : DocnoLine) (noted refused : Bool) → noted ≡ some_refused (line_pieces c done) → refused ≡ (line_piece (behind_lines c done) line).is_refusal
     → (noted || refused) ≡ some_refused (line_pieces c (done ++ line ∷ []))
-refused-next c done line noted refused n r =
-    ap (λ b. b || refused) n ∙ ap (λ b. some_refused (line_pieces c done) || b) (r ∙ sym (refused-one (line_piece (behind_lines c done) line)))
-    ∙ sym (refused-append (line_pieces c done) (line_piece (behind_lines c done) line ∷ [])) ∙ ap some_refused (pieces-next c done line)
+unfolding line_pieces behind_lines
+refused-next c done line noted refused n r = refused-turn behind_line one_piece c done line noted refused n (r ∙ sym (refused-one (line_piece (behind_lines c done) line)))
 
-pub written-next : (c : Collection) (done : List DocnoLine) (line : DocnoLine) (before mid now : Option (List ℕ)) → AllWritten (line_pieces c done) before mid → AllWritten (line_piece (behind_lines c done) line ∷ []) mid now
-    → AllWritten (line_pieces c (done ++ line ∷ [])) before now
-written-next c done line before mid now a b =
-    subst (λ ps. AllWritten ps before now) (pieces-next c done line) (all-then (line_pieces c done) (line_piece (behind_lines c done) line ∷ []) before mid now a b)
+module _ (c : Collection) (done : List DocnoLine) (line : DocnoLine) (before mid now : Option (List ℕ)) (a : AllWritten (line_pieces c done) before mid) where
+  pub written-next : AllWritten (line_piece (behind_lines c done) line ∷ []) mid now → AllWritten (line_pieces c (done ++ line ∷ [])) before now
+  unfolding line_pieces behind_lines
+  written-next b = written-turn behind_line one_piece c done line before mid now a b
 
--- A line is broken off behind others, and further ones would have followed.
-pub cut-next : (e : Fault) (c : Collection) (done : List DocnoLine) (line : DocnoLine) (rest : List DocnoLine) (before mid now : Option (List ℕ)) → AllWritten (line_pieces c done) before mid
-    → IsCut e (line_piece (behind_lines c done) line ∷ []) mid now → IsCut e (line_pieces c ((done ++ line ∷ []) ++ rest)) before now
-cut-next e c done line rest before mid now a b =
-    subst (λ ps. IsCut e ps before now) (ap (λ ps. ps ++ line_pieces (behind_lines c (done ++ line ∷ [])) rest) (pieces-next c done line) ∙ sym (pieces-append c (done ++ line ∷ []) rest))
-    (cut-more e (line_pieces c done ++ line_piece (behind_lines c done) line ∷ []) _ before now (cut-then e (line_pieces c done) (line_piece (behind_lines c done) line ∷ []) before mid now a b))
+  -- The line is broken off, and further ones would have followed.
+  pub cut-next : (e : Fault) (rest : List DocnoLine) → IsCut e (line_piece (behind_lines c done) line ∷ []) mid now → IsCut e (line_pieces c ((done ++ line ∷ []) ++ rest)) before now
+  unfolding line_pieces behind_lines
+  cut-next e rest b = subst (λ ps. IsCut e ps before now) (sym (pieces-append c (done ++ line ∷ []) rest)) (cut-turn behind_line one_piece c done line before mid now a e _ b)
 
 -- Between two lines further ones would have followed.
 pub cut-here : (c : Collection) (done rest : List DocnoLine) (before now : Option (List ℕ)) → AllWritten (line_pieces c done) before now → CutBetween (line_pieces c (done ++ rest)) before now

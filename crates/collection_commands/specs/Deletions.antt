@@ -1,8 +1,9 @@
 -- What `delete` does with the lines of its input, one behind the other.
-use Rattle.std.specs.Prelude.{ℕ, Bool, List, [], ◌∷◌, ◌++◌, codes, map, if◌then◌else◌}
+use Rattle.std.specs.Prelude.{ℕ, Bool, List, [], ◌∷◌, ◌++◌, codes, fold, map, if◌then◌else◌}
 use Rattle.std.specs.Set.{is_member}
 use Rattle.std.specs.Str.{bytes_eq}
 use Rattle.ri_base.specs.Documents.{Document}
+use Rattle.command_pieces.specs.Pieces.{pieces_in_turn}
 use Rattle.command_pieces.specs.Written.{Plain, told_piece}
 use Rattle.docno_lines.specs.declared.docno.DocnoLine.{DocnoLine}
 use Rattle.docno_lines.specs.declared.docno.DocnoLine.TheVariants.{BadEvent, Docno, LineTooLong}
@@ -33,9 +34,7 @@ behind_line c (LineTooLong place) = c
 
 -- what is written of lines, one behind the other
 unfoldable pub line_pieces : Collection → List DocnoLine → List Plain
-line_pieces c [] = []
-line_pieces c (line ∷ lines) = line_piece c line ∷ line_pieces (behind_line c line) lines
+line_pieces c lines = pieces_in_turn behind_line (λ c line. line_piece c line ∷ []) c lines
 
 unfoldable pub behind_lines : Collection → List DocnoLine → Collection
-behind_lines c [] = c
-behind_lines c (line ∷ lines) = behind_lines (behind_line c line) lines
+behind_lines c lines = fold behind_line c lines

@@ -1,5 +1,6 @@
 pub mod Commands
 pub mod Cut
 pub mod Ending
+pub mod InTurn
 pub mod Joining
 pub mod Lifting

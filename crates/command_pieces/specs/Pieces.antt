@@ -18,6 +18,11 @@ text_of pieces = flat_map (λ p. p.text) pieces
 abbrev pub some_refused : {C : Type 0} → List (Piece C) → Bool
 some_refused pieces = list_any (λ p. p.is_refusal) pieces
 
+-- what is written of items, one behind the other, each by the state that those before it leave
+abbrev pub pieces_in_turn : {S I P : Type 0} → (S → I → S) → (S → I → List P) → S → List I → List P
+pieces_in_turn next one s [] = []
+pieces_in_turn next one s (i ∷ items) = one s i ++ pieces_in_turn next one (next s i) items
+
 -- what the files stand for behind these pieces: that of the last flush point, or what they stood for before
 unfoldable pub kept_behind : {C : Type 0} → C → List (Piece C) → C
 kept_behind kept [] = kept

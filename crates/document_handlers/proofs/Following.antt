@@ -13,7 +13,8 @@ use Rattle.command_pieces.specs.Pieces.{some_refused}
 use Rattle.command_pieces.specs.Written.{AllWritten, CutBetween}
 use Rattle.document_handlers.specs.Work.{Work, behind, behind_all, document_pieces, input_pieces, refusal_pieces, replies}
 use Rattle.command_pieces.specs.declared.fault.Fault.{Fault}
-use Rattle.command_pieces.proofs.Cut.{all_none, all-then, cut-behind, cut-more, cut-then}
+use Rattle.command_pieces.proofs.Cut.{all_none, all-then, cut-behind, cut-then}
+use Rattle.command_pieces.proofs.InTurn.{cut-turn, refused-turn, state-next, turns-append, written-turn}
 use Rattle.command_pieces.proofs.Joining.{refused-append}
 
 -- documents, and then what is found
@@ -96,60 +97,41 @@ is_refused input.Memory o old new h a b = absurd (b refl)
 
 pieces-append : (w : Work) (xs ys : List RawDoc) → document_pieces w (xs ++ ys) ≡ document_pieces w xs ++ document_pieces (behind_all w xs) ys
 unfolding document_pieces behind_all
-pieces-append w [] ys = refl
-pieces-append w (x ∷ xs) ys = ap (λ ps. replies w x ++ ps) (pieces-append (behind w x) xs ys) ∙ sym (append_assoc (replies w x) _ _)
-
-behind-append : (w : Work) (xs ys : List RawDoc) → behind_all w (xs ++ ys) ≡ behind_all (behind_all w xs) ys
-unfolding behind_all
-behind-append w [] ys = refl
-behind-append w (x ∷ xs) ys = behind-append (behind w x) xs ys
-
-pieces-one : (w : Work) (d : RawDoc) → document_pieces w (d ∷ []) ≡ replies w d
-unfolding document_pieces
-pieces-one w d = append-nil (replies w d)
-
-behind-one : (w : Work) (d : RawDoc) → behind_all w (d ∷ []) ≡ behind w d
-unfolding behind_all
-behind-one w d = refl
-
-pieces-none : (w : Work) → document_pieces w [] ≡ []
-unfolding document_pieces
-pieces-none w = refl
+pieces-append w xs ys = turns-append behind replies w xs ys
 
 pub behind-none : (w : Work) → w ≡ behind_all w []
 unfolding behind_all
 behind-none w = refl
 
-pieces-next : (w here : Work) (done : List RawDoc) (d : RawDoc) → here ≡ behind_all w done → document_pieces w done ++ replies here d ≡ document_pieces w (done ++ d ∷ [])
-pieces-next w here done d is = ap (λ h. document_pieces w done ++ replies h d) is ∙ ap (λ ps. document_pieces w done ++ ps) (sym (pieces-one (behind_all w done) d)) ∙ sym (pieces-append w done (d ∷ []))
-
-pub behind-next : (w here now : Work) (done : List RawDoc) (d : RawDoc) → here ≡ behind_all w done → now ≡ behind here d → now ≡ behind_all w (done ++ d ∷ [])
-behind-next w here now done d is e = e ∙ ap (λ h. behind h d) is ∙ sym (behind-append w done (d ∷ []) ∙ behind-one (behind_all w done) d)
+pub behind-next : (w : Work) (done : List RawDoc) (d : RawDoc) → behind (behind_all w done) d ≡ behind_all w (done ++ d ∷ [])
+unfolding behind_all
+behind-next w done d = state-next behind w done d
 
 pub refused-start : (w : Work) → false ≡ some_refused (document_pieces w [])
-refused-start w = sym (ap some_refused (pieces-none w))
+unfolding document_pieces
+refused-start w = refl
 
 pub all-start : (w : Work) (taken : Option (List ℕ)) → AllWritten (document_pieces w []) taken taken
-all-start w taken = subst (λ ps. AllWritten ps taken taken) (sym (pieces-none w)) (all_none taken)
+unfolding document_pieces
+all-start w taken = all_none taken
 
-pub refused-next : (w here : Work) (done : List RawDoc) (d : RawDoc) (noted refused : Bool) → here ≡ behind_all w done → noted ≡ some_refused (document_pieces w done) → refused ≡ some_refused (replies here d)
+pub refused-next : (w : Work) (done : List RawDoc) (d : RawDoc) (noted refused : Bool) → noted ≡ some_refused (document_pieces w done) → refused ≡ some_refused (replies (behind_all w done) d)
     → (noted || refused) ≡ some_refused (document_pieces w (done ++ d ∷ []))
-refused-next w here done d noted refused is n r =
-    ap (λ b. b || refused) n ∙ ap (λ b. some_refused (document_pieces w done) || b) r ∙ sym (refused-append (document_pieces w done) (replies here d)) ∙ ap some_refused (pieces-next w here done d is)
-
-pub all-next : (w here : Work) (done : List RawDoc) (d : RawDoc) (before mid now : Option (List ℕ)) → here ≡ behind_all w done → AllWritten (document_pieces w done) before mid → AllWritten (replies here d) mid now
-    → AllWritten (document_pieces w (done ++ d ∷ [])) before now
-all-next w here done d before mid now is a b = subst (λ ps. AllWritten ps before now) (pieces-next w here done d is) (all-then (document_pieces w done) (replies here d) before mid now a b)
+unfolding document_pieces behind_all
+refused-next w done d noted refused n r = refused-turn behind replies w done d noted refused n r
 
 -- what is written of an input that begins with these documents
 input-append : (w : Work) (done : List RawDoc) (rest : Found) → input_pieces w (found_behind done rest) ≡ document_pieces w done ++ input_pieces (behind_all w done) rest
 input-append w done rest = ap (λ ps. ps ++ refusal_pieces rest.1) (pieces-append w done rest.0) ∙ append_assoc (document_pieces w done) (document_pieces (behind_all w done) rest.0) (refusal_pieces rest.1)
 
-pub broken-next : (e : Fault) (w here : Work) (done : List RawDoc) (d : RawDoc) (rest : Found) (before mid now : Option (List ℕ)) → here ≡ behind_all w done → AllWritten (document_pieces w done) before mid → IsCut e (replies here d) mid now
-    → IsCut e (input_pieces w (found_behind (done ++ d ∷ []) rest)) before now
-broken-next e w here done d rest before mid now is a b =
-    subst (λ ps. IsCut e ps before now) (ap (λ ps. ps ++ input_pieces (behind_all w (done ++ d ∷ [])) rest) (pieces-next w here done d is) ∙ sym (input-append w (done ++ d ∷ []) rest))
-    (cut-more e (document_pieces w done ++ replies here d) _ before now (cut-then e (document_pieces w done) (replies here d) before mid now a b))
+module _ (w : Work) (done : List RawDoc) (d : RawDoc) (before mid now : Option (List ℕ)) (a : AllWritten (document_pieces w done) before mid) where
+  pub all-next : AllWritten (replies (behind_all w done) d) mid now → AllWritten (document_pieces w (done ++ d ∷ [])) before now
+  unfolding document_pieces behind_all
+  all-next b = written-turn behind replies w done d before mid now a b
+
+  pub broken-next : (e : Fault) (rest : Found) → IsCut e (replies (behind_all w done) d) mid now → IsCut e (input_pieces w (found_behind (done ++ d ∷ []) rest)) before now
+  unfolding document_pieces behind_all
+  broken-next e rest b = subst (λ ps. IsCut e ps before now) (sym (input-append w (done ++ d ∷ []) rest)) (cut-turn behind replies w done d before mid now a e _ b)
 
 -- Between two documents further ones would have followed.
 pub stopped-here : (w : Work) (done : List RawDoc) (rest : Found) (before now : Option (List ℕ)) → AllWritten (document_pieces w done) before now → CutBetween (input_pieces w (found_behind done rest)) before now

@@ -1,7 +1,8 @@
 -- What a command does with the documents of its input, one behind the other.
-use Rattle.std.specs.Prelude.{List, [], ◌∷◌, ◌++◌, Option, None, Some, Result, Ok, Err}
+use Rattle.std.specs.Prelude.{List, [], ◌∷◌, fold, Option, None, Some, Result, Ok, Err, ◌++◌}
 use Rattle.ri_base.specs.Documents.{Document}
 use Rattle.ri_base.specs.Expression.{ExprTree}
+use Rattle.command_pieces.specs.Pieces.{pieces_in_turn}
 use Rattle.command_pieces.specs.Written.{Plain, told_piece}
 use Rattle.refusals.specs.Lines.{refusal_piece}
 use Rattle.refusals.specs.declared.refusal.Refusal.TheVariants as refusal
@@ -38,12 +39,10 @@ behind (adding told limits c) d = adding told limits (collection_with c (additio
 
 -- what is written of documents, one behind the other
 unfoldable pub document_pieces : Work → List RawDoc → List Plain
-document_pieces work [] = []
-document_pieces work (d ∷ rest) = replies work d ++ document_pieces (behind work d) rest
+document_pieces work docs = pieces_in_turn behind replies work docs
 
 unfoldable pub behind_all : Work → List RawDoc → Work
-behind_all work [] = work
-behind_all work (d ∷ rest) = behind_all (behind work d) rest
+behind_all work docs = fold behind work docs
 
 -- the line of what stands where a document must stand
 abbrev pub refusal_pieces : Option TrecRefusal → List Plain

@@ -49,6 +49,9 @@ IsNext-at_begin R low x h = IsNext-later R low 0 x.begin 0 (Some x) h (IsFrom-lo
     let same : x ≡ y = same_some is in
     IsFrom-low x.begin y.begin y.end (omega (arith, ap (λ (v : Pair). v.begin) same)))
 
+pub IsNext-begin : (R : ℕ → ℕ → Type 0) (low : ℕ) (x : Pair) → IsNext R low 0 (Some x) → low ≤ x.begin
+IsNext-begin R low x h = IsFrom-begin low 0 x.begin x.end (h.only x refl).1
+
 -- where the one extent of a begin ends before the place, the next is that from the next begin on
 pub IsNext-next_begin : (R : ℕ → ℕ → Type 0) (begin end : ℕ) (x : Pair) (found : Option Pair) → HaveOneEnd R → R x.begin x.end → x.begin ≡ begin → x.end < end → IsNext R (x.begin + 1) 0 found → IsNext R begin end found
 IsNext-next_begin R begin end x found one r is ends h = record {

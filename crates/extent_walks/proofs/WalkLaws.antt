@@ -1,6 +1,6 @@
 -- walks, variant by variant
 use Rattle.std.proofs.Common.{◌≡◌, ℕ, zero, suc, ◌+◌, ◌-◌, ◌<◌, ◌≤◌, max, ⊎_elim, Option, Some, None, IfSome, List, [], ◌∷◌, ◌++◌, length, drop, get_or, slice_set, Box, Vec, Global, add-one, refl, ap, ◌∙◌, arith}
-use Rattle.std.proofs.lemmas.List.{drop-set, drop_all}
+use Rattle.std.proofs.lemmas.List.{drop-set, drop_all, length-set}
 use mathlib.Core.Former.{Count}
 use Rattle.ri_base.specs.Pair.{Pair}
 use Rattle.extent_lists.specs.Plans.{LiesInSome}
@@ -212,6 +212,30 @@ module _ (xs : List Ahead) (i : ℕ) (old new : Ahead) (some : 0 < i) (inside : 
   plans_before e =
       let one : (i - 1) + 1 ≡ i = omega (arith, some) in
       ap plans (drop-set xs (i - 1) new (omega (arith, some, inside))) ∙ rw (e, one) refl
+
+-- The arguments from a place on are gone over: what each stands for is as it was.
+pub record AreGoneOver (before now : List Ahead) (i : ℕ) : Type 0 where
+  pub inside : i ≤ length now
+  pub same : plans now ≡ plans before
+  pub kept : AreKept now
+
+pub gone_start : (xs : List Ahead) (i : ℕ) → i ≤ length xs → AreKept xs → AreGoneOver xs xs i
+gone_start xs i inside kept = record { inside = inside; same = refl; kept = kept }
+
+-- the argument before them
+module _ (before xs : List Ahead) (i : ℕ) (old : Ahead) (some : 0 < i) (gone : AreGoneOver before xs i) (is : old ≡ get_or xs (i - 1) old) where
+  pub gone_depth : depth (plan old.walk) ≤ depths (plans before)
+  gone_depth = omega (arith, ap depths gone.same, argument_depth xs i old old some gone.inside is)
+
+  pub gone_kept : IsAheadKept old
+  gone_kept = argument_kept xs i old old some gone.inside is gone.kept
+
+  pub gone_next : (new : Ahead) → plan new.walk ≡ plan old.walk → IsAheadKept new → AreGoneOver before (slice_set xs (i - 1) new) (i - 1)
+  gone_next new same kept = record {
+    inside = rw length-set (omega (arith, gone.inside));
+    same = plans_stay xs i old new some gone.inside is same ∙ gone.same;
+    kept = kept-set xs (i - 1) new gone.kept kept;
+  }
 
 -- none from the end on
 pub plans-past : (xs : List Ahead) (i : ℕ) → length xs ≤ i → plans (drop i xs) ≡ none

@@ -1,5 +1,5 @@
 -- A text that is read as a query is one of it.
-use Rattle.std.proofs.Common.{ℕ, zero, suc, ◌≡◌, Bool, true, false, ◌||◌, List, [], ◌∷◌, ◌++◌, length, drop, Option, None, Some, Ok, Err, refl, sym, ap, ◌∙◌, subst, arith, append_assoc, eqb-true}
+use Rattle.std.proofs.Common.{ℕ, zero, suc, ◌≡◌, Bool, true, false, ◌||◌, List, [], ◌∷◌, ◌++◌, length, drop, Option, None, Some, Ok, Err, refl, sym, ap, ◌∙◌, subst, arith, append_assoc, eqb-true, true≢false}
 use Rattle.std.specs.Prelude.{◌==◌, nat_lt, if◌then◌else◌, codes}
 use Rattle.std.specs.List.{list_all, prefix_len, take_while}
 use Rattle.std.specs.Str.{bytes_eq}
@@ -54,52 +54,38 @@ range_reads at = if_all (Reads IsRange at.bytes) (begins_passages at.bytes) _ _ 
 
 -- WINDOWS
 
-named_at : (at : At) (o : Operator) → operator_of (name_of at) ≡ o → IsNamed o (name_of at)
-named_at at o e = subst (λ x. IsNamed x (name_of at)) e (op_named (name_of at))
+-- the names of a window and of a filter
+abbrev AreSigns : Operator → List ℕ → Type 0
+AreSigns o name = (is_combine o ≡ true → name ≡ codes "combine") × (is_filter o ≡ true → name ≡ (if keeps o then codes "filreq" else codes "filrej"))
+
+signs_of : (o : Operator) (name : List ℕ) → IsNamed o name → AreSigns o name
+signs_of Combine name n = (λ e. n, λ e. absurd cc)
+signs_of Filreq name n = (λ e. absurd cc, λ e. n)
+signs_of Filrej name n = (λ e. absurd cc, λ e. n)
+signs_of Max name n = (λ e. absurd cc, λ e. absurd cc)
+signs_of Weight name n = (λ e. absurd cc, λ e. absurd cc)
+signs_of Prior name n = (λ e. absurd cc, λ e. absurd cc)
+signs_of Any name n = (λ e. absurd cc, λ e. absurd cc)
+signs_of Band name n = (λ e. absurd cc, λ e. absurd cc)
+signs_of Syn name n = (λ e. absurd cc, λ e. absurd cc)
+signs_of Ordered name n = (λ e. absurd cc, λ e. absurd cc)
+signs_of Unordered name n = (λ e. absurd cc, λ e. absurd cc)
+signs_of Later name n = (λ e. absurd cc, λ e. absurd cc)
+signs_of Unknown name n = (λ e. absurd cc, λ e. absurd cc)
+
+-- an operator that is known stands behind a sign
+signs_here : (is : Operator → Bool) → is Unknown ≡ false → (at : At) → is (operator_at at) ≡ true → (begins 35 at.bytes ≡ true) × AreSigns (operator_at at) (name_of at)
+signs_here is unknown at e = by (begins 35 at.bytes) refl e
+  where
+    by : (v : Bool) → begins 35 at.bytes ≡ v → is (if v then operator_of (name_of at) else Unknown) ≡ true → (begins 35 at.bytes ≡ true) × AreSigns (if v then operator_of (name_of at) else Unknown) (name_of at)
+    by true b e = (b, signs_of (operator_of (name_of at)) (name_of at) (op_named (name_of at)))
+    by false b e = absurd (true≢false (sym e ∙ unknown))
 
 combine_name : (at : At) → is_combine (operator_at at) ≡ true → (begins 35 at.bytes ≡ true) × (name_of at ≡ codes "combine")
-combine_name at e = by (begins 35 at.bytes) refl e
-  where
-    at_op : (o : Operator) → IsNamed o (name_of at) → is_combine o ≡ true → name_of at ≡ codes "combine"
-    at_op Combine n e = n
-    at_op Filreq n e = absurd cc
-    at_op Filrej n e = absurd cc
-    at_op Max n e = absurd cc
-    at_op Weight n e = absurd cc
-    at_op Prior n e = absurd cc
-    at_op Any n e = absurd cc
-    at_op Band n e = absurd cc
-    at_op Syn n e = absurd cc
-    at_op Ordered n e = absurd cc
-    at_op Unordered n e = absurd cc
-    at_op Later n e = absurd cc
-    at_op Unknown n e = absurd cc
-
-    by : (v : Bool) → begins 35 at.bytes ≡ v → is_combine (if v then operator_of (name_of at) else Unknown) ≡ true → (begins 35 at.bytes ≡ true) × (name_of at ≡ codes "combine")
-    by true b e = (b, at_op (operator_of (name_of at)) (op_named (name_of at)) e)
-    by false b e = absurd cc
+combine_name at e = let here = signs_here is_combine refl at e in (here.0, here.1.0 e)
 
 filter_name : (at : At) → is_filter (operator_at at) ≡ true → (begins 35 at.bytes ≡ true) × (name_of at ≡ (if keeps (operator_at at) then codes "filreq" else codes "filrej"))
-filter_name at e = by (begins 35 at.bytes) refl e
-  where
-    at_op : (o : Operator) → IsNamed o (name_of at) → is_filter o ≡ true → name_of at ≡ (if keeps o then codes "filreq" else codes "filrej")
-    at_op Filreq n e = n
-    at_op Filrej n e = n
-    at_op Combine n e = absurd cc
-    at_op Max n e = absurd cc
-    at_op Weight n e = absurd cc
-    at_op Prior n e = absurd cc
-    at_op Any n e = absurd cc
-    at_op Band n e = absurd cc
-    at_op Syn n e = absurd cc
-    at_op Ordered n e = absurd cc
-    at_op Unordered n e = absurd cc
-    at_op Later n e = absurd cc
-    at_op Unknown n e = absurd cc
-
-    by : (v : Bool) → begins 35 at.bytes ≡ v → is_filter (if v then operator_of (name_of at) else Unknown) ≡ true → (begins 35 at.bytes ≡ true) × (name_of at ≡ (if keeps (if v then operator_of (name_of at) else Unknown) then codes "filreq" else codes "filrej"))
-    by true b e = (b, at_op (operator_of (name_of at)) (op_named (name_of at)) e)
-    by false b e = absurd cc
+filter_name at e = let here = signs_here is_filter refl at e in (here.0, here.1.1 e)
 
 -- the sign of an operator and the byte behind it
 signed_by : (at here : At) (c : ℕ) (rest sign : List ℕ) → here.bytes ≡ at.bytes → begins 35 at.bytes ≡ true → name_of at ≡ sign → ((more : List ℕ) → prefix_len is_letter more ≡ 0 → skip is_letter (sign ++ more) ≡ more) → (behind_letters here).bytes ≡ c ∷ rest → at.bytes ≡ 35 ∷ (sign ++ c ∷ rest)

@@ -88,4 +88,4 @@ returns-in-Err-clause-broken g c = λ told k reads.
     let gives = rw c.in-Ok-Some.field-0-is at c.in-Ok-Some.ensures.docnos in
     some-done (λ (lines : List DocnoLine). IsCut c.in-Err.fault (line_pieces k lines) (g.K.Sink.taken c.args.sink.now) (g.K.Sink.taken c.write_line.new.sink)) (inv.0 ++ line ∷ []) _ _ _
     (followed-more inv.0 line _ _ _ _ _ inv.1.followed gives)
-    (λ rest. cut-next _ k inv.0 line rest _ _ _ (inv.1.written told k reads) (c.in-Err.ensures.broken told _ (inv.1.reads told k reads)))
+    (λ rest. cut-next k inv.0 line _ _ _ (inv.1.written told k reads) _ rest (c.in-Err.ensures.broken told _ (inv.1.reads told k reads)))

@@ -1,4 +1,4 @@
-use Rattle.std.proofs.Common.{rules, ◌≡◌, true, [], ◌∷◌, ◌++◌, ◌∙◌, refl, subst, arith}
+use Rattle.std.proofs.Common.{rules, ◌≡◌, true, [], ◌∷◌, ◌++◌, ◌∙◌, subst, arith}
 use Rattle.trec_reader.specs.Read.{Found}
 use Rattle.command_pieces.specs.Faults.{IsCut}
 use Rattle.command_pieces.specs.Pieces.{some_refused}
@@ -36,10 +36,10 @@ documents-preserved g c =
       inv.0 ++ d ∷ [],
       record {
         followed = followed-more inv.0 d _ _ _ _ _ inv.1.followed gives c.in-Ok-Some.ensures.steps.same_end;
-        work = λ w does. subst (g.H.Handler.does _) (behind-next w (behind_all w inv.0) _ inv.0 d refl refl) (c.in-Ok-take_document.ensures.behind _ (inv.1.work w does));
+        work = λ w does. subst (g.H.Handler.does _) (behind-next w inv.0 d) (c.in-Ok-take_document.ensures.behind _ (inv.1.work w does));
         whole = search rules;
-        refused = λ w does. refused-next w (behind_all w inv.0) inv.0 d _ _ refl (inv.1.refused w does) (c.in-Ok-take_document.ensures.refused _ (inv.1.work w does));
-        finished = λ w does. all-next w (behind_all w inv.0) inv.0 d _ _ _ refl (inv.1.finished w does) (c.in-Ok-take_document.ensures.finished _ (inv.1.work w does));
+        refused = λ w does. refused-next w inv.0 d _ _ (inv.1.refused w does) (c.in-Ok-take_document.ensures.refused _ (inv.1.work w does));
+        finished = λ w does. all-next w inv.0 d _ _ _ (inv.1.finished w does) (c.in-Ok-take_document.ensures.finished _ (inv.1.work w does));
         begun = search rules;
         fits = search rules;
         layers = search rules;
@@ -88,7 +88,7 @@ returns-in-Err-take_document-clause-broken g c = λ w does.
     let gives = rw (inv.1.begun, c.in-Ok-Some.field-0-is) at c.in-Ok-Some.ensures.read in
     some-done (λ (found : Found). IsCut c.in-Err-take_document.fault (input_pieces w found) (g.K.Sink.taken c.args.sink.now) (g.K.Sink.taken c.take_document.new.sink)) (inv.0 ++ d ∷ []) _ _ _
     (followed-more inv.0 d _ _ _ _ _ inv.1.followed gives c.in-Ok-Some.ensures.steps.same_end)
-    (λ rest. broken-next _ w (behind_all w inv.0) inv.0 d rest _ _ _ refl (inv.1.finished w does) (c.in-Err-take_document.ensures.broken _ (inv.1.work w does)))
+    (λ rest. broken-next w inv.0 d _ _ _ (inv.1.finished w does) _ rest (c.in-Err-take_document.ensures.broken _ (inv.1.work w does)))
 
 pub returns-in-Ok-write_refusal-clause-refused : goal.returns-in-Ok-write_refusal-clause-refused
 returns-in-Ok-write_refusal-clause-refused g c = λ w does.

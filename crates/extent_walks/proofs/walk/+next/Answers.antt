@@ -1,5 +1,4 @@
 use Rattle.std.proofs.Common.{◌≡◌, ◌≢◌, ◌+◌, ◌-◌, ◌<◌, ◌≤◌, ⊎_elim, Some, None, true, false, refl, sym, ap, ◌∙◌, arith}
-use Rattle.std.proofs.lemmas.List.{length-set}
 use Rattle.extent_walks.specs.Next.{IsNext}
 use Rattle.extent_lists.specs.Operators.{IsChain, IsInSome, IsWindow, Joins}
 use Rattle.extent_lists.specs.Plans.{each_set, set}
@@ -10,9 +9,9 @@ use Rattle.ri_base.specs.Pair.{Pair}
 use Rattle.extent_walks.specs.Chains.{plan_at}
 use Rattle.extent_walks.proofs.BuildLemmas.{chain_plan-is}
 use Rattle.extent_walks.proofs.ChainLemmas.{IsFollowed, IsNext-chain, IsNext-no_chain, IsReached-searched, IsSearched, IsSearched-asked, IsSearched-early, IsSearched-far, IsSearched-follows, IsSearched-last, chained_some, is_at, is_inside, next_at, plan_at-is, plans_count, plans_count-is, room-early, room-far, searched_some}
-use Rattle.extent_walks.proofs.NextLemmas.{AreLow-over, HasEach-more, IsFrom-begin, IsFrom-here, IsJoinedSoFar-more, IsLeast-at_top, IsLeast-first, IsLeast-first_end, IsLeast-joined_beyond, IsLeast-short, IsLeast-window, IsLeastBelow-both, IsLeastBelow-missing, IsLeastBelow-none, IsLeastSoFar-more, IsNext-at_begin, IsNext-either, IsNext-later, IsNext-least, IsNext-no_extent, IsNext-no_least, IsNext-none, IsNext-same, IsNext-within, IsPassed-over, place_falls}
+use Rattle.extent_walks.proofs.NextLemmas.{AreLow-over, HasEach-more, IsFrom-here, IsJoinedSoFar-more, IsLeast-at_top, IsLeast-first, IsLeast-first_end, IsLeast-joined_beyond, IsLeast-short, IsLeast-window, IsLeastBelow-both, IsLeastBelow-missing, IsLeastBelow-none, IsLeastSoFar-more, IsNext-at_begin, IsNext-begin, IsNext-either, IsNext-later, IsNext-least, IsNext-no_extent, IsNext-no_least, IsNext-none, IsNext-same, IsNext-within, IsPassed-over, place_falls}
 use Rattle.extent_walks.proofs.ShapeLemmas.{chained_monotone, monotone_plan}
-use Rattle.extent_walks.proofs.WalkLaws.{IsKept-Chain, argument_depth, argument_has, argument_inside, argument_kept, depth, depth-at, depth-chain, depths, each_set-more, each_set-none, joined_above, kept-at, kept-set, plan-Chain, plan-Listed, plan-Within, plans-past, plans-set, plans_before, plans_stay, set-listed, set-some, set-within}
+use Rattle.extent_walks.proofs.WalkLaws.{IsKept-Chain, argument_has, argument_inside, depth, depth-at, depth-chain, depths, each_set-more, each_set-none, gone_depth, gone_kept, gone_next, gone_start, joined_above, kept-at, kept-set, plan-Chain, plan-Listed, plan-Within, plans-past, plans-set, plans_before, set-listed, set-some, set-within}
 use Rattle.extent_walks.proofs.walk.+next.Goals as goal
 use Rattle.extent_walks.proofs.walk.+next.Goals.{Ahead::next-then-not-answers, Ahead::next-else-not-answers}
 
@@ -28,9 +27,7 @@ Ahead::next-returns-clause-next t c = elim c.if-not-answers.branch [
 
 pub Ahead::least_of_ends-loop-self-smaller : goal.Ahead::least_of_ends-loop-self-smaller
 Ahead::least_of_ends-loop-self-smaller t c =
-    let next = rw c.at.ensures at c.in-Some.ensures.next in
-    let begins : c.loop-self.begin ≤ c.in-Some.x.begin = IsFrom-begin c.loop-self.begin 0 c.in-Some.x.begin c.in-Some.x.end (next.only c.in-Some.x refl).1 in
-    omega (arith, begins, c.begin-begin.ensures.begin, c.begin-begin.type_inv)
+    omega (arith, IsNext-begin _ c.loop-self.begin c.in-Some.x (rw c.at.ensures at c.in-Some.ensures.next), c.begin-begin.ensures.begin, c.begin-begin.type_inv)
 
 pub Ahead::least_of_ends-loop-self-preserved : goal.Ahead::least_of_ends-loop-self-preserved
 Ahead::least_of_ends-loop-self-preserved t c =
@@ -69,116 +66,97 @@ Ahead::least_end-first_end-requires t c =
 
 pub next_of_any-loop-i-init : goal.next_of_any-loop-i-init
 next_of_any-loop-i-init t c = record {
-  inside = omega (arith, c.len-i.ensures, c.args.all.now.ok.0);
-  same = refl;
-  kept = c.requires;
+  gone = gone_start _ _ (omega (arith, c.len-i.ensures, c.args.all.now.ok.0)) c.requires;
   first = rw (plans-past c.args.all.now.items c.len-i.result (omega (arith, c.len-i.ensures, c.args.all.now.ok.0)), each_set-none) (IsNext-none c.args.from.begin c.args.from.end);
 }
 
 pub next_of_any-next-here-requires : goal.next_of_any-next-here-requires
 next_of_any-next-here-requires t c =
-    let old = c.index_mut.result.now in (
-      omega (arith, c.decreases, ap depths c.loop-i.invariant.same, argument_depth c.loop-i.all.items c.loop-i.i old old c.loop-i-test.true c.loop-i.invariant.inside c.index_mut.ensures.value),
-      argument_kept c.loop-i.all.items c.loop-i.i old old c.loop-i-test.true c.loop-i.invariant.inside c.index_mut.ensures.value c.loop-i.invariant.kept,
-    )
+    let gone = c.loop-i.invariant.gone in
+    let is = c.index_mut.ensures.value in
+    (omega (arith, c.decreases, gone_depth _ _ _ _ c.loop-i-test.true gone is), gone_kept _ _ _ _ c.loop-i-test.true gone is)
 
 pub next_of_any-loop-i-preserved : goal.next_of_any-loop-i-preserved
 next_of_any-loop-i-preserved t c =
-    let xs = c.loop-i.all.items in
-    let i = c.loop-i.i in
-    let old = c.index_mut.result.now in
+    let gone = c.loop-i.invariant.gone in
     let new = c.next-here.new.self in
     let is = c.index_mut.ensures.value in
     record {
-      inside = rw length-set (omega (arith, c.loop-i.invariant.inside));
-      same = plans_stay xs i old new c.loop-i-test.true c.loop-i.invariant.inside is c.next-here.ensures.same ∙ c.loop-i.invariant.same;
-      kept = kept-set xs (i - 1) new c.loop-i.invariant.kept c.next-here.ensures.kept;
-      first = rw (plans_before xs i old new c.loop-i-test.true c.loop-i.invariant.inside is c.next-here.ensures.same, each_set-more, c.earlier-found.ensures) (IsNext-either _ _ _ _ _ _ c.next-here.ensures.next c.loop-i.invariant.first);
+      gone = gone_next _ _ _ _ c.loop-i-test.true gone is new c.next-here.ensures.same c.next-here.ensures.kept;
+      first = rw (plans_before _ _ _ new c.loop-i-test.true gone.inside is c.next-here.ensures.same, each_set-more, c.earlier-found.ensures) (IsNext-either _ _ _ _ _ _ c.next-here.ensures.next c.loop-i.invariant.first);
     }
 
 pub enclosing_end-loop-i-init : goal.enclosing_end-loop-i-init
 enclosing_end-loop-i-init t c = record {
-  inside = omega (arith, c.len-i.ensures, c.args.all.now.ok.0);
-  same = refl;
-  kept = c.requires;
+  gone = gone_start _ _ (omega (arith, c.len-i.ensures, c.args.all.now.ok.0)) c.requires;
   least = rw (plans-past c.args.all.now.items c.len-i.result (omega (arith, c.len-i.ensures, c.args.all.now.ok.0)), each_set-none) (IsLeastBelow-none c.args.low c.args.top);
 }
 
 pub enclosing_end-least_end-requires : goal.enclosing_end-least_end-requires
 enclosing_end-least_end-requires t c =
-    let old = c.index_mut.result.now in (
-      omega (arith, c.decreases, ap depths c.loop-i.invariant.same, argument_depth c.loop-i.all.items c.loop-i.i old old c.loop-i-test.true c.loop-i.invariant.inside c.index_mut.ensures.value),
-      argument_kept c.loop-i.all.items c.loop-i.i old old c.loop-i-test.true c.loop-i.invariant.inside c.index_mut.ensures.value c.loop-i.invariant.kept,
-    )
+    let gone = c.loop-i.invariant.gone in
+    let is = c.index_mut.ensures.value in
+    (omega (arith, c.decreases, gone_depth _ _ _ _ c.loop-i-test.true gone is), gone_kept _ _ _ _ c.loop-i-test.true gone is)
 
 pub enclosing_end-returns-in_default-clause-least : goal.enclosing_end-returns-in_default-clause-least
 enclosing_end-returns-in_default-clause-least t c =
     let old = c.index_mut.result.now in
-    let inside = argument_inside c.loop-i.all.items c.loop-i.i old old c.loop-i-test.true c.loop-i.invariant.inside c.index_mut.ensures.value c.args.low in
-    rw c.loop-i.invariant.same at (IsLeastBelow-missing (set (plan old.walk)) (set-some (plan old.walk)) (each_set (plans c.loop-i.all.items)) c.args.low c.args.top inside c.in_default.ensures.least)
+    let inside = argument_inside c.loop-i.all.items c.loop-i.i old old c.loop-i-test.true c.loop-i.invariant.gone.inside c.index_mut.ensures.value c.args.low in
+    rw c.loop-i.invariant.gone.same at (IsLeastBelow-missing (set (plan old.walk)) (set-some (plan old.walk)) (each_set (plans c.loop-i.all.items)) c.args.low c.args.top inside c.in_default.ensures.least)
 
 pub enclosing_end-returns-in_default-clause-same : goal.enclosing_end-returns-in_default-clause-same
 enclosing_end-returns-in_default-clause-same t c =
-    plans_stay c.loop-i.all.items c.loop-i.i c.index_mut.result.now c.least_end.new.self c.loop-i-test.true c.loop-i.invariant.inside c.index_mut.ensures.value c.least_end.ensures.same ∙ c.loop-i.invariant.same
+    (gone_next _ _ _ _ c.loop-i-test.true c.loop-i.invariant.gone c.index_mut.ensures.value c.least_end.new.self c.least_end.ensures.same c.least_end.ensures.kept).same
 
 pub enclosing_end-returns-in_default-clause-kept : goal.enclosing_end-returns-in_default-clause-kept
-enclosing_end-returns-in_default-clause-kept t c = kept-set c.loop-i.all.items (c.loop-i.i - 1) c.least_end.new.self c.loop-i.invariant.kept c.least_end.ensures.kept
+enclosing_end-returns-in_default-clause-kept t c =
+    (gone_next _ _ _ _ c.loop-i-test.true c.loop-i.invariant.gone c.index_mut.ensures.value c.least_end.new.self c.least_end.ensures.same c.least_end.ensures.kept).kept
 
 pub enclosing_end-loop-i-preserved : goal.enclosing_end-loop-i-preserved
 enclosing_end-loop-i-preserved t c =
-    let xs = c.loop-i.all.items in
-    let i = c.loop-i.i in
-    let old = c.index_mut.result.now in
+    let gone = c.loop-i.invariant.gone in
     let new = c.least_end.new.self in
     let is = c.index_mut.ensures.value in
     record {
-      inside = rw length-set (omega (arith, c.loop-i.invariant.inside));
-      same = plans_stay xs i old new c.loop-i-test.true c.loop-i.invariant.inside is c.least_end.ensures.same ∙ c.loop-i.invariant.same;
-      kept = kept-set xs (i - 1) new c.loop-i.invariant.kept c.least_end.ensures.kept;
-      least = rw (plans_before xs i old new c.loop-i-test.true c.loop-i.invariant.inside is c.least_end.ensures.same, each_set-more) (IsLeastBelow-both _ (set-some (plan old.walk)) _ _ _ _ _ _ c.in-Some.ensures.least c.loop-i.invariant.least c.max-end.ensures);
+      gone = gone_next _ _ _ _ c.loop-i-test.true gone is new c.least_end.ensures.same c.least_end.ensures.kept;
+      least = rw (plans_before _ _ _ new c.loop-i-test.true gone.inside is c.least_end.ensures.same, each_set-more) (IsLeastBelow-both _ (set-some _) _ _ _ _ _ _ c.in-Some.ensures.least c.loop-i.invariant.least c.max-end.ensures);
     }
 
 pub has_each-loop-i-init : goal.has_each-loop-i-init
 has_each-loop-i-init t c = record {
-  inside = omega (arith, c.len-i.ensures, c.args.all.now.ok.0);
-  same = refl;
-  kept = c.requires;
+  gone = gone_start _ _ (omega (arith, c.len-i.ensures, c.args.all.now.ok.0)) c.requires;
   each = rw (plans-past c.args.all.now.items c.len-i.result (omega (arith, c.len-i.ensures, c.args.all.now.ok.0)), each_set-none) tt;
 }
 
 pub has_each-next-requires : goal.has_each-next-requires
 has_each-next-requires t c =
-    let old = c.index_mut.result.now in (
-      omega (arith, c.decreases, ap depths c.loop-i.invariant.same, argument_depth c.loop-i.all.items c.loop-i.i old old c.loop-i-test.true c.loop-i.invariant.inside c.index_mut.ensures.value),
-      argument_kept c.loop-i.all.items c.loop-i.i old old c.loop-i-test.true c.loop-i.invariant.inside c.index_mut.ensures.value c.loop-i.invariant.kept,
-    )
+    let gone = c.loop-i.invariant.gone in
+    let is = c.index_mut.ensures.value in
+    (omega (arith, c.decreases, gone_depth _ _ _ _ c.loop-i-test.true gone is), gone_kept _ _ _ _ c.loop-i-test.true gone is)
 
 pub has_each-returns-in_default-clause-each : goal.has_each-returns-in_default-clause-each
 has_each-returns-in_default-clause-each t c =
     let old = c.index_mut.result.now in
     let none : IsNext (set (plan old.walk)) 0 0 None = rw c.at.ensures at c.in_default.ensures.next in
-    let has = argument_has c.loop-i.all.items c.loop-i.i old old c.loop-i-test.true c.loop-i.invariant.inside c.index_mut.ensures.value in
-    (λ no. cc, λ each. absurd (IsNext-no_extent (set (plan old.walk)) none (has (rw (← c.loop-i.invariant.same) at each))))
+    let has = argument_has c.loop-i.all.items c.loop-i.i old old c.loop-i-test.true c.loop-i.invariant.gone.inside c.index_mut.ensures.value in
+    (λ no. cc, λ each. absurd (IsNext-no_extent (set (plan old.walk)) none (has (rw (← c.loop-i.invariant.gone.same) at each))))
 
 pub has_each-returns-in_default-clause-same : goal.has_each-returns-in_default-clause-same
 has_each-returns-in_default-clause-same t c =
-    plans_stay c.loop-i.all.items c.loop-i.i c.index_mut.result.now c.next.new.self c.loop-i-test.true c.loop-i.invariant.inside c.index_mut.ensures.value c.next.ensures.same ∙ c.loop-i.invariant.same
+    (gone_next _ _ _ _ c.loop-i-test.true c.loop-i.invariant.gone c.index_mut.ensures.value c.next.new.self c.next.ensures.same c.next.ensures.kept).same
 
 pub has_each-returns-in_default-clause-kept : goal.has_each-returns-in_default-clause-kept
-has_each-returns-in_default-clause-kept t c = kept-set c.loop-i.all.items (c.loop-i.i - 1) c.next.new.self c.loop-i.invariant.kept c.next.ensures.kept
+has_each-returns-in_default-clause-kept t c =
+    (gone_next _ _ _ _ c.loop-i-test.true c.loop-i.invariant.gone c.index_mut.ensures.value c.next.new.self c.next.ensures.same c.next.ensures.kept).kept
 
 pub has_each-loop-i-preserved : goal.has_each-loop-i-preserved
 has_each-loop-i-preserved t c =
-    let xs = c.loop-i.all.items in
-    let i = c.loop-i.i in
-    let old = c.index_mut.result.now in
+    let gone = c.loop-i.invariant.gone in
     let new = c.next.new.self in
     let is = c.index_mut.ensures.value in
     record {
-      inside = rw length-set (omega (arith, c.loop-i.invariant.inside));
-      same = plans_stay xs i old new c.loop-i-test.true c.loop-i.invariant.inside is c.next.ensures.same ∙ c.loop-i.invariant.same;
-      kept = kept-set xs (i - 1) new c.loop-i.invariant.kept c.next.ensures.kept;
-      each = rw (plans_before xs i old new c.loop-i-test.true c.loop-i.invariant.inside is c.next.ensures.same, each_set-more) (HasEach-more _ _ _ (rw c.at.ensures at c.in-Some.ensures.next) c.loop-i.invariant.each);
+      gone = gone_next _ _ _ _ c.loop-i-test.true gone is new c.next.ensures.same c.next.ensures.kept;
+      each = rw (plans_before _ _ _ new c.loop-i-test.true gone.inside is c.next.ensures.same, each_set-more) (HasEach-more _ _ _ (rw c.at.ensures at c.in-Some.ensures.next) c.loop-i.invariant.each);
     }
 
 -- ---- each operator
@@ -225,9 +203,7 @@ next_shortest-returns-in-Some-extent_from-clause-next t c =
 
 pub next_shortest-loop-x-smaller : goal.next_shortest-loop-x-smaller
 next_shortest-loop-x-smaller t c =
-    let next = rw c.at.ensures at c.in-Some.ensures.next in
-    let begins : c.loop-x.low ≤ c.in-Some.x.begin = IsFrom-begin c.loop-x.low 0 c.in-Some.x.begin c.in-Some.x.end (next.only c.in-Some.x refl).1 in
-    omega (arith, begins, c.begin-low.ensures.begin, c.begin-low.type_inv)
+    omega (arith, IsNext-begin _ c.loop-x.low c.in-Some.x (rw c.at.ensures at c.in-Some.ensures.next), c.begin-low.ensures.begin, c.begin-low.type_inv)
 
 pub next_shortest-loop-x-preserved : goal.next_shortest-loop-x-preserved
 next_shortest-loop-x-preserved t c =
@@ -289,9 +265,7 @@ next_joined-returns-in-Some-extent_from-clause-next t c =
 
 pub next_joined-loop-x-smaller : goal.next_joined-loop-x-smaller
 next_joined-loop-x-smaller t c =
-    let next = rw c.at.ensures at c.in-Some.ensures.next in
-    let begins : c.loop-x.low ≤ c.in-Some.x.begin = IsFrom-begin c.loop-x.low 0 c.in-Some.x.begin c.in-Some.x.end (next.only c.in-Some.x refl).1 in
-    omega (arith, begins, c.begin-low.ensures.begin, c.begin-low.type_inv)
+    omega (arith, IsNext-begin _ c.loop-x.low c.in-Some.x (rw c.at.ensures at c.in-Some.ensures.next), c.begin-low.ensures.begin, c.begin-low.type_inv)
 
 pub next_joined-loop-x-preserved : goal.next_joined-loop-x-preserved
 next_joined-loop-x-preserved t c =
@@ -562,8 +536,7 @@ next_chain-returns-in-Some-extent_from-clause-next t c =
 
 pub next_chain-loop-x-smaller : goal.next_chain-loop-x-smaller
 next_chain-loop-x-smaller t c =
-    let begins : c.loop-x.low ≤ c.in-Some.x.begin = IsFrom-begin c.loop-x.low 0 c.in-Some.x.begin c.in-Some.x.end (c.in-Some.ensures.next.only c.in-Some.x refl).1 in
-    omega (arith, begins, c.begin-low.ensures.begin, c.begin-low.type_inv)
+    omega (arith, IsNext-begin _ c.loop-x.low c.in-Some.x c.in-Some.ensures.next, c.begin-low.ensures.begin, c.begin-low.type_inv)
 
 pub next_chain-loop-x-preserved : goal.next_chain-loop-x-preserved
 next_chain-loop-x-preserved t c =
@@ -617,9 +590,7 @@ next_window-returns-in-Some-extent_from-clause-next t c =
 
 pub next_window-loop-x-smaller : goal.next_window-loop-x-smaller
 next_window-loop-x-smaller t c =
-    let next = rw c.at.ensures at c.in-Some.ensures.next in
-    let begins : c.loop-x.low ≤ c.in-Some.x.begin = IsFrom-begin c.loop-x.low 0 c.in-Some.x.begin c.in-Some.x.end (next.only c.in-Some.x refl).1 in
-    omega (arith, begins, c.begin-low.ensures.begin, c.begin-low.type_inv)
+    omega (arith, IsNext-begin _ c.loop-x.low c.in-Some.x (rw c.at.ensures at c.in-Some.ensures.next), c.begin-low.ensures.begin, c.begin-low.type_inv)
 
 pub next_window-loop-x-preserved : goal.next_window-loop-x-preserved
 next_window-loop-x-preserved t c =

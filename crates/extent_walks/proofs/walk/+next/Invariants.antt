@@ -6,7 +6,7 @@ use Rattle.extent_walks.specs.Next.{IsLeastBelow, IsNext}
 use Rattle.extent_walks.specs.Walks.{AreKept, IsAheadKept, plan, plans}
 use Rattle.extent_walks.proofs.NextLemmas.{AreLow, IsJoinedSoFar, IsLeastSoFar, IsPassed}
 use Rattle.extent_walks.proofs.ChainLemmas.{IsSearched, room}
-use Rattle.extent_walks.proofs.WalkLaws.{depth, depths}
+use Rattle.extent_walks.proofs.WalkLaws.{AreGoneOver, depth, depths}
 use Rattle.extent_walks.proofs.walk.+next.Given as goal
 
 abbrev pub invariant-Ahead::least_of_ends-loop-self : goal.invariant-Ahead::least_of_ends-loop-self
@@ -33,9 +33,7 @@ decreases-joined_end-loop-x l = 18446744073709551616 - l.end
 
 abbrev pub invariant-next_of_any-loop-i : goal.invariant-next_of_any-loop-i
 invariant-next_of_any-loop-i l = record {
-  inside : l.i ≤ length l.all.items;
-  same : plans l.all.items ≡ plans l.initial.all.items;
-  kept : AreKept l.all.items;
+  gone : AreGoneOver l.initial.all.items l.all.items l.i;
   first : IsNext (IsInSome (each_set (plans (drop l.i l.all.items)))) l.from.begin l.from.end l.found;
 }
 
@@ -44,9 +42,7 @@ decreases-next_of_any-loop-i l = l.i
 
 abbrev pub invariant-enclosing_end-loop-i : goal.invariant-enclosing_end-loop-i
 invariant-enclosing_end-loop-i l = record {
-  inside : l.i ≤ length l.all.items;
-  same : plans l.all.items ≡ plans l.initial.all.items;
-  kept : AreKept l.all.items;
+  gone : AreGoneOver l.initial.all.items l.all.items l.i;
   least : IsLeastBelow l.top (HasEachInside (each_set (plans (drop l.i l.all.items))) l.low) (Some l.end);
 }
 
@@ -55,9 +51,7 @@ decreases-enclosing_end-loop-i l = l.i
 
 abbrev pub invariant-has_each-loop-i : goal.invariant-has_each-loop-i
 invariant-has_each-loop-i l = record {
-  inside : l.i ≤ length l.all.items;
-  same : plans l.all.items ≡ plans l.initial.all.items;
-  kept : AreKept l.all.items;
+  gone : AreGoneOver l.initial.all.items l.all.items l.i;
   each : HasEach (each_set (plans (drop l.i l.all.items)));
 }
 

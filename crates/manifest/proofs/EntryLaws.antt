@@ -4,11 +4,11 @@ use Rattle.std.specs.List.{flat_map}
 use Rattle.std.specs.Int.{w32, w64, to_le_bytes}
 use Rattle.ri_base.specs.declared.limits.TheConstants.{MAX_PRIORS}
 use Rattle.ri_base.specs.declared.text.TheConstants.{NAME_BYTES}
-use Rattle.ri_base.specs.Fields.{number, ruled, ruled_byte, text}
+use Rattle.ri_base.specs.Fields.{number, number_between, rising_numbers, ruled, ruled_byte, text}
 use Rattle.ri_base.specs.Reading.{◌>>=◌, AllFit, repeat}
 use Rattle.ri_base.specs.Spelling.{spelled_text}
 use Rattle.ri_base.proofs.Codec.{IsCodec, codec_then, codec_as, number_codec, ruled_codec, ruled_byte_codec, text_codec, repeat_codec, wide32, wide64}
-use Rattle.manifest.specs.Entries.{BehindPrior, behind, behind_prior, file_number, is_docs, is_mark, is_number, is_prior_name, is_stale, mark, marks, prior, priors, segment, segments, stale, stale_number, with_number}
+use Rattle.manifest.specs.Entries.{BehindPrior, behind, behind_prior, file_number, is_docs, is_mark, is_number, is_prior_name, is_stale, marks, prior, priors, segment, segments, stale, stale_number, with_number}
 use Rattle.manifest.specs.Fits.{FitsNumber, FitsMark, FitMarks, FitsDocs, FitsSegment, FitSegments, FitsStale, FitStale, FitsName, FitsPrior, FitPriors}
 use Rattle.manifest.specs.Spelling.{spelled_marks, spelled_prior, spelled_priors, spelled_segment, spelled_segments, spelled_stale}
 use Rattle.manifest.specs.declared.manifest.PriorEntry.{PriorEntry}
@@ -18,12 +18,12 @@ marks_codec : (docs : ℕ) → IsCodec (marks docs) spelled_marks (FitMarks docs
 unfolding marks
 marks_codec docs =
     codec_then (number w32) (to_le_bytes w32) (λ n. n < 2 ^ 32)
-    (λ n bytes. repeat (mark docs) (λ _ m. m + 1) n 0 bytes)
+    (λ n bytes. rising_numbers docs n bytes)
     (λ n ms. flat_map (to_le_bytes w32) ms)
     (λ n ms. (length ms ≡ n) × AllFit (FitsMark docs) (λ _ m. m + 1) 0 ms)
     (λ ms. length ms)
     (number_codec w32 (2 ^ 32) wide32)
-    (λ n _. repeat_codec (mark docs) (to_le_bytes w32) (FitsMark docs) (λ _ m. m + 1) (λ low. ruled_codec w32 (2 ^ 32) (is_mark docs low) wide32) n 0)
+    (λ n _. repeat_codec (number_between docs) (to_le_bytes w32) (FitsMark docs) (λ _ m. m + 1) (λ low. ruled_codec w32 (2 ^ 32) (is_mark docs low) wide32) n 0)
     (λ n ms _ h. h.0)
 
 segment_codec : (next : ℕ) (used : List ℕ) → IsCodec (segment next used) spelled_segment (FitsSegment next used)

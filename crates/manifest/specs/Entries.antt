@@ -9,7 +9,7 @@ use Rattle.std.specs.Ordering.{nat_cmp}
 use Rattle.ri_base.specs.Text.{is_name}
 use Rattle.ri_base.specs.declared.limits.TheConstants.{MAX_PART_DOCS, MAX_PRIORS}
 use Rattle.ri_base.specs.declared.text.TheConstants.{NAME_BYTES}
-use Rattle.ri_base.specs.Fields.{number, ruled, ruled_byte, text}
+use Rattle.ri_base.specs.Fields.{number, rising_numbers, ruled, ruled_byte, text}
 use Rattle.ri_base.specs.Reading.{Reading, ◌>>=◌, repeat}
 use Rattle.manifest.specs.declared.manifest.PriorEntry.{PriorEntry}
 use Rattle.manifest.specs.declared.manifest.SegEntry.{SegEntry}
@@ -36,13 +36,10 @@ file_number next used bytes = ruled w64 (is_number next used) bytes
 abbrev pub is_mark : ℕ → ℕ → ℕ → Bool
 is_mark docs low m = nat_le low m && nat_lt m docs
 
-abbrev pub mark : ℕ → ℕ → List ℕ → Reading ℕ
-mark docs low bytes = ruled w32 (is_mark docs low) bytes
-
 unfoldable pub marks : ℕ → List ℕ → Reading (List ℕ)
 marks docs bytes = do
   n ← number w32 bytes
-  repeat (mark docs) (λ _ m. m + 1) n.0 0 n.1
+  rising_numbers docs n.0 n.1
 
 -- how many documents a segment has
 abbrev pub is_docs : ℕ → Bool

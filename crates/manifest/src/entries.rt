@@ -9,11 +9,13 @@ ghost use Rattle.ri_base.specs.Fields.{number, ruled, ruled_byte, text};
 ghost use Rattle.ri_base.specs.Reading.{repeat};
 ghost use Rattle.ri_base.specs.declared.limits.TheConstants.{MAX_PRIORS};
 ghost use Rattle.ri_base.specs.declared.text.TheConstants.{NAME_BYTES};
-ghost use Rattle.manifest.specs.Entries.{Behind, BehindPrior, behind, behind_prior, file_number, is_docs, is_number, is_prior_name, length_name, mark, marks, prior, priors, segment, segments, stale, stale_number, with_number, with_numbers};
+ghost use Rattle.manifest.specs.Entries.{Behind, BehindPrior, behind, behind_prior, file_number, is_docs, is_number, is_prior_name, length_name, marks, prior, priors, segment, segments, stale, stale_number, with_number, with_numbers};
 ghost use Rattle.manifest.specs.Files.{numbers_of};
 
 use crate::manifest::{PriorEntry, SegEntry};
-use ri_base::file_fields::{Broken, byte_at, front_at, kept, text_length_at, u32_at, u64_at};
+use ri_base::file_fields::{
+    Broken, byte_at, front_at, kept, rising_numbers_at, text_length_at, u32_at, u64_at,
+};
 use ri_base::limits::{MAX_PART_DOCS, MAX_PRIORS};
 use ri_base::{List, NAME_BYTES, Name};
 use std::alloc::Global;
@@ -39,40 +41,12 @@ fn file_number_at<'a>(
     kept(is_number(next, used, number), number, rest, bytes)
 }
 
-#[tactic(auto, unfolding(ri_base::specs::Fields::ruled))]
-fn mark_at(docs: u32, low: u64, bytes: &[u8]) -> Result<(u32, &[u8]), Broken>
-    ensures { Gives (λ x. (x.0, x.1.now)) result (mark docs low bytes.now) }
-{
-    let (mark, rest) = u32_at(bytes)?;
-    kept(low <= u64::from(mark) && mark < docs, mark, rest, bytes)
-}
-
-fn marks_from(
-    alloc: Global,
-    docs: u32,
-    count: u32,
-    bytes: &[u8],
-) -> Result<(Vec<u32>, &[u8]), Broken>
-    ensures { Gives (λ x. (x.0.items, x.1.now)) result (repeat (mark docs) (λ _ m. m + 1) count 0 bytes.now) }
-{
-    let mut marks = Vec::with_capacity(alloc, (count as usize).min(bytes.len() / 4))?;
-    let mut low = 0u64;
-    let mut rest = bytes;
-    for _ in 0..count {
-        let (mark, after) = mark_at(docs, low, rest)?;
-        marks.push(mark)?;
-        low = u64::from(mark) + 1;
-        rest = after;
-    }
-    Ok((marks, rest))
-}
-
 #[tactic(auto, unfolding(crate::specs::Entries::marks))]
 fn marks_at(alloc: Global, docs: u32, bytes: &[u8]) -> Result<(Vec<u32>, &[u8]), Broken>
     ensures { Gives (λ x. (x.0.items, x.1.now)) result (marks docs bytes.now) }
 {
     let (count, rest) = u32_at(bytes)?;
-    marks_from(alloc, docs, count, rest)
+    rising_numbers_at(alloc, docs, count, rest)
 }
 
 #[tactic(auto, unfolding(ri_base::specs::Fields::ruled))]

@@ -2,7 +2,6 @@
 #![tactic(auto)]
 
 mod entries;
-mod magic;
 mod manifest;
 mod prior;
 mod prior_reading;

@@ -11,9 +11,10 @@ ghost use Rattle.ri_base.specs.declared.seg_fault.PartName.TheVariants as parts;
 ghost use Rattle.manifest.specs.PriorFits.{IsPrior};
 ghost use Rattle.manifest.specs.Priors.{PriorTable, belief, is_p, is_q, prior_fields, prior_file, prior_text, rest, row, row_of, rows};
 
-use crate::magic::magic_at;
 use crate::prior::PriorRows;
-use ri_base::file_fields::{Broken, byte_at, docno_behind_at, fault_of, kept, u32_at, u64_at};
+use ri_base::file_fields::{
+    Broken, byte_at, docno_behind_at, fault_of, kept, magic_at, u32_at, u64_at,
+};
 use ri_base::limits::{MAX_PRIOR_ROWS, PRIOR_LIMIT};
 use ri_base::{Docno, FileName, Fraction, PartName, SegFault};
 use std::alloc::Global;

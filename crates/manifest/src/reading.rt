@@ -11,9 +11,8 @@ ghost use Rattle.manifest.specs.Spelling.{manifest_text};
 ghost use Rattle.manifest.specs.declared.manifest.Manifest.{Manifest};
 
 use crate::entries::{priors_at, segments_at, stale_at};
-use crate::magic::magic_at;
 use crate::manifest::{Manifest, PriorEntry, SegEntry};
-use ri_base::file_fields::{Broken, fault_of, kept, u32_at, u64_at};
+use ri_base::file_fields::{Broken, fault_of, kept, magic_at, u32_at, u64_at};
 use ri_base::{FileName, List, PartName, SegFault};
 use std::alloc::Global;
 

@@ -1,11 +1,11 @@
 -- The fields that all files share.
-use Rattle.std.specs.Prelude.{ℕ, Bool, true, false, List, [], ◌∷◌, length, take, drop, Ok, Err, nat_lt, nat_le, ◌&&◌, if◌then◌else◌}
+use Rattle.std.specs.Prelude.{ℕ, ◌+◌, Bool, true, false, List, [], ◌∷◌, length, take, drop, Ok, Err, nat_lt, nat_le, ◌&&◌, if◌then◌else◌}
 use Rattle.std.specs.Cmp.Lexicographic.{slice_cmp}
-use Rattle.std.specs.Int.{Width, byte_len, from_le_bytes}
+use Rattle.std.specs.Int.{Width, byte_len, from_le_bytes, w32}
 use Rattle.std.specs.Ordering.{match_ordering, nat_cmp}
 use Rattle.ri_base.specs.Text.{is_docno, is_term, is_name}
 use Rattle.ri_base.specs.declared.text.TheConstants.{DOCNO_BYTES, NAME_BYTES, TERM_BYTES}
-use Rattle.ri_base.specs.Reading.{Reading, ◌>>=◌, kept}
+use Rattle.ri_base.specs.Reading.{Reading, ◌>>=◌, kept, repeat}
 
 abbrev pub byte : List ℕ → Reading ℕ
 byte [] = Err 0
@@ -20,6 +20,14 @@ unfoldable pub ruled : Width → (ℕ → Bool) → List ℕ → Reading ℕ
 ruled w rule bytes = do
   n ← number w bytes
   kept (rule n.0) n bytes
+
+-- a number below `top`, from `low` on
+abbrev pub number_between : ℕ → ℕ → List ℕ → Reading ℕ
+number_between top low bytes = ruled w32 (λ n. nat_le low n && nat_lt n top) bytes
+
+-- so many numbers below `top`, each above the one before it
+abbrev pub rising_numbers : ℕ → ℕ → List ℕ → Reading (List ℕ)
+rising_numbers top count bytes = repeat (number_between top) (λ _ n. n + 1) count 0 bytes
 
 unfoldable pub ruled_byte : (ℕ → Bool) → List ℕ → Reading ℕ
 ruled_byte rule bytes = do

@@ -11,6 +11,7 @@ mod expression;
 mod extent;
 mod field_bytes;
 mod field_numbers;
+mod field_rising;
 mod field_span;
 mod field_texts;
 mod field_writing;

@@ -3,9 +3,9 @@ use Rattle.std.proofs.Common.{◌≡◌, ℕ, ◌+◌, ◌-◌, ◌*◌, ◌^◌
 use Rattle.std.specs.List.{flat_map}
 use Rattle.std.specs.Int.{w32, to_le_bytes}
 use Rattle.seg_codec.specs.Fits.{place_rule, FitsPlace, FitPlaces, FitsId, FitsBlockEntry, FitBlock}
-use Rattle.ri_base.specs.Fields.{ruled, ruled_byte}
+use Rattle.ri_base.specs.Fields.{number_between, rising_numbers, ruled, ruled_byte}
 use Rattle.ri_base.specs.Reading.{AllFit, ◌>>=◌, repeat}
-use Rattle.seg_codec.specs.Blocks.{is_local, tokens_of, place, places, document_id, block_entry, block_entries, block}
+use Rattle.seg_codec.specs.Blocks.{is_local, tokens_of, places, document_id, block_entry, block_entries, block}
 use Rattle.seg_codec.specs.Spelling.{spelled_block_entry, block_bytes}
 use Rattle.seg_codec.specs.declared.documents.Entry.{Entry}
 use Rattle.seg_codec.specs.declared.blocks.BlockEntry.{BlockEntry}
@@ -18,12 +18,12 @@ pub places_codec : (tokens : ℕ) → IsCodec (places tokens) spelled_places (Fi
 unfolding places
 places_codec tokens =
     codec_then (ruled w32 (λ n. nat_le 1 n)) (to_le_bytes w32) (λ n. (n < 2 ^ 32) × (nat_le 1 n ≡ true))
-    (λ n bytes. repeat (place tokens) (λ _ p. p + 1) n 0 bytes)
+    (λ n bytes. rising_numbers tokens n bytes)
     (λ n ps. flat_map (to_le_bytes w32) ps)
     (λ n ps. (length ps ≡ n) × AllFit (FitsPlace tokens) (λ _ p. p + 1) 0 ps)
     (λ ps. length ps)
     (ruled_codec w32 (2 ^ 32) (λ n. nat_le 1 n) wide32)
-    (λ n _. repeat_codec (place tokens) (to_le_bytes w32) (FitsPlace tokens) (λ _ p. p + 1) (λ low. ruled_codec w32 (2 ^ 32) (place_rule tokens low) wide32) n 0)
+    (λ n _. repeat_codec (number_between tokens) (to_le_bytes w32) (FitsPlace tokens) (λ _ p. p + 1) (λ low. ruled_codec w32 (2 ^ 32) (place_rule tokens low) wide32) n 0)
     (λ n ps _ h. h.0)
 
 id_codec : (docs range low : ℕ) → IsCodec (document_id docs range low) (λ id. (id - 64 * range) ∷ []) (FitsId docs range low)

@@ -1,7 +1,7 @@
 -- A block of a segment: the places of a term in the documents of a range of 64 ids.
 use Rattle.std.specs.Prelude.{ℕ, ◌+◌, ◌*◌, Bool, true, List, length, map, slice_index_or, Result, Ok, nat_lt, nat_le, ◌&&◌}
 use Rattle.std.specs.Int.{w32}
-use Rattle.ri_base.specs.Fields.{ruled, ruled_byte}
+use Rattle.ri_base.specs.Fields.{rising_numbers, ruled, ruled_byte}
 use Rattle.ri_base.specs.Reading.{Reading, ◌>>=◌, repeat, whole}
 use Rattle.seg_codec.specs.declared.documents.Entry.{Entry}
 use Rattle.seg_codec.specs.declared.blocks.BlockEntry.{BlockEntry}
@@ -14,13 +14,10 @@ tokens_of docs id = slice_index_or (map (λ e. e.tokens) docs) id 0
 abbrev pub is_local : ℕ → ℕ → ℕ → ℕ → Bool
 is_local docs range low i = nat_lt i 64 && nat_lt (64 * range + i) docs && nat_le low (64 * range + i)
 
-abbrev pub place : ℕ → ℕ → List ℕ → Reading ℕ
-place tokens low bytes = ruled w32 (λ p. nat_le low p && nat_lt p tokens) bytes
-
 unfoldable pub places : ℕ → List ℕ → Reading (List ℕ)
 places tokens bytes = do
   n ← ruled w32 (λ n. nat_le 1 n) bytes
-  repeat (place tokens) (λ _ p. p + 1) n.0 0 n.1
+  rising_numbers tokens n.0 n.1
 
 -- the id of a document
 unfoldable pub document_id : ℕ → ℕ → ℕ → List ℕ → Reading ℕ

@@ -4,10 +4,10 @@ ghost use Rattle.std.specs.Int.{w32};
 ghost use Rattle.ri_base.specs.FieldAnswers.{Gives};
 ghost use Rattle.ri_base.specs.Fields.{number, ruled, ruled_byte};
 ghost use Rattle.ri_base.specs.Reading.{repeat};
-ghost use Rattle.seg_codec.specs.Blocks.{is_local, tokens_of, place, places, document_id, block_entry, block_entries, block};
+ghost use Rattle.seg_codec.specs.Blocks.{is_local, tokens_of, places, document_id, block_entry, block_entries, block};
 
 use crate::documents::Entry;
-use ri_base::file_fields::{Broken, byte_at, kept, u32_at};
+use ri_base::file_fields::{Broken, byte_at, kept, rising_numbers_at, u32_at};
 use ri_base::{List, Positions};
 use std::alloc::Global;
 
@@ -25,39 +25,6 @@ pub struct Block {
 }
 
 #[tactic(auto, unfolding(ri_base::specs::Fields::ruled))]
-fn place_at(tokens: u32, low: u64, bytes: &[u8]) -> Result<(u32, &[u8]), Broken>
-    ensures { Gives (λ x. (x.0, x.1.now)) result (place tokens low bytes.now) }
-{
-    let (place, rest) = u32_at(bytes)?;
-    kept(
-        low <= u64::from(place) && place < tokens,
-        place,
-        rest,
-        bytes,
-    )
-}
-
-fn places_from(
-    alloc: Global,
-    tokens: u32,
-    count: u32,
-    bytes: &[u8],
-) -> Result<(Vec<u32>, &[u8]), Broken>
-    ensures { Gives (λ x. (x.0.items, x.1.now)) result (repeat (place tokens) (λ _ p. p + 1) count 0 bytes.now) }
-{
-    let mut places = Vec::with_capacity(alloc, (count as usize).min(bytes.len() / 4))?;
-    let mut low = 0u64;
-    let mut rest = bytes;
-    for _ in 0..count {
-        let (place, after) = place_at(tokens, low, rest)?;
-        places.push(place)?;
-        low = u64::from(place) + 1;
-        rest = after;
-    }
-    Ok((places, rest))
-}
-
-#[tactic(auto, unfolding(ri_base::specs::Fields::ruled))]
 fn count_at(bytes: &[u8]) -> Result<(u32, &[u8]), Broken>
     ensures { Gives (λ x. (x.0, x.1.now)) result (ruled w32 (λ n. nat_le 1 n) bytes.now) }
 {
@@ -70,7 +37,7 @@ fn places_at(alloc: Global, tokens: u32, bytes: &[u8]) -> Result<(Vec<u32>, &[u8
     ensures { Gives (λ x. (x.0.items, x.1.now)) result (places tokens bytes.now) }
 {
     let (count, rest) = count_at(bytes)?;
-    places_from(alloc, tokens, count, rest)
+    rising_numbers_at(alloc, tokens, count, rest)
 }
 
 #[tactic(auto, unfolding(ri_base::specs::Fields::ruled_byte, crate::specs::Blocks::document_id))]

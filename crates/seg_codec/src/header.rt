@@ -4,9 +4,9 @@ ghost use Rattle.std.specs.Int.{w32, w64};
 ghost use Rattle.ri_base.specs.FieldAnswers.{Gives};
 ghost use Rattle.ri_base.specs.Fields.{ruled};
 ghost use Rattle.ri_base.specs.declared.limits.TheConstants.{MAX_HELD_TOKENS, MAX_PART_DOCS, MAX_PART_NAMES};
-ghost use Rattle.seg_codec.specs.Headers.{marked, docs_count, counts, dictionary_place, blocks_place, places, header_fields, header, magic};
+ghost use Rattle.seg_codec.specs.Headers.{docs_count, counts, dictionary_place, blocks_place, places, header_fields, header, magic};
 
-use ri_base::file_fields::{Broken, front_at, kept, u32_at, u64_at};
+use ri_base::file_fields::{Broken, kept, magic_at, u32_at, u64_at};
 use ri_base::limits::{MAX_HELD_TOKENS, MAX_PART_DOCS, MAX_PART_NAMES};
 
 /// How much a segment has, and where its parts stand.
@@ -20,18 +20,6 @@ pub struct Header {
     pub dictionary_at: u64,
     pub blocks_at: u64,
     pub length: u64,
-}
-
-#[tactic(auto, unfolding(ri_base::specs::Fields::ruled_front))]
-fn magic_at(bytes: &[u8]) -> Result<(&[u8], &[u8]), Broken>
-    ensures { Gives (λ x. (x.0.now, x.1.now)) result (marked bytes.now) }
-{
-    let (front, rest) = front_at(8, bytes)?;
-    if front == b"indriseg".as_slice() {
-        Ok((front, rest))
-    } else {
-        Err(Broken::At(bytes.len()))
-    }
 }
 
 #[tactic(auto, unfolding(ri_base::specs::Fields::ruled))]
@@ -59,7 +47,7 @@ fn docs_at(docs: u32, bytes: &[u8]) -> Result<(u32, &[u8]), Broken>
 fn docs_count_at(docs: u32, bytes: &[u8]) -> Result<(u32, &[u8]), Broken>
     ensures { Gives (λ x. (x.0, x.1.now)) result (docs_count docs bytes.now) }
 {
-    let (_magic, rest) = magic_at(bytes)?;
+    let (_magic, rest) = magic_at(b"indriseg".as_slice(), bytes)?;
     let (_version, rest) = version_at(rest)?;
     docs_at(docs, rest)
 }

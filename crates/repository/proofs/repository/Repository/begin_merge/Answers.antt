@@ -1,12 +1,10 @@
-use Rattle.std.proofs.Common.{◌∙◌, IfSome, ap, subst, sym}
-use Rattle.holdings.specs.Contents.{Contents}
-use Rattle.holdings.specs.declared.limits.Limits.{Limits}
+use Rattle.std.proofs.Common.{IfSome, subst, sym}
 use Rattle.repository.specs.Merges.{IsOpenMerging}
 use Rattle.repository.specs.States.{IsBacked, IsNumbered, ReadsAs, State}
 use Rattle.repository.specs.Ties.{IsTied}
 use Rattle.repository.proofs.BeginLemmas.{backed-begun, begun-is, numbered-begun, reads-begun, tied-begun}
 use Rattle.repository.proofs.KeepLemmas.{merging-begun}
-use Rattle.repository.proofs.StepLemmas.{backed-closed, closed-call, numbered-closed, reads-closed}
+use Rattle.repository.proofs.StepLemmas.{backed-closed, closed-call, reads-closed}
 use Rattle.repository.proofs.TieLemmas.{kept-closed}
 use Rattle.repository.proofs.Views.{seen}
 use Rattle.repository.proofs.repository.Repository.begin_merge.Goals as goal

@@ -1,4 +1,4 @@
-use Rattle.std.proofs.Common.{◌≡◌, ◌∙◌, ℕ, IfSome, List, None, Option, ap, arith, length, subst, sym, take}
+use Rattle.std.proofs.Common.{◌∙◌, ℕ, IfSome, List, Option, ap, arith, length, subst, sym, take}
 use Rattle.std.specs.List.{All}
 use Rattle.disk_index.specs.Snapshots.{Marked}
 use Rattle.merge_job.specs.Merge.{Merging}

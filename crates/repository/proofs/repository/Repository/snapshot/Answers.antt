@@ -1,9 +1,8 @@
-use Rattle.std.proofs.Common.{IfSome, subst, sym}
+use Rattle.std.proofs.Common.{subst, sym}
 use Rattle.repository.specs.Merges.{IsOpenMerging}
-use Rattle.repository.specs.States.{IsBacked, IsNumbered, ReadsAs, State}
-use Rattle.repository.specs.Ties.{IsTied}
+use Rattle.repository.specs.States.{IsBacked, ReadsAs, State}
 use Rattle.repository.proofs.KeepLemmas.{merging-closed}
-use Rattle.repository.proofs.StepLemmas.{backed-closed, closed-call, numbered-closed, reads-closed}
+use Rattle.repository.proofs.StepLemmas.{backed-closed, closed-call, reads-closed}
 use Rattle.repository.proofs.TieLemmas.{kept-closed}
 use Rattle.repository.proofs.Views.{seen}
 use Rattle.repository.proofs.repository.Repository.snapshot.Goals as goal

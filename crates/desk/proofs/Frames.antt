@@ -24,6 +24,7 @@ use Rattle.ranker.specs.Passed.{IsKnown, IsTold, part_at, passed}
 use Rattle.ranker.specs.Searches.{IsTaken, filters_of}
 use Rattle.ranker.specs.declared.place.Place.{Place}
 use Rattle.ranker.specs.declared.search.Search.{Search}
+use Rattle.ranker.proofs.ReadLemmas.{told-same}
 use Rattle.repository.specs.Numbers.{is_among}
 use Rattle.repository.specs.Saved.{IsUnlisted}
 use Rattle.repository.specs.States.{IsBacked, State, listed_numbers, numbers_in, part_numbers}
@@ -112,6 +113,7 @@ module _ (P : List ℕ → Type 0) (a b : Option Files) (same : SameWhere P a b)
           here = subst (λ (docs : List Document). IsKnown kind priors filters network s.tables.items s.at.part docs s.at.id s.at.ahead) (sym (at-same s.snapshot s.at.part stay)) taken.ahead.here;
           each = λ number. subst (λ (docs : List Document). IsTold network s.tables.items number docs) (sym (at-same s.snapshot number stay)) (taken.ahead.each number);
         };
+        blocks = told-same s a b (at-same s.snapshot s.at.part stay) taken.blocks;
       }
 
 -- a cache keeps the blocks of files that stay

@@ -98,4 +98,5 @@ module _ (kind : RuleKind) (a b : List Prior) where
           here = known-alike (filters_of s) (network_tree s.network) s.tables.items s.at.part docs s.at.id s.at.ahead alike taken.ahead.here;
           each = taken.ahead.each;
         };
+        blocks = taken.blocks;
       }

@@ -3,4 +3,4 @@
 
 mod words;
 
-pub use words::{Asked, ask, words_of};
+pub use words::{Asked, ask, distinct_words, words_of};

@@ -32,7 +32,14 @@ pub fn words_of(alloc: Global, expr: &ExtentExpr) -> Result<Terms, NoMemory>
 {
     let mut asked = Asked::new(alloc);
     ask(alloc, expr, &mut asked)?;
-    Ok(Terms::of(distinct(asked.terms)))
+    Ok(distinct_words(asked))
+}
+
+/// The terms that were asked for, each once, in rising order of bytes.
+pub fn distinct_words(asked: Asked) -> Terms
+    ensures { AreDistinct asked.terms.items result }
+{
+    Terms::of(distinct(asked.terms))
 }
 
 /// These terms, each once, in order.

@@ -1,8 +1,12 @@
 -- What is held, with one block more, and what it tells.
 use Rattle.std.proofs.Common.{◌≡◌, ◌<◌, ℕ, ◌+◌, ◌*◌, ◌/◌, ◌%◌, ◌==◌, List, [], ◌∷◌, ◌++◌, length, take, get_or, Bool, true, false, cond, Option, Some, None, Result, Ok, Err, IfOk, IfSome, is_some, refl, sym, ap, subst, ◌∙◌}
+use Rattle.std.specs.BTreeMap.{is_at}
+use Rattle.std.specs.Cmp.Lexicographic.{slice_cmp}
 use Rattle.std.specs.Int.{bit_at}
 use Rattle.std.specs.List.{All, list_any}
+use Rattle.std.specs.Map.{lookup}
 use Rattle.std.specs.Option.{option_map}
+use Rattle.std.specs.Ordering.{nat_cmp}
 use Rattle.std.specs.Str.{bytes_eq}
 use Rattle.std.proofs.lemmas.Bool.{eqb-true}
 use Rattle.std.proofs.lemmas.List.{take_more}
@@ -98,6 +102,17 @@ mask-told docs held term range mask are same = record { bits = λ i small. by i 
 pub answers-result : (docs : List Document) {E : Type 0} (r : Result Held E) → IfOk r (AreBlocksOf docs) → IfOk r (AreAnswersOf docs)
 answers-result docs (Ok held) are = answers-of docs held are
 answers-result docs (Err e) are = tt
+
+-- where no block is held, each answer is that of any documents
+pub nothing-fits : (outlines : List Entry) (held : Held) → held.blocks ≡ [] → FitDocuments outlines held
+nothing-fits outlines held none term =
+    let is : block_in held term ≡ None = ap (lookup (is_at (slice_cmp nat_cmp term))) none in
+    subst (λ (o : Option (List BlockEntry)). IfSome o (All (IsEntryOf outlines))) (sym is) tt
+
+pub nothing-answers : (docs : List Document) (held : Held) → held.blocks ≡ [] → AreAnswersOf docs held
+nothing-answers docs held none = answers-of docs held (λ term.
+    let is : block_in held term ≡ None = ap (lookup (is_at (slice_cmp nat_cmp term))) none in
+    subst (λ (o : Option (List BlockEntry)). IfSome o (λ es. es ≡ block_of term held.range docs)) (sym is) tt)
 
 -- what fits documents answers rising places of them
 pub answers-fit : (outlines : List Entry) (held : Held) (term : List ℕ) (id : ℕ) → FitDocuments outlines held → IfSome (answer held term id) (ArePlacesIn (tokens_of outlines id))

@@ -1,9 +1,11 @@
 // Blocks of a range that are held.
-ghost use Rattle.std.specs.Prelude.{◌≡◌, ◌<◌, ◌≤◌, ◌+◌, ◌^◌, ℕ, List, [], Some, cond, is_some, option_map, Err, IfErr, IfOk, OnOk};
+ghost use Rattle.std.specs.Prelude.{◌≡◌, ◌<◌, ◌≤◌, ◌+◌, ◌-◌, ◌^◌, ℕ, List, [], Some, cond, is_some, option_map, Err, IfErr, IfOk, OnOk};
 ghost use Rattle.std.specs.Int.{bit_at};
 ghost use Rattle.std.specs.Str.{bytes_eq};
+ghost use Rattle.ri_base.specs.Documents.{Document};
 ghost use Rattle.ri_base.specs.Faults.{IsOutside};
 ghost use Rattle.ri_base.specs.Keeps.{Rose};
+ghost use Rattle.seg_codec.specs.declared.documents.Entry.{Entry};
 ghost use Rattle.store_ends.specs.Files.{Files, IsQuiet};
 ghost use Rattle.disk_index.specs.Cache.{CacheKeeps, IsCacheBacked};
 ghost use Rattle.disk_index.specs.Parts.{IsFileOf, IsPartBacked, IsSourceFault, outlines_of, reads, source_of};
@@ -73,6 +75,15 @@ impl RangeBlocks {
             Part::Memory(_) => Ok(RangeBlocks::none(alloc, range)),
             Part::Disk(index) => open_on_disk(alloc, index, store, cache, terms, range, blocks),
         }
+    }
+
+    /// None of no range: no id is of the one that it has.
+    pub fn nothing(alloc: Global) -> RangeBlocks
+        ensures range { result.range ≡ 2 ^ 32 - 1 }
+        ensures fits { (outlines : List Entry) → FitDocuments outlines result }
+        ensures answers { (docs : List Document) → AreAnswersOf docs result }
+    {
+        RangeBlocks::none(alloc, u32::MAX)
     }
 
     /// None of the range.

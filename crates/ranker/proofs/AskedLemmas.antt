@@ -86,7 +86,7 @@ asks-all network size id ahead a b unbound some one h =
 
 -- ---- in parts
 
-ranges-suc : (parts : List Marked) (part : ℕ) → part < length parts → ranges_in (take (suc part) parts) ≡ ranges_in (take part parts) + ranges_of (size (part_at parts part).source)
+pub ranges-suc : (parts : List Marked) (part : ℕ) → part < length parts → ranges_in (take (suc part) parts) ≡ ranges_in (take part parts) + ranges_of (size (part_at parts part).source)
 ranges-suc [] part lt = absurd (omega (arith, lt))
 ranges-suc (m ∷ parts) zero lt = omega arith
 ranges-suc (m ∷ parts) (suc part) lt = let rest = ranges-suc parts part (omega (arith, lt)) in omega (arith, rest)

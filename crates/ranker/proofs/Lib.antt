@@ -7,11 +7,14 @@ pub mod HeldLemmas
 pub mod LeastLemmas
 pub mod Lists
 pub mod OpenedLemmas
+pub mod OpeningLemmas
 pub mod PassedLemmas
 pub mod PlaceLemmas
 pub mod RankingLemmas
+pub mod ReadLemmas
 pub mod SkippedLemmas
 pub mod SkippingLemmas
 pub mod SquaresLemmas
+pub mod TermLemmas
 pub mod WindowLemmas
 pub mod WithinLemmas

@@ -12,6 +12,8 @@ use Rattle.disk_index.specs.Parts.{reads}
 use Rattle.disk_index.specs.Snapshots.{live}
 use Rattle.document_scoring.specs.Candidates.{candidates}
 use Rattle.ranker.specs.Held.{IsHeld, is_open}
+use Rattle.range_masks.specs.Held.{AreAnswersOf}
+use Rattle.ranker.specs.Blocks.{opened_at}
 use Rattle.ranker.specs.Passed.{IsAheadAt, IsTold, asked_at, part_at, passed, ranges_in}
 use Rattle.ranker.specs.Ranking.{IsAnswerBy}
 use Rattle.ranker.specs.Squares.{spent}
@@ -28,11 +30,16 @@ filters_of s = map filter_tree s.checked.filters.items
 abbrev pub AreTold : Option Files → Search → Type 0
 AreTold told s = (number : ℕ) → IsTold (network_tree s.network) s.tables.items number (reads told (part_at s.snapshot number).source)
 
+-- the blocks that it keeps are those of its part, as it reads by these files
+abbrev pub told_by : Option Files → Search → Type 0
+told_by told s = AreAnswersOf (reads told (part_at s.snapshot s.at.part).source) s.blocks
+
 -- What it has taken so far is that of the documents that it passed, and what it knows of those that come next is so, as they read by
--- these files.
+-- these files, also by the blocks that it keeps.
 pub record IsTaken (kind : RuleKind) (priors : List Prior) (told : Option Files) (s : Search) : Type 0 where
   pub held : IsHeld kind priors (filters_of s) (network_tree s.network) (passed told s.snapshot s.at) s.most s.held
   pub ahead : IsAheadAt kind priors (filters_of s) (network_tree s.network) s.tables.items told s.snapshot s.at
+  pub blocks : told_by told s
 
 -- the answer of the search over these documents
 abbrev pub IsAnswerOf : RuleKind → List Prior → Search → List Document → List Hit → Type 0
@@ -52,3 +59,7 @@ spent_by kind priors told s = spent (network_tree s.network) s.most (is_open s.h
 -- what it spends on squarings in the whole, by all its documents and ranges
 abbrev pub whole_cost : RuleKind → List Prior → Option Files → Search → ℕ
 whole_cost kind priors told s = spent (network_tree s.network) s.most false (ranges_in s.snapshot) (candidates kind priors (filters_of s) (network_tree s.network) (searched told s))
+
+-- of how many ranges of its parts it has opened the blocks, at most
+abbrev pub opened_by : Search → ℕ
+opened_by s = opened_at s.snapshot s.at s.blocks.range

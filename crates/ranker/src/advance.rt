@@ -1,5 +1,5 @@
 // A step of what a search holds.
-ghost use Rattle.std.specs.Prelude.{◌≡◌, ◌<◌, ◌≤◌, ◌+◌, Option, true, false, length, map, min, nat_lt, All, Err, IfErr, OnOk, ℕ, List, []};
+ghost use Rattle.std.specs.Prelude.{◌≡◌, ◌<◌, ◌≤◌, ◌+◌, ◌*◌, Option, true, false, length, map, min, nat_lt, All, Err, IfErr, OnOk, ℕ, List, []};
 ghost use Rattle.ri_base.specs.Documents.{Document};
 ghost use Rattle.ri_base.specs.Faults.{IsOutside};
 ghost use Rattle.ri_base.specs.Keeps.{Rose};
@@ -10,12 +10,15 @@ ghost use Rattle.smoothing.specs.declared.rule.RuleKind.{RuleKind};
 ghost use Rattle.belief_nodes.specs.Leaves.{HasPrior};
 ghost use Rattle.belief_nodes.specs.Network.{NetworkTree, network_tree};
 ghost use Rattle.belief_nodes.specs.Priors.{Prior};
-ghost use Rattle.disk_index.specs.Cache.{CacheKeeps, IsCacheBacked};
+ghost use Rattle.disk_index.specs.Cache.{CacheKeeps};
+ghost use Rattle.disk_index.specs.Parts.{outlines_of};
 ghost use Rattle.disk_index.specs.Snapshots.{AreBacked, IsFileAmong, IsSnapshot, live};
 ghost use Rattle.document_scoring.specs.Candidates.{candidates};
+ghost use Rattle.range_masks.specs.Held.{FitDocuments};
+ghost use Rattle.ranker.specs.Blocks.{AreReadAt, OpensWithin, opened_at};
 ghost use Rattle.ranker.specs.First.{scale_of};
 ghost use Rattle.ranker.specs.Held.{HoldsEntries, IsHeld, is_open};
-ghost use Rattle.ranker.specs.Passed.{IsAheadAt, IsPlace, asked_at, passed, ranges_in};
+ghost use Rattle.ranker.specs.Passed.{IsAheadAt, IsPlace, asked_at, part_at, passed, ranges_in};
 ghost use Rattle.ranker.specs.Squares.{spent};
 ghost use Rattle.ranker.specs.Windows.{HasWindows};
 
@@ -26,7 +29,8 @@ use belief_nodes::{BeliefNode, Network};
 use bounded_keys::Contenders;
 use disk_index::{BlockCache, MarkedPart};
 use range_bounds::RangeTable;
-use ri_base::{Filter, Fraction, Hits, SegFault, Steps};
+use range_masks::RangeBlocks;
+use ri_base::{Filter, Fraction, Hits, SegFault, Steps, Term};
 use smoothing::Rule;
 use std::alloc::Global;
 use std::sync::ledger::Ledger;
@@ -35,7 +39,7 @@ use store_ends::Store;
 /// Passes so many live documents of the parts, which have so many, or all that are left where these are fewer. Where none is left the
 /// first of the candidates become the results.
 #[inline(never)]
-pub fn advance<T: Store, F: Fn(u32, u32, u64, u64) -> Fraction, L: Ledger>(
+pub fn advance<T: Store, F: Fn(u32, u32, u64, u64) -> Fraction, L: Ledger, B: Ledger>(
     alloc: Global,
     docs: u64,
     count: u64,
@@ -46,10 +50,13 @@ pub fn advance<T: Store, F: Fn(u32, u32, u64, u64) -> Fraction, L: Ledger>(
     parts: &[MarkedPart],
     store: &mut T,
     cache: &mut BlockCache,
+    read: &mut RangeBlocks,
     tables: &[RangeTable],
     at: &mut Place,
+    terms: &[Term],
     held: &mut Held,
     squares: &mut Steps<L>,
+    blocks: &mut Steps<B>,
 ) -> Result<(), SegFault>
     requires rule { Computes F.pre F.post rule.now.kind rule.now.f }
     requires shown { is_range (network_tree network.now).range ≡ true }
@@ -59,16 +66,19 @@ pub fn advance<T: Store, F: Fn(u32, u32, u64, u64) -> Fraction, L: Ledger>(
     requires count { (told : Option Files) → count ≡ length (live told parts.now) }
     requires open { is_open held.old ≡ nat_lt at.old.credit count }
     requires entries { HoldsEntries (network_tree network.now) held.old }
-    ensures ahead { AreBacked (T.files store.old) parts.now → IsCacheBacked (T.files store.old) cache.old → IsAheadAt rule.now.kind (map (λ plug. meaning plug) plugs.old) (map filter_tree filters.now) (network_tree network.now) tables.now (T.files store.old) parts.now at.old → OnOk result
+    requires fits { FitDocuments (outlines_of (part_at parts.now at.old.part).source) read.old }
+    ensures fits { FitDocuments (outlines_of (part_at parts.now at.new.part).source) read.new }
+    ensures read { AreBacked (T.files store.old) parts.now → AreReadAt (T.files store.old) parts.now at.old cache.old read.old → AreReadAt (T.files store.old) parts.now at.new cache.new read.new }
+    ensures ahead { AreBacked (T.files store.old) parts.now → AreReadAt (T.files store.old) parts.now at.old cache.old read.old → IsAheadAt rule.now.kind (map (λ plug. meaning plug) plugs.old) (map filter_tree filters.now) (network_tree network.now) tables.now (T.files store.old) parts.now at.old → OnOk result
         (IsAheadAt rule.now.kind (map (λ plug. meaning plug) plugs.old) (map filter_tree filters.now) (network_tree network.now) tables.now (T.files store.old) parts.now at.new) }
-    ensures taken { AreBacked (T.files store.old) parts.now → IsCacheBacked (T.files store.old) cache.old → IsAheadAt rule.now.kind (map (λ plug. meaning plug) plugs.old) (map filter_tree filters.now) (network_tree network.now) tables.now (T.files store.old) parts.now at.old → OnOk result ((most : ℕ)
+    ensures taken { AreBacked (T.files store.old) parts.now → AreReadAt (T.files store.old) parts.now at.old cache.old read.old → IsAheadAt rule.now.kind (map (λ plug. meaning plug) plugs.old) (map filter_tree filters.now) (network_tree network.now) tables.now (T.files store.old) parts.now at.old → OnOk result ((most : ℕ)
         → IsHeld rule.now.kind (map (λ plug. meaning plug) plugs.old) (map filter_tree filters.now) (network_tree network.now) (passed (T.files store.old) parts.now at.old) most held.old
         → IsHeld rule.now.kind (map (λ plug. meaning plug) plugs.old) (map filter_tree filters.now) (network_tree network.now) (passed (T.files store.old) parts.now at.new) most held.new) }
-    ensures squares { AreBacked (T.files store.old) parts.now → IsCacheBacked (T.files store.old) cache.old → IsAheadAt rule.now.kind (map (λ plug. meaning plug) plugs.old) (map filter_tree filters.now) (network_tree network.now) tables.now (T.files store.old) parts.now at.old → OnOk result ((most : ℕ)
+    ensures squares { AreBacked (T.files store.old) parts.now → AreReadAt (T.files store.old) parts.now at.old cache.old read.old → IsAheadAt rule.now.kind (map (λ plug. meaning plug) plugs.old) (map filter_tree filters.now) (network_tree network.now) tables.now (T.files store.old) parts.now at.old → OnOk result ((most : ℕ)
         → IsHeld rule.now.kind (map (λ plug. meaning plug) plugs.old) (map filter_tree filters.now) (network_tree network.now) (passed (T.files store.old) parts.now at.old) most held.old
         → squares.new + spent (network_tree network.now) most (is_open held.old) (asked_at parts.now at.old) (candidates rule.now.kind (map (λ plug. meaning plug) plugs.old) (map filter_tree filters.now) (network_tree network.now) (passed (T.files store.old) parts.now at.old))
         ≤ squares.old + spent (network_tree network.now) most (is_open held.new) (asked_at parts.now at.new) (candidates rule.now.kind (map (λ plug. meaning plug) plugs.old) (map filter_tree filters.now) (network_tree network.now) (passed (T.files store.old) parts.now at.new))) }
-    ensures within { AreBacked (T.files store.old) parts.now → IsCacheBacked (T.files store.old) cache.old → IsAheadAt rule.now.kind (map (λ plug. meaning plug) plugs.old) (map filter_tree filters.now) (network_tree network.now) tables.now (T.files store.old) parts.now at.old → (most : ℕ)
+    ensures within { AreBacked (T.files store.old) parts.now → AreReadAt (T.files store.old) parts.now at.old cache.old read.old → IsAheadAt rule.now.kind (map (λ plug. meaning plug) plugs.old) (map filter_tree filters.now) (network_tree network.now) tables.now (T.files store.old) parts.now at.old → (most : ℕ)
         → IsHeld rule.now.kind (map (λ plug. meaning plug) plugs.old) (map filter_tree filters.now) (network_tree network.now) (passed (T.files store.old) parts.now at.old) most held.old
         → squares.new + spent (network_tree network.now) most (is_open held.old) (asked_at parts.now at.old) (candidates rule.now.kind (map (λ plug. meaning plug) plugs.old) (map filter_tree filters.now) (network_tree network.now) (passed (T.files store.old) parts.now at.old))
         ≤ squares.old + spent (network_tree network.now) most false (ranges_in parts.now) (candidates rule.now.kind (map (λ plug. meaning plug) plugs.old) (map filter_tree filters.now) (network_tree network.now) (live (T.files store.old) parts.now)) }
@@ -79,17 +89,21 @@ pub fn advance<T: Store, F: Fn(u32, u32, u64, u64) -> Fraction, L: Ledger>(
     ensures place { IsPlace parts.now at.new }
     ensures credit { OnOk result (at.new.credit ≡ min (at.old.credit + docs) count) }
     ensures stay { map (λ plug. meaning plug) plugs.new ≡ map (λ plug. meaning plug) plugs.old }
-    ensures honest { AreBacked (T.files store.old) parts.now → IsCacheBacked (T.files store.old) cache.old → IfErr result IsOutside }
+    ensures honest { AreBacked (T.files store.old) parts.now → AreReadAt (T.files store.old) parts.now at.old cache.old read.old → IfErr result IsOutside }
     ensures cache { CacheKeeps (T.files store.old) (IsFileAmong parts.now) cache.old cache.new }
     ensures quiet { IsQuiet T.files T.layers T.clock T.since T.longest T.held store.old store.new }
     ensures later { T.faults store.old ≤ T.faults store.new }
     ensures store { result ≡ Err SegFault.Store → Rose (T.faults store.old) (T.faults store.new) }
+    ensures opened { OnOk result (OpensWithin (length terms.now) (opened_at parts.now at.old read.old.range) (opened_at parts.now at.new read.new.range) blocks.old blocks.new) }
+    ensures opens { OpensWithin (length terms.now) (opened_at parts.now at.old read.old.range) (ranges_in parts.now) blocks.old blocks.new }
+    ensures few { blocks.new ≤ blocks.old + length terms.now * docs }
 {
     let Held::Open(first) = held else {
         return Ok(());
     };
     pass_parts(
-        alloc, filters, network, rule, plugs, parts, store, cache, tables, at, docs, first, squares,
+        alloc, filters, network, rule, plugs, parts, store, cache, read, tables, at, terms, docs,
+        first, squares, blocks,
     )?;
     if at.credit < count {
         return Ok(());

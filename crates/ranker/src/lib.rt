@@ -15,6 +15,7 @@ mod place;
 mod ranges;
 mod search;
 mod snapshots;
+mod terms;
 mod unseen;
 mod window;
 

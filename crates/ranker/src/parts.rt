@@ -1,5 +1,5 @@
 // Parts with their marks, one stretch of documents behind the other.
-ghost use Rattle.std.specs.Prelude.{◌≡◌, ◌<◌, ◌≤◌, true, false, length, map, take, All, Err, IfErr, IfOk, OnOk};
+ghost use Rattle.std.specs.Prelude.{◌≡◌, ◌<◌, ◌≤◌, ◌+◌, ◌*◌, ◌/◌, true, false, length, map, take, All, Err, IfErr, IfOk, OnOk};
 ghost use Rattle.ri_base.specs.Faults.{IsOutside};
 ghost use Rattle.ri_base.specs.Keeps.{Keeps, Rose};
 ghost use Rattle.ri_base.specs.Query.{filter_tree, is_range};
@@ -7,6 +7,7 @@ ghost use Rattle.smoothing.specs.Fractions.{Computes};
 ghost use Rattle.belief_nodes.specs.Leaves.{HasPrior};
 ghost use Rattle.belief_nodes.specs.Network.{network_tree};
 ghost use Rattle.disk_index.specs.Snapshots.{unmarked};
+ghost use Rattle.ranker.specs.Blocks.{OpensWithin, opened_of};
 ghost use Rattle.ranker.specs.First.{Advances, SpendsWithin, counted};
 ghost use Rattle.ranker.specs.Passed.{IsAhead, IsKnown, IsPassed, asked_of, is_clear, ranges_of};
 ghost use Rattle.ranker.specs.Windows.{KeepsWindows};
@@ -21,8 +22,8 @@ use belief_nodes::{BeliefNode, Network};
 use bounded_keys::{Contenders, Entry};
 use deletion_list::DelList;
 use range_bounds::RangeTable;
-use range_masks::TermMasks;
-use ri_base::{Filter, Fraction, SegFault, Steps};
+use range_masks::{OpensRanges, TermMasks};
+use ri_base::{Filter, Fraction, SegFault, Steps, Term};
 use smoothing::Rule;
 use std::alloc::Global;
 use std::sync::ledger::Ledger;
@@ -140,10 +141,8 @@ fn pass_open<P: TermMasks, F: Fn(u32, u32, u64, u64) -> Fraction, L: Ledger>(
     )
 }
 
-/// Passes documents from an id on, at most so many live ones: up to the end of what is known of the id, or, where nothing is, of what
-/// is found out. None is looked at where none may have candidates, and where those of the range can't be among the first: then its
-/// mask isn't read.
-fn pass_on<P: TermMasks, F: Fn(u32, u32, u64, u64) -> Fraction, L: Ledger>(
+/// The same behind the opening of the blocks of the range, of each of these terms, unless they are held.
+fn pass_opened<P: OpensRanges, F: Fn(u32, u32, u64, u64) -> Fraction, L: Ledger, B: Ledger>(
     alloc: Global,
     filters: &[Filter],
     network: &Network,
@@ -155,16 +154,20 @@ fn pass_on<P: TermMasks, F: Fn(u32, u32, u64, u64) -> Fraction, L: Ledger>(
     number: usize,
     id: u32,
     ahead: Ahead,
+    terms: &[Term],
     most: u64,
     first: &mut Contenders<Entry<Window>>,
     squares: &mut Steps<L>,
+    blocks: &mut Steps<B>,
 ) -> Result<Passed, SegFault>
     requires rule { Computes F.pre F.post rule.now.kind rule.now.f }
     requires id { id < length (P.documents part.old) }
     requires marks { length marks.now ≡ length (P.documents part.old) }
     requires shown { is_range (network_tree network.now).range ≡ true }
     requires plugs { All (HasPrior (length plugs.old)) (network_tree network.now).leaves }
-    ensures keeps { Keeps P.documents P.faults P.sound P.quiet part.old part.new }
+    requires some { id < ahead.end }
+    requires open { is_clear ahead.mask ≡ false }
+    ensures keeps { Keeps P.documents P.faults P.sound P.calm part.old part.new }
     ensures first { P.sound part.old → IsKnown rule.now.kind (map (λ plug. meaning plug) plugs.old) (map filter_tree filters.now) (network_tree network.now) tables.now number (P.documents part.old) id ahead → IfOk result (λ to.
         Advances rule.now.kind (map (λ plug. meaning plug) plugs.old) (map filter_tree filters.now) (network_tree network.now) (unmarked (take id (P.documents part.old)) marks.now) (unmarked (take to.id (P.documents part.old)) marks.now) (counted first.old squares.old (asked_of id ahead)) (counted first.new squares.new (asked_of to.id to.ahead))) }
     ensures within { P.sound part.old → IsKnown rule.now.kind (map (λ plug. meaning plug) plugs.old) (map filter_tree filters.now) (network_tree network.now) tables.now number (P.documents part.old) id ahead
@@ -177,6 +180,60 @@ fn pass_on<P: TermMasks, F: Fn(u32, u32, u64, u64) -> Fraction, L: Ledger>(
     ensures stay { map (λ plug. meaning plug) plugs.new ≡ map (λ plug. meaning plug) plugs.old }
     ensures honest { P.sound part.old → IfErr result IsOutside }
     ensures store { result ≡ Err SegFault.Store → Rose (P.faults part.old) (P.faults part.new) }
+    ensures present { OnOk result (P.present part.new ≡ id / 64) }
+    ensures none { P.present part.old ≡ id / 64 → blocks.new ≡ blocks.old }
+    ensures cost { blocks.new ≤ blocks.old + length terms.now }
+{
+    part.open_range(alloc, terms, id / 64, blocks)?;
+    pass_open(
+        alloc, filters, network, rule, plugs, part, marks, tables, number, id, ahead, most, first,
+        squares,
+    )
+}
+
+/// Passes documents from an id on, at most so many live ones: up to the end of what is known of the id, or, where nothing is, of what
+/// is found out. None is looked at where none may have candidates, and where those of the range can't be among the first: then its
+/// mask isn't read. Else its blocks are opened before a live document is looked at.
+fn pass_on<P: OpensRanges, F: Fn(u32, u32, u64, u64) -> Fraction, L: Ledger, B: Ledger>(
+    alloc: Global,
+    filters: &[Filter],
+    network: &Network,
+    rule: &Rule<F>,
+    plugs: &mut [Box<dyn BeliefNode>],
+    part: &mut P,
+    marks: &DelList,
+    tables: &[RangeTable],
+    number: usize,
+    id: u32,
+    ahead: Ahead,
+    terms: &[Term],
+    most: u64,
+    first: &mut Contenders<Entry<Window>>,
+    squares: &mut Steps<L>,
+    blocks: &mut Steps<B>,
+) -> Result<Passed, SegFault>
+    requires rule { Computes F.pre F.post rule.now.kind rule.now.f }
+    requires id { id < length (P.documents part.old) }
+    requires marks { length marks.now ≡ length (P.documents part.old) }
+    requires shown { is_range (network_tree network.now).range ≡ true }
+    requires plugs { All (HasPrior (length plugs.old)) (network_tree network.now).leaves }
+    ensures keeps { Keeps P.documents P.faults P.sound P.calm part.old part.new }
+    ensures first { P.sound part.old → IsKnown rule.now.kind (map (λ plug. meaning plug) plugs.old) (map filter_tree filters.now) (network_tree network.now) tables.now number (P.documents part.old) id ahead → IfOk result (λ to.
+        Advances rule.now.kind (map (λ plug. meaning plug) plugs.old) (map filter_tree filters.now) (network_tree network.now) (unmarked (take id (P.documents part.old)) marks.now) (unmarked (take to.id (P.documents part.old)) marks.now) (counted first.old squares.old (asked_of id ahead)) (counted first.new squares.new (asked_of to.id to.ahead))) }
+    ensures within { P.sound part.old → IsKnown rule.now.kind (map (λ plug. meaning plug) plugs.old) (map filter_tree filters.now) (network_tree network.now) tables.now number (P.documents part.old) id ahead
+        → SpendsWithin rule.now.kind (map (λ plug. meaning plug) plugs.old) (map filter_tree filters.now) (network_tree network.now) (unmarked (take id (P.documents part.old)) marks.now) (unmarked (P.documents part.old) marks.now) (asked_of id ahead) (ranges_of (length (P.documents part.old))) squares.old squares.new }
+    ensures windows { OnOk result (KeepsWindows (network_tree network.now) (unmarked (P.documents part.old) marks.now) first.old first.new) }
+    ensures ahead { P.sound part.old → IsKnown rule.now.kind (map (λ plug. meaning plug) plugs.old) (map filter_tree filters.now) (network_tree network.now) tables.now number (P.documents part.old) id ahead → IfOk result (λ to.
+        IsKnown rule.now.kind (map (λ plug. meaning plug) plugs.old) (map filter_tree filters.now) (network_tree network.now) tables.now number (P.documents part.old) to.id to.ahead) }
+    ensures passed { IfOk result (IsPassed marks.now id most) }
+    ensures forward { IfOk result (λ to. 0 < most → id < to.id) }
+    ensures stay { map (λ plug. meaning plug) plugs.new ≡ map (λ plug. meaning plug) plugs.old }
+    ensures honest { P.sound part.old → IfErr result IsOutside }
+    ensures store { result ≡ Err SegFault.Store → Rose (P.faults part.old) (P.faults part.new) }
+    ensures opened { IfOk result (λ to. 0 < most → OpensWithin (length terms.now) (opened_of (length marks.now) (P.present part.old) id) (opened_of (length marks.now) (P.present part.new) to.id) blocks.old blocks.new) }
+    ensures opens { OpensWithin (length terms.now) (opened_of (length marks.now) (P.present part.old) id) (ranges_of (length marks.now)) blocks.old blocks.new }
+    ensures each { IfOk result (λ to. 0 < most → blocks.new ≤ blocks.old + length terms.now * to.docs) }
+    ensures few { blocks.new ≤ blocks.old + length terms.now }
 {
     let found = ahead_of(filters, network, part, id, ahead);
     if found.is_clear() {
@@ -191,14 +248,14 @@ fn pass_on<P: TermMasks, F: Fn(u32, u32, u64, u64) -> Fraction, L: Ledger>(
     if is_beaten(first, known.bound) {
         return Ok(pass_unseen(marks, known, id, most));
     }
-    pass_open(
-        alloc, filters, network, rule, plugs, part, marks, tables, number, id, known, most, first,
-        squares,
+    pass_opened(
+        alloc, filters, network, rule, plugs, part, marks, tables, number, id, known, terms, most,
+        first, squares, blocks,
     )
 }
 
 /// Passes the documents of a part from an id on, at most so many live ones.
-pub fn pass_part<P: TermMasks, F: Fn(u32, u32, u64, u64) -> Fraction, L: Ledger>(
+pub fn pass_part<P: OpensRanges, F: Fn(u32, u32, u64, u64) -> Fraction, L: Ledger, B: Ledger>(
     alloc: Global,
     filters: &[Filter],
     network: &Network,
@@ -210,16 +267,18 @@ pub fn pass_part<P: TermMasks, F: Fn(u32, u32, u64, u64) -> Fraction, L: Ledger>
     number: usize,
     id: u32,
     ahead: Ahead,
+    terms: &[Term],
     most: u64,
     first: &mut Contenders<Entry<Window>>,
     squares: &mut Steps<L>,
+    blocks: &mut Steps<B>,
 ) -> Result<Passed, SegFault>
     requires rule { Computes F.pre F.post rule.now.kind rule.now.f }
     requires id { id ≤ length (P.documents part.old) }
     requires marks { length marks.now ≡ length (P.documents part.old) }
     requires shown { is_range (network_tree network.now).range ≡ true }
     requires plugs { All (HasPrior (length plugs.old)) (network_tree network.now).leaves }
-    ensures keeps { Keeps P.documents P.faults P.sound P.quiet part.old part.new }
+    ensures keeps { Keeps P.documents P.faults P.sound P.calm part.old part.new }
     ensures first { P.sound part.old → IsKnown rule.now.kind (map (λ plug. meaning plug) plugs.old) (map filter_tree filters.now) (network_tree network.now) tables.now number (P.documents part.old) id ahead → IfOk result (λ to.
         Advances rule.now.kind (map (λ plug. meaning plug) plugs.old) (map filter_tree filters.now) (network_tree network.now) (unmarked (take id (P.documents part.old)) marks.now) (unmarked (take to.id (P.documents part.old)) marks.now) (counted first.old squares.old (asked_of id ahead)) (counted first.new squares.new (asked_of to.id to.ahead))) }
     ensures within { P.sound part.old → IsKnown rule.now.kind (map (λ plug. meaning plug) plugs.old) (map filter_tree filters.now) (network_tree network.now) tables.now number (P.documents part.old) id ahead
@@ -232,6 +291,10 @@ pub fn pass_part<P: TermMasks, F: Fn(u32, u32, u64, u64) -> Fraction, L: Ledger>
     ensures stay { map (λ plug. meaning plug) plugs.new ≡ map (λ plug. meaning plug) plugs.old }
     ensures honest { P.sound part.old → IfErr result IsOutside }
     ensures store { result ≡ Err SegFault.Store → Rose (P.faults part.old) (P.faults part.new) }
+    ensures opened { IfOk result (λ to. OpensWithin (length terms.now) (opened_of (length marks.now) (P.present part.old) id) (opened_of (length marks.now) (P.present part.new) to.id) blocks.old blocks.new) }
+    ensures opens { OpensWithin (length terms.now) (opened_of (length marks.now) (P.present part.old) id) (ranges_of (length marks.now)) blocks.old blocks.new }
+    ensures each { IfOk result (λ to. blocks.new ≤ blocks.old + length terms.now * to.docs) }
+    ensures few { blocks.new ≤ blocks.old + length terms.now * most }
 {
     let size = part.docs();
     let mut at = id;
@@ -250,9 +313,11 @@ pub fn pass_part<P: TermMasks, F: Fn(u32, u32, u64, u64) -> Fraction, L: Ledger>
             number,
             at,
             known,
+            terms,
             most - docs,
             first,
             squares,
+            blocks,
         )?;
         docs += to.docs;
         at = to.id;

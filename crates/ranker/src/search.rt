@@ -1,22 +1,27 @@
 // A search in steps.
 ghost use Rattle.std.specs.Prelude.{◌≡◌, Option, true, length, nat_lt};
+ghost use Rattle.std.proofs.Props.{props};
 ghost use Rattle.ri_base.specs.Query.{is_range};
 ghost use Rattle.store_ends.specs.Files.{Files};
 ghost use Rattle.belief_nodes.specs.Network.{network_tree};
+ghost use Rattle.disk_index.specs.Parts.{outlines_of};
 ghost use Rattle.disk_index.specs.Snapshots.{live};
+ghost use Rattle.range_masks.specs.Held.{FitDocuments};
 ghost use Rattle.ranker.specs.Held.{HoldsEntries, is_open};
-ghost use Rattle.ranker.specs.Passed.{IsBareTo, IsPlace};
+ghost use Rattle.ranker.specs.Passed.{IsBareTo, IsPlace, part_at};
 ghost use Rattle.ranker.specs.Windows.{HasWindows};
 
 use crate::advance::{advance, first_held};
 use crate::bare::bare_to;
 use crate::held::Held;
 use crate::place::{Ahead, Place};
+use crate::terms::query_terms;
 use belief_nodes::{BeliefNode, Network};
 use disk_index::{BlockCache, Snapshot};
 use query_check::Checked;
 use range_bounds::RangeTable;
-use ri_base::{Fraction, Hits, LeafStats, NoMemory, SegFault, Steps};
+use range_masks::RangeBlocks;
+use ri_base::{Fraction, Hits, LeafStats, NoMemory, SegFault, Steps, Term, Terms};
 use smoothing::Rule;
 use std::alloc::Global;
 use std::marker::Brand;
@@ -25,13 +30,15 @@ use store_ends::Store;
 
 /// A search for the first candidates of the documents of a snapshot. It advances by so many documents as it is asked for. Its credit
 /// is how many live documents it has passed, of so many that there are. It knows up to which credit those that come next have nothing
-/// to show.
+/// to show. It keeps the blocks of the query's terms in the range that it opened last.
 #[derive(Drop)]
 pub struct Search {
     snapshot: Snapshot,
     checked: Checked,
     network: Network,
     tables: Vec<RangeTable>,
+    terms: Terms,
+    blocks: RangeBlocks,
     most: usize,
     live_count: u64,
     at: Place,
@@ -39,6 +46,7 @@ pub struct Search {
     held: Held,
     usable: bool,
     ghost shown: { is_range (network_tree network).range ≡ true },
+    ghost fits: { FitDocuments (outlines_of (part_at snapshot at.part).source) blocks } by { Prim.hlevel props },
     ghost count: { (told : Option Files) → live_count ≡ length (live told snapshot) },
     ghost place: { IsPlace snapshot at },
     ghost next: { usable ≡ true → IsBareTo snapshot at live_count bare_to },
@@ -48,7 +56,8 @@ pub struct Search {
 }
 
 impl Search {
-    ghost use Rattle.std.specs.Prelude.{◌<◌, ◌≤◌, ◌+◌, ◌==◌, map, min, is_ok, is_some, All, Err, IfErr, IfOk, IfSome, OnOk, ℕ, List};
+    ghost use Rattle.std.specs.Prelude.{◌<◌, ◌≤◌, ◌+◌, ◌*◌, ◌==◌, map, min, is_ok, is_some, All, Err, IfErr, IfOk, IfSome, OnOk, ℕ, List};
+    ghost use Rattle.ri_base.specs.Documents.{Document};
     ghost use Rattle.ri_base.specs.Faults.{IsOutside};
     ghost use Rattle.ri_base.specs.Keeps.{Rose};
     ghost use Rattle.store_ends.specs.Files.{IsQuiet};
@@ -59,7 +68,12 @@ impl Search {
     ghost use Rattle.belief_nodes.specs.Priors.{Prior};
     ghost use Rattle.disk_index.specs.Cache.{CacheKeeps, IsCacheBacked};
     ghost use Rattle.disk_index.specs.Snapshots.{AreBacked, IsFileAmong};
-    ghost use Rattle.ranker.specs.Searches.{AreTold, IsAnswerOf, IsSameSearch, IsTaken, searched, spent_by, whole_cost};
+    ghost use Rattle.disk_index.specs.Parts.{reads};
+    ghost use Rattle.expression_words.specs.Words.{AreDistinct};
+    ghost use Rattle.range_masks.specs.Held.{AreAnswersOf};
+    ghost use Rattle.ranker.specs.Blocks.{OpensWithin, query_words};
+    ghost use Rattle.ranker.specs.Passed.{ranges_in};
+    ghost use Rattle.ranker.specs.Searches.{AreTold, IsAnswerOf, IsSameSearch, IsTaken, filters_of, opened_by, searched, spent_by, told_by, whole_cost};
     ghost use Rattle.ranker.specs.Windows.{AreWindows};
 
     /// A search over the documents of a snapshot that has passed none yet, for at most so many results. The statistics are those of
@@ -82,9 +96,12 @@ impl Search {
         ensures credit { IfOk result (λ s. s.at.credit ≡ 0) }
         ensures usable { IfOk result (λ s. s.usable ≡ true) }
         ensures tables { IfOk result (λ s. s.tables.items ≡ tables.items) }
+        ensures terms { IfOk result (λ s. AreDistinct (query_words (filters_of s) (network_tree s.network).leaves) s.terms) }
+        ensures blocks { IfOk result (λ s. (docs : List Document) → AreAnswersOf docs s.blocks) }
         ensures taken { IfOk result (λ s. (kind : RuleKind) (priors : List Prior) (told : Option Files) → AreTold told s → IsTaken kind priors told s) }
     {
         let network = Network::new(alloc, &checked, stats)?;
+        let terms = query_terms(alloc, &checked.filters, network.leaves())?;
         let live_count = snapshot.live_count();
         let held = first_held(alloc, most as usize, checked.scale, live_count);
         Ok(Search {
@@ -92,6 +109,8 @@ impl Search {
             checked,
             network,
             tables,
+            terms,
+            blocks: RangeBlocks::nothing(alloc),
             most: most as usize,
             live_count: u64::from(live_count),
             at: Place {
@@ -116,9 +135,10 @@ impl Search {
     }
 
     /// Passes so many live documents, or all that are left where these are fewer, and answers whether all are passed. After an `Err`
-    /// the search isn't usable. The squarings are counted.
+    /// the search isn't usable. The squarings and the blocks
+    /// that it opens are counted.
     #[inline(never)]
-    pub fn counted_step<T: Store, F: Fn(u32, u32, u64, u64) -> Fraction, L: Ledger>(
+    pub fn counted_step<T: Store, F: Fn(u32, u32, u64, u64) -> Fraction, L: Ledger, B: Ledger>(
         &mut self,
         alloc: Global,
         docs: u64,
@@ -127,6 +147,7 @@ impl Search {
         store: &mut T,
         cache: &mut BlockCache,
         squares: &mut Steps<L>,
+        blocks: &mut Steps<B>,
     ) -> Result<bool, SegFault>
         requires usable { self.old.usable ≡ true }
         requires rule { Computes F.pre F.post rule.now.kind rule.now.f }
@@ -139,7 +160,7 @@ impl Search {
         ensures same { IsSameSearch self.old self.new }
         ensures usable { self.new.usable ≡ is_ok result }
         ensures stay { map (λ plug. meaning plug) plugs.new ≡ map (λ plug. meaning plug) plugs.old }
-        ensures honest { AreBacked (T.files store.old) self.old.snapshot → IsCacheBacked (T.files store.old) cache.old → IfErr result IsOutside }
+        ensures honest { AreBacked (T.files store.old) self.old.snapshot → IsCacheBacked (T.files store.old) cache.old → told_by (T.files store.old) self.old → IfErr result IsOutside }
         ensures cache { CacheKeeps (T.files store.old) (IsFileAmong self.old.snapshot) cache.old cache.new }
         ensures quiet { IsQuiet T.files T.layers T.clock T.since T.longest T.held store.old store.new }
         ensures later { T.faults store.old ≤ T.faults store.new }
@@ -152,6 +173,12 @@ impl Search {
         // Also where it answers an error.
         ensures within { AreBacked (T.files store.old) self.old.snapshot → IsCacheBacked (T.files store.old) cache.old → IsTaken rule.now.kind (map (λ plug. meaning plug) plugs.old) (T.files store.old) self.old
             → squares.new + spent_by rule.now.kind (map (λ plug. meaning plug) plugs.old) (T.files store.old) self.old ≤ squares.old + whole_cost rule.now.kind (map (λ plug. meaning plug) plugs.old) (T.files store.old) self.old }
+        ensures terms { self.new.terms ≡ self.old.terms }
+        ensures opened { OnOk result (OpensWithin (length self.old.terms) (opened_by self.old) (opened_by self.new) blocks.old blocks.new) }
+
+        // Also where it answers an error.
+        ensures opens { OpensWithin (length self.old.terms) (opened_by self.old) (ranges_in self.old.snapshot) blocks.old blocks.new }
+        ensures few { blocks.new ≤ blocks.old + length self.old.terms * docs }
     {
         self.usable = false;
         advance(
@@ -165,18 +192,21 @@ impl Search {
             self.snapshot.parts(),
             store,
             cache,
+            &mut self.blocks,
             &self.tables,
             &mut self.at,
+            self.terms.as_slice(),
             &mut self.held,
             squares,
+            blocks,
         )?;
         self.bare_to = bare_to(self.snapshot.parts(), &self.at, self.live_count);
         self.usable = true;
         Ok(self.at.credit == self.live_count)
     }
 
-    /// The same, with a counter of its own. The blank says which one.
-    fn uncounted_step<T: Store, F: Fn(u32, u32, u64, u64) -> Fraction, L: Ledger>(
+    /// The same, with counters of its own. The blanks say which ones.
+    fn uncounted_step<T: Store, F: Fn(u32, u32, u64, u64) -> Fraction, L: Ledger, B: Ledger>(
         &mut self,
         alloc: Global,
         docs: u64,
@@ -185,10 +215,14 @@ impl Search {
         store: &mut T,
         cache: &mut BlockCache,
         blank: Blank,
+        other: Blank,
     ) -> Result<bool, SegFault>
         requires name { blank.name ≡ L.name }
         requires parts { blank.parts ≡ L.parts }
         requires some { 0 < blank.parts }
+        requires other_name { other.name ≡ B.name }
+        requires other_parts { other.parts ≡ B.parts }
+        requires other_some { 0 < other.parts }
         requires usable { self.old.usable ≡ true }
         requires rule { Computes F.pre F.post rule.now.kind rule.now.f }
         requires plugs { All (HasPrior (length plugs.old)) (network_tree self.old.network).leaves }
@@ -200,14 +234,24 @@ impl Search {
         ensures same { IsSameSearch self.old self.new }
         ensures usable { self.new.usable ≡ is_ok result }
         ensures stay { map (λ plug. meaning plug) plugs.new ≡ map (λ plug. meaning plug) plugs.old }
-        ensures honest { AreBacked (T.files store.old) self.old.snapshot → IsCacheBacked (T.files store.old) cache.old → IfErr result IsOutside }
+        ensures honest { AreBacked (T.files store.old) self.old.snapshot → IsCacheBacked (T.files store.old) cache.old → told_by (T.files store.old) self.old → IfErr result IsOutside }
         ensures cache { CacheKeeps (T.files store.old) (IsFileAmong self.old.snapshot) cache.old cache.new }
         ensures quiet { IsQuiet T.files T.layers T.clock T.since T.longest T.held store.old store.new }
         ensures later { T.faults store.old ≤ T.faults store.new }
         ensures store { result ≡ Err SegFault.Store → Rose (T.faults store.old) (T.faults store.new) }
     {
         let mut squares = Steps::<L>::new(blank);
-        self.counted_step(alloc, docs, rule, plugs, store, cache, &mut squares)
+        let mut blocks = Steps::<B>::new(other);
+        self.counted_step(
+            alloc,
+            docs,
+            rule,
+            plugs,
+            store,
+            cache,
+            &mut squares,
+            &mut blocks,
+        )
     }
 
     /// Passes so many live documents, or all that are left where these are fewer, and answers whether all are passed. After an `Err`
@@ -233,7 +277,7 @@ impl Search {
         ensures same { IsSameSearch self.old self.new }
         ensures usable { self.new.usable ≡ is_ok result }
         ensures stay { map (λ plug. meaning plug) plugs.new ≡ map (λ plug. meaning plug) plugs.old }
-        ensures honest { AreBacked (T.files store.old) self.old.snapshot → IsCacheBacked (T.files store.old) cache.old → IfErr result IsOutside }
+        ensures honest { AreBacked (T.files store.old) self.old.snapshot → IsCacheBacked (T.files store.old) cache.old → told_by (T.files store.old) self.old → IfErr result IsOutside }
         ensures cache { CacheKeeps (T.files store.old) (IsFileAmong self.old.snapshot) cache.old cache.new }
         ensures quiet { IsQuiet T.files T.layers T.clock T.since T.longest T.held store.old store.new }
         ensures later { T.faults store.old ≤ T.faults store.new }
@@ -244,7 +288,11 @@ impl Search {
             self.at.credit += docs;
             return Ok(false);
         }
-        self.uncounted_step::<T, F, Brand>(alloc, docs, rule, plugs, store, cache, Blank::new(1))
+        let squares = Blank::new(1);
+        let blocks = Blank::new(1);
+        self.uncounted_step::<T, F, Brand, Brand>(
+            alloc, docs, rule, plugs, store, cache, squares, blocks,
+        )
     }
 
     /// The first candidates of all documents in their order, once all are passed.
@@ -289,6 +337,13 @@ impl Search {
         ensures { result.now ≡ self.now.checked }
     {
         &self.checked
+    }
+
+    /// The terms that it asks for, each once.
+    pub fn terms(&self) -> &[Term]
+        ensures { result.now ≡ self.now.terms }
+    {
+        self.terms.as_slice()
     }
 
     /// The statistics of its leaves.

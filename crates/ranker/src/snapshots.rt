@@ -1,5 +1,6 @@
 // The parts of a snapshot, one behind the other.
-ghost use Rattle.std.specs.Prelude.{◌≡◌, ◌<◌, ◌≤◌, ◌+◌, ◌^◌, Option, if◌then◌else◌, nat_lt, length, map, min, true, All, Err, IfErr, IfOk, OnErr, OnOk};
+ghost use Rattle.std.specs.Prelude.{◌≡◌, ◌<◌, ◌≤◌, ◌+◌, ◌*◌, ◌^◌, List, Option, if◌then◌else◌, nat_lt, length, map, min, true, All, Err, IfErr, IfOk, OnErr, OnOk};
+ghost use Rattle.ri_base.specs.Documents.{Document};
 ghost use Rattle.ri_base.specs.Faults.{IsOutside};
 ghost use Rattle.ri_base.specs.Keeps.{Rose};
 ghost use Rattle.ri_base.specs.Query.{filter_tree, is_range};
@@ -7,11 +8,13 @@ ghost use Rattle.store_ends.specs.Files.{Files, IsQuiet};
 ghost use Rattle.smoothing.specs.Fractions.{Computes};
 ghost use Rattle.belief_nodes.specs.Leaves.{HasPrior};
 ghost use Rattle.belief_nodes.specs.Network.{network_tree};
-ghost use Rattle.disk_index.specs.Cache.{CacheKeeps, IsCacheBacked};
-ghost use Rattle.disk_index.specs.Parts.{IsFileOf, IsPartBacked, reads, size};
+ghost use Rattle.disk_index.specs.Cache.{CacheKeeps};
+ghost use Rattle.disk_index.specs.Parts.{IsFileOf, IsPartBacked, Source, outlines_of, reads, size};
 ghost use Rattle.disk_index.specs.Snapshots.{AreBacked, IsFileAmong, IsSnapshot, live, live_in};
+ghost use Rattle.range_masks.specs.Held.{AreAnswersOf, FitDocuments};
+ghost use Rattle.ranker.specs.Blocks.{AreReadAt, AreReadBy, OpensWithin, opened_at, opened_of};
 ghost use Rattle.ranker.specs.First.{Advances, SpendsWithin, counted};
-ghost use Rattle.ranker.specs.Passed.{IsAheadAt, IsKnown, IsPassed, IsPlace, asked_at, asked_of, behind, live_before, passed, ranges_in, ranges_of};
+ghost use Rattle.ranker.specs.Passed.{IsAheadAt, IsKnown, IsPassed, IsPlace, asked_at, asked_of, behind, live_before, part_at, passed, ranges_in, ranges_of};
 ghost use Rattle.ranker.specs.Windows.{KeepsWindows};
 
 use crate::parts::pass_part;
@@ -19,16 +22,17 @@ use crate::place::{Ahead, Passed, Place};
 use crate::window::Window;
 use belief_nodes::{BeliefNode, Network};
 use bounded_keys::{Contenders, Entry};
-use disk_index::{BlockCache, MarkedPart, PartReader};
+use disk_index::{BlockCache, MarkedPart};
 use range_bounds::RangeTable;
-use ri_base::{Filter, Fraction, SegFault, Steps};
+use range_masks::{OpeningReader, RangeBlocks};
+use ri_base::{Filter, Fraction, SegFault, Steps, Term};
 use smoothing::Rule;
 use std::alloc::Global;
 use std::sync::ledger::Ledger;
 use store_ends::Store;
 
 /// Passes the documents of a part from an id on, of which so much is known, at most so many live ones.
-fn pass_marked<T: Store, F: Fn(u32, u32, u64, u64) -> Fraction, L: Ledger>(
+fn pass_marked<T: Store, F: Fn(u32, u32, u64, u64) -> Fraction, L: Ledger, B: Ledger>(
     alloc: Global,
     filters: &[Filter],
     network: &Network,
@@ -37,39 +41,50 @@ fn pass_marked<T: Store, F: Fn(u32, u32, u64, u64) -> Fraction, L: Ledger>(
     marked: &MarkedPart,
     store: &mut T,
     cache: &mut BlockCache,
+    held: &mut RangeBlocks,
     tables: &[RangeTable],
     number: usize,
     id: u32,
     ahead: Ahead,
+    terms: &[Term],
     most: u64,
     first: &mut Contenders<Entry<Window>>,
     squares: &mut Steps<L>,
+    blocks: &mut Steps<B>,
 ) -> Result<Passed, SegFault>
     requires rule { Computes F.pre F.post rule.now.kind rule.now.f }
     requires id { id ≤ size marked.now.source }
     requires shown { is_range (network_tree network.now).range ≡ true }
     requires plugs { All (HasPrior (length plugs.old)) (network_tree network.now).leaves }
-    ensures first { IsPartBacked (T.files store.old) marked.now.source → IsCacheBacked (T.files store.old) cache.old
+    requires fits { FitDocuments (outlines_of marked.now.source) held.old }
+    ensures fits { FitDocuments (outlines_of marked.now.source) held.new }
+    ensures read { IsPartBacked (T.files store.old) marked.now.source → AreReadBy (T.files store.old) (reads (T.files store.old) marked.now.source) cache.old held.old
+        → AreReadBy (T.files store.old) (reads (T.files store.old) marked.now.source) cache.new held.new }
+    ensures first { IsPartBacked (T.files store.old) marked.now.source → AreReadBy (T.files store.old) (reads (T.files store.old) marked.now.source) cache.old held.old
         → IsKnown rule.now.kind (map (λ plug. meaning plug) plugs.old) (map filter_tree filters.now) (network_tree network.now) tables.now number (reads (T.files store.old) marked.now.source) id ahead → IfOk result (λ to.
         Advances rule.now.kind (map (λ plug. meaning plug) plugs.old) (map filter_tree filters.now) (network_tree network.now) (live_before (T.files store.old) marked.now id) (live_before (T.files store.old) marked.now to.id) (counted first.old squares.old (asked_of id ahead)) (counted first.new squares.new (asked_of to.id to.ahead))) }
-    ensures within { IsPartBacked (T.files store.old) marked.now.source → IsCacheBacked (T.files store.old) cache.old
+    ensures within { IsPartBacked (T.files store.old) marked.now.source → AreReadBy (T.files store.old) (reads (T.files store.old) marked.now.source) cache.old held.old
         → IsKnown rule.now.kind (map (λ plug. meaning plug) plugs.old) (map filter_tree filters.now) (network_tree network.now) tables.now number (reads (T.files store.old) marked.now.source) id ahead
         → SpendsWithin rule.now.kind (map (λ plug. meaning plug) plugs.old) (map filter_tree filters.now) (network_tree network.now) (live_before (T.files store.old) marked.now id) (live_in (T.files store.old) marked.now) (asked_of id ahead) (ranges_of (length (reads (T.files store.old) marked.now.source))) squares.old squares.new }
     ensures windows { OnOk result (KeepsWindows (network_tree network.now) (live_in (T.files store.old) marked.now) first.old first.new) }
-    ensures ahead { IsPartBacked (T.files store.old) marked.now.source → IsCacheBacked (T.files store.old) cache.old
+    ensures ahead { IsPartBacked (T.files store.old) marked.now.source → AreReadBy (T.files store.old) (reads (T.files store.old) marked.now.source) cache.old held.old
         → IsKnown rule.now.kind (map (λ plug. meaning plug) plugs.old) (map filter_tree filters.now) (network_tree network.now) tables.now number (reads (T.files store.old) marked.now.source) id ahead → IfOk result (λ to.
         IsKnown rule.now.kind (map (λ plug. meaning plug) plugs.old) (map filter_tree filters.now) (network_tree network.now) tables.now number (reads (T.files store.old) marked.now.source) to.id to.ahead) }
     ensures passed { IfOk result (IsPassed marked.now.marks id most) }
     ensures end { IfOk result (λ to. to.docs < most → to.id ≡ size marked.now.source) }
     ensures whole { length marked.now.marks ≡ size marked.now.source }
     ensures stay { map (λ plug. meaning plug) plugs.new ≡ map (λ plug. meaning plug) plugs.old }
-    ensures honest { IsPartBacked (T.files store.old) marked.now.source → IsCacheBacked (T.files store.old) cache.old → IfErr result IsOutside }
+    ensures honest { IsPartBacked (T.files store.old) marked.now.source → AreReadBy (T.files store.old) (reads (T.files store.old) marked.now.source) cache.old held.old → IfErr result IsOutside }
     ensures cache { CacheKeeps (T.files store.old) (IsFileOf marked.now.source) cache.old cache.new }
     ensures quiet { IsQuiet T.files T.layers T.clock T.since T.longest T.held store.old store.new }
     ensures later { T.faults store.old ≤ T.faults store.new }
     ensures store { result ≡ Err SegFault.Store → Rose (T.faults store.old) (T.faults store.new) }
+    ensures opened { IfOk result (λ to. OpensWithin (length terms.now) (opened_of (size marked.now.source) held.old.range id) (opened_of (size marked.now.source) held.new.range to.id) blocks.old blocks.new) }
+    ensures opens { OpensWithin (length terms.now) (opened_of (size marked.now.source) held.old.range id) (ranges_of (size marked.now.source)) blocks.old blocks.new }
+    ensures each { IfOk result (λ to. blocks.new ≤ blocks.old + length terms.now * to.docs) }
+    ensures few { blocks.new ≤ blocks.old + length terms.now * most }
 {
-    let mut reader = PartReader::new(marked.part(), store, cache);
+    let mut reader = OpeningReader::new(marked.part(), held, store, cache);
     pass_part(
         alloc,
         filters,
@@ -82,9 +97,11 @@ fn pass_marked<T: Store, F: Fn(u32, u32, u64, u64) -> Fraction, L: Ledger>(
         number,
         id,
         ahead,
+        terms,
         most,
         first,
         squares,
+        blocks,
     )
 }
 
@@ -112,8 +129,19 @@ fn place_behind(at: Place, to: Passed, most: u64) -> Place
     }
 }
 
+/// What is held behind these documents of a part: nothing where the next part begins.
+fn keep_blocks(alloc: Global, held: &mut RangeBlocks, to: Passed, most: u64)
+    ensures same { most ≤ to.docs → held.new ≡ held.old }
+    ensures fits { to.docs < most → (source : Source) → FitDocuments (outlines_of source) held.new }
+    ensures answers { to.docs < most → (docs : List Document) → AreAnswersOf docs held.new }
+{
+    if to.docs < most {
+        *held = RangeBlocks::nothing(alloc);
+    }
+}
+
 /// Passes the documents of the part of a place from there on, at most so many live ones, and answers how many of these there were.
-fn pass_next<T: Store, F: Fn(u32, u32, u64, u64) -> Fraction, L: Ledger>(
+fn pass_next<T: Store, F: Fn(u32, u32, u64, u64) -> Fraction, L: Ledger, B: Ledger>(
     alloc: Global,
     filters: &[Filter],
     network: &Network,
@@ -122,11 +150,14 @@ fn pass_next<T: Store, F: Fn(u32, u32, u64, u64) -> Fraction, L: Ledger>(
     parts: &[MarkedPart],
     store: &mut T,
     cache: &mut BlockCache,
+    held: &mut RangeBlocks,
     tables: &[RangeTable],
     at: &mut Place,
+    terms: &[Term],
     most: u64,
     first: &mut Contenders<Entry<Window>>,
     squares: &mut Steps<L>,
+    blocks: &mut Steps<B>,
 ) -> Result<u64, SegFault>
     requires rule { Computes F.pre F.post rule.now.kind rule.now.f }
     requires shown { is_range (network_tree network.now).range ≡ true }
@@ -134,34 +165,42 @@ fn pass_next<T: Store, F: Fn(u32, u32, u64, u64) -> Fraction, L: Ledger>(
     requires few { IsSnapshot parts.now }
     requires place { IsPlace parts.now at.old }
     requires some { at.old.part < length parts.now }
-    ensures first { AreBacked (T.files store.old) parts.now → IsCacheBacked (T.files store.old) cache.old → IsAheadAt rule.now.kind (map (λ plug. meaning plug) plugs.old) (map filter_tree filters.now) (network_tree network.now) tables.now (T.files store.old) parts.now at.old → OnOk result
+    requires fits { FitDocuments (outlines_of (part_at parts.now at.old.part).source) held.old }
+    ensures fits { FitDocuments (outlines_of (part_at parts.now at.new.part).source) held.new }
+    ensures read { AreBacked (T.files store.old) parts.now → AreReadAt (T.files store.old) parts.now at.old cache.old held.old → AreReadAt (T.files store.old) parts.now at.new cache.new held.new }
+    ensures first { AreBacked (T.files store.old) parts.now → AreReadAt (T.files store.old) parts.now at.old cache.old held.old → IsAheadAt rule.now.kind (map (λ plug. meaning plug) plugs.old) (map filter_tree filters.now) (network_tree network.now) tables.now (T.files store.old) parts.now at.old → OnOk result
         (Advances rule.now.kind (map (λ plug. meaning plug) plugs.old) (map filter_tree filters.now) (network_tree network.now) (passed (T.files store.old) parts.now at.old) (passed (T.files store.old) parts.now at.new) (counted first.old squares.old (asked_at parts.now at.old)) (counted first.new squares.new (asked_at parts.now at.new))) }
-    ensures within { AreBacked (T.files store.old) parts.now → IsCacheBacked (T.files store.old) cache.old → IsAheadAt rule.now.kind (map (λ plug. meaning plug) plugs.old) (map filter_tree filters.now) (network_tree network.now) tables.now (T.files store.old) parts.now at.old
+    ensures within { AreBacked (T.files store.old) parts.now → AreReadAt (T.files store.old) parts.now at.old cache.old held.old → IsAheadAt rule.now.kind (map (λ plug. meaning plug) plugs.old) (map filter_tree filters.now) (network_tree network.now) tables.now (T.files store.old) parts.now at.old
         → SpendsWithin rule.now.kind (map (λ plug. meaning plug) plugs.old) (map filter_tree filters.now) (network_tree network.now) (passed (T.files store.old) parts.now at.old) (live (T.files store.old) parts.now) (asked_at parts.now at.old) (ranges_in parts.now) squares.old squares.new }
     ensures windows { OnOk result (KeepsWindows (network_tree network.now) (live (T.files store.old) parts.now) first.old first.new) }
-    ensures ahead { AreBacked (T.files store.old) parts.now → IsCacheBacked (T.files store.old) cache.old → IsAheadAt rule.now.kind (map (λ plug. meaning plug) plugs.old) (map filter_tree filters.now) (network_tree network.now) tables.now (T.files store.old) parts.now at.old → OnOk result
+    ensures ahead { AreBacked (T.files store.old) parts.now → AreReadAt (T.files store.old) parts.now at.old cache.old held.old → IsAheadAt rule.now.kind (map (λ plug. meaning plug) plugs.old) (map filter_tree filters.now) (network_tree network.now) tables.now (T.files store.old) parts.now at.old → OnOk result
         (IsAheadAt rule.now.kind (map (λ plug. meaning plug) plugs.old) (map filter_tree filters.now) (network_tree network.now) tables.now (T.files store.old) parts.now at.new) }
     ensures place { IsPlace parts.now at.new }
     ensures docs { IfOk result (λ docs. (at.new.credit ≡ at.old.credit + docs) × (docs ≤ most)) }
     ensures next { IfOk result (λ docs. at.new.part ≡ (if nat_lt docs most then at.old.part + 1 else at.old.part)) }
     ensures stay { map (λ plug. meaning plug) plugs.new ≡ map (λ plug. meaning plug) plugs.old }
-    ensures honest { AreBacked (T.files store.old) parts.now → IsCacheBacked (T.files store.old) cache.old → IfErr result IsOutside }
+    ensures honest { AreBacked (T.files store.old) parts.now → AreReadAt (T.files store.old) parts.now at.old cache.old held.old → IfErr result IsOutside }
     ensures cache { CacheKeeps (T.files store.old) (IsFileAmong parts.now) cache.old cache.new }
     ensures quiet { IsQuiet T.files T.layers T.clock T.since T.longest T.held store.old store.new }
     ensures later { T.faults store.old ≤ T.faults store.new }
     ensures store { result ≡ Err SegFault.Store → Rose (T.faults store.old) (T.faults store.new) }
+    ensures opened { OnOk result (OpensWithin (length terms.now) (opened_at parts.now at.old held.old.range) (opened_at parts.now at.new held.new.range) blocks.old blocks.new) }
+    ensures opens { OpensWithin (length terms.now) (opened_at parts.now at.old held.old.range) (ranges_in parts.now) blocks.old blocks.new }
+    ensures each { IfOk result (λ docs. blocks.new ≤ blocks.old + length terms.now * docs) }
+    ensures few { blocks.new ≤ blocks.old + length terms.now * most }
 {
     let marked = &parts[at.part];
     let to = pass_marked(
-        alloc, filters, network, rule, plugs, marked, store, cache, tables, at.part, at.id,
-        at.ahead, most, first, squares,
+        alloc, filters, network, rule, plugs, marked, store, cache, held, tables, at.part, at.id,
+        at.ahead, terms, most, first, squares, blocks,
     )?;
+    keep_blocks(alloc, held, to, most);
     *at = place_behind(*at, to, most);
     Ok(to.docs)
 }
 
 /// Passes the documents of the parts from a place on, so many live ones, or all that are left where these are fewer.
-pub fn pass_parts<T: Store, F: Fn(u32, u32, u64, u64) -> Fraction, L: Ledger>(
+pub fn pass_parts<T: Store, F: Fn(u32, u32, u64, u64) -> Fraction, L: Ledger, B: Ledger>(
     alloc: Global,
     filters: &[Filter],
     network: &Network,
@@ -170,38 +209,47 @@ pub fn pass_parts<T: Store, F: Fn(u32, u32, u64, u64) -> Fraction, L: Ledger>(
     parts: &[MarkedPart],
     store: &mut T,
     cache: &mut BlockCache,
+    held: &mut RangeBlocks,
     tables: &[RangeTable],
     at: &mut Place,
+    terms: &[Term],
     docs: u64,
     first: &mut Contenders<Entry<Window>>,
     squares: &mut Steps<L>,
+    blocks: &mut Steps<B>,
 ) -> Result<(), SegFault>
     requires rule { Computes F.pre F.post rule.now.kind rule.now.f }
     requires shown { is_range (network_tree network.now).range ≡ true }
     requires plugs { All (HasPrior (length plugs.old)) (network_tree network.now).leaves }
     requires few { IsSnapshot parts.now }
     requires place { IsPlace parts.now at.old }
-    ensures first { AreBacked (T.files store.old) parts.now → IsCacheBacked (T.files store.old) cache.old → IsAheadAt rule.now.kind (map (λ plug. meaning plug) plugs.old) (map filter_tree filters.now) (network_tree network.now) tables.now (T.files store.old) parts.now at.old → OnOk result
+    requires fits { FitDocuments (outlines_of (part_at parts.now at.old.part).source) held.old }
+    ensures fits { FitDocuments (outlines_of (part_at parts.now at.new.part).source) held.new }
+    ensures read { AreBacked (T.files store.old) parts.now → AreReadAt (T.files store.old) parts.now at.old cache.old held.old → AreReadAt (T.files store.old) parts.now at.new cache.new held.new }
+    ensures first { AreBacked (T.files store.old) parts.now → AreReadAt (T.files store.old) parts.now at.old cache.old held.old → IsAheadAt rule.now.kind (map (λ plug. meaning plug) plugs.old) (map filter_tree filters.now) (network_tree network.now) tables.now (T.files store.old) parts.now at.old → OnOk result
         (Advances rule.now.kind (map (λ plug. meaning plug) plugs.old) (map filter_tree filters.now) (network_tree network.now) (passed (T.files store.old) parts.now at.old) (passed (T.files store.old) parts.now at.new) (counted first.old squares.old (asked_at parts.now at.old)) (counted first.new squares.new (asked_at parts.now at.new))) }
-    ensures within { AreBacked (T.files store.old) parts.now → IsCacheBacked (T.files store.old) cache.old → IsAheadAt rule.now.kind (map (λ plug. meaning plug) plugs.old) (map filter_tree filters.now) (network_tree network.now) tables.now (T.files store.old) parts.now at.old
+    ensures within { AreBacked (T.files store.old) parts.now → AreReadAt (T.files store.old) parts.now at.old cache.old held.old → IsAheadAt rule.now.kind (map (λ plug. meaning plug) plugs.old) (map filter_tree filters.now) (network_tree network.now) tables.now (T.files store.old) parts.now at.old
         → SpendsWithin rule.now.kind (map (λ plug. meaning plug) plugs.old) (map filter_tree filters.now) (network_tree network.now) (passed (T.files store.old) parts.now at.old) (live (T.files store.old) parts.now) (asked_at parts.now at.old) (ranges_in parts.now) squares.old squares.new }
     ensures windows { OnOk result (KeepsWindows (network_tree network.now) (live (T.files store.old) parts.now) first.old first.new) }
-    ensures ahead { AreBacked (T.files store.old) parts.now → IsCacheBacked (T.files store.old) cache.old → IsAheadAt rule.now.kind (map (λ plug. meaning plug) plugs.old) (map filter_tree filters.now) (network_tree network.now) tables.now (T.files store.old) parts.now at.old → OnOk result
+    ensures ahead { AreBacked (T.files store.old) parts.now → AreReadAt (T.files store.old) parts.now at.old cache.old held.old → IsAheadAt rule.now.kind (map (λ plug. meaning plug) plugs.old) (map filter_tree filters.now) (network_tree network.now) tables.now (T.files store.old) parts.now at.old → OnOk result
         (IsAheadAt rule.now.kind (map (λ plug. meaning plug) plugs.old) (map filter_tree filters.now) (network_tree network.now) tables.now (T.files store.old) parts.now at.new) }
     ensures place { IsPlace parts.now at.new }
     ensures credit { OnOk result ((told : Option Files) → at.new.credit ≡ min (at.old.credit + docs) (length (live told parts.now))) }
     ensures stay { map (λ plug. meaning plug) plugs.new ≡ map (λ plug. meaning plug) plugs.old }
-    ensures honest { AreBacked (T.files store.old) parts.now → IsCacheBacked (T.files store.old) cache.old → IfErr result IsOutside }
+    ensures honest { AreBacked (T.files store.old) parts.now → AreReadAt (T.files store.old) parts.now at.old cache.old held.old → IfErr result IsOutside }
     ensures cache { CacheKeeps (T.files store.old) (IsFileAmong parts.now) cache.old cache.new }
     ensures quiet { IsQuiet T.files T.layers T.clock T.since T.longest T.held store.old store.new }
     ensures later { T.faults store.old ≤ T.faults store.new }
     ensures store { result ≡ Err SegFault.Store → Rose (T.faults store.old) (T.faults store.new) }
+    ensures opened { OnOk result (OpensWithin (length terms.now) (opened_at parts.now at.old held.old.range) (opened_at parts.now at.new held.new.range) blocks.old blocks.new) }
+    ensures opens { OpensWithin (length terms.now) (opened_at parts.now at.old held.old.range) (ranges_in parts.now) blocks.old blocks.new }
+    ensures few { blocks.new ≤ blocks.old + length terms.now * docs }
 {
     let mut left = docs;
     while left > 0 && at.part < parts.len() {
         let passed = pass_next(
-            alloc, filters, network, rule, plugs, parts, store, cache, tables, at, left, first,
-            squares,
+            alloc, filters, network, rule, plugs, parts, store, cache, held, tables, at, terms,
+            left, first, squares, blocks,
         )?;
         left -= passed;
     }

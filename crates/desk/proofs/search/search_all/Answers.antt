@@ -1,4 +1,4 @@
-use Rattle.std.proofs.Common.{◌≡◌, List, Option, length, map, ap, refl, sym, ◌∙◌, subst}
+use Rattle.std.proofs.Common.{◌≡◌, [], List, Option, length, map, ap, refl, sym, ◌∙◌, subst}
 use Rattle.std.specs.List.{All}
 use Rattle.std.proofs.lemmas.Result.{err_from_is_err_and}
 use Rattle.store_ends.specs.Files.{Files}
@@ -9,7 +9,7 @@ use Rattle.belief_nodes.specs.Network.{NetworkTree}
 use Rattle.belief_nodes.specs.Priors.{Prior}
 use Rattle.disk_index.specs.Snapshots.{AreBacked, Marked}
 use Rattle.counts.proofs.ReadingLemmas.{cache-backed, reads-then}
-use Rattle.ranker.specs.Searches.{IsTaken}
+use Rattle.ranker.specs.Searches.{IsTaken, told_by}
 use Rattle.desk.proofs.AnswerLemmas.{nine_priors}
 use Rattle.desk.proofs.SearchLemmas.{has-searched}
 use Rattle.desk.proofs.search.search_all.Goals as goal
@@ -58,4 +58,5 @@ returns-in_err-step-clause-honest g c = λ backed cached.
     let made = c.in_ok-search.ensures in
     let parts = subst (λ (f : Option Files). AreBacked f c.in_ok-search.search.snapshot) (sym made.reads.quiet.same_files) (subst (λ (ms : List Marked). AreBacked told ms) (sym made.snapshot) backed) in
     let p = err_from_is_err_and c.from_residual-in_err-step.result c.from_residual-in_err-step.ensures.1 in
-    rw (p.1, p.2) (c.in_err-step.ensures.honest parts (cache-backed _ _ _ _ _ _ _ _ _ _ _ _ made.reads cached))
+    let blocks = subst (λ (f : Option Files). told_by f c.in_ok-search.search) (sym made.reads.quiet.same_files) (made.taken backed cached c.args.kind []).blocks in
+    rw (p.1, p.2) (c.in_err-step.ensures.honest parts (cache-backed _ _ _ _ _ _ _ _ _ _ _ _ made.reads cached) blocks)

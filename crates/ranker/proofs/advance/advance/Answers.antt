@@ -3,10 +3,12 @@ use Rattle.ri_base.specs.Query.{filter_tree}
 use Rattle.belief_nodes.specs.Network.{network_tree}
 use Rattle.disk_index.specs.Snapshots.{live}
 use Rattle.document_scoring.specs.Candidates.{Candidate, candidates}
+use Rattle.ranker.specs.Blocks.{opened_at}
 use Rattle.ranker.specs.Held.{is_open}
 use Rattle.ranker.specs.Passed.{asked_at, passed, ranges_in}
 use Rattle.ranker.proofs.AskedLemmas.{asked-le}
 use Rattle.ranker.proofs.HeldLemmas.{HoldsEntries-on, HoldsEntries-shut, IsHeld-on, ended-credit}
+use Rattle.ranker.proofs.OpeningLemmas.{opened-all, opens-same}
 use Rattle.ranker.proofs.PlaceLemmas.{credit-le, passed-all}
 use Rattle.ranker.proofs.SquaresLemmas.{squares_end, squares_ended, squares_met, squares_on, squares_whole}
 use Rattle.ranker.proofs.WindowLemmas.{HasWindows-on}
@@ -164,3 +166,14 @@ returns-clause-within g c = λ backed cached known most h.
     (c.end.ensures.cost kind priors filters (passed told parts c.pass_parts.new.at) most refl
     (IsHeld-on kind priors filters network (passed told parts c.args.at.now) (passed told parts c.pass_parts.new.at) most
     c.args.held.now c.in-Open.first c.pass_parts.new.first c.args.squares.now c.pass_parts.new.squares (asked_at c.args.parts.now c.args.at.now) (asked_at c.args.parts.now c.pass_parts.new.at) c.in-Open.is on h))
+
+-- ---- blocks
+
+pub returns-in_default-clause-opened : goal.returns-in_default-clause-opened
+returns-in_default-clause-opened g c = opens-same _ _ _ _ (omega arith)
+
+pub returns-in_default-clause-opens : goal.returns-in_default-clause-opens
+returns-in_default-clause-opens g c =
+    let parts = c.args.parts.now in
+    let range = c.args.read.now.range in
+    opens-same (length c.args.terms.now) (opened_at parts c.args.at.now range) (ranges_in parts) c.args.blocks.now (opened-all parts c.args.at.now range)

@@ -1,12 +1,14 @@
-use Rattle.std.proofs.Common.{◌≤◌, length, map, take, sym, subst, ◌∙◌, arith}
+use Rattle.std.proofs.Common.{◌≤◌, ◌+◌, ◌/◌, length, map, take, sym, subst, ◌∙◌, arith}
 use Rattle.ri_base.specs.Query.{filter_tree}
 use Rattle.belief_nodes.specs.Network.{network_tree}
 use Rattle.disk_index.specs.Snapshots.{unmarked}
+use Rattle.ranker.specs.Blocks.{opened_of}
 use Rattle.ranker.specs.First.{Advances, counted}
 use Rattle.ranker.specs.Passed.{IsKnown, asked_of, ranges_of}
 use Rattle.ranker.proofs.AheadLemmas.{IsKnown-found, IsKnown-on, bare}
 use Rattle.ranker.proofs.AskedLemmas.{asked-all, asked-found, asked-on, asks-same, asks-then}
 use Rattle.ranker.proofs.OpenedLemmas.{Advances-bounded}
+use Rattle.ranker.proofs.OpeningLemmas.{each-passed, opened-le, opened-on, opens-one, opens-passed, opens-same}
 use Rattle.ranker.proofs.PassedLemmas.{Advances-asks, Advances-bare, Advances-beaten, Advances-dead}
 use Rattle.ranker.proofs.WindowLemmas.{KeepsWindows-same}
 use Rattle.ranker.proofs.WithinLemmas.{cost-take, within-asks, within-bounded, within-same}
@@ -267,8 +269,8 @@ returns-clause-first g c = λ sound known.
     let now = c.in_ok-known.known in
     let bounded : IsKnown kind priors filters network tables number docs id now = c.in_ok-known.ensures.known filters foundly in
     let asks = asks-then network (asked_of id ahead) (asked_of id found) (asked_of id now) c.args.squares.now c.args.squares.now c.bounded.new.squares (asks-same network (asked_of id ahead) (asked_of id found) c.args.squares.now asked) (c.in_ok-known.ensures.cost foundly.span) in
-    Advances-bounded kind priors filters network docs marks id c.pass_open.result c.args.first.now c.pass_open.new.first c.args.squares.now c.bounded.new.squares c.pass_open.new.squares (asked_of id ahead) (asked_of id now) asks
-    (c.pass_open.ensures.first sound bounded)
+    Advances-bounded kind priors filters network docs marks id c.pass_opened.result c.args.first.now c.pass_opened.new.first c.args.squares.now c.bounded.new.squares c.pass_opened.new.squares (asked_of id ahead) (asked_of id now) asks
+    (c.pass_opened.ensures.first sound bounded)
 
 pub returns-clause-ahead : goal.returns-clause-ahead
 returns-clause-ahead g c = λ sound known.
@@ -286,7 +288,7 @@ returns-clause-ahead g c = λ sound known.
     let foundly : IsKnown kind priors filters network tables number docs id found = IsKnown-found kind priors filters network tables number docs id ahead found c.ahead_of-found.ensures.found (c.ahead_of-found.ensures.ahead sound known.may) (c.ahead_of-found.ensures.span known.span) known in
     let now = c.in_ok-known.known in
     let bounded : IsKnown kind priors filters network tables number docs id now = c.in_ok-known.ensures.known filters foundly in
-    c.pass_open.ensures.ahead sound bounded
+    c.pass_opened.ensures.ahead sound bounded
 
 pub returns-clause-within : goal.returns-clause-within
 returns-clause-within g c = λ sound known.
@@ -306,4 +308,63 @@ returns-clause-within g c = λ sound known.
     let now = c.in_ok-known.known in
     let bounded : IsKnown kind priors filters network tables number docs id now = c.in_ok-known.ensures.known filters foundly in
     let asks = asks-then network (asked_of id ahead) (asked_of id found) (asked_of id now) c.args.squares.now c.args.squares.now c.bounded.new.squares (asks-same network (asked_of id ahead) (asked_of id found) c.args.squares.now asked) (c.in_ok-known.ensures.cost foundly.span) in
-    within-bounded kind priors filters network (unmarked (take id docs) marks) (unmarked docs marks) (asked_of id ahead) (asked_of id now) (ranges_of (length docs)) c.args.squares.now c.bounded.new.squares c.pass_open.new.squares asks (c.pass_open.ensures.within sound bounded)
+    within-bounded kind priors filters network (unmarked (take id docs) marks) (unmarked docs marks) (asked_of id ahead) (asked_of id now) (ranges_of (length docs)) c.args.squares.now c.bounded.new.squares c.pass_opened.new.squares asks (c.pass_opened.ensures.within sound bounded)
+
+-- ---- blocks
+
+pub returns-then-is_clear-clause-opened : goal.returns-then-is_clear-clause-opened
+returns-then-is_clear-clause-opened g c = λ some.
+    let range = g.P.OpensRanges.present c.args.part.now in
+    let size = length c.args.marks.now in
+    opens-same (length c.args.terms.now) (opened_of size range c.args.id) (opened_of size range c.pass_unseen.result.id) c.args.blocks.now (opened-on size range c.args.id c.pass_unseen.result.id c.pass_unseen.ensures.back)
+
+pub returns-then-is_clear-clause-opens : goal.returns-then-is_clear-clause-opens
+returns-then-is_clear-clause-opens g c =
+    let range = g.P.OpensRanges.present c.args.part.now in
+    let size = length c.args.marks.now in
+    opens-same (length c.args.terms.now) (opened_of size range c.args.id) (ranges_of size) c.args.blocks.now (opened-le size range c.args.id)
+
+pub returns-then-is_marked-clause-opened : goal.returns-then-is_marked-clause-opened
+returns-then-is_marked-clause-opened g c = λ some.
+    let range = g.P.OpensRanges.present c.args.part.now in
+    let size = length c.args.marks.now in
+    opens-same (length c.args.terms.now) (opened_of size range c.args.id) (opened_of size range c.pass_dead.result.id) c.args.blocks.now (opened-on size range c.args.id c.pass_dead.result.id (let next = c.pass_dead.ensures.next in omega (arith, next)))
+
+pub returns-then-is_marked-clause-opens : goal.returns-then-is_marked-clause-opens
+returns-then-is_marked-clause-opens g c =
+    let range = g.P.OpensRanges.present c.args.part.now in
+    let size = length c.args.marks.now in
+    opens-same (length c.args.terms.now) (opened_of size range c.args.id) (ranges_of size) c.args.blocks.now (opened-le size range c.args.id)
+
+pub returns-in_err-known-clause-opens : goal.returns-in_err-known-clause-opens
+returns-in_err-known-clause-opens g c =
+    let range = g.P.OpensRanges.present c.args.part.now in
+    let size = length c.args.marks.now in
+    opens-same (length c.args.terms.now) (opened_of size range c.args.id) (ranges_of size) c.args.blocks.now (opened-le size range c.args.id)
+
+pub returns-then-is_beaten-clause-opened : goal.returns-then-is_beaten-clause-opened
+returns-then-is_beaten-clause-opened g c = λ some.
+    let range = g.P.OpensRanges.present c.args.part.now in
+    let size = length c.args.marks.now in
+    opens-same (length c.args.terms.now) (opened_of size range c.args.id) (opened_of size range c.pass_unseen-then-is_beaten.result.id) c.args.blocks.now (opened-on size range c.args.id c.pass_unseen-then-is_beaten.result.id c.pass_unseen-then-is_beaten.ensures.back)
+
+pub returns-then-is_beaten-clause-opens : goal.returns-then-is_beaten-clause-opens
+returns-then-is_beaten-clause-opens g c =
+    let range = g.P.OpensRanges.present c.args.part.now in
+    let size = length c.args.marks.now in
+    opens-same (length c.args.terms.now) (opened_of size range c.args.id) (ranges_of size) c.args.blocks.now (opened-le size range c.args.id)
+
+pub returns-clause-opened : goal.returns-clause-opened
+returns-clause-opened g c =
+    opens-passed (length c.args.terms.now) (length c.args.marks.now) (g.P.OpensRanges.present c.args.part.now) (g.P.OpensRanges.present c.pass_opened.new.part) c.args.id c.args.most c.args.blocks.now c.pass_opened.new.blocks c.pass_opened.result
+    (omega (arith, c.requires.id, c.requires.marks)) c.pass_opened.ensures.forward c.pass_opened.ensures.present c.pass_opened.ensures.none c.pass_opened.ensures.cost
+
+pub returns-clause-opens : goal.returns-clause-opens
+returns-clause-opens g c =
+    let inside : c.args.id / 64 + 1 ≤ ranges_of (length c.args.marks.now) = omega (arith, c.requires.id, c.requires.marks) in
+    opens-one (length c.args.terms.now) (length c.args.marks.now) (g.P.OpensRanges.present c.args.part.now) c.args.id (ranges_of (length c.args.marks.now)) c.args.blocks.now c.pass_opened.new.blocks inside c.pass_opened.ensures.none c.pass_opened.ensures.cost
+
+pub returns-clause-each : goal.returns-clause-each
+returns-clause-each g c =
+    each-passed (length c.args.terms.now) c.args.marks.now c.args.id c.args.most c.args.blocks.now c.pass_opened.new.blocks c.pass_opened.result (omega (arith, c.requires.id, c.requires.marks)) (sym c.is_marked.ensures ∙ c.if-is_marked.false)
+    c.pass_opened.ensures.passed c.pass_opened.ensures.forward c.pass_opened.ensures.cost

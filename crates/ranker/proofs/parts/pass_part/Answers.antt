@@ -1,14 +1,16 @@
-use Rattle.std.proofs.Common.{List, length, map, take, refl, sym, subst, ◌∙◌, arith}
+use Rattle.std.proofs.Common.{◌<◌, ◌+◌, ◌-◌, List, length, map, take, refl, sym, subst, ◌∙◌, arith}
 use Rattle.ri_base.specs.Documents.{Document}
 use Rattle.ri_base.specs.Query.{filter_tree}
 use Rattle.belief_nodes.specs.Network.{network_tree}
 use Rattle.disk_index.specs.Snapshots.{unmarked}
 use Rattle.extent_lists.proofs.KeepsLemmas.{Keeps-then}
+use Rattle.ranker.specs.Blocks.{opened_of}
 use Rattle.ranker.specs.First.{counted}
 use Rattle.ranker.specs.Passed.{IsKnown, asked_of, ranges_of}
 use Rattle.ranker.specs.Windows.{KeepsWindows}
 use Rattle.ranker.proofs.AheadLemmas.{IsKnown-priors, IsKnown-read}
 use Rattle.ranker.proofs.AskedLemmas.{asked-all}
+use Rattle.ranker.proofs.OpeningLemmas.{opened-le, opens-more, opens-same, opens-then, times-more, times-sum}
 use Rattle.ranker.proofs.PassedLemmas.{Advances-read, Advances-same, Advances-then}
 use Rattle.ranker.proofs.WindowLemmas.{KeepsWindows-same, KeepsWindows-then}
 use Rattle.ranker.proofs.WithinLemmas.{cost-take, within-more, within-read, within-then}
@@ -16,7 +18,7 @@ use Rattle.ranker.proofs.parts.pass_part.Goals as goal
 
 pub loop-at-init : goal.loop-at-init
 loop-at-init g c = record {
-  keeps = record { documents_stay = refl; no_fault_lost = omega arith; sound_stays = λ u. u; stays_quiet = g.met.P.Postings.quiet_same _ };
+  keeps = record { documents_stay = refl; no_fault_lost = omega arith; sound_stays = λ u. u; stays_quiet = g.met.P.OpensRanges.calm_same _ };
   stay = refl;
   so_far = λ sound known. Advances-same _ _ _ _ _ _;
   ahead = λ sound known. known;
@@ -24,6 +26,8 @@ loop-at-init g c = record {
   ids = omega arith;
   inside = omega (arith, c.requires.id, c.docs-size.ensures);
   few = omega arith;
+  opened = opens-same _ _ _ _ (omega arith);
+  each = omega arith;
 }
 
 pub loop-at-preserved : goal.loop-at-preserved
@@ -40,11 +44,12 @@ loop-at-preserved g c =
     let keeps = c.loop-at.invariant.keeps in
     let here_priors = map (λ b. (goal.BeliefNode-dyn g (b.vtable, b.value)).meaning b.value) c.loop-at.plugs in
     let passed = c.in_ok-to.ensures.passed in
+    let left : 0 < c.args.most - c.loop-at.docs = omega (arith, c.loop-at-test.true) in
     let here : g.P.Postings.sound c.args.part.now → IsKnown kind priors filters network c.args.tables.now c.args.number docs c.args.id c.args.ahead → IsKnown kind here_priors filters network c.args.tables.now c.args.number read at c.loop-at.known =
     λ sound known. IsKnown-priors kind priors here_priors filters network c.args.tables.now c.args.number read at c.loop-at.known (sym c.loop-at.invariant.stay)
     (IsKnown-read kind priors filters network c.args.tables.now c.args.number docs read at c.loop-at.known (sym keeps.documents_stay) (c.loop-at.invariant.ahead sound known)) in
     record {
-      keeps = Keeps-then _ _ _ _ g.met.P.Postings.quiet_then _ _ _ keeps c.pass_on.ensures.keeps;
+      keeps = Keeps-then _ _ _ _ g.met.P.OpensRanges.calm_then _ _ _ keeps c.pass_on.ensures.keeps;
       stay = c.pass_on.ensures.stay ∙ c.loop-at.invariant.stay;
       so_far = λ sound known.
           Advances-then kind priors filters network (unmarked (take c.args.id docs) marks) (unmarked (take at docs) marks) (unmarked (take to.id docs) marks) (counted c.args.first.now c.args.squares.now (asked_of c.args.id c.args.ahead)) (counted c.loop-at.first c.loop-at.squares (asked_of at c.loop-at.known)) (counted c.pass_on.new.first c.pass_on.new.squares (asked_of to.id to.ahead))
@@ -58,6 +63,8 @@ loop-at-preserved g c =
       ids = omega (arith, c.loop-at.invariant.ids, passed.docs);
       inside = omega (arith, passed.inside, c.requires.marks, c.docs-size.ensures);
       few = omega (arith, c.loop-at.invariant.few, passed.few);
+      opened = opens-then (length c.args.terms.now) _ _ _ _ _ _ c.loop-at.invariant.opened (c.in_ok-to.ensures.opened left);
+      each = let sum = times-sum (length c.args.terms.now) c.loop-at.docs to.docs in let more = c.in_ok-to.ensures.each left in omega (arith, sum, more, c.loop-at.invariant.each);
     }
 
 pub returns-after-loop-at-clause-passed : goal.returns-after-loop-at-clause-passed
@@ -115,3 +122,42 @@ returns-in_err-to-clause-within g c = λ sound known.
     let next = within-read kind _ priors filters network read docs marks at (asked_of at c.loop-at.known) c.loop-at.squares c.pass_on.new.squares c.loop-at.invariant.stay keeps.documents_stay (c.pass_on.ensures.within (keeps.sound_stays sound) here) in
     within-then kind priors filters network (unmarked (take c.args.id docs) marks) (unmarked (take at docs) marks) (unmarked docs marks) (asked_of c.args.id c.args.ahead) (asked_of at c.loop-at.known) (ranges_of (length docs)) c.args.squares.now c.loop-at.squares c.pass_on.new.squares
     (c.loop-at.invariant.so_far sound known).cost next
+
+-- ---- blocks
+
+pub returns-after-loop-at-clause-opens : goal.returns-after-loop-at-clause-opens
+returns-after-loop-at-clause-opens g c =
+    let size = length c.args.marks.now in
+    let was = g.P.OpensRanges.present c.args.part.now in
+    let now = g.P.OpensRanges.present c.loop-at.part in
+    opens-more (length c.args.terms.now) (opened_of size was c.args.id) (opened_of size now c.loop-at.at) (ranges_of size) c.args.blocks.now c.loop-at.blocks c.loop-at.invariant.opened (opened-le size now c.loop-at.at)
+
+pub returns-after-loop-at-clause-few : goal.returns-after-loop-at-clause-few
+returns-after-loop-at-clause-few g c =
+    let more = times-more (length c.args.terms.now) c.loop-at.docs c.args.most c.loop-at.invariant.few in
+    omega (arith, more, c.loop-at.invariant.each)
+
+pub returns-else-docs-most-clause-opens : goal.returns-else-docs-most-clause-opens
+returns-else-docs-most-clause-opens g c =
+    let size = length c.args.marks.now in
+    let was = g.P.OpensRanges.present c.args.part.now in
+    let now = g.P.OpensRanges.present c.loop-at.part in
+    opens-more (length c.args.terms.now) (opened_of size was c.args.id) (opened_of size now c.loop-at.at) (ranges_of size) c.args.blocks.now c.loop-at.blocks c.loop-at.invariant.opened (opened-le size now c.loop-at.at)
+
+pub returns-else-docs-most-clause-few : goal.returns-else-docs-most-clause-few
+returns-else-docs-most-clause-few g c =
+    let more = times-more (length c.args.terms.now) c.loop-at.docs c.args.most c.loop-at.invariant.few in
+    omega (arith, more, c.loop-at.invariant.each)
+
+pub returns-in_err-to-clause-opens : goal.returns-in_err-to-clause-opens
+returns-in_err-to-clause-opens g c =
+    let size = length c.args.marks.now in
+    let was = g.P.OpensRanges.present c.args.part.now in
+    let now = g.P.OpensRanges.present c.loop-at.part in
+    opens-then (length c.args.terms.now) (opened_of size was c.args.id) (opened_of size now c.loop-at.at) (ranges_of size) c.args.blocks.now c.loop-at.blocks c.pass_on.new.blocks c.loop-at.invariant.opened c.pass_on.ensures.opens
+
+pub returns-in_err-to-clause-few : goal.returns-in_err-to-clause-few
+returns-in_err-to-clause-few g c =
+    let sum = times-sum (length c.args.terms.now) c.loop-at.docs 1 in
+    let more = times-more (length c.args.terms.now) (c.loop-at.docs + 1) c.args.most (omega (arith, c.loop-at-test.true)) in
+    omega (arith, sum, more, c.loop-at.invariant.each, c.pass_on.ensures.few)

@@ -1,5 +1,6 @@
 use Rattle.std.proofs.Common.{refl, ap, sym, ◌∙◌, None, nat_lt}
 use Rattle.std.proofs.Math.Logic.{∥∥₁_map}
+use Rattle.std.proofs.lemmas.Result.{err_from_is_err_and}
 use Rattle.ranker.proofs.search.Search.counted_step.Goals as goal
 
 pub advance-requires-clause-open : goal.advance-requires-clause-open
@@ -13,13 +14,15 @@ returns-clause-same g c = record { snapshot = refl; checked = refl; network = re
 
 pub returns-clause-taken : goal.returns-clause-taken
 returns-clause-taken g c = λ backed cached h. record {
-  held = (rw c.deref.ensures.value at (rw c.deref-2.ensures.value at (rw c.parts.ensures.parts at c.in_ok-advance.ensures.taken))) backed cached h.ahead c.args.self.now.most h.held;
-  ahead = (rw c.deref.ensures.value at (rw c.deref-2.ensures.value at (rw c.parts.ensures.parts at c.in_ok-advance.ensures.ahead))) backed cached h.ahead;
+  held = (rw c.deref.ensures.value at (rw c.deref-2.ensures.value at (rw c.parts.ensures.parts at c.in_ok-advance.ensures.taken))) backed (record { cache = cached; held = h.blocks }) h.ahead c.args.self.now.most h.held;
+  ahead = (rw c.deref.ensures.value at (rw c.deref-2.ensures.value at (rw c.parts.ensures.parts at c.in_ok-advance.ensures.ahead))) backed (record { cache = cached; held = h.blocks }) h.ahead;
+  blocks = ((rw c.parts.ensures.parts at c.advance.ensures.read) backed (record { cache = cached; held = h.blocks })).held;
 }
 
 pub invariant_of-self-2 : goal.invariant_of-self-2
 invariant_of-self-2 g c = record {
   shown = c.args.self.now.shown;
+  fits = rw c.parts.ensures.parts at c.advance.ensures.fits;
   count = c.args.self.now.count;
   place = rw c.parts.ensures.parts at c.in_ok-advance.ensures.place;
   next = λ usable. rw c.parts-2.ensures.parts at c.bare_to-self.ensures;
@@ -30,12 +33,29 @@ invariant_of-self-2 g c = record {
 
 pub returns-clause-squares : goal.returns-clause-squares
 returns-clause-squares g c = λ backed cached h.
-    (rw c.deref.ensures.value at (rw c.deref-2.ensures.value at (rw c.parts.ensures.parts at c.in_ok-advance.ensures.squares))) backed cached h.ahead c.args.self.now.most h.held
+    (rw c.deref.ensures.value at (rw c.deref-2.ensures.value at (rw c.parts.ensures.parts at c.in_ok-advance.ensures.squares))) backed (record { cache = cached; held = h.blocks }) h.ahead c.args.self.now.most h.held
 
 pub returns-clause-within : goal.returns-clause-within
 returns-clause-within g c = λ backed cached h.
-    (rw c.deref.ensures.value at (rw c.deref-2.ensures.value at (rw c.parts.ensures.parts at c.advance.ensures.within))) backed cached h.ahead c.args.self.now.most h.held
+    (rw c.deref.ensures.value at (rw c.deref-2.ensures.value at (rw c.parts.ensures.parts at c.advance.ensures.within))) backed (record { cache = cached; held = h.blocks }) h.ahead c.args.self.now.most h.held
 
 pub returns-in_err-advance-clause-within : goal.returns-in_err-advance-clause-within
 returns-in_err-advance-clause-within g c = λ backed cached h.
-    (rw c.deref.ensures.value at (rw c.deref-2.ensures.value at (rw c.parts.ensures.parts at c.advance.ensures.within))) backed cached h.ahead c.args.self.now.most h.held
+    (rw c.deref.ensures.value at (rw c.deref-2.ensures.value at (rw c.parts.ensures.parts at c.advance.ensures.within))) backed (record { cache = cached; held = h.blocks }) h.ahead c.args.self.now.most h.held
+
+pub advance-requires-clause-fits : goal.advance-requires-clause-fits
+advance-requires-clause-fits g c = rw (sym c.parts.ensures.parts) at c.args.self.now.fits
+
+pub returns-in_err-advance-clause-honest : goal.returns-in_err-advance-clause-honest
+returns-in_err-advance-clause-honest g c = λ backed cached blocks.
+    let p = err_from_is_err_and c.from_residual.result c.from_residual.ensures.1 in
+    rw (p.1, p.2) ((rw c.parts.ensures.parts at c.in_err-advance.ensures.honest) backed (record { cache = cached; held = blocks }))
+
+pub returns-clause-opened : goal.returns-clause-opened
+returns-clause-opened g c = rw c.as_slice.ensures at (rw c.parts.ensures.parts at c.in_ok-advance.ensures.opened)
+
+pub returns-clause-opens : goal.returns-clause-opens
+returns-clause-opens g c = rw c.as_slice.ensures at (rw c.parts.ensures.parts at c.advance.ensures.opens)
+
+pub returns-in_err-advance-clause-opens : goal.returns-in_err-advance-clause-opens
+returns-in_err-advance-clause-opens g c = rw c.as_slice.ensures at (rw c.parts.ensures.parts at c.advance.ensures.opens)

@@ -9,12 +9,14 @@ use Rattle.ranker.proofs.search.Search.new.Goals as goal
 pub returns-clause-taken : goal.returns-clause-taken
 returns-clause-taken c = λ kind priors told tables. record {
   held = c.first_held-held.ensures.held kind priors _ _;
-  ahead = record { here = IsKnown-on kind priors _ _ _ 0 _ 0 0 nothing_known c.nothing.result (omega arith) (omega arith) c.nothing.ensures (IsKnown-nothing kind priors _ _ _ 0 _ (tables 0)); each = tables };
+  ahead = record { here = IsKnown-on kind priors _ _ _ 0 _ 0 0 nothing_known c.nothing-2.result (omega arith) (omega arith) c.nothing-2.ensures (IsKnown-nothing kind priors _ _ _ 0 _ (tables 0)); each = tables };
+  blocks = c.nothing.ensures.answers _;
 }
 
 pub invariant_of-result : goal.invariant_of-result
 invariant_of-result c = record {
   shown = ap (λ (n : NetworkTree). is_range n.range) c.in_ok-network.ensures ∙ c.args.checked.kept.within.sound_range;
+  fits = c.nothing.ensures.fits _;
   count = λ told. c.from.ensures ∙ c.live_count-live_count.ensures told;
   place = record { part = omega arith; id = omega arith; credit = λ told. refl };
   next = λ usable. record { from = omega arith; left = omega arith; ids = omega arith; bare = λ docs lt. absurd (omega (arith, lt)) };

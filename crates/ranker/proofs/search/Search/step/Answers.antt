@@ -63,6 +63,7 @@ returns-then-passes_bare-clause-taken g c = λ backed cached h.
     record {
       held = IsHeld-few s.snapshot s.at c.args.docs (here.bare c.args.docs low) c.args.rule.now.kind priors (filters_of s) (network_tree s.network) s.tables.items told h.ahead c.args.docs s.most s.held (omega arith)
           (s.open c.requires.usable told ∙ lt-ltb _ _ (omega (arith, low, left, s.count told))) h.held;
+      blocks = h.blocks;
       ahead = record {
         here = IsKnown-on c.args.rule.now.kind priors (filters_of s) (network_tree s.network) s.tables.items s.at.part (reads told (part_at s.snapshot s.at.part).source) s.at.id (s.at.id + c.args.docs) s.at.ahead s.at.ahead (omega arith)
             (bare-end s.snapshot s.at c.args.docs (here.bare c.args.docs low) c.args.docs (omega arith) h.ahead.here.span.back) refl h.ahead.here;
@@ -78,6 +79,7 @@ invariant_of-self g c =
     let left = here.left in
     record {
       shown = s.shown;
+      fits = s.fits;
       count = s.count;
       place = IsPlace-few s.snapshot s.at c.args.docs (here.bare c.args.docs low) c.args.docs (omega arith) s.place;
       next = λ usable. IsBareTo-on s.snapshot s.at s.live_count s.bare_to c.args.docs low here;

@@ -1,0 +1,31 @@
+use Rattle.std.proofs.Common.{ap, sym, subst, refl, Option}
+use Rattle.store_ends.specs.Files.{Files}
+use Rattle.disk_index.specs.Cache.{IsCacheBacked}
+use Rattle.disk_index.specs.Parts.{IsFileOf, IsPartBacked, reads, source_of}
+use Rattle.disk_index.specs.QuietLaws.{IsCacheBacked-kept}
+use Rattle.range_masks.specs.Held.{AreAnswersOf}
+use Rattle.range_masks.proofs.opening_reader.OpeningReaderOpensRanges.open_range.Goals as goal
+
+pub returns-clause-keeps : goal.returns-clause-keeps
+returns-clause-keeps g c =
+    let part = source_of c.args.self.now.part.now in
+    let quiet = c.open.ensures.quiet in
+    record {
+      documents_stay = ap (λ (f : Option Files). reads f part) quiet.same_files;
+      no_fault_lost = c.open.ensures.later;
+      sound_stays = λ s. subst (λ (f : Option Files). IsPartBacked f part × IsCacheBacked f c.open.new.cache × AreAnswersOf (reads f part) c.in_ok-opened.opened) (sym quiet.same_files)
+          (s.0, IsCacheBacked-kept _ (IsFileOf part) c.args.self.now.cache.now c.open.new.cache c.open.ensures.cache s.1, c.in_ok-opened.ensures.answers s.0 s.1);
+      stays_quiet = (record { same_part = refl; same_store = refl; same_cache = refl; store = quiet; no_fault_lost = c.open.ensures.later; cache = c.open.ensures.cache }, refl);
+    }
+
+pub returns-in_err-opened-clause-keeps : goal.returns-in_err-opened-clause-keeps
+returns-in_err-opened-clause-keeps g c =
+    let part = source_of c.args.self.now.part.now in
+    let quiet = c.open.ensures.quiet in
+    record {
+      documents_stay = ap (λ (f : Option Files). reads f part) quiet.same_files;
+      no_fault_lost = c.open.ensures.later;
+      sound_stays = λ s. subst (λ (f : Option Files). IsPartBacked f part × IsCacheBacked f c.open.new.cache × AreAnswersOf (reads f part) c.args.self.now.held.now) (sym quiet.same_files)
+          (s.0, IsCacheBacked-kept _ (IsFileOf part) c.args.self.now.cache.now c.open.new.cache c.open.ensures.cache s.1, s.2);
+      stays_quiet = (record { same_part = refl; same_store = refl; same_cache = refl; store = quiet; no_fault_lost = c.open.ensures.later; cache = c.open.ensures.cache }, refl);
+    }

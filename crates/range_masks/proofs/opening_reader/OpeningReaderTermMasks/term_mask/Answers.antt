@@ -1,0 +1,29 @@
+use Rattle.std.proofs.Common.{◌≡◌, Some, ap, sym, subst, refl, ◌∙◌, rules, Option}
+use Rattle.std.specs.Int.{bit_at}
+use Rattle.std.specs.Option.{option_map}
+use Rattle.store_ends.specs.Files.{Files}
+use Rattle.disk_index.specs.Cache.{IsCacheBacked}
+use Rattle.disk_index.specs.Parts.{IsFileOf, IsPartBacked, reads, source_of}
+use Rattle.disk_index.specs.QuietLaws.{IsCacheBacked-kept}
+use Rattle.range_masks.specs.Held.{AreAnswersOf}
+use Rattle.range_masks.proofs.HeldLemmas.{mask-told}
+use Rattle.range_masks.proofs.opening_reader.OpeningReaderTermMasks.term_mask.Goals as goal
+
+pub returns-in-Some-clause-exact : goal.returns-in-Some-clause-exact
+returns-in-Some-clause-exact g c = λ sound.
+    let s = c.args.self.now in
+    let told : c.mask.result ≡ Some c.in-Some.mask = search rules in
+    mask-told (reads (g.T.Store.files s.store.now) (source_of s.part.now)) s.held.now c.args.term.now c.args.range c.in-Some.mask sound.2
+    (λ i small. sym (ap (option_map (λ m. bit_at m i)) told) ∙ c.mask.ensures i small)
+
+pub returns-in-None-clause-keeps : goal.returns-in-None-clause-keeps
+returns-in-None-clause-keeps g c =
+    let part = source_of c.args.self.now.part.now in
+    let quiet = c.mask_in_part.ensures.quiet in
+    record {
+      documents_stay = ap (λ (f : Option Files). reads f part) quiet.same_files;
+      no_fault_lost = c.mask_in_part.ensures.later;
+      sound_stays = λ s. subst (λ (f : Option Files). IsPartBacked f part × IsCacheBacked f c.mask_in_part.new.cache × AreAnswersOf (reads f part) c.args.self.now.held.now) (sym quiet.same_files)
+          (s.0, IsCacheBacked-kept _ (IsFileOf part) c.args.self.now.cache.now c.mask_in_part.new.cache c.mask_in_part.ensures.cache s.1, s.2);
+      stays_quiet = (record { same_part = refl; same_store = refl; same_cache = refl; store = quiet; no_fault_lost = c.mask_in_part.ensures.later; cache = c.mask_in_part.ensures.cache }, refl, refl);
+    }

@@ -1,0 +1,43 @@
+// Blocks that a part is asked to open.
+ghost use Rattle.std.specs.Prelude.{◌≡◌, ◌≤◌, ◌+◌, ℕ, length, Err, IfErr, OnOk};
+ghost use Rattle.ri_base.specs.Faults.{IsOutside};
+ghost use Rattle.ri_base.specs.Keeps.{Keeps, Rose};
+
+use crate::TermMasks;
+use ri_base::{SegFault, Steps, Term};
+use std::alloc::Global;
+use std::sync::ledger::Ledger;
+
+/// A part of the collection that opens the blocks of terms for a range, and answers by them from then on.
+///
+/// `calm` relates two of its states where the second differs from the first by no more than reading and opening may change. The blocks
+/// are those of `present`, a range.
+pub trait OpensRanges: TermMasks {
+    ghost present: { Self → ℕ };
+
+    ghost calm: { Self → Self → Type 0 };
+
+    /// Opens the blocks of these terms for the range, unless blocks of it are held. From then on no others are.
+    fn open_range<L: Ledger>(
+        &mut self,
+        alloc: Global,
+        terms: &[Term],
+        range: u32,
+        blocks: &mut Steps<L>,
+    ) -> Result<(), SegFault>
+        ensures keeps { Keeps Self.documents Self.faults Self.sound calm self.old self.new }
+        ensures present { OnOk result (present self.new ≡ range) }
+        ensures none { present self.old ≡ range → blocks.new ≡ blocks.old }
+        ensures cost { blocks.new ≤ blocks.old + length terms.now }
+        ensures honest { Self.sound self.old → IfErr result IsOutside }
+        ensures store { result ≡ Err SegFault.Store → Rose (Self.faults self.old) (Self.faults self.new) };
+
+    // laws
+    ghost calm_same: { (s : Self) → calm s s };
+
+    ghost calm_then: { (r s t : Self) → calm r s → calm s t → calm r t };
+
+    ghost calm_reading: { (r s : Self) → Self.quiet r s → calm r s };
+
+    ghost present_stays: { (r s : Self) → Self.quiet r s → present s ≡ present r };
+}

@@ -1,8 +1,8 @@
 // All items of a script.
-ghost use Rattle.std.specs.Prelude.{◌≡◌, ◌≤◌, length, map, IfErr, IfOk, IfSome, IsErrOf, OnOk};
-ghost use Rattle.ri_ends.specs.Causes.{Rose};
-ghost use Rattle.store_ends.specs.Files.{GoesOn, Leaves};
+ghost use Rattle.std.specs.Prelude.{◌≡◌, length, map, IfErr, IfOk, IfSome, IsErrOf, OnOk};
+ghost use Rattle.store_ends.specs.Files.{Leaves};
 ghost use Rattle.smoothing.specs.Fractions.{Computes};
+ghost use Rattle.command_pieces.specs.Ends.{KeepsSink, KeepsSource, KeepsStore};
 ghost use Rattle.command_pieces.specs.CommandFaults.{IsBrokenBy, IsDamage};
 ghost use Rattle.command_pieces.specs.Pieces.{Finished, StandsAlong, some_refused};
 ghost use Rattle.repository.specs.RealLimits.{StandsFor};
@@ -58,15 +58,9 @@ pub fn take_items<F: Fn(u32, u32, u64, u64) -> Fraction, S: Source, K: Sink, T: 
     ensures grows { Grows (K.taken sink.old) (K.taken sink.new) }
     ensures stay { map (λ plug. meaning plug) plugs.new ≡ map (λ plug. meaning plug) plugs.old }
     ensures only { IfErr result IsSessionFault }
-    ensures goes_on { GoesOn T.layers T.clock T.longest T.held store.old store.new }
-    ensures layers { S.layers source.new ≡ S.layers source.old }
-    ensures held { S.held source.new ≡ S.held source.old }
-    ensures read { IsErrOf result CommandFault.Read → Rose (S.faults source.old) (S.faults source.new) }
-    ensures write { IsErrOf result CommandFault.Write → Rose (K.faults sink.old) (K.faults sink.new) }
-    ensures store { IsErrOf result CommandFault.Store → Rose (T.faults store.old) (T.faults store.new) }
-    ensures read_later { S.faults source.old ≤ S.faults source.new }
-    ensures write_later { K.faults sink.old ≤ K.faults sink.new }
-    ensures store_later { T.faults store.old ≤ T.faults store.new }
+    ensures source { KeepsSource S.layers S.held S.faults (IsErrOf result CommandFault.Read) source.old source.new }
+    ensures sink { KeepsSink K.faults (IsErrOf result CommandFault.Write) sink.old sink.new }
+    ensures store { KeepsStore T.layers T.clock T.longest T.held T.faults (IsErrOf result CommandFault.Store) store.old store.new }
 {
     let Ok(mut reader) = ItemReader::new(alloc) else {
         return Err(CommandFault::Memory);

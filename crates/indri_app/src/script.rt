@@ -1,12 +1,12 @@
 // A session over a repository that is open.
-ghost use Rattle.std.specs.Prelude.{◌≡◌, ◌≤◌, None, Some, true, map, IfErr, IfOk, IfSome, IsErrOf, List, OnOk};
+ghost use Rattle.std.specs.Prelude.{◌≡◌, None, Some, true, map, IfErr, IfOk, IfSome, IsErrOf, List, OnOk};
 ghost use Rattle.std.specs.List.{AllZip};
 ghost use Rattle.ri_base.specs.Ratio.{ratio_of};
-ghost use Rattle.ri_ends.specs.Causes.{Rose};
-ghost use Rattle.store_ends.specs.Files.{Files, GoesOn, Leaves};
+ghost use Rattle.store_ends.specs.Files.{Files, Leaves};
 ghost use Rattle.smoothing.specs.Counts.{AreCounts};
 ghost use Rattle.smoothing.specs.Fractions.{IsMu, dirichlet};
 ghost use Rattle.smoothing.specs.declared.rule.RuleKind.TheVariants.{Dirichlet};
+ghost use Rattle.command_pieces.specs.Ends.{KeepsSink, KeepsSource, KeepsStore};
 ghost use Rattle.command_pieces.specs.CommandFaults.{IsBrokenBy, IsDamage};
 ghost use Rattle.command_pieces.specs.Pieces.{Finished, StandsAlong, some_refused};
 ghost use Rattle.repository.specs.RealLimits.{StandsFor};
@@ -69,15 +69,9 @@ pub fn session<S: Source, K: Sink, T: Store>(
     ensures listed { (f : Files) → T.files store.old ≡ Some f → OnOk result ((ps : List Prior) × AllZip (IsPriorListed (T.files store.old)) repository.priors ps) }
     ensures grows { Grows (K.taken sink.old) (K.taken sink.new) }
     ensures only { IfErr result IsSessionFault }
-    ensures goes_on { GoesOn T.layers T.clock T.longest T.held store.old store.new }
-    ensures layers { S.layers source.new ≡ S.layers source.old }
-    ensures held { S.held source.new ≡ S.held source.old }
-    ensures read { IsErrOf result CommandFault.Read → Rose (S.faults source.old) (S.faults source.new) }
-    ensures write { IsErrOf result CommandFault.Write → Rose (K.faults sink.old) (K.faults sink.new) }
-    ensures store { IsErrOf result CommandFault.Store → Rose (T.faults store.old) (T.faults store.new) }
-    ensures read_later { S.faults source.old ≤ S.faults source.new }
-    ensures write_later { K.faults sink.old ≤ K.faults sink.new }
-    ensures store_later { T.faults store.old ≤ T.faults store.new }
+    ensures source { KeepsSource S.layers S.held S.faults (IsErrOf result CommandFault.Read) source.old source.new }
+    ensures sink { KeepsSink K.faults (IsErrOf result CommandFault.Write) sink.old sink.new }
+    ensures store { KeepsStore T.layers T.clock T.longest T.held T.faults (IsErrOf result CommandFault.Store) store.old store.new }
 {
     match take_priors(alloc, &repository, plugs, store) {
         Ok(()) => {}

@@ -1,9 +1,9 @@
 // One item of a session.
-ghost use Rattle.std.specs.Prelude.{◌≡◌, ◌≤◌, ◌⊎◌, ◌∷◌, [], Err, Some, false, length, map, IfErr, IfOk, IsErrOf, OnOk};
+ghost use Rattle.std.specs.Prelude.{◌≡◌, ◌⊎◌, ◌∷◌, [], Err, Some, false, length, map, IfErr, IfOk, IsErrOf, OnOk};
 ghost use Rattle.ri_base.specs.Faults.{IsOutside};
-ghost use Rattle.ri_ends.specs.Causes.{Rose};
-ghost use Rattle.store_ends.specs.Files.{GoesOn, Leaves};
+ghost use Rattle.store_ends.specs.Files.{Leaves};
 ghost use Rattle.smoothing.specs.Fractions.{Computes};
+ghost use Rattle.command_pieces.specs.Ends.{KeepsSink, KeepsStore};
 ghost use Rattle.command_pieces.specs.CommandFaults.{IsBrokenBy};
 ghost use Rattle.command_pieces.specs.Pieces.{Finished, StandsAlong};
 ghost use Rattle.refusals.specs.Lines.{refusal_piece};
@@ -119,9 +119,7 @@ pub(crate) fn do_event<F: Fn(u32, u32, u64, u64) -> Fraction, T: Store>(
     ensures rule { desk.new.rule ≡ desk.old.rule }
     ensures stay { map (λ plug. meaning plug) plugs.new ≡ map (λ plug. meaning plug) plugs.old }
     ensures nine { length plugs.new ≡ 9 }
-    ensures goes_on { GoesOn T.layers T.clock T.longest T.held store.old store.new }
-    ensures later { T.faults store.old ≤ T.faults store.new }
-    ensures store { result ≡ Err SegFault.Store → Rose (T.faults store.old) (T.faults store.new) }
+    ensures store { KeepsStore T.layers T.clock T.longest T.held T.faults (result ≡ Err SegFault.Store) store.old store.new }
 {
     match desk.event(alloc, event, store, plugs) {
         Ok(reply) => tell_reply(alloc, &reply),
@@ -158,9 +156,7 @@ fn do_item<F: Fn(u32, u32, u64, u64) -> Fraction, T: Store>(
     ensures rule { desk.new.rule ≡ desk.old.rule }
     ensures stay { map (λ plug. meaning plug) plugs.new ≡ map (λ plug. meaning plug) plugs.old }
     ensures nine { length plugs.new ≡ 9 }
-    ensures goes_on { GoesOn T.layers T.clock T.longest T.held store.old store.new }
-    ensures later { T.faults store.old ≤ T.faults store.new }
-    ensures store { result ≡ Err SegFault.Store → Rose (T.faults store.old) (T.faults store.new) }
+    ensures store { KeepsStore T.layers T.clock T.longest T.held T.faults (result ≡ Err SegFault.Store) store.old store.new }
 {
     match item {
         Item::Event(event) => do_event(alloc, desk, event, store, plugs),
@@ -205,11 +201,8 @@ pub(crate) fn take_item<F: Fn(u32, u32, u64, u64) -> Fraction, K: Sink, T: Store
     ensures stay { map (λ plug. meaning plug) plugs.new ≡ map (λ plug. meaning plug) plugs.old }
     ensures nine { length plugs.new ≡ 9 }
     ensures only { IfErr result IsItemFault }
-    ensures goes_on { GoesOn T.layers T.clock T.longest T.held store.old store.new }
-    ensures write { IsErrOf result CommandFault.Write → Rose (K.faults sink.old) (K.faults sink.new) }
-    ensures store { IsErrOf result CommandFault.Store → Rose (T.faults store.old) (T.faults store.new) }
-    ensures write_later { K.faults sink.old ≤ K.faults sink.new }
-    ensures store_later { T.faults store.old ≤ T.faults store.new }
+    ensures sink { KeepsSink K.faults (IsErrOf result CommandFault.Write) sink.old sink.new }
+    ensures store { KeepsStore T.layers T.clock T.longest T.held T.faults (IsErrOf result CommandFault.Store) store.old store.new }
 {
     let piece = match do_item(alloc, desk, item, store, plugs) {
         Ok(piece) => piece,

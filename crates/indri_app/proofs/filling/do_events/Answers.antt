@@ -1,10 +1,11 @@
-use Rattle.std.proofs.Common.{rules, ◌≡◌, ◌++◌, ◌∷◌, [], ◌∙◌, List, ap, arith, length, map, refl, sym, subst, append-nil, append_assoc}
+use Rattle.std.proofs.Common.{◌≡◌, ◌++◌, ◌∷◌, [], ◌∙◌, Err, List, ap, arith, length, map, refl, sym, subst, append-nil, append_assoc}
 use Rattle.store_ends.proofs.Files.{Leaves-same}
 use Rattle.command_pieces.specs.Pieces.{kept_behind}
-use Rattle.repository.proofs.GoingLemmas.{going-same, going-then}
+use Rattle.command_pieces.proofs.Ends.{store-by, store-still, store-then}
 use Rattle.generated_events.specs.Left.{events_left}
 use Rattle.script_reader.specs.declared.item.Item.{Item}
 use Rattle.script_reader.specs.declared.item.Item.TheVariants.{Event}
+use Rattle.ri_base.specs.declared.seg_fault.SegFault.TheVariants as fault
 use Rattle.desk.specs.Backed.{state_of}
 use Rattle.indri_app.specs.Generated.{gen_items}
 use Rattle.indri_app.specs.Items.{pieces_of, state_behind_all}
@@ -27,8 +28,7 @@ events-init g c =
         rule = refl;
         stay = refl;
         nine = c.requires.nine;
-        goes_on = going-same g.T.Store.layers g.T.Store.clock g.T.Store.longest g.T.Store.held c.args.store.now;
-        later = search rules;
+        store = store-still _ _ _ _ _ _ _ (λ none. none);
       },
     )
 
@@ -54,8 +54,7 @@ events-preserved-in-Ok g c =
         rule = c.do_event.ensures.rule ∙ inv.1.rule;
         stay = c.do_event.ensures.stay ∙ inv.1.stay;
         nine = c.do_event.ensures.nine;
-        goes_on = going-then g.T.Store.layers g.T.Store.clock g.T.Store.longest g.T.Store.held c.args.store.now c.events.store c.do_event.new.store inv.1.goes_on c.do_event.ensures.goes_on;
-        later = (let a = inv.1.later in let b = c.do_event.ensures.later in omega (arith, a, b));
+        store = store-then _ _ _ _ _ _ _ _ _ _ inv.1.store (store-by _ _ _ _ _ _ _ _ _ (λ none. absurd none) done.store);
       },
     )
 
@@ -93,6 +92,9 @@ returns-in-Ok-None-clause-stops g c = λ kept way.
     let inv = c.events.invariant in
     leaves-of kept (state_of (g.T.Store.files c.args.store.now) c.args.desk.now.kept) inv.0 _ _ inv.1.followed _ _ (inv.1.stops kept way)
 
+pub returns-in-Ok-None-clause-store : goal.returns-in-Ok-None-clause-store
+returns-in-Ok-None-clause-store g c = store-by _ _ _ _ _ _ _ _ _ (λ e. absurd cc) c.events.invariant.1.store
+
 -- there is no memory for the next one
 
 pub returns-in-Err-clause-along : goal.returns-in-Err-clause-along
@@ -105,6 +107,9 @@ pub returns-in-Err-clause-stops : goal.returns-in-Err-clause-stops
 returns-in-Err-clause-stops g c = λ kept way.
     let inv = c.events.invariant in
     leaves-of kept (state_of (g.T.Store.files c.args.store.now) c.args.desk.now.kept) inv.0 _ _ inv.1.followed _ _ (inv.1.stops kept way)
+
+pub returns-in-Err-clause-store : goal.returns-in-Err-clause-store
+returns-in-Err-clause-store g c = store-by _ _ _ _ _ _ _ _ _ (λ e. absurd cc) c.events.invariant.1.store
 
 -- one isn't done
 
@@ -127,3 +132,6 @@ returns-in-Err-do_event-clause-stops g c = λ kept way.
 
 pub returns-in-Err-do_event-clause-honest : goal.returns-in-Err-do_event-clause-honest
 returns-in-Err-do_event-clause-honest g c = λ kept way. c.in-Err-do_event.ensures.honest _ (c.events.invariant.1.way kept way)
+
+pub returns-in-Err-do_event-clause-store : goal.returns-in-Err-do_event-clause-store
+returns-in-Err-do_event-clause-store g c = store-then _ _ _ _ _ _ _ _ _ _ c.events.invariant.1.store (store-by _ _ _ _ _ _ _ _ _ (λ e. (let one : c.in-Err-do_event.fault ≡ fault.Store = cc in ap Err one)) c.in-Err-do_event.ensures.store)

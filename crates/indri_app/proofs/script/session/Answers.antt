@@ -1,4 +1,4 @@
-use Rattle.std.proofs.Common.{◌≡◌, ◌∙◌, Bool, ap, refl, subst}
+use Rattle.std.proofs.Common.{◌≡◌, ◌∙◌, Bool, Err, ap, refl, subst}
 use Rattle.std.proofs.lemmas.List.{length-map}
 use Rattle.std.specs.Prelude.{IfErr, IfOk, IfSome, OnOk}
 use Rattle.store_ends.specs.Files.{Leaves}
@@ -6,6 +6,7 @@ use Rattle.smoothing.specs.declared.rule.RuleKind.TheVariants.{Dirichlet}
 use Rattle.command_pieces.specs.CommandFaults.{IsBrokenBy}
 use Rattle.command_pieces.specs.Pieces.{Finished, StandsAlong, some_refused}
 use Rattle.command_pieces.specs.declared.command_fault.CommandFault.{CommandFault}
+use Rattle.command_pieces.proofs.Ends.{sink-still, source-still, store-behind, store-quiet}
 use Rattle.ri_base.specs.declared.seg_fault.SegFault.TheVariants as files
 use Rattle.repository.specs.RealLimits.{StandsFor}
 use Rattle.script_reader.specs.Items.{items}
@@ -13,8 +14,8 @@ use Rattle.desk.specs.State.{State, collection_of}
 use Rattle.indri_app.specs.Items.{pieces_of, state_behind_all}
 use Rattle.indri_app.specs.Orders.{AreTrue}
 use Rattle.indri_app.specs.Sessions.{session_pieces}
-use Rattle.desk.proofs.EventExits.{quiet-on}
-use Rattle.indri_app.proofs.Beginning.{ahead-read, begun-all, behind-on, files-fault, merge-none, none-begun, rose-earlier, stops-quiet, stops-read}
+use Rattle.indri_app.proofs.Beginning.{ahead-read, begun-all, files-fault, merge-none, none-begun, stops-quiet, stops-read}
+use Rattle.indri_app.proofs.OpeningLemmas.{files-read, files-write, store-of_files}
 use Rattle.indri_app.proofs.Standing.{grows-none, outside-honest}
 use Rattle.indri_app.proofs.script.session.Goals as goal
 
@@ -35,8 +36,14 @@ returns-in-Err-clause-grows g c = grows-none _ _ refl
 pub returns-in-Err-clause-only : goal.returns-in-Err-clause-only
 returns-in-Err-clause-only g c = rw c.of_files.ensures (files-fault c.in-Err.fault)
 
-pub returns-in-Err-clause-goes_on : goal.returns-in-Err-clause-goes_on
-returns-in-Err-clause-goes_on g c = quiet-on g.T.Store.files g.T.Store.layers g.T.Store.clock g.T.Store.since g.T.Store.longest g.T.Store.held _ _ c.take_priors.ensures.quiet
+pub returns-in-Err-clause-source : goal.returns-in-Err-clause-source
+returns-in-Err-clause-source g c = source-still _ _ _ _ _ (λ e. files-read c.in-Err.fault cc)
+
+pub returns-in-Err-clause-sink : goal.returns-in-Err-clause-sink
+returns-in-Err-clause-sink g c = sink-still _ _ _ (λ e. files-write c.in-Err.fault cc)
+
+pub returns-in-Err-clause-store : goal.returns-in-Err-clause-store
+returns-in-Err-clause-store g c = store-quiet _ _ _ _ _ _ _ _ _ _ c.take_priors.ensures.quiet c.take_priors.ensures.later (λ e. (let one = store-of_files c.in-Err.fault cc in c.in-Err.ensures.store (ap Err one)))
 
 pub returns-in-Err-clause-honest : goal.returns-in-Err-clause-honest
 returns-in-Err-clause-honest g c = λ k ahead. rw c.of_files.ensures (outside-honest c.in-Err.fault (c.in-Err.ensures.honest ahead.backed))
@@ -55,8 +62,8 @@ returns-in_default-clause-stops g c = λ k ahead.
 pub returns-in_default-clause-grows : goal.returns-in_default-clause-grows
 returns-in_default-clause-grows g c = grows-none _ _ refl
 
-pub returns-in_default-clause-goes_on : goal.returns-in_default-clause-goes_on
-returns-in_default-clause-goes_on g c = quiet-on g.T.Store.files g.T.Store.layers g.T.Store.clock g.T.Store.since g.T.Store.longest g.T.Store.held _ _ c.take_priors.ensures.quiet
+pub returns-in_default-clause-store : goal.returns-in_default-clause-store
+returns-in_default-clause-store g c = store-quiet _ _ _ _ _ _ _ _ _ _ c.take_priors.ensures.quiet c.take_priors.ensures.later (λ e. absurd cc)
 
 -- all items are taken
 
@@ -124,8 +131,5 @@ returns-clause-stops g c = λ k ahead.
     stops-read _ _ _ (g.S.Source.left c.args.source.now) k (session_pieces c.args.repository.held.limits (Dirichlet c.args.mu) k) c.take_priors.ensures.quiet.no_more
     (subst (λ (s : State). IfSome (g.S.Source.left c.args.source.now) (λ bytes. Leaves (g.T.Store.since c.take_priors.new.store) (g.T.Store.since c.take_items.new.store) (StandsAlong StandsFor k (pieces_of s (items bytes))))) all.1 (c.take_items.ensures.stops k all.0))
 
-pub returns-clause-goes_on : goal.returns-clause-goes_on
-returns-clause-goes_on g c = behind-on g.T.Store.files g.T.Store.layers g.T.Store.clock g.T.Store.since g.T.Store.longest g.T.Store.held _ _ _ c.take_priors.ensures.quiet c.take_items.ensures.goes_on
-
 pub returns-clause-store : goal.returns-clause-store
-returns-clause-store g c = λ e. rose-earlier _ _ _ c.take_priors.ensures.later (c.take_items.ensures.store e)
+returns-clause-store g c = store-behind _ _ _ _ _ _ _ _ _ _ _ c.take_priors.ensures.quiet c.take_priors.ensures.later c.take_items.ensures.store

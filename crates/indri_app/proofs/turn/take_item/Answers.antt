@@ -1,6 +1,9 @@
 use Rattle.std.proofs.Common.{◌∙◌, Err, ap, refl}
 use Rattle.desk.specs.Backed.{state_of}
 use Rattle.command_pieces.specs.Written.{Plain}
+use Rattle.command_pieces.proofs.Ends.{sink-still, store-by}
+use Rattle.indri_app.proofs.Generating.{items-not_store, write-of_items}
+use Rattle.indri_app.proofs.OpeningLemmas.{files-write, store-of_files}
 use Rattle.indri_app.proofs.Standing.{files-only, grows-all, grows-none, grows-unwritten, items-only, piece-done, piece-refused, piece-stops, piece-unwritten}
 use Rattle.indri_app.proofs.turn.take_item.Goals as goal
 
@@ -19,6 +22,12 @@ returns-in-Err-clause-grows g c = grows-none _ _ refl
 pub returns-in-Err-clause-only : goal.returns-in-Err-clause-only
 returns-in-Err-clause-only g c = rw c.of_files.ensures (files-only c.in-Err.fault)
 
+pub returns-in-Err-clause-sink : goal.returns-in-Err-clause-sink
+returns-in-Err-clause-sink g c = sink-still _ _ _ (λ e. files-write c.in-Err.fault cc)
+
+pub returns-in-Err-clause-store : goal.returns-in-Err-clause-store
+returns-in-Err-clause-store g c = store-by _ _ _ _ _ _ _ _ _ (λ e. (let one = store-of_files c.in-Err.fault cc in ap Err one)) c.in-Err.ensures.store
+
 -- its piece is written
 
 pub returns-in-Ok-write-clause-refused : goal.returns-in-Ok-write-clause-refused
@@ -33,6 +42,9 @@ returns-in-Ok-write-clause-stops g c = λ kept way. piece-stops kept (state_of (
 
 pub returns-in-Ok-write-clause-grows : goal.returns-in-Ok-write-clause-grows
 returns-in-Ok-write-clause-grows g c = grows-all c.in-Ok.piece _ _ c.in-Ok-write.ensures.finished
+
+pub returns-in-Ok-write-clause-store : goal.returns-in-Ok-write-clause-store
+returns-in-Ok-write-clause-store g c = store-by _ _ _ _ _ _ _ _ _ (λ e. absurd cc) c.in-Ok.ensures.store
 
 -- it isn't written
 
@@ -52,3 +64,12 @@ returns-clause-grows g c =
 
 pub returns-clause-only : goal.returns-clause-only
 returns-clause-only g c = rw c.of_items.ensures (items-only c.in-Err-write.fault (λ e. c.in-Err-write.ensures.no_read (ap Err e)))
+
+pub returns-clause-sink : goal.returns-clause-sink
+returns-clause-sink g c = record {
+  later = c.in-Err-write.ensures.later;
+  cause = λ e. (let one = write-of_items c.in-Err-write.fault cc in c.in-Err-write.ensures.cause (ap Err one));
+}
+
+pub returns-clause-store : goal.returns-clause-store
+returns-clause-store g c = store-by _ _ _ _ _ _ _ _ _ (λ e. absurd (items-not_store c.in-Err-write.fault cc)) c.in-Ok.ensures.store

@@ -46,10 +46,10 @@ events-preserved-in-Ok g c =
       inv.0 ++ i ∷ [],
       record {
         followed = append_assoc inv.0 (i ∷ []) left ∙ followed;
-        state = λ kept way. state-next start here inv.0 i (inv.1.state kept way) _ (done.state _ (inv.1.way kept way));
-        way = λ kept way. subst (IsUnderWay _ _ _) (kept-next start here inv.0 i (inv.1.state kept way) kept) (done.way _ (inv.1.way kept way));
+        state = λ kept way. state-next start here inv.0 i (inv.1.state kept way) _ (done.does _ (inv.1.way kept way)).state;
+        way = λ kept way. subst (IsUnderWay _ _ _) (kept-next start here inv.0 i (inv.1.state kept way) kept) (done.does _ (inv.1.way kept way)).way;
         stops = λ kept way. Along-next start here inv.0 i (inv.1.state kept way) _ _ _ kept (inv.1.stops kept way)
-            (piece-stops (kept_behind kept (pieces_of start inv.0)) here i _ _ (c.do_event.ensures.stops _ (inv.1.way kept way)));
+            (piece-stops (kept_behind kept (pieces_of start inv.0)) here i _ _ (done.does _ (inv.1.way kept way)).stops);
         usable = done.usable (goes-next c.args.count inv.0 left i followed);
         rule = c.do_event.ensures.rule ∙ inv.1.rule;
         stay = c.do_event.ensures.stay ∙ inv.1.stay;
@@ -119,7 +119,7 @@ returns-in-Err-do_event-clause-along g c = λ kept way.
     let gives = rw c.in-Ok-Some.field-0-is at c.in-Ok-Some.ensures.gives in
     let start = state_of (g.T.Store.files c.args.store.now) c.args.desk.now.kept in
     let here = state_of (g.T.Store.files c.events.store) c.events.desk.kept in
-    stands-of kept start (inv.0 ++ Event c.in-Ok-Some.event ∷ []) _ _ (events-next inv.0 _ c.in-Ok-Some.event _ _ gives inv.1.followed) _ (along-next start here inv.0 (Event c.in-Ok-Some.event) (inv.1.state kept way) kept _ (c.do_event.ensures.now _ (inv.1.way kept way)))
+    stands-of kept start (inv.0 ++ Event c.in-Ok-Some.event ∷ []) _ _ (events-next inv.0 _ c.in-Ok-Some.event _ _ gives inv.1.followed) _ (along-next start here inv.0 (Event c.in-Ok-Some.event) (inv.1.state kept way) kept _ (c.in-Err-do_event.ensures.does _ (inv.1.way kept way)).now)
 
 pub returns-in-Err-do_event-clause-stops : goal.returns-in-Err-do_event-clause-stops
 returns-in-Err-do_event-clause-stops g c = λ kept way.
@@ -128,10 +128,10 @@ returns-in-Err-do_event-clause-stops g c = λ kept way.
     let start = state_of (g.T.Store.files c.args.store.now) c.args.desk.now.kept in
     let here = state_of (g.T.Store.files c.events.store) c.events.desk.kept in
     leaves-of kept start (inv.0 ++ Event c.in-Ok-Some.event ∷ []) _ _ (events-next inv.0 _ c.in-Ok-Some.event _ _ gives inv.1.followed) _ _
-    (Along-next start here inv.0 (Event c.in-Ok-Some.event) (inv.1.state kept way) _ _ _ kept (inv.1.stops kept way) (piece-stops (kept_behind kept (pieces_of start inv.0)) here (Event c.in-Ok-Some.event) _ _ (c.do_event.ensures.stops _ (inv.1.way kept way))))
+    (Along-next start here inv.0 (Event c.in-Ok-Some.event) (inv.1.state kept way) _ _ _ kept (inv.1.stops kept way) (piece-stops (kept_behind kept (pieces_of start inv.0)) here (Event c.in-Ok-Some.event) _ _ (c.in-Err-do_event.ensures.does _ (inv.1.way kept way)).stops))
 
 pub returns-in-Err-do_event-clause-honest : goal.returns-in-Err-do_event-clause-honest
-returns-in-Err-do_event-clause-honest g c = λ kept way. c.in-Err-do_event.ensures.honest _ (c.events.invariant.1.way kept way)
+returns-in-Err-do_event-clause-honest g c = λ kept way. (c.in-Err-do_event.ensures.does _ (c.events.invariant.1.way kept way)).honest
 
 pub returns-in-Err-do_event-clause-store : goal.returns-in-Err-do_event-clause-store
 returns-in-Err-do_event-clause-store g c = store-then _ _ _ _ _ _ _ _ _ _ c.events.invariant.1.store (store-by _ _ _ _ _ _ _ _ _ (λ e. (let one : c.in-Err-do_event.fault ≡ fault.Store = cc in ap Err one)) c.in-Err-do_event.ensures.store)

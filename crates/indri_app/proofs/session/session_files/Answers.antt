@@ -20,7 +20,7 @@ returns-in-Ok-clause-done g c = λ k stands.
     let limits = c.in-Ok.repository.held.limits in
     let here = c.in-Ok.ensures.opened k stands in
     let ahead = subst (λ f. IsAhead f c.in-Ok.repository k k) (sym same) here in
-    done-by told (asks.session c.args.mu) k (λ bytes. session_pieces limits (Dirichlet c.args.mu) k bytes) _ _ _ _ c.session.result (λ bytes. (limits, here.real, refl)) (c.session.ensures.refused k ahead) (c.session.ensures.finished k ahead)
+    done-by told (asks.session c.args.mu) k (λ bytes. session_pieces limits (Dirichlet c.args.mu) k bytes) _ _ _ _ c.session.result (λ bytes. (limits, here.real, refl)) (c.session.ensures.taken k ahead).refused (c.session.ensures.taken k ahead).finished
 
 pub returns-in-Ok-clause-broken : goal.returns-in-Ok-clause-broken
 returns-in-Ok-clause-broken g c = λ k stands.
@@ -29,7 +29,7 @@ returns-in-Ok-clause-broken g c = λ k stands.
     let limits = c.in-Ok.repository.held.limits in
     let here = c.in-Ok.ensures.opened k stands in
     let ahead = subst (λ f. IsAhead f c.in-Ok.repository k k) (sym same) here in
-    begun-by told (asks.session c.args.mu) k (λ bytes. session_pieces limits (Dirichlet c.args.mu) k bytes) _ _ _ _ c.session.result (λ bytes. (limits, here.real, refl)) (c.session.ensures.broken k ahead)
+    begun-by told (asks.session c.args.mu) k (λ bytes. session_pieces limits (Dirichlet c.args.mu) k bytes) _ _ _ _ c.session.result (λ bytes. (limits, here.real, refl)) (c.session.ensures.taken k ahead).broken
 
 pub returns-in-Ok-clause-stops : goal.returns-in-Ok-clause-stops
 returns-in-Ok-clause-stops g c = λ k stands.
@@ -39,20 +39,20 @@ returns-in-Ok-clause-stops g c = λ k stands.
     let here = c.in-Ok.ensures.opened k stands in
     let ahead = subst (λ f. IsAhead f c.in-Ok.repository k k) (sym same) here in
     stops-behind told (asks.session c.args.mu) k _ _ _ _ c.open_repository.ensures.quiet.no_more
-    (stops-by told (asks.session c.args.mu) k (λ bytes. session_pieces limits (Dirichlet c.args.mu) k bytes) _ _ _ (λ bytes. (limits, here.real, refl)) (c.session.ensures.stops k ahead))
+    (stops-by told (asks.session c.args.mu) k (λ bytes. session_pieces limits (Dirichlet c.args.mu) k bytes) _ _ _ (λ bytes. (limits, here.real, refl)) (c.session.ensures.taken k ahead).stops)
 
 pub returns-in-Ok-clause-order : goal.returns-in-Ok-clause-order
 returns-in-Ok-clause-order g c = λ k stands.
     let same = c.open_repository.ensures.quiet.same_files in
     let here = c.in-Ok.ensures.opened k stands in
     let ahead = subst (λ f. IsAhead f c.in-Ok.repository k k) (sym same) here in
-    in-order c.args.mu k c.in-Ok.repository.held.limits _ c.session.result here.real (c.session.ensures.order k ahead)
+    in-order c.args.mu k c.in-Ok.repository.held.limits _ c.session.result here.real (c.session.ensures.taken k ahead).order
 
 pub returns-in-Ok-clause-honest : goal.returns-in-Ok-clause-honest
 returns-in-Ok-clause-honest g c = λ k stands.
     let same = c.open_repository.ensures.quiet.same_files in
     let ahead = subst (λ f. IsAhead f c.in-Ok.repository k k) (sym same) (c.in-Ok.ensures.opened k stands) in
-    undamaged-late c.session.result c.session.ensures.only (c.session.ensures.honest k ahead)
+    undamaged-late c.session.result c.session.ensures.only (c.session.ensures.taken k ahead).honest
 
 pub returns-in-Ok-clause-untouched : goal.returns-in-Ok-clause-untouched
 returns-in-Ok-clause-untouched g c = λ e. absurd (session-not_absent c.session.result c.session.ensures.only e)

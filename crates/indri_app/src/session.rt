@@ -1,12 +1,12 @@
 // The command `session`.
-ghost use Rattle.std.specs.Prelude.{◌≡◌, ◌≤◌, None, Some, map, IfErr, IfOk, IfSome, IsErrOf, OnOk};
-ghost use Rattle.ri_ends.specs.Causes.{Rose};
+ghost use Rattle.std.specs.Prelude.{◌≡◌, None, Some, map, IfErr, IfOk, IfSome, IsErrOf, OnOk};
 ghost use Rattle.smoothing.specs.Fractions.{IsMu};
-ghost use Rattle.store_ends.specs.Files.{Files, GoesOn, IsQuiet};
+ghost use Rattle.store_ends.specs.Files.{Files, IsQuiet};
 ghost use Rattle.command_words.specs.Table as asks;
 ghost use Rattle.repository.specs.Names.{manifest_name};
 ghost use Rattle.repository.specs.RealLimits.{StandsFor};
 ghost use Rattle.repository.specs.Stands.{Collection};
+ghost use Rattle.command_pieces.specs.Ends.{KeepsSink, KeepsSource, KeepsStore};
 ghost use Rattle.desk.specs.Priors.{run_priors};
 ghost use Rattle.indri_app.specs.Sessions.{Grows};
 ghost use Rattle.indri_app.specs.Asked.{IsIntactWithPriors};
@@ -51,15 +51,9 @@ pub fn session_files<S: Source, K: Sink, T: Store>(
     ensures intact { (f : Files) → T.files store.old ≡ Some f → OnOk result (IsIntactWithPriors (T.files store.old)) }
     ensures grows { Grows (K.taken sink.old) (K.taken sink.new) }
     ensures only { IfErr result IsOverFault }
-    ensures goes_on { GoesOn T.layers T.clock T.longest T.held store.old store.new }
-    ensures layers { S.layers source.new ≡ S.layers source.old }
-    ensures held { S.held source.new ≡ S.held source.old }
-    ensures read { IsErrOf result CommandFault.Read → Rose (S.faults source.old) (S.faults source.new) }
-    ensures write { IsErrOf result CommandFault.Write → Rose (K.faults sink.old) (K.faults sink.new) }
-    ensures store { IsErrOf result CommandFault.Store → Rose (T.faults store.old) (T.faults store.new) }
-    ensures read_later { S.faults source.old ≤ S.faults source.new }
-    ensures write_later { K.faults sink.old ≤ K.faults sink.new }
-    ensures store_later { T.faults store.old ≤ T.faults store.new }
+    ensures source { KeepsSource S.layers S.held S.faults (IsErrOf result CommandFault.Read) source.old source.new }
+    ensures sink { KeepsSink K.faults (IsErrOf result CommandFault.Write) sink.old sink.new }
+    ensures store { KeepsStore T.layers T.clock T.longest T.held T.faults (IsErrOf result CommandFault.Store) store.old store.new }
 {
     match open_repository(alloc, store) {
         Ok(repository) => session(alloc, repository, mu, source, sink, store, plugs),

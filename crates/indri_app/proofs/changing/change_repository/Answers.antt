@@ -1,5 +1,6 @@
 use Rattle.std.proofs.Common.{refl}
 use Rattle.command_words.specs.Table.{add, delete}
+use Rattle.command_pieces.proofs.Ends.{source-still}
 use Rattle.collection_commands.specs.Flushing.{delete_pieces}
 use Rattle.indri_app.specs.Command.{add_pieces}
 use Rattle.indri_app.proofs.ChangingLemmas.{broken-undamaged, damage-unread, items-session, items-undamaged, merge-read, merge-session}
@@ -94,5 +95,5 @@ returns-in-Merge-clause-damage g c = damage-unread _ _ _ c.merge_documents.resul
 pub returns-in-Merge-clause-only : goal.returns-in-Merge-clause-only
 returns-in-Merge-clause-only g c = merge-session c.merge_documents.result c.merge_documents.ensures.only
 
-pub returns-in-Merge-clause-read : goal.returns-in-Merge-clause-read
-returns-in-Merge-clause-read g c = λ e. absurd (merge-read c.merge_documents.result c.merge_documents.ensures.only e)
+pub returns-in-Merge-clause-source : goal.returns-in-Merge-clause-source
+returns-in-Merge-clause-source g c = source-still _ _ _ _ _ (merge-read c.merge_documents.result c.merge_documents.ensures.only)

@@ -1,5 +1,5 @@
 // The commands that change a repository.
-ghost use Rattle.std.specs.Prelude.{◌≡◌, None, Some, false, true, IfErr, IfOk, IfSome, IsErrOf, OnOk};
+ghost use Rattle.std.specs.Prelude.{◌≡◌, None, Some, false, true, IfErr, IfOk, IsErrOf, OnOk};
 ghost use Rattle.store_ends.specs.Files.{Files, IsQuiet, Leaves};
 ghost use Rattle.command_pieces.specs.Ends.{KeepsSink, KeepsSource, KeepsStore};
 ghost use Rattle.command_pieces.specs.CommandFaults.{IsBrokenBy, IsDamage};
@@ -14,7 +14,7 @@ ghost use Rattle.indri_app.specs.Asked.{IsIntact};
 ghost use Rattle.indri_app.specs.Changes.{IsFoundFirst, IsOverFault, told_change};
 ghost use Rattle.indri_app.specs.Faults.{IsSessionFault};
 ghost use Rattle.indri_app.specs.Opened.{IsAbsentFault};
-ghost use Rattle.indri_app.specs.Runs.{IsBegun, IsDone, StopsAlong};
+ghost use Rattle.indri_app.specs.Runs.{HasDoneOver};
 
 use crate::addition::add;
 use crate::opening::open_repository;
@@ -79,12 +79,8 @@ fn change_repository<S: Source, K: Sink, T: Store>(
     requires usable { repository.usable ≡ true }
     requires stored { AreStored repository }
     requires none { repository.merge ≡ None }
-    ensures done { (c : Collection) → IsAhead (T.files store.old) repository c c
-        → IfOk result (λ refused. IfSome (S.left source.old) (λ bytes. IsDone (T.files store.old) (told_change what) c bytes refused (K.taken sink.old) (K.taken sink.new) (T.files store.new))) }
-    ensures broken { (c : Collection) → IsAhead (T.files store.old) repository c c
-        → IfErr result (λ why. IfSome (S.left source.old) (λ bytes. IsBegun why (T.files store.old) (told_change what) c bytes (K.taken sink.old) (K.taken sink.new) (T.files store.new))) }
-    ensures stops { (c : Collection) → IsAhead (T.files store.old) repository c c
-        → IfSome (S.left source.old) (λ bytes. StopsAlong (T.files store.old) (told_change what) c bytes (T.since store.old) (T.since store.new)) }
+    ensures does { (c : Collection) → IsAhead (T.files store.old) repository c c
+        → HasDoneOver (T.files store.old) (told_change what) c (S.left source.old) (K.taken sink.old) (T.since store.old) result (K.taken sink.new) (T.since store.new) (T.files store.new) }
 
     // Damage is found before anything is done, and only in files that stand for nothing.
     ensures honest { (c : Collection) → IsAhead (T.files store.old) repository c c → IfErr result (λ why. IsDamage why → ⊥) }
@@ -117,12 +113,8 @@ pub fn change_files<S: Source, K: Sink, T: Store>(
     sink: &mut K,
     store: &mut T,
 ) -> Result<bool, CommandFault>
-    ensures done { (c : Collection) → StandsFor c (T.files store.old)
-        → IfOk result (λ refused. IfSome (S.left source.old) (λ bytes. IsDone (T.files store.old) (told_change what) c bytes refused (K.taken sink.old) (K.taken sink.new) (T.files store.new))) }
-    ensures broken { (c : Collection) → StandsFor c (T.files store.old)
-        → IfErr result (λ why. IfSome (S.left source.old) (λ bytes. IsBegun why (T.files store.old) (told_change what) c bytes (K.taken sink.old) (K.taken sink.new) (T.files store.new))) }
-    ensures stops { (c : Collection) → StandsFor c (T.files store.old)
-        → IfSome (S.left source.old) (λ bytes. StopsAlong (T.files store.old) (told_change what) c bytes (T.since store.old) (T.since store.new)) }
+    ensures does { (c : Collection) → StandsFor c (T.files store.old)
+        → HasDoneOver (T.files store.old) (told_change what) c (S.left source.old) (K.taken sink.old) (T.since store.old) result (K.taken sink.new) (T.since store.new) (T.files store.new) }
 
     // What is found when the repository is opened is found before anything is done.
     ensures honest { (c : Collection) → StandsFor c (T.files store.old) → IfErr result (λ why. IsFoundFirst why → ⊥) }

@@ -1,5 +1,5 @@
 // The command `session`.
-ghost use Rattle.std.specs.Prelude.{◌≡◌, None, Some, map, IfErr, IfOk, IfSome, IsErrOf, OnOk};
+ghost use Rattle.std.specs.Prelude.{◌≡◌, None, Some, map, IfErr, IsErrOf, OnOk};
 ghost use Rattle.smoothing.specs.Fractions.{IsMu};
 ghost use Rattle.store_ends.specs.Files.{Files, IsQuiet};
 ghost use Rattle.command_words.specs.Table as asks;
@@ -13,7 +13,7 @@ ghost use Rattle.indri_app.specs.Asked.{IsIntactWithPriors};
 ghost use Rattle.indri_app.specs.Changes.{IsFoundFirst, IsOverFault};
 ghost use Rattle.indri_app.specs.Command.{ShowsInOrder};
 ghost use Rattle.indri_app.specs.Opened.{IsAbsentFault};
-ghost use Rattle.indri_app.specs.Runs.{IsBegun, IsDone, StopsAlong};
+ghost use Rattle.indri_app.specs.Runs.{HasDoneOver};
 
 use crate::opening::open_repository;
 use crate::script::session;
@@ -34,12 +34,8 @@ pub fn session_files<S: Source, K: Sink, T: Store>(
 ) -> Result<bool, CommandFault>
     requires mu { IsMu mu }
     requires plugs { map (λ plug. meaning plug) plugs.old ≡ run_priors }
-    ensures done { (c : Collection) → StandsFor c (T.files store.old)
-        → IfOk result (λ refused. IfSome (S.left source.old) (λ bytes. IsDone (T.files store.old) (asks.session mu) c bytes refused (K.taken sink.old) (K.taken sink.new) (T.files store.new))) }
-    ensures broken { (c : Collection) → StandsFor c (T.files store.old)
-        → IfErr result (λ why. IfSome (S.left source.old) (λ bytes. IsBegun why (T.files store.old) (asks.session mu) c bytes (K.taken sink.old) (K.taken sink.new) (T.files store.new))) }
-    ensures stops { (c : Collection) → StandsFor c (T.files store.old)
-        → IfSome (S.left source.old) (λ bytes. StopsAlong (T.files store.old) (asks.session mu) c bytes (T.since store.old) (T.since store.new)) }
+    ensures does { (c : Collection) → StandsFor c (T.files store.old)
+        → HasDoneOver (T.files store.old) (asks.session mu) c (S.left source.old) (K.taken sink.old) (T.since store.old) result (K.taken sink.new) (T.since store.new) (T.files store.new) }
     ensures order { (c : Collection) → StandsFor c (T.files store.old) → OnOk result (ShowsInOrder (asks.session mu) c (S.left source.old)) }
 
     // Damage, or that there is no repository, is found only in files that stand for nothing.

@@ -1,4 +1,4 @@
-use Rattle.std.proofs.Common.{◌≡◌, Err, ap, refl}
+use Rattle.std.proofs.Common.{◌≡◌, Err, ap}
 use Rattle.command_pieces.specs.declared.command_fault.CommandFault.TheVariants as fault
 use Rattle.command_pieces.proofs.Ends.{store-by, store-then}
 use Rattle.indri_app.specs.Generated.{gen_items, new_state}

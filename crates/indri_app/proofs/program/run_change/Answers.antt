@@ -14,8 +14,8 @@ returns-clause-has_run g c =
     let ended = c.finish.ensures.ended in
     let what = c.args.what in
     record {
-      runs = λ k stands. ended-runs _ (told_change what) k _ _ _ _ _ answer _ _ _ _ did.sink.later (did.done k stands) (did.broken k stands) ended;
-      stops = did.stops;
+      runs = λ k stands. (let over = did.does k stands in ended-runs _ (told_change what) k _ _ _ _ _ answer _ _ _ _ did.sink.later over.done over.broken ended);
+      stops = λ k stands. (did.does k stands).stops;
       order = λ k stands all. change-in_order what k _;
       made = λ makes f told none. absurd (change-not_making what makes);
       made_stops = λ makes f told none. absurd (change-not_making what makes);

@@ -14,8 +14,8 @@ returns-clause-has_run g c =
     let answer = c.session_files-answer.result in
     let ended = c.finish.ensures.ended in
     record {
-      runs = λ k stands. ended-runs _ (session c.args.mu) k _ _ _ _ _ answer _ _ _ _ did.sink.later (did.done k stands) (did.broken k stands) ended;
-      stops = did.stops;
+      runs = λ k stands. (let over = did.does k stands in ended-runs _ (session c.args.mu) k _ _ _ _ _ answer _ _ _ _ did.sink.later over.done over.broken ended);
+      stops = λ k stands. (did.does k stands).stops;
       order = λ k stands all. all-ended _ answer _ _ _ _ _ (did.order k stands) ended all;
       made = λ makes f told none. absurd makes;
       made_stops = λ makes f told none. absurd makes;

@@ -1,8 +1,10 @@
 -- Which faults a command answers where a call on the ends or on files is refused.
-use Rattle.std.proofs.Common.{◌≡◌, refl, sym, subst}
+use Rattle.std.proofs.Common.{◌≡◌, ◌∙◌, ℕ, Result, Err, ap, refl, sym, subst}
+use Rattle.std.specs.Prelude.{◌≢◌}
 use Rattle.command_pieces.specs.CommandFaults.{IsChangeFault, IsItemsFault, of_items}
 use Rattle.command_pieces.specs.declared.command_fault.CommandFault.{CommandFault}
 use Rattle.command_pieces.specs.declared.command_fault.CommandFault.TheVariants as command
+use Rattle.command_pieces.specs.Faults.{StaysUnless}
 use Rattle.command_pieces.specs.declared.fault.Fault.{Fault}
 use Rattle.command_pieces.specs.declared.fault.Fault.TheVariants as fault
 
@@ -32,6 +34,18 @@ pub items_store : (e : Fault) (f : CommandFault) → f ≡ of_items e → f ≡ 
 items_store fault.Read f is store = cc
 items_store fault.Write f is store = cc
 items_store fault.Memory f is store = cc
+
+-- the count of an end stays where the fault isn't that of this end
+
+pub items_write_stays : {X Y : Type 0} (e : Fault) (f : CommandFault) (r : Result Y CommandFault) (before now : ℕ) → r ≡ Err f → f ≡ of_items e → StaysUnless {X = X} fault.Write (Err e) before now → r ≢ Err command.Write → now ≡ before
+items_write_stays fault.Read f r before now at is stays other = stays (λ h. cc)
+items_write_stays fault.Write f r before now at is stays other = absurd (other (at ∙ ap (λ (g : CommandFault). Err g) is))
+items_write_stays fault.Memory f r before now at is stays other = stays (λ h. cc)
+
+pub items_read_stays : {X Y : Type 0} (e : Fault) (f : CommandFault) (r : Result Y CommandFault) (before now : ℕ) → r ≡ Err f → f ≡ of_items e → StaysUnless {X = X} fault.Read (Err e) before now → r ≢ Err command.Read → now ≡ before
+items_read_stays fault.Read f r before now at is stays other = absurd (other (at ∙ ap (λ (g : CommandFault). Err g) is))
+items_read_stays fault.Write f r before now at is stays other = stays (λ h. cc)
+items_read_stays fault.Memory f r before now at is stays other = stays (λ h. cc)
 
 -- ---- of a change, where items are taken too
 

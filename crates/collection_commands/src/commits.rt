@@ -42,6 +42,7 @@ fn flush_and_tell<K: Sink, T: Store>(
     ensures write_later { K.faults sink.old ≤ K.faults sink.new }
     ensures store_later { T.faults store.old ≤ T.faults store.new }
     ensures write_same { result ≢ Err CommandFault.Write → K.faults sink.new ≡ K.faults sink.old }
+    ensures store_same { result ≢ Err CommandFault.Store → T.faults store.new ≡ T.faults store.old }
 {
     match repository.flush(alloc, store) {
         Ok(()) => {}
@@ -79,6 +80,7 @@ pub fn commit<K: Sink, T: Store>(
     ensures write_later { K.faults sink.old ≤ K.faults sink.new }
     ensures store_later { T.faults store.old ≤ T.faults store.new }
     ensures write_same { result ≢ Err CommandFault.Write → K.faults sink.new ≡ K.faults sink.old }
+    ensures store_same { result ≢ Err CommandFault.Store → T.faults store.new ≡ T.faults store.old }
 {
     match flush_and_tell(alloc, repository, sink, store) {
         Ok(()) => {}

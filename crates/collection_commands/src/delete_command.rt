@@ -46,6 +46,7 @@ pub fn delete<S: Source, K: Sink, T: Store>(
     ensures store_later { T.faults store.old ≤ T.faults store.new }
     ensures read_same { result ≢ Err CommandFault.Read → S.faults source.new ≡ S.faults source.old }
     ensures write_same { result ≢ Err CommandFault.Write → K.faults sink.new ≡ K.faults sink.old }
+    ensures store_same { result ≢ Err CommandFault.Store → T.faults store.new ≡ T.faults store.old }
 {
     let some_refused = match take_docnos(alloc, repository, source, sink) {
         Ok(some_refused) => some_refused,

@@ -85,6 +85,7 @@ fn take_rows<S: Source, K: Sink, T: Store>(
     ensures store_later { T.faults store.old ≤ T.faults store.new }
     ensures read_same { result ≢ Err CommandFault.Read → S.faults source.new ≡ S.faults source.old }
     ensures write_same { result ≢ Err CommandFault.Write → K.faults sink.new ≡ K.faults sink.old }
+    ensures store_same { result ≢ Err CommandFault.Store → T.faults store.new ≡ T.faults store.old }
 {
     let (kept, refused) = match read_rows(alloc, source) {
         Ok(found) => found,
@@ -140,6 +141,7 @@ pub fn set_prior<S: Source, K: Sink, T: Store>(
     ensures store_later { T.faults store.old ≤ T.faults store.new }
     ensures read_same { result ≢ Err CommandFault.Read → S.faults source.new ≡ S.faults source.old }
     ensures write_same { result ≢ Err CommandFault.Write → K.faults sink.new ≡ K.faults sink.old }
+    ensures store_same { result ≢ Err CommandFault.Store → T.faults store.new ≡ T.faults store.old }
 {
     if is_length(&name) {
         return refuse(alloc, &Refusal::Fixed(name), sink);

@@ -64,6 +64,7 @@ fn set_and_tell<K: Sink, T: Store>(
     ensures write_later { K.faults sink.old ≤ K.faults sink.new }
     ensures store_later { T.faults store.old ≤ T.faults store.new }
     ensures write_same { result ≢ Err CommandFault.Write → K.faults sink.new ≡ K.faults sink.old }
+    ensures store_same { result ≢ Err CommandFault.Store → T.faults store.new ≡ T.faults store.old }
 {
     let Ok(text) = prior_text(alloc, &name, rows.rows().len() as u64) else {
         return Err(CommandFault::Memory);
@@ -107,6 +108,7 @@ pub fn set_rows<K: Sink, T: Store>(
     ensures write_later { K.faults sink.old ≤ K.faults sink.new }
     ensures store_later { T.faults store.old ≤ T.faults store.new }
     ensures write_same { result ≢ Err CommandFault.Write → K.faults sink.new ≡ K.faults sink.old }
+    ensures store_same { result ≢ Err CommandFault.Store → T.faults store.new ≡ T.faults store.old }
 {
     match set_and_tell(alloc, repository, name, rows, sink, store) {
         Ok(()) => {}

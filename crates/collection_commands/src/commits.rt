@@ -1,5 +1,5 @@
 // The end of a command that changed the documents of a collection.
-ghost use Rattle.std.specs.Prelude.{◌≡◌, ◌≤◌, [], true, IfErr, IsErrOf, OnOk};
+ghost use Rattle.std.specs.Prelude.{◌≡◌, ◌≤◌, ◌≢◌, [], true, IfErr, IsErrOf, OnOk, Err};
 ghost use Rattle.ri_ends.specs.Causes.{Rose};
 ghost use Rattle.store_ends.specs.Files.{GoesOn, Leaves};
 ghost use Rattle.command_pieces.specs.CommandFaults.{IsBrokenBy, IsChangeFault};
@@ -41,6 +41,8 @@ fn flush_and_tell<K: Sink, T: Store>(
     ensures store { IsErrOf result CommandFault.Store → Rose (T.faults store.old) (T.faults store.new) }
     ensures write_later { K.faults sink.old ≤ K.faults sink.new }
     ensures store_later { T.faults store.old ≤ T.faults store.new }
+    ensures write_same { result ≢ Err CommandFault.Write → K.faults sink.new ≡ K.faults sink.old }
+    ensures store_same { result ≢ Err CommandFault.Store → T.faults store.new ≡ T.faults store.old }
 {
     match repository.flush(alloc, store) {
         Ok(()) => {}
@@ -77,6 +79,8 @@ pub fn commit<K: Sink, T: Store>(
     ensures store { IsErrOf result CommandFault.Store → Rose (T.faults store.old) (T.faults store.new) }
     ensures write_later { K.faults sink.old ≤ K.faults sink.new }
     ensures store_later { T.faults store.old ≤ T.faults store.new }
+    ensures write_same { result ≢ Err CommandFault.Write → K.faults sink.new ≡ K.faults sink.old }
+    ensures store_same { result ≢ Err CommandFault.Store → T.faults store.new ≡ T.faults store.old }
 {
     match flush_and_tell(alloc, repository, sink, store) {
         Ok(()) => {}

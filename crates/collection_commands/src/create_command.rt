@@ -1,5 +1,5 @@
 // The command `create`.
-ghost use Rattle.std.specs.Prelude.{◌≡◌, ◌≤◌, None, Some, codes, is_some, IfErr, IfOk, IsErrOf, IsTrue, OnOk};
+ghost use Rattle.std.specs.Prelude.{◌≡◌, ◌≤◌, ◌≢◌, None, Some, codes, is_some, IfErr, IfOk, IsErrOf, IsTrue, OnOk, Err};
 ghost use Rattle.ri_ends.specs.Causes.{Rose};
 ghost use Rattle.store_ends.specs.Files.{Files, GoesOn, IsQuiet, Leaves};
 ghost use Rattle.command_pieces.specs.CommandFaults.{IsBrokenBy, IsCreateFault, IsExistsFault};
@@ -47,6 +47,8 @@ pub fn create_repository<K: Sink, T: Store>(
     ensures store { IsErrOf result CommandFault.Store → Rose (T.faults store.old) (T.faults store.new) }
     ensures write_later { K.faults sink.old ≤ K.faults sink.new }
     ensures store_later { T.faults store.old ≤ T.faults store.new }
+    ensures write_same { result ≢ Err CommandFault.Write → K.faults sink.new ≡ K.faults sink.old }
+    ensures store_same { result ≢ Err CommandFault.Store → T.faults store.new ≡ T.faults store.old }
 {
     match create(alloc, store) {
         Ok(true) => {}

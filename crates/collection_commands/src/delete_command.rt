@@ -1,5 +1,5 @@
 // The command `delete` on a repository that is open.
-ghost use Rattle.std.specs.Prelude.{◌≡◌, ◌≤◌, true, IfErr, IfOk, IfSome, IsErrOf, OnOk};
+ghost use Rattle.std.specs.Prelude.{◌≡◌, ◌≤◌, ◌≢◌, true, IfErr, IfOk, IfSome, IsErrOf, OnOk, Err};
 ghost use Rattle.ri_ends.specs.Causes.{Rose};
 ghost use Rattle.store_ends.specs.Files.{GoesOn, Leaves};
 ghost use Rattle.command_pieces.specs.CommandFaults.{IsBrokenBy, IsItemsFault};
@@ -44,6 +44,9 @@ pub fn delete<S: Source, K: Sink, T: Store>(
     ensures read_later { S.faults source.old ≤ S.faults source.new }
     ensures write_later { K.faults sink.old ≤ K.faults sink.new }
     ensures store_later { T.faults store.old ≤ T.faults store.new }
+    ensures read_same { result ≢ Err CommandFault.Read → S.faults source.new ≡ S.faults source.old }
+    ensures write_same { result ≢ Err CommandFault.Write → K.faults sink.new ≡ K.faults sink.old }
+    ensures store_same { result ≢ Err CommandFault.Store → T.faults store.new ≡ T.faults store.old }
 {
     let some_refused = match take_docnos(alloc, repository, source, sink) {
         Ok(some_refused) => some_refused,

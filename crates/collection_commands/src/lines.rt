@@ -1,5 +1,5 @@
 // All lines of the input of `delete`.
-ghost use Rattle.std.specs.Prelude.{◌≡◌, ◌≢◌, ◌≤◌, true, Err, IfErr, IfOk, IfSome, IsErrOf, OnOk, Option};
+ghost use Rattle.std.specs.Prelude.{◌≡◌, ◌≤◌, true, IfErr, IfOk, IfSome, IsErrOf, OnOk, Option};
 ghost use Rattle.ri_ends.specs.Causes.{Rose};
 ghost use Rattle.store_ends.specs.Files.{Files};
 ghost use Rattle.command_pieces.specs.Faults.{IsCut, StaysUnless};
@@ -41,7 +41,7 @@ pub fn take_docnos<S: Source, K: Sink>(
     ensures write { IsErrOf result Fault.Write → Rose (K.faults sink.old) (K.faults sink.new) }
     ensures read_later { S.faults source.old ≤ S.faults source.new }
     ensures write_later { K.faults sink.old ≤ K.faults sink.new }
-    ensures read_same { result ≢ Err Fault.Read → result ≢ Err Fault.Memory → S.faults source.new ≡ S.faults source.old }
+    ensures read_same { StaysUnless Fault.Read result (S.faults source.old) (S.faults source.new) }
     ensures write_same { StaysUnless Fault.Write result (K.faults sink.old) (K.faults sink.new) }
     ensures layers { S.layers source.new ≡ S.layers source.old }
     ensures held { S.held source.new ≡ S.held source.old }

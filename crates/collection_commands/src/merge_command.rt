@@ -1,5 +1,5 @@
 // The command `merge` on a repository that is open.
-ghost use Rattle.std.specs.Prelude.{◌≡◌, ◌≤◌, [], None, true, IfErr, IfOk, IsErrOf, OnOk, Option};
+ghost use Rattle.std.specs.Prelude.{◌≡◌, ◌≤◌, ◌≢◌, [], None, true, IfErr, IfOk, IsErrOf, OnOk, Option, Err};
 ghost use Rattle.ri_ends.specs.Causes.{Rose};
 ghost use Rattle.store_ends.specs.Files.{Files, GoesOn, IsQuiet, Leaves};
 ghost use Rattle.command_pieces.specs.CommandFaults.{IsBrokenBy, IsDamage};
@@ -62,6 +62,7 @@ fn merge_and_tell<K: Sink, T: Store>(
     ensures store { IsErrOf result CommandFault.Store → Rose (T.faults store.old) (T.faults store.new) }
     ensures write_later { K.faults sink.old ≤ K.faults sink.new }
     ensures store_later { T.faults store.old ≤ T.faults store.new }
+    ensures write_same { result ≢ Err CommandFault.Write → K.faults sink.new ≡ K.faults sink.old }
 {
     match merge_whole(alloc, repository, store) {
         Ok(()) => {}
@@ -101,6 +102,7 @@ pub fn merge<K: Sink, T: Store>(
     ensures store { IsErrOf result CommandFault.Store → Rose (T.faults store.old) (T.faults store.new) }
     ensures write_later { K.faults sink.old ≤ K.faults sink.new }
     ensures store_later { T.faults store.old ≤ T.faults store.new }
+    ensures write_same { result ≢ Err CommandFault.Write → K.faults sink.new ≡ K.faults sink.old }
 {
     match merge_and_tell(alloc, repository, sink, store) {
         Ok(()) => {}

@@ -1,5 +1,5 @@
 // The command `prior` on a repository that is open.
-ghost use Rattle.std.specs.Prelude.{◌≡◌, ◌≤◌, [], true, false, None, IfErr, IfOk, IfSome, IsErrOf, IsSome, OnOk, Option};
+ghost use Rattle.std.specs.Prelude.{◌≡◌, ◌≤◌, ◌≢◌, [], true, false, None, IfErr, IfOk, IfSome, IsErrOf, IsSome, OnOk, Option, Err};
 ghost use Rattle.ri_ends.specs.Causes.{Rose};
 ghost use Rattle.store_ends.specs.Files.{Files, GoesOn};
 ghost use Rattle.command_pieces.specs.CommandFaults.{IsBrokenBy, IsChangeFault, IsItemsFault};
@@ -41,6 +41,7 @@ fn refuse<K: Sink>(alloc: Global, refusal: &Refusal, sink: &mut K) -> Result<boo
     ensures write { IsErrOf result CommandFault.Write → Rose (K.faults sink.old) (K.faults sink.new) }
     ensures no_store { IsErrOf result CommandFault.Store → ⊥ }
     ensures write_later { K.faults sink.old ≤ K.faults sink.new }
+    ensures write_same { result ≢ Err CommandFault.Write → K.faults sink.new ≡ K.faults sink.old }
 {
     let Ok(reply) = reply_of(alloc, refusal) else {
         return Err(CommandFault::Memory);
@@ -82,6 +83,9 @@ fn take_rows<S: Source, K: Sink, T: Store>(
     ensures read_later { S.faults source.old ≤ S.faults source.new }
     ensures write_later { K.faults sink.old ≤ K.faults sink.new }
     ensures store_later { T.faults store.old ≤ T.faults store.new }
+    ensures read_same { result ≢ Err CommandFault.Read → S.faults source.new ≡ S.faults source.old }
+    ensures write_same { result ≢ Err CommandFault.Write → K.faults sink.new ≡ K.faults sink.old }
+    ensures store_same { result ≢ Err CommandFault.Store → T.faults store.new ≡ T.faults store.old }
 {
     let (kept, refused) = match read_rows(alloc, source) {
         Ok(found) => found,
@@ -135,6 +139,9 @@ pub fn set_prior<S: Source, K: Sink, T: Store>(
     ensures read_later { S.faults source.old ≤ S.faults source.new }
     ensures write_later { K.faults sink.old ≤ K.faults sink.new }
     ensures store_later { T.faults store.old ≤ T.faults store.new }
+    ensures read_same { result ≢ Err CommandFault.Read → S.faults source.new ≡ S.faults source.old }
+    ensures write_same { result ≢ Err CommandFault.Write → K.faults sink.new ≡ K.faults sink.old }
+    ensures store_same { result ≢ Err CommandFault.Store → T.faults store.new ≡ T.faults store.old }
 {
     if is_length(&name) {
         return refuse(alloc, &Refusal::Fixed(name), sink);

@@ -1,5 +1,5 @@
 // The rows of a prior are set, over a store.
-ghost use Rattle.std.specs.Prelude.{◌≡◌, ◌≤◌, [], true, false, IfErr, IfOk, IsErrOf, OnOk};
+ghost use Rattle.std.specs.Prelude.{◌≡◌, ◌≤◌, ◌≢◌, [], true, false, IfErr, IfOk, IsErrOf, OnOk, Err};
 ghost use Rattle.ri_ends.specs.Causes.{Rose};
 ghost use Rattle.store_ends.specs.Files.{GoesOn, Leaves};
 ghost use Rattle.command_pieces.specs.CommandFaults.{IsBrokenBy, IsChangeFault};
@@ -63,6 +63,8 @@ fn set_and_tell<K: Sink, T: Store>(
     ensures store { IsErrOf result CommandFault.Store → Rose (T.faults store.old) (T.faults store.new) }
     ensures write_later { K.faults sink.old ≤ K.faults sink.new }
     ensures store_later { T.faults store.old ≤ T.faults store.new }
+    ensures write_same { result ≢ Err CommandFault.Write → K.faults sink.new ≡ K.faults sink.old }
+    ensures store_same { result ≢ Err CommandFault.Store → T.faults store.new ≡ T.faults store.old }
 {
     let Ok(text) = prior_text(alloc, &name, rows.rows().len() as u64) else {
         return Err(CommandFault::Memory);
@@ -105,6 +107,8 @@ pub fn set_rows<K: Sink, T: Store>(
     ensures store { IsErrOf result CommandFault.Store → Rose (T.faults store.old) (T.faults store.new) }
     ensures write_later { K.faults sink.old ≤ K.faults sink.new }
     ensures store_later { T.faults store.old ≤ T.faults store.new }
+    ensures write_same { result ≢ Err CommandFault.Write → K.faults sink.new ≡ K.faults sink.old }
+    ensures store_same { result ≢ Err CommandFault.Store → T.faults store.new ≡ T.faults store.old }
 {
     match set_and_tell(alloc, repository, name, rows, sink, store) {
         Ok(()) => {}

@@ -1,5 +1,5 @@
 // The sweep at the end of a command.
-ghost use Rattle.std.specs.Prelude.{◌≡◌, ◌≤◌, ◌⊎◌, [], true, IfErr, IsErrOf, OnOk};
+ghost use Rattle.std.specs.Prelude.{◌≡◌, ◌≤◌, ◌⊎◌, ◌≢◌, [], true, IfErr, IsErrOf, OnOk, Err};
 ghost use Rattle.ri_ends.specs.Causes.{Rose};
 ghost use Rattle.store_ends.specs.Files.{GoesOn, Leaves};
 ghost use Rattle.repository.specs.RealLimits.{StandsFor};
@@ -29,6 +29,7 @@ pub fn sweep<T: Store>(
     ensures goes_on { GoesOn T.layers T.clock T.longest T.held store.old store.new }
     ensures store { IsErrOf result CommandFault.Store → Rose (T.faults store.old) (T.faults store.new) }
     ensures store_later { T.faults store.old ≤ T.faults store.new }
+    ensures store_same { result ≢ Err CommandFault.Store → T.faults store.new ≡ T.faults store.old }
 {
     match repository.sweep(alloc, store) {
         Ok(()) => Ok(()),

@@ -1,5 +1,5 @@
 // Reading a segment's file.
-ghost use Rattle.std.specs.Prelude.{◌≡◌, ◌<◌, ◌≤◌, ◌+◌, ◌^◌, Some, Err, take, drop, length, vec_len, IfOk, IfErr};
+ghost use Rattle.std.specs.Prelude.{◌≡◌, ◌<◌, ◌≤◌, ◌+◌, ◌^◌, ◌≢◌, Some, Err, take, drop, length, vec_len, IfOk, IfErr};
 ghost use Rattle.ri_base.specs.Faults.{IsOutside};
 ghost use Rattle.ri_base.specs.Keeps.{Rose};
 ghost use Rattle.store_ends.specs.Files.{Files, IsQuiet};
@@ -18,6 +18,7 @@ use store_ends::Store;
 pub fn store_fault(fault: OutFault) -> SegFault
     ensures outside { IsOutside result }
     ensures failed { result ≡ SegFault.Store → fault ≡ OutFault.Failed }
+    ensures memory { result ≢ SegFault.Store → fault ≡ OutFault.Memory }
 {
     match fault {
         OutFault::Failed => SegFault::Store,
@@ -32,6 +33,7 @@ pub(crate) fn file_length<T: Store>(store: &mut T, number: u64) -> Result<u64, S
     ensures quiet { IsQuiet T.files T.layers T.clock T.since T.longest T.held store.old store.new }
     ensures later { T.faults store.old ≤ T.faults store.new }
     ensures store { result ≡ Err SegFault.Store → Rose (T.faults store.old) (T.faults store.new) }
+    ensures none { result ≢ Err SegFault.Store → T.faults store.new ≡ T.faults store.old }
 {
     let name = segment_name(number);
     match store.len(as_text(&name)) {
@@ -51,6 +53,7 @@ fn fill<T: Store>(store: &mut T, number: u64, at: u64, buf: &mut [u8]) -> Result
     ensures quiet { IsQuiet T.files T.layers T.clock T.since T.longest T.held store.old store.new }
     ensures later { T.faults store.old ≤ T.faults store.new }
     ensures store { result ≡ Err SegFault.Store → Rose (T.faults store.old) (T.faults store.new) }
+    ensures none { result ≢ Err SegFault.Store → T.faults store.new ≡ T.faults store.old }
 {
     let name = segment_name(number);
     match store.read_at(as_text(&name), at, buf) {

@@ -5,7 +5,7 @@ ghost use Rattle.std.specs.Option.{option_map};
 ghost use Rattle.std.specs.List.{after_first, before_first};
 ghost use Rattle.std.specs.Io.KnownBytes.{IsAtEnd, prepend_known};
 ghost use Rattle.read_ahead.specs.Ahead.{Steps, most_of};
-ghost use Rattle.read_ahead.specs.Causes.{ReadRose};
+ghost use Rattle.read_ahead.specs.Causes.{ReadRose, StaysUnlessRead};
 ghost use Rattle.read_ahead.specs.declared.ahead.TheConstants.{MOST_AHEAD};
 ghost use Rattle.line_reader.specs.Lines.{behind_line, is_feed, has_feed, kept, line, without_return};
 ghost use Rattle.line_reader.specs.Reads.{GivesLine};
@@ -81,7 +81,7 @@ fn read_text<S: Source>(
     ensures rest { OnOk result (prepend_known ahead.new.bytes (S.left source.new) ≡ option_map behind_line (prepend_known ahead.old.bytes (S.left source.old))) }
     ensures steps { Steps S.left S.layers S.held S.faults S.can_give ahead.old ahead.new source.old source.new }
     ensures failed { ReadRose result (S.faults source.old) (S.faults source.new) }
-    ensures none { OnOk result (S.faults source.new ≡ S.faults source.old) }
+    ensures none { StaysUnlessRead result (S.faults source.old) (S.faults source.new) }
     ensures moves { OnOk result (0 < length ahead.old.bytes → ahead.old.offset < ahead.new.offset) }
 {
     'pieces: loop {
@@ -113,7 +113,7 @@ fn has_next<S: Source>(ahead: &mut ReadAhead, source: &mut S) -> Result<bool, In
     ensures some { IfOk result (λ some. OnTrue some (0 < length ahead.new.bytes)) }
     ensures end { IfOk result (λ some. OnFalse some ((ahead.new.bytes ≡ []) × IsAtEnd (S.left source.new))) }
     ensures failed { ReadRose result (S.faults source.old) (S.faults source.new) }
-    ensures none { OnOk result (S.faults source.new ≡ S.faults source.old) }
+    ensures none { StaysUnlessRead result (S.faults source.old) (S.faults source.new) }
 {
     if !ahead.bytes().is_empty() {
         return Ok(true);
@@ -134,7 +134,7 @@ fn read_line<S: Source>(
     ensures read { IfOk result (λ found. GivesLine (Some found) text.new.items ahead.old.offset (prepend_known ahead.old.bytes (S.left source.old)) (prepend_known ahead.new.bytes (S.left source.new))) }
     ensures steps { Steps S.left S.layers S.held S.faults S.can_give ahead.old ahead.new source.old source.new }
     ensures failed { ReadRose result (S.faults source.old) (S.faults source.new) }
-    ensures none { OnOk result (S.faults source.new ≡ S.faults source.old) }
+    ensures none { StaysUnlessRead result (S.faults source.old) (S.faults source.new) }
     ensures moves { OnOk result (ahead.old.offset < ahead.new.offset) }
 {
     let place = ahead.offset();
@@ -169,7 +169,7 @@ fn skip<S: Source>(ahead: &mut ReadAhead, count: u64, source: &mut S) -> Result<
     ensures offset { IfOk result (λ n. ahead.new.offset + n ≡ ahead.old.offset + count) }
     ensures steps { Steps S.left S.layers S.held S.faults S.can_give ahead.old ahead.new source.old source.new }
     ensures failed { ReadRose result (S.faults source.old) (S.faults source.new) }
-    ensures none { OnOk result (S.faults source.new ≡ S.faults source.old) }
+    ensures none { StaysUnlessRead result (S.faults source.old) (S.faults source.new) }
 {
     let mut missing = count;
     'pieces: loop {
@@ -241,7 +241,7 @@ impl LineReader {
         ensures offset { IfOk result (λ n. self.new.ahead.offset + n ≡ self.old.ahead.offset + count) }
         ensures steps { Steps S.left S.layers S.held S.faults S.can_give self.old.ahead self.new.ahead source.old source.new }
         ensures failed { ReadRose result (S.faults source.old) (S.faults source.new) }
-        ensures none { OnOk result (S.faults source.new ≡ S.faults source.old) }
+        ensures none { StaysUnlessRead result (S.faults source.old) (S.faults source.new) }
     {
         skip(&mut self.ahead, count, source)
     }
@@ -252,7 +252,7 @@ impl LineReader {
         ensures read { IfOk result (λ found. GivesLine found self.new.text self.old.ahead.offset (prepend_known self.old.ahead.bytes (S.left source.old)) (prepend_known self.new.ahead.bytes (S.left source.new))) }
         ensures steps { Steps S.left S.layers S.held S.faults S.can_give self.old.ahead self.new.ahead source.old source.new }
         ensures failed { ReadRose result (S.faults source.old) (S.faults source.new) }
-        ensures none { OnOk result (S.faults source.new ≡ S.faults source.old) }
+        ensures none { StaysUnlessRead result (S.faults source.old) (S.faults source.new) }
         ensures moves { IfOk result (λ found. OnSome found (self.old.ahead.offset < self.new.ahead.offset)) }
     {
         if has_next(&mut self.ahead, source)? {
@@ -284,7 +284,7 @@ impl LineReader {
             ≡ option_map (text_answer found self.new.text self.new.ahead.offset) (prepend_known self.new.ahead.bytes (S.left source.new))) }
         ensures steps { Steps S.left S.layers S.held S.faults S.can_give self.old.ahead self.new.ahead source.old source.new }
         ensures failed { ReadRose result (S.faults source.old) (S.faults source.new) }
-        ensures none { OnOk result (S.faults source.new ≡ S.faults source.old) }
+        ensures none { StaysUnlessRead result (S.faults source.old) (S.faults source.new) }
         ensures moves { IfOk result (λ found. OnSome found (self.old.ahead.offset < self.new.ahead.offset)) }
     {
         'lines: while let Some(line) = self.next_line(source)? {

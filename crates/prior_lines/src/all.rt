@@ -1,7 +1,7 @@
 // All rows of a source.
 ghost use Rattle.std.specs.Prelude.{◌≡◌, ◌++◌, ◌∷◌, [], filter, OnOk, IfOk, IfSome};
 ghost use Rattle.read_ahead.specs.Ahead.{Moves};
-ghost use Rattle.read_ahead.specs.Causes.{ReadRose};
+ghost use Rattle.read_ahead.specs.Causes.{ReadRose, StaysUnlessRead};
 ghost use Rattle.prior_lines.specs.Rows.{is_refusal, prior_rows, refusals};
 
 use crate::line::{RowLine, next_row};
@@ -43,7 +43,7 @@ pub fn read_rows<S: Source>(
     ensures refusals { IfOk result (λ found. IfSome (S.left source.old) (λ bytes. found.1.items ≡ refusals bytes)) }
     ensures moves { Moves S.layers S.held S.faults source.old source.new }
     ensures failed { ReadRose result (S.faults source.old) (S.faults source.new) }
-    ensures none { OnOk result (S.faults source.new ≡ S.faults source.old) }
+    ensures none { StaysUnlessRead result (S.faults source.old) (S.faults source.new) }
 {
     let mut lines = LineReader::new(alloc)?;
     let mut kept = KeptRows::new(alloc);

@@ -2,7 +2,7 @@
 ghost use Rattle.std.specs.Prelude.{Some, true, OnOk, ◌≡◌, ◌^◌, ◌<◌, IfOk, IsErrOf, OnSome};
 ghost use Rattle.std.specs.Option.{option_map};
 ghost use Rattle.std.specs.Io.KnownBytes.{prepend_known};
-ghost use Rattle.read_ahead.specs.Causes.{ReadRose};
+ghost use Rattle.read_ahead.specs.Causes.{ReadRose, StaysUnlessRead};
 ghost use Rattle.read_ahead.specs.Ahead.{Steps, most_of};
 ghost use Rattle.line_reader.specs.Texts.{placed, trimmed};
 ghost use Rattle.ri_base.specs.Text.{is_docno};
@@ -110,7 +110,7 @@ pub fn next_row<S: Source>(
         ≡ option_map (row_answer found kept.new lines.new.ahead.offset) (prepend_known lines.new.ahead.bytes (S.left source.new))) }
     ensures steps { Steps S.left S.layers S.held S.faults S.can_give lines.old.ahead lines.new.ahead source.old source.new }
     ensures failed { ReadRose result (S.faults source.old) (S.faults source.new) }
-    ensures none { OnOk result (S.faults source.new ≡ S.faults source.old) }
+    ensures none { StaysUnlessRead result (S.faults source.old) (S.faults source.new) }
     ensures moves { IfOk result (λ found. OnSome found (lines.old.ahead.offset < lines.new.ahead.offset)) }
 {
     match lines.next_text(source)? {

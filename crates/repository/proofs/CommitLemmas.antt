@@ -466,6 +466,7 @@ saved-as b s k after stale others saved = record {
   limits = ap (λ (x : Contents). x.limits) saved.rest;
   generation = ap (λ (x : Contents). x.generation) saved.rest;
   next = saved.rises;
+  in_turn = saved.in_turn;
   stale = refl;
   priors = refl;
   merge = refl;

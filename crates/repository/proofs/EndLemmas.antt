@@ -20,8 +20,8 @@ use Rattle.merge_job.specs.Merge.{Merging}
 use Rattle.repository.specs.Entries.{entries_for}
 use Rattle.repository.specs.Merges.{IsExchange, IsMergeEnded, IsMerging, IsSameShape, IsTurnedOver, all_stale, dead_documents, dead_tokens, without_dead_of}
 use Rattle.repository.specs.Names.{manifest_name}
-use Rattle.repository.specs.Numbers.{is_among}
-use Rattle.repository.specs.Saved.{AllSaved, IsSaved, IsUnlisted}
+use Rattle.repository.specs.Numbers.{is_among, next_behind}
+use Rattle.repository.specs.Saved.{AllSaved, IsSaved, IsUnlisted, unsaved}
 use Rattle.repository.specs.Stale.{with_stale}
 use Rattle.repository.specs.Stands.{Collection, Stands}
 use Rattle.repository.specs.States.{IsNumbered, IsSized, ReadsAs, State, kept_numbers, listed_numbers, numbers_in, part_numbers}
@@ -269,6 +269,7 @@ module _ (s : State) (job : Merging) (h : Contents) (stale : List ℕ) (numbered
       closed = none;
       on_disk = saved.on_disk;
       none_filling = ap (λ (x : Contents). x.parts.filling) saved.rest ∙ filling-by h.parts h.parts.filling refl;
+      in_turn = saved.in_turn ∙ ap (λ (ms : List Marked). next_behind s.next (unsaved ms)) (none-sealed h.parts (filling-none held));
       stale = left;
       unlisted = λ j e. numbered-unlisted j e;
       listed = λ j e. listed-still j e;

@@ -29,8 +29,8 @@ use Rattle.holdings.proofs.KeptLemmas.{CanWrite}
 use Rattle.holdings.proofs.LiveLemmas.{flat_map-push}
 use Rattle.holdings.proofs.MovedLemmas.{docnos-alike}
 use Rattle.repository.specs.Entries.{IsOnDisk}
-use Rattle.repository.specs.Numbers.{Taken, is_among}
-use Rattle.repository.specs.Saved.{AllSaved, AreThere, Holds, IsSaved, IsUnlisted, SavedSource, Saves, with_closed}
+use Rattle.repository.specs.Numbers.{Taken, greatest, is_among, next_after, next_behind}
+use Rattle.repository.specs.Saved.{AllSaved, AreThere, Holds, IsSaved, IsUnlisted, SavedSource, Saves, unsaved, unsaved_in, with_closed}
 use Rattle.repository.specs.States.{HasDocs, IsSized, numbers_in, part_numbers}
 use Rattle.repository.specs.Writes.{IsOther}
 use Rattle.repository.proofs.FrameLemmas.{other-segment}
@@ -126,7 +126,7 @@ module _ (b c : Option Files) (s t : List ℕ) (more : (n : ℕ) → is_among n 
       ((second.0.0 ∙ first.0.0, source-then p.source q.source r.source first.0.1 second.0.1), all-then ps qs rs first.1 second.1)
 
 pub saves-none : (told : Option Files) (t : Taken) (h : Contents) → Saves told t t h h
-saves-none told t h = record { parts = all-same told t.numbers h.parts.closed; rest = refl; taken = λ n e. e; next = omega arith; there = λ others a. a }
+saves-none told t h = record { parts = all-same told t.numbers h.parts.closed; rest = refl; taken = λ n e. e; next = omega arith; in_turn = refl; there = λ others a. a }
 
 pub saves-then : (b c : Option Files) (r s t : Taken) (h k l : Contents) → Saves b r s h k → SameWhere (IsOther (IsUnlisted s.numbers)) b c → Saves c s t k l → Saves c r t h l
 saves-then b c r s t h k l first same second = record {
@@ -134,6 +134,7 @@ saves-then b c r s t h k l first same second = record {
   rest = second.rest ∙ ap (λ (x : Contents). with_closed x l.parts.closed) first.rest;
   taken = λ n e. second.taken n (first.taken n e);
   next = (let a = first.next in let d = second.next in omega (arith, a, d));
+  in_turn = second.in_turn ∙ first.in_turn;
   there = λ others a. second.there others (first.there others a);
 }
 
@@ -179,11 +180,37 @@ among-moved kept docs (m ∷ ms) (suc i) others n e = elim (front-either m.sourc
   ]
 ]
 
+-- one part less is in memory alone
+unsaved-moved : (kept : Kept) (docs : List Document) (ms : List Marked) (i : ℕ) → i < length ms → (get_or ms i (filled [] [])).source ≡ InMemory docs → unsaved ms ≡ unsaved (with_source ms i (OnDisk kept)) + 1
+unsaved-moved kept docs [] i within at = absurd (omega (arith, within))
+unsaved-moved kept docs (m ∷ ms) zero within at = (let e : unsaved_in m.source ≡ 1 = ap unsaved_in at in omega (arith, e))
+unsaved-moved kept docs (m ∷ ms) (suc i) within at = (let rest = unsaved-moved kept docs ms i (omega (arith, within)) at in omega (arith, rest))
+
+-- where one number was taken for it
+turn-kept : (before now few many : ℕ) → now ≡ next_after before → many ≡ few + 1 → next_behind now few ≡ next_behind before many
+turn-kept before now few many is less = omega (arith, is, less)
+
+-- none is in memory alone
+unsaved-none : (ms : List Marked) → All IsStored ms → unsaved ms ≡ 0
+unsaved-none [] stored = refl
+unsaved-none (m ∷ ms) stored =
+    let rest = unsaved-none ms (All-tail IsStored m ms stored) in
+    let first = none-in m.source (All-head IsStored m ms stored) in
+    omega (arith, first, rest)
+  where
+    none-in : (s : Source) → IsOnDisk s → unsaved_in s ≡ 0
+    none-in (InMemory docs) on_disk = absurd on_disk
+    none-in (OnDisk kept) on_disk = refl
+
+-- so the next number is the one that was to follow
+turn-last : (next last left many : ℕ) → left ≡ 0 → last ≤ greatest → next_behind last left ≡ next_behind next many → last ≡ next_behind next many
+turn-last next last left many none fits turn = omega (arith, none, fits, turn)
+
 -- a part in memory gets the file of a new number
 pub saves-one : (b c : Option Files) (s t : Taken) (h k : Contents) (i n : ℕ) (kept : Kept) (docs : List Document) → i < length h.parts.closed → (get_or h.parts.closed i (filled [] [])).source ≡ InMemory docs
-    → kept ≡ kept_of n docs → kept.number ≡ n → IsPart docs → 1 ≤ n → n < 2 ^ 64 → n < t.next → s.next ≤ t.next → is_among n s.numbers ≡ false → t.numbers ≡ with_number s.numbers n
+    → kept ≡ kept_of n docs → kept.number ≡ n → IsPart docs → 1 ≤ n → n < 2 ^ 64 → n < t.next → t.next ≡ next_after s.next → s.next ≤ t.next → is_among n s.numbers ≡ false → t.numbers ≡ with_number s.numbers n
     → c ≡ option_map (with_file (segment_name n) (Some (segment docs))) b → k ≡ part_moved h i (OnDisk kept) → Saves c s t h k
-saves-one b c s t h k i n kept docs within at is number part some small below rises free taken put moved =
+saves-one b c s t h k i n kept docs within at is number part some small below turn rises free taken put moved =
     let own : kept ≡ kept_of kept.number docs = is ∙ ap (λ (m : ℕ). kept_of m docs) (sym number) in
     let among : is_among kept.number t.numbers ≡ true = ap (λ (m : ℕ). is_among m t.numbers) number ∙ ap (is_among n) taken ∙ among-new s.numbers n in
     let holds : Holds (segment_name kept.number) (segment docs) c = subst (λ (m : ℕ). Holds (segment_name m) (segment docs) c) (sym number) (holds-put (segment_name n) (segment docs) b c put) in
@@ -195,6 +222,7 @@ saves-one b c s t h k i n kept docs within at is number part some small below ri
       rest = moved ∙ sym (ap (λ (ms : List Marked). with_closed h ms) closed);
       taken = more;
       next = rises;
+      in_turn = turn-kept s.next t.next (unsaved k.parts.closed) (unsaved h.parts.closed) turn (unsaved-moved kept docs h.parts.closed i within at ∙ ap (λ (ms : List Marked). unsaved ms + 1) (sym closed));
       there = λ others a.
           let apart : is_among kept.number (part_numbers h.parts.closed ++ others) ≡ false =
           free-of (is_among kept.number (part_numbers h.parts.closed ++ others)) (λ e. clash (is_among n s.numbers) (ap (λ (m : ℕ). is_among m s.numbers) (sym number) ∙ a.1 kept.number e) free) in
@@ -352,6 +380,8 @@ all-saved b others s t h m k is writable saves stored fits there =
       on_disk = stored;
       rest = rest;
       rises = saves.next;
+      in_turn = turn-last s.next t.next (unsaved k.parts.closed) (unsaved (all_closed h).parts.closed) (unsaved-none k.parts.closed stored) (omega (arith, fits))
+          (saves.in_turn ∙ ap (λ (x : Contents). next_behind s.next (unsaved x.parts.closed)) is);
       fits = fits;
       docnos = docnos-all b t.numbers (all_closed h) k parts rest ∙ docnos-by h.parts h.parts.filling;
       sized = λ sized. sized-saved b t.numbers (sealed h.parts).closed k.parts.closed parts writable' (sized-sealed h.parts sized);

@@ -141,6 +141,7 @@ ended-merge s t o job e = record {
   closed = e.closed;
   on_disk = e.on_disk;
   none_filling = e.none_filling;
+  in_turn = e.in_turn;
   stale = e.stale;
   unlisted = e.unlisted;
   listed = e.listed;

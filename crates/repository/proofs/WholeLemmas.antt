@@ -1,6 +1,6 @@
 -- Merges that are run to their end.
-use Rattle.std.proofs.Common.{◌≡◌, ◌≤◌, ◌<◌, ◌+◌, ◌-◌, ◌⊎◌, ℕ, Bool, true, false, List, [], ◌∷◌, ◌++◌, cond, length, map, nat_lt, Option, None, Some, IfSome, Result, Ok, Err, refl, ap, sym, subst, ◌∙◌, arith}
-use Rattle.std.specs.Prelude.{OnOk, is_some, sum_by}
+use Rattle.std.proofs.Common.{◌≡◌, ◌≤◌, ◌<◌, ◌+◌, ◌-◌, ◌⊎◌, ℕ, Bool, true, false, ◌&&◌, List, [], ◌∷◌, ◌++◌, cond, length, map, nat_lt, Option, None, Some, IfSome, Result, Ok, Err, refl, ap, sym, subst, ◌∙◌, arith}
+use Rattle.std.specs.Prelude.{OnOk, is_err, is_some, sum_by}
 use Rattle.std.specs.Result.{is_ok}
 use Rattle.std.proofs.lemmas.Bool.Decides.{nat_tests}
 use Rattle.std.proofs.lemmas.List.{length-map, map-append}
@@ -16,13 +16,14 @@ use Rattle.disk_index.specs.Cache.{CacheKeeps, IsCacheBacked, KeptBlock}
 use Rattle.disk_index.specs.QuietLaws.{IsCacheBacked-kept}
 use Rattle.disk_index.specs.Snapshots.{IsFileAmong, Marked, live, live_in}
 use Rattle.disk_index.proofs.AlikeLemmas.{tokens-outlines}
-use Rattle.holdings.specs.Parts.{sealed}
+use Rattle.holdings.specs.Contents.{Contents}
+use Rattle.holdings.specs.Parts.{is_live, sealed}
 use Rattle.holdings.specs.declared.limits.Limits.{Limits}
 use Rattle.holdings.proofs.RoomLemmas.{live-sealed}
 use Rattle.holdings.proofs.SumLemmas.{documents-sealed, tokens-sealed}
 use Rattle.merge_job.specs.Merge.{Merging, size_of}
 use Rattle.merge_job.specs.Walk.{IsFaultAmong}
-use Rattle.repository.specs.Merges.{IsTurnedOver, after_turn, dead_documents, dead_tokens, merge_begun, merge_of, turned, without_dead, without_dead_of}
+use Rattle.repository.specs.Merges.{IsTurnedOver, IsTurnedTo, after_turn, dead_documents, dead_tokens, merge_begun, merge_of, turned, without_dead, without_dead_of}
 use Rattle.repository.specs.Saved.{IsUnlisted}
 use Rattle.repository.specs.Stands.{Collection, Stands}
 use Rattle.repository.specs.States.{IsBacked, ReadsAs, State, listed_numbers}
@@ -162,3 +163,51 @@ pub after-live : (t : Turned) (o : Option Merging) (d : Collection) → (after_t
 after-live (Open credit size) o d = refl
 after-live Done None d = refl
 after-live Done (Some m) d = refl
+
+-- ---- when a merge around another call answers yes
+
+turned-below : (m : Merging) (docs : ℕ) → length m.copied + docs < size_of m → turned m docs ≡ Done → ⊥
+turned-below m docs less = by (nat_lt (length m.copied + docs) (size_of m)) refl
+  where
+    by : (b : Bool) → nat_lt (length m.copied + docs) (size_of m) ≡ b → cond b (Open (length m.copied + docs) (size_of m)) Done ≡ Done → ⊥
+    by true e is = open-done (length m.copied + docs) (size_of m) is
+    by false e is = (let enough : size_of m ≤ length m.copied + docs = grind (arith, nat_tests) in omega (arith, less, enough))
+
+pub ok-live : {A E : Type 0} (r : Result A E) (live : Bool) → is_ok r ≡ true → (live ≡ false → is_err r ≡ true) → live ≡ true
+ok-live r true ok absent = refl
+ok-live (Ok x) false ok absent = absent refl
+ok-live (Err x) false ok absent = ok
+
+module _ (s r : State) (docs : ℕ) (t : Turned) (begun : r ≡ merge_begun s) (turned_is : IfSome r.merge (λ m. t ≡ turned m docs)) where
+  first-turn : t ≡ turned (merge_of s) docs
+  first-turn = subst (λ (x : State). IfSome x.merge (λ m. t ≡ turned m docs)) begun turned_is
+
+  -- the first turn ended the merge
+  pub around-done : (live : Bool) → t ≡ Done → false ≡ (nat_lt docs (size_of (merge_of s)) && live)
+  around-done live done = by (nat_lt docs (size_of (merge_of s))) refl
+    where
+      by : (b : Bool) → nat_lt docs (size_of (merge_of s)) ≡ b → false ≡ (b && live)
+      by true e = (let less : docs < size_of (merge_of s) = grind (arith, nat_tests) in absurd (turned-below (merge_of s) docs (omega (arith, less)) (sym first-turn ∙ done)))
+      by false e = refl
+
+  -- it left the merge open, and the same is held
+  module _ (q : State) (state : IsTurnedTo t docs r q) (open_now : t ≡ Done → ⊥) where
+    small : nat_lt docs (size_of (merge_of s)) ≡ true
+    small = by (nat_lt docs (size_of (merge_of s))) refl
+      where
+        by : (b : Bool) → nat_lt docs (size_of (merge_of s)) ≡ b → b ≡ true
+        by true e = refl
+        by false e =
+            let less = below-size (merge_of s) docs t first-turn open_now in
+            let enough : size_of (merge_of s) ≤ docs = grind (arith, nat_tests) in
+            absurd (omega (arith, less, enough))
+
+    same-held : (u : Turned) → IsTurnedTo u docs r q → (u ≡ Done → ⊥) → q.held ≡ r.held
+    same-held (Open credit size) to on = ap (λ (x : State). x.held) to.is
+    same-held Done to on = absurd (on refl)
+
+    pub around-live : (docno : List ℕ) (b : Bool) → is_live q.held.parts docno ≡ b → b ≡ (nat_lt docs (size_of (merge_of s)) && is_live (merge_begun s).held.parts docno)
+    around-live docno b live =
+        let held : q.held ≡ (merge_begun s).held = same-held t state open_now ∙ ap (λ (x : State). x.held) begun in
+        let now : is_live (merge_begun s).held.parts docno ≡ b = ap (λ (x : Contents). is_live x.parts docno) (sym held) ∙ live in
+        sym (ap (λ (y : Bool). y && is_live (merge_begun s).held.parts docno) small ∙ now)

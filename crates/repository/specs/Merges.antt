@@ -12,7 +12,8 @@ use Rattle.holdings.specs.Parts.{sealed}
 use Rattle.merge_job.specs.Merge.{AreTaken, IsMerged, Merging, size_of}
 use Rattle.merge_job.specs.declared.merged.MergedPart.{MergedPart}
 use Rattle.repository.specs.Entries.{IsOnDisk}
-use Rattle.repository.specs.Numbers.{is_among}
+use Rattle.repository.specs.Numbers.{is_among, next_behind}
+use Rattle.repository.specs.Saved.{unsaved}
 use Rattle.repository.specs.Stale.{with_stale}
 use Rattle.repository.specs.Stands.{Collection, Stands}
 use Rattle.repository.specs.States.{IsBacked, ReadsAs, State, listed_numbers, part_numbers}
@@ -95,7 +96,8 @@ abbrev pub IsSameShape : Marked → Marked → Type 0
 IsSameShape p q = (q.marks ≡ p.marks) × (outlines_of q.source ≡ outlines_of p.source)
 
 -- The merge is done and closed. New parts stand in the place of those of its snapshot, all parts are in files, none of which a part
--- of the snapshot has, and the files of the parts that were exchanged are stale. All files that were listed are listed.
+-- of the snapshot has, and the files of the parts that were exchanged are stale. All files that were listed are listed, and the new
+-- ones have the next numbers, one each.
 pub record IsMergeEnded (job : Merging) (s t : State) : Type 0 where
   pub made : List Marked
   pub exchange : IsExchange job (sealed s.held.parts).closed made
@@ -103,6 +105,7 @@ pub record IsMergeEnded (job : Merging) (s t : State) : Type 0 where
   pub closed : t.merge ≡ None
   pub on_disk : All (λ m. IsOnDisk m.source) t.held.parts.closed
   pub none_filling : t.held.parts.filling ≡ []
+  pub in_turn : t.next ≡ next_behind s.next (unsaved made)
   pub stale : t.stale ≡ all_stale s.stale (part_numbers (take (length job.snapshot) s.held.parts.closed))
   pub unlisted : (n : ℕ) → is_among n (part_numbers job.snapshot) ≡ true → is_among n (part_numbers t.held.parts.closed) ≡ false
   pub listed : (n : ℕ) → is_among n (listed_numbers s) ≡ true → is_among n (listed_numbers t) ≡ true

@@ -26,6 +26,10 @@ pub record IsNewNumber (next : ℕ) (taken : List ℕ) (n : ℕ) : Type 0 where
 abbrev pub next_after : ℕ → ℕ
 next_after next = min (next + 1) greatest
 
+-- the next number behind so many new files; the greatest stays
+abbrev pub next_behind : ℕ → ℕ → ℕ
+next_behind next files = min (next + files) greatest
+
 -- the numbers that are taken, and the next one
 pub record Taken : Type 0 where
   pub next : ℕ

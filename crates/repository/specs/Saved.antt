@@ -1,5 +1,5 @@
 -- Parts that were in memory alone, once their documents are in files.
-use Rattle.std.specs.Prelude.{◌≡◌, ◌≤◌, ◌<◌, ◌^◌, ℕ, true, false, List, ◌++◌, Option, Some, None}
+use Rattle.std.specs.Prelude.{◌≡◌, ◌+◌, ◌≤◌, ◌<◌, ◌^◌, ℕ, true, false, List, [], ◌∷◌, ◌++◌, Option, Some, None}
 use Rattle.std.specs.List.{All, AllZip}
 use Rattle.store_ends.specs.Files.{Files}
 use Rattle.manifest.specs.Listing.{AreNumbered}
@@ -13,7 +13,7 @@ use Rattle.holdings.specs.Contents.{Contents, all_closed}
 use Rattle.holdings.specs.MarkedParts.{docnos_of}
 use Rattle.holdings.specs.Parts.{all_parts}
 use Rattle.repository.specs.Entries.{IsOnDisk}
-use Rattle.repository.specs.Numbers.{Taken, is_among}
+use Rattle.repository.specs.Numbers.{Taken, is_among, next_behind}
 use Rattle.repository.specs.States.{IsSized, part_numbers}
 
 -- where files are told, the one of this name has these bytes
@@ -45,12 +45,22 @@ abbrev pub with_closed : Contents → List Marked → Contents
 with_closed c closed =
     record { parts = record { most = c.parts.most; closed = closed; filling = c.parts.filling; marks = c.parts.marks }; limits = c.limits; generation = c.generation }
 
--- Some parts were saved.
+-- how many of these parts are in memory alone
+abbrev pub unsaved_in : Source → ℕ
+unsaved_in (InMemory docs) = 1
+unsaved_in (OnDisk kept) = 0
+
+abbrev pub unsaved : List Marked → ℕ
+unsaved [] = 0
+unsaved (m ∷ ms) = unsaved_in m.source + unsaved ms
+
+-- Some parts were saved. Each took one number: once all are saved the next one is the same as it would have been before.
 pub record Saves (told : Option Files) (before now : Taken) (h k : Contents) : Type 0 where
   pub parts : AllZip (IsSaved told now.numbers) h.parts.closed k.parts.closed
   pub rest : k ≡ with_closed h k.parts.closed
   pub taken : (n : ℕ) → is_among n before.numbers ≡ true → is_among n now.numbers ≡ true
   pub next : before.next ≤ now.next
+  pub in_turn : next_behind now.next (unsaved k.parts.closed) ≡ next_behind before.next (unsaved h.parts.closed)
   pub there : (others : List ℕ) → AreThere before (part_numbers h.parts.closed ++ others) → AreThere now (part_numbers k.parts.closed ++ others)
 
 -- All parts were saved, the one that was being filled among them; beside their files there are others of these numbers.
@@ -60,6 +70,8 @@ pub record AllSaved (told : Option Files) (others : List ℕ) (next after : ℕ)
   pub on_disk : All (λ m. IsOnDisk m.source) k.parts.closed
   pub rest : k ≡ with_closed (all_closed h) k.parts.closed
   pub rises : next ≤ after
+  -- each new file took one number
+  pub in_turn : after ≡ next_behind next (unsaved (all_closed h).parts.closed)
   pub fits : after < 2 ^ 64
   pub docnos : docnos_of (all_parts k.parts) ≡ docnos_of (all_parts h.parts)
   pub sized : All IsSized h.parts.closed → All IsSized k.parts.closed

@@ -4,11 +4,12 @@ use Rattle.std.specs.List.{All}
 use Rattle.store_ends.specs.Files.{Files, Leaves, SameWhere}
 use Rattle.disk_index.specs.Names.{segment_name}
 use Rattle.holdings.specs.MarkedParts.{docnos_of}
-use Rattle.holdings.specs.Parts.{all_parts}
+use Rattle.holdings.specs.Parts.{all_parts, sealed}
 use Rattle.holdings.specs.declared.limits.Limits.{Limits}
 use Rattle.repository.specs.Entries.{IsOnDisk}
 use Rattle.repository.specs.Names.{manifest_name, prior_name}
-use Rattle.repository.specs.Numbers.{is_among}
+use Rattle.repository.specs.Numbers.{is_among, next_behind}
+use Rattle.repository.specs.Saved.{unsaved}
 use Rattle.repository.specs.Stands.{Collection, Stands}
 use Rattle.repository.specs.States.{IsBacked, ReadsAs, State, part_numbers}
 
@@ -46,7 +47,8 @@ pub record Wrote (into : Collection → Collection) (before now : Option Files) 
   pub stands : (d : Collection) → IsBacked before s → ReadsAs before s d → Stands t.held.limits now (into d)
   pub backed : IsBacked before s → IsBacked now t
 
--- All that was held is in files that are listed, those of before among them; of the priors and of an open merge nothing changes.
+-- All that was held is in files that are listed, those of before among them; the new files have the next numbers, and each took
+-- one. Of the priors and of an open merge nothing changes.
 pub record IsSavedAs (s t : State) (left : List ℕ) : Type 0 where
   pub on_disk : All (λ m. IsOnDisk m.source) t.held.parts.closed
   pub none_filling : t.held.parts.filling ≡ []
@@ -55,6 +57,7 @@ pub record IsSavedAs (s t : State) (left : List ℕ) : Type 0 where
   pub limits : t.held.limits ≡ s.held.limits
   pub generation : t.held.generation ≡ s.held.generation
   pub next : s.next ≤ t.next
+  pub in_turn : t.next ≡ next_behind s.next (unsaved (sealed s.held.parts).closed)
   pub stale : t.stale ≡ left
   pub priors : t.priors ≡ s.priors
   pub merge : t.merge ≡ s.merge

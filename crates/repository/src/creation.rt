@@ -1,5 +1,5 @@
 // The beginning of a repository.
-ghost use Rattle.std.specs.Prelude.{◌≡◌, ◌≤◌, Err, Some, false, is_some, not, IsTrue, IfOk, IfErr};
+ghost use Rattle.std.specs.Prelude.{◌≡◌, ◌≤◌, ◌≢◌, Err, Some, false, is_some, not, IsTrue, IfOk, IfErr};
 ghost use Rattle.std.specs.Option.{option_map};
 ghost use Rattle.ri_base.specs.Faults.{IsOutside};
 ghost use Rattle.ri_base.specs.Keeps.{Rose};
@@ -52,6 +52,7 @@ pub fn create<T: Store>(alloc: Global, store: &mut T) -> Result<bool, SegFault>
     ensures outside { IfErr result IsOutside }
     ensures later { T.faults store.old ≤ T.faults store.new }
     ensures store { result ≡ Err SegFault.Store → Rose (T.faults store.old) (T.faults store.new) }
+    ensures none { result ≢ Err SegFault.Store → T.faults store.new ≡ T.faults store.old }
 {
     if has_manifest(store)? {
         return Ok(false);

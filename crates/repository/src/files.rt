@@ -1,5 +1,5 @@
 // Reading and changing files.
-ghost use Rattle.std.specs.Prelude.{◌≡◌, ◌≤◌, Err, Some, None, length, is_some, IsAscii, IfOk, IfErr, IfSome, OnOk};
+ghost use Rattle.std.specs.Prelude.{◌≡◌, ◌≤◌, ◌≢◌, Err, Some, None, length, is_some, IsAscii, IfOk, IfErr, IfSome, OnOk};
 ghost use Rattle.std.specs.Option.{option_map};
 ghost use Rattle.ri_base.specs.Faults.{IsOutside};
 ghost use Rattle.ri_base.specs.Keeps.{Rose};
@@ -22,6 +22,7 @@ pub fn has_manifest<T: Store>(store: &mut T) -> Result<bool, SegFault>
     ensures quiet { IsQuiet T.files T.layers T.clock T.since T.longest T.held store.old store.new }
     ensures later { T.faults store.old ≤ T.faults store.new }
     ensures store { result ≡ Err SegFault.Store → Rose (T.faults store.old) (T.faults store.new) }
+    ensures none { result ≢ Err SegFault.Store → T.faults store.new ≡ T.faults store.old }
 {
     match store.len("manifest") {
         Ok(length) => Ok(length.is_some()),
@@ -39,6 +40,7 @@ fn read_file<T: Store>(
     ensures bytes { IfOk result (λ found. IfSome (T.files store.old) (λ f. option_map (λ bytes. bytes.items) found ≡ f name.now)) }
     ensures quiet { IsQuiet T.files T.layers T.clock T.since T.longest T.held store.old store.new }
     ensures cause { HasOutCause (T.faults store.old) (T.faults store.new) result }
+    ensures none { result ≢ Err OutFault.Failed → T.faults store.new ≡ T.faults store.old }
 {
     let Some(length) = store.len(name)? else {
         return Ok(None);
@@ -56,6 +58,7 @@ pub fn manifest_file<T: Store>(alloc: Global, store: &mut T) -> Result<Option<Ve
     ensures quiet { IsQuiet T.files T.layers T.clock T.since T.longest T.held store.old store.new }
     ensures later { T.faults store.old ≤ T.faults store.new }
     ensures store { result ≡ Err SegFault.Store → Rose (T.faults store.old) (T.faults store.new) }
+    ensures none { result ≢ Err SegFault.Store → T.faults store.new ≡ T.faults store.old }
 {
     match read_file(alloc, store, "manifest") {
         Ok(found) => Ok(found),
@@ -74,6 +77,7 @@ pub fn prior_file<T: Store>(
     ensures quiet { IsQuiet T.files T.layers T.clock T.since T.longest T.held store.old store.new }
     ensures later { T.faults store.old ≤ T.faults store.new }
     ensures store { result ≡ Err SegFault.Store → Rose (T.faults store.old) (T.faults store.new) }
+    ensures none { result ≢ Err SegFault.Store → T.faults store.new ≡ T.faults store.old }
 {
     let name = prior_name(number);
     match read_file(alloc, store, as_text(&name)) {
@@ -92,6 +96,7 @@ pub fn replace_manifest<T: Store>(store: &mut T, manifest: &[u8]) -> Result<(), 
     ensures outside { IfErr result IsOutside }
     ensures later { T.faults store.old ≤ T.faults store.new }
     ensures store { result ≡ Err SegFault.Store → Rose (T.faults store.old) (T.faults store.new) }
+    ensures none { result ≢ Err SegFault.Store → T.faults store.new ≡ T.faults store.old }
 {
     match store.replace("manifest", manifest) {
         Ok(()) => Ok(()),
@@ -127,6 +132,7 @@ pub fn put_segment<T: Store>(store: &mut T, number: u64, bytes: &[u8]) -> Result
     ensures outside { IfErr result IsOutside }
     ensures later { T.faults store.old ≤ T.faults store.new }
     ensures store { result ≡ Err SegFault.Store → Rose (T.faults store.old) (T.faults store.new) }
+    ensures none { result ≢ Err SegFault.Store → T.faults store.new ≡ T.faults store.old }
 {
     let name = segment_name(number);
     put_file(store, &name, bytes)
@@ -142,6 +148,7 @@ pub fn put_prior<T: Store>(store: &mut T, number: u64, bytes: &[u8]) -> Result<(
     ensures outside { IfErr result IsOutside }
     ensures later { T.faults store.old ≤ T.faults store.new }
     ensures store { result ≡ Err SegFault.Store → Rose (T.faults store.old) (T.faults store.new) }
+    ensures none { result ≢ Err SegFault.Store → T.faults store.new ≡ T.faults store.old }
 {
     let name = prior_name(number);
     put_file(store, &name, bytes)
@@ -158,6 +165,7 @@ fn remove_file<T: Store>(store: &mut T, name: &[u8]) -> Result<(), SegFault>
     ensures outside { IfErr result IsOutside }
     ensures later { T.faults store.old ≤ T.faults store.new }
     ensures store { result ≡ Err SegFault.Store → Rose (T.faults store.old) (T.faults store.new) }
+    ensures none { result ≢ Err SegFault.Store → T.faults store.new ≡ T.faults store.old }
 {
     match store.remove(as_text(name)) {
         Ok(()) => Ok(()),
@@ -175,6 +183,7 @@ pub fn remove_segment<T: Store>(store: &mut T, number: u64) -> Result<(), SegFau
     ensures outside { IfErr result IsOutside }
     ensures later { T.faults store.old ≤ T.faults store.new }
     ensures store { result ≡ Err SegFault.Store → Rose (T.faults store.old) (T.faults store.new) }
+    ensures none { result ≢ Err SegFault.Store → T.faults store.new ≡ T.faults store.old }
 {
     let name = segment_name(number);
     remove_file(store, &name)
@@ -190,6 +199,7 @@ pub fn remove_prior<T: Store>(store: &mut T, number: u64) -> Result<(), SegFault
     ensures outside { IfErr result IsOutside }
     ensures later { T.faults store.old ≤ T.faults store.new }
     ensures store { result ≡ Err SegFault.Store → Rose (T.faults store.old) (T.faults store.new) }
+    ensures none { result ≢ Err SegFault.Store → T.faults store.new ≡ T.faults store.old }
 {
     let name = prior_name(number);
     remove_file(store, &name)

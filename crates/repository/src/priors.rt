@@ -1,5 +1,5 @@
 // Priors: their entries, and the rows of their files.
-ghost use Rattle.std.specs.Prelude.{◌≡◌, ◌≤◌, ◌<◌, Some, Err, position, IfOk, IfErr, OnOk};
+ghost use Rattle.std.specs.Prelude.{◌≡◌, ◌≤◌, ◌<◌, ◌≢◌, Some, Err, position, IfOk, IfErr, OnOk};
 ghost use Rattle.std.specs.Option.{option_map};
 ghost use Rattle.ri_base.specs.Faults.{IsOutside};
 ghost use Rattle.ri_base.specs.Keeps.{Rose};
@@ -36,6 +36,7 @@ pub fn read_rows<T: Store>(
     ensures quiet { IsQuiet T.files T.layers T.clock T.since T.longest T.held store.old store.new }
     ensures later { T.faults store.old ≤ T.faults store.new }
     ensures store { result ≡ Err SegFault.Store → Rose (T.faults store.old) (T.faults store.new) }
+    ensures none { result ≢ Err SegFault.Store → T.faults store.new ≡ T.faults store.old }
 {
     match prior_file(alloc, store, entry.number)? {
         Some(bytes) => Ok(read_prior(alloc, &bytes, entry.number)?),
@@ -124,6 +125,7 @@ pub fn put_rows<T: Store>(
     ensures outside { IfErr result IsOutside }
     ensures later { T.faults store.old ≤ T.faults store.new }
     ensures store { result ≡ Err SegFault.Store → Rose (T.faults store.old) (T.faults store.new) }
+    ensures none { result ≢ Err SegFault.Store → T.faults store.new ≡ T.faults store.old }
 {
     let _form = rows.rows();
     let bytes = prior_bytes(alloc, rows)?;

@@ -1,5 +1,5 @@
 // Files that are no longer read are removed.
-ghost use Rattle.std.specs.Prelude.{◌≡◌, ◌≤◌, ℕ, Err, true, IfErr, OnOk};
+ghost use Rattle.std.specs.Prelude.{◌≡◌, ◌≤◌, ◌≢◌, ℕ, Err, true, IfErr, OnOk};
 ghost use Rattle.ri_base.specs.Faults.{IsOutside};
 ghost use Rattle.ri_base.specs.Keeps.{Rose};
 ghost use Rattle.store_ends.specs.Files.{GoesOn, Leaves, SameWhere};
@@ -20,6 +20,7 @@ fn remove_number<T: Store>(store: &mut T, number: u64) -> Result<(), SegFault>
     ensures outside { IfErr result IsOutside }
     ensures later { T.faults store.old ≤ T.faults store.new }
     ensures store { result ≡ Err SegFault.Store → Rose (T.faults store.old) (T.faults store.new) }
+    ensures none { result ≢ Err SegFault.Store → T.faults store.new ≡ T.faults store.old }
 {
     remove_segment(store, number)?;
     remove_prior(store, number)?;
@@ -35,6 +36,7 @@ pub fn remove_files<T: Store>(store: &mut T, numbers: &[u64]) -> Result<(), SegF
     ensures outside { IfErr result IsOutside }
     ensures later { T.faults store.old ≤ T.faults store.new }
     ensures store { result ≡ Err SegFault.Store → Rose (T.faults store.old) (T.faults store.new) }
+    ensures none { result ≢ Err SegFault.Store → T.faults store.new ≡ T.faults store.old }
 {
     for number in numbers {
         remove_number(store, *number)?;

@@ -1,5 +1,5 @@
 // A repository.
-ghost use Rattle.std.specs.Prelude.{◌≡◌, ◌≤◌, ◌<◌, ◌⊎◌, ◌↔◌, [], ℕ, List, Option, Some, Err, false, true, length, not, slice_index_or, is_some, IfOk, IfErr, IfSome, IsErr, IsSomeAnd, IsTrue, OnErr, OnOk};
+ghost use Rattle.std.specs.Prelude.{◌≡◌, ◌≤◌, ◌<◌, ◌⊎◌, ◌↔◌, ◌≢◌, [], ℕ, List, Option, Some, Err, false, true, length, not, slice_index_or, is_some, IfOk, IfErr, IfSome, IsErr, IsSomeAnd, IsTrue, OnErr, OnOk};
 ghost use Rattle.std.specs.List.{AllZip, IsDistinct};
 ghost use Rattle.std.specs.Str.{bytes_eq};
 ghost use Rattle.ri_base.specs.Documents.{Document};
@@ -168,6 +168,7 @@ impl Repository {
         ensures outside { IfErr result IsOutside }
         ensures later { T.faults store.old ≤ T.faults store.new }
         ensures store { result ≡ Err SegFault.Store → Rose (T.faults store.old) (T.faults store.new) }
+        ensures none { result ≢ Err SegFault.Store → T.faults store.new ≡ T.faults store.old }
     {
         self.usable = false;
         let after = save(
@@ -204,6 +205,7 @@ impl Repository {
         ensures outside { IfErr result IsOutside }
         ensures later { T.faults store.old ≤ T.faults store.new }
         ensures store { result ≡ Err SegFault.Store → Rose (T.faults store.old) (T.faults store.new) }
+        ensures none { result ≢ Err SegFault.Store → T.faults store.new ≡ T.faults store.old }
     {
         self.usable = false;
         remove_files(store, &self.stale)?;
@@ -263,6 +265,7 @@ impl Repository {
         ensures quiet { IsQuiet T.files T.layers T.clock T.since T.longest T.held store.old store.new }
         ensures later { T.faults store.old ≤ T.faults store.new }
         ensures store { result ≡ Err SegFault.Store → Rose (T.faults store.old) (T.faults store.new) }
+        ensures none { result ≢ Err SegFault.Store → T.faults store.new ≡ T.faults store.old }
     {
         let rows = read_rows(alloc, store, self.prior(i))?;
         Ok(rows)
@@ -310,6 +313,7 @@ impl Repository {
         ensures outside { IfErr result IsOutside }
         ensures later { T.faults store.old ≤ T.faults store.new }
         ensures store { result ≡ Err SegFault.Store → Rose (T.faults store.old) (T.faults store.new) }
+        ensures none { result ≢ Err SegFault.Store → T.faults store.new ≡ T.faults store.old }
     {
         if !self.has_room_for(&name) {
             return Ok(false);
@@ -345,6 +349,7 @@ impl Repository {
         ensures outside { IfErr result IsOutside }
         ensures later { T.faults store.old ≤ T.faults store.new }
         ensures store { result ≡ Err SegFault.Store → Rose (T.faults store.old) (T.faults store.new) }
+        ensures none { result ≢ Err SegFault.Store → T.faults store.new ≡ T.faults store.old }
     {
         let _form = name.as_bytes();
         let taken = self.taken_numbers(alloc);

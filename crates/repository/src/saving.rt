@@ -1,5 +1,5 @@
 // Parts that are in memory alone are written.
-ghost use Rattle.std.specs.Prelude.{◌≡◌, ◌≤◌, ◌<◌, ◌++◌, [], Some, Err, length, slice_index_or, IfOk, IfErr, OnOk};
+ghost use Rattle.std.specs.Prelude.{◌≡◌, ◌≤◌, ◌<◌, ◌++◌, ◌≢◌, [], Some, Err, length, slice_index_or, IfOk, IfErr, OnOk};
 ghost use Rattle.std.specs.List.{All};
 ghost use Rattle.std.specs.Option.{option_map};
 ghost use Rattle.ri_base.specs.Collection.{name_count};
@@ -47,6 +47,7 @@ fn write_segment<T: Store>(
     ensures outside { IfErr result IsOutside }
     ensures later { T.faults store.old ≤ T.faults store.new }
     ensures store { result ≡ Err SegFault.Store → Rose (T.faults store.old) (T.faults store.new) }
+    ensures none { result ≢ Err SegFault.Store → T.faults store.new ≡ T.faults store.old }
 {
     let bytes = seg_bytes(alloc, sealed)?;
     let index = DiskIndex::of_bytes(alloc, bytes.as_slice(), number)?;
@@ -72,6 +73,7 @@ fn write_part<T: Store>(
     ensures outside { IfErr result IsOutside }
     ensures later { T.faults store.old ≤ T.faults store.new }
     ensures store { result ≡ Err SegFault.Store → Rose (T.faults store.old) (T.faults store.new) }
+    ensures none { result ≢ Err SegFault.Store → T.faults store.new ≡ T.faults store.old }
 {
     let parts = held.closed_parts();
     match parts[place].part() {
@@ -100,6 +102,7 @@ fn write_parts<T: Store>(
     ensures outside { IfErr result IsOutside }
     ensures later { T.faults store.old ≤ T.faults store.new }
     ensures store { result ≡ Err SegFault.Store → Rose (T.faults store.old) (T.faults store.new) }
+    ensures none { result ≢ Err SegFault.Store → T.faults store.new ≡ T.faults store.old }
 {
     for place in 0..held.closed_parts().len() {
         write_part(alloc, store, held, numbers, place)?;
@@ -127,6 +130,7 @@ pub fn save<T: Store>(
     ensures outside { IfErr result IsOutside }
     ensures later { T.faults store.old ≤ T.faults store.new }
     ensures store { result ≡ Err SegFault.Store → Rose (T.faults store.old) (T.faults store.new) }
+    ensures none { result ≢ Err SegFault.Store → T.faults store.new ≡ T.faults store.old }
 {
     held.seal(alloc)?;
     let mut numbers = Numbers::of(alloc, next, held.closed_parts(), stale, priors)?;

@@ -1,12 +1,13 @@
 // Merges that are run to their end.
-ghost use Rattle.std.specs.Prelude.{◌≡◌, ◌≤◌, ◌⊎◌, [], Err, None, Some, IsTrue, true, IfErr, IfOk, OnOk};
+ghost use Rattle.std.specs.Prelude.{◌≡◌, ◌≤◌, ◌⊎◌, ◌&&◌, [], Err, None, Some, IsTrue, nat_lt, true, IfErr, IfOk, OnOk};
 ghost use Rattle.ri_base.specs.Faults.{IsOutside};
 ghost use Rattle.ri_base.specs.Keeps.{Rose};
 ghost use Rattle.store_ends.specs.Files.{Files, GoesOn, IsQuiet};
 ghost use Rattle.disk_index.specs.Cache.{IsCacheBacked};
-ghost use Rattle.holdings.specs.Parts.{live, sealed, without};
+ghost use Rattle.holdings.specs.Parts.{is_live, live, sealed, without};
+ghost use Rattle.merge_job.specs.Merge.{size_of};
 ghost use Rattle.merge_job.specs.Walk.{IsFaultAmong};
-ghost use Rattle.repository.specs.Merges.{IsMergedTo, merge_begun, without_dead};
+ghost use Rattle.repository.specs.Merges.{IsMergedTo, merge_begun, merge_of, without_dead};
 ghost use Rattle.repository.specs.Saved.{IsUnlisted};
 ghost use Rattle.repository.specs.Stands.{Collection};
 ghost use Rattle.repository.specs.States.{IsBacked, ReadsAs, listed_numbers};
@@ -68,7 +69,10 @@ pub fn merge_around<T: Store>(
 ) -> Result<bool, SegFault>
     requires usable { repository.old.usable ≡ true }
     requires none { repository.old.merge ≡ None }
-    ensures { IfOk result (λ deleted. IsTrue deleted → (d : Collection) → IsBacked (T.files store.old) repository.old → IsCacheBacked (T.files store.old) cache.old
+
+    // It is true exactly where the first turn doesn't reach the size, and there is such a live document.
+    ensures answer { IfOk result (λ deleted. deleted ≡ (nat_lt docs (size_of (merge_of repository.old)) && is_live (merge_begun repository.old).held.parts docno.now)) }
+    ensures live { IfOk result (λ deleted. IsTrue deleted → (d : Collection) → IsBacked (T.files store.old) repository.old → IsCacheBacked (T.files store.old) cache.old
         → ReadsAs (T.files store.old) repository.old d → live (T.files store.new) repository.new.held.parts ≡ without docno.now d.live) }
 {
     let Ok(size) = repository.begin_merge(alloc) else {

@@ -3,7 +3,7 @@ ghost use Rattle.std.specs.Prelude.{◌≡◌, ◌+◌, ◌-◌, ◌*◌, ◌^�
 ghost use Rattle.std.specs.Bool.{OnFalse, OnTrue};
 ghost use Rattle.std.specs.Option.{option_map};
 ghost use Rattle.read_ahead.specs.Ahead.{Moves};
-ghost use Rattle.read_ahead.specs.Causes.{ReadRose};
+ghost use Rattle.read_ahead.specs.Causes.{ReadRose, StaysUnlessRead};
 ghost use Rattle.script_reader.specs.Items.{items};
 ghost use Rattle.script_reader.specs.Held.{IsItem, IsTextRefusal};
 ghost use Rattle.script_reader.specs.State.{GivesItem, GivesTurn, IsReady, added_items, is_end, is_ended, items_left, line_items, position_of, short_of, with_item, work_left};
@@ -50,6 +50,7 @@ fn short_item(place: u64, missing: u64) -> Option<Item>
 fn text_refusal(refusal: TrecRefusal) -> Result<TrecRefusal, InputFault>
     ensures kept { IfOk result (λ r. (r ≡ refusal) × IsTextRefusal refusal) }
     ensures failed { IsErrOf result InputFault.Read → refusal ≡ TrecRefusal.Read }
+    ensures read { refusal ≡ TrecRefusal.Read → IsErrOf result InputFault.Read }
 {
     match refusal {
         TrecRefusal::Read => Err(InputFault::Read),
@@ -102,7 +103,7 @@ impl ItemReader {
         ensures form { IfOk result (λ found. MatchOption found (Unit {0}) IsItem) }
         ensures moves { Moves S.layers S.held S.faults source.old source.new }
         ensures failed { ReadRose result (S.faults source.old) (S.faults source.new) }
-        ensures same { OnOk result (S.faults source.new ≡ S.faults source.old) }
+        ensures same { StaysUnlessRead result (S.faults source.old) (S.faults source.new) }
     {
         let mut missing = missing;
         let taken = self.documents.taken();
@@ -141,7 +142,7 @@ impl ItemReader {
         ensures form { IfOk result (λ found. MatchOption found (Unit {0}) IsItem) }
         ensures moves { Moves S.layers S.held S.faults source.old source.new }
         ensures failed { ReadRose result (S.faults source.old) (S.faults source.new) }
-        ensures same { OnOk result (S.faults source.new ≡ S.faults source.old) }
+        ensures same { StaysUnlessRead result (S.faults source.old) (S.faults source.new) }
     {
         let missing = self.lines.skip(missing, source)?;
         self.stage = Stage::Lines;
@@ -212,7 +213,7 @@ impl ItemReader {
         ensures form { IfOk result (λ found. MatchOption found (Unit {0}) IsItem) }
         ensures moves { Moves S.layers S.held S.faults source.old source.new }
         ensures failed { ReadRose result (S.faults source.old) (S.faults source.new) }
-        ensures same { OnOk result (S.faults source.new ≡ S.faults source.old) }
+        ensures same { StaysUnlessRead result (S.faults source.old) (S.faults source.new) }
     {
         match self.lines.next_line(source)? {
             Some(line) => self.take_asked(line),
@@ -234,7 +235,7 @@ impl ItemReader {
         ensures form { IfOk result (λ found. MatchOption found (Unit {0}) IsItem) }
         ensures moves { Moves S.layers S.held S.faults source.old source.new }
         ensures failed { ReadRose result (S.faults source.old) (S.faults source.new) }
-        ensures same { OnOk result (S.faults source.new ≡ S.faults source.old) }
+        ensures same { StaysUnlessRead result (S.faults source.old) (S.faults source.new) }
     {
         match self.stage {
             Stage::Lines => self.take_line(source),
@@ -258,7 +259,7 @@ impl ItemReader {
         ensures form { IfOk result (λ found. MatchOption found (Unit {0}) IsItem) }
         ensures moves { Moves S.layers S.held S.faults source.old source.new }
         ensures failed { ReadRose result (S.faults source.old) (S.faults source.new) }
-        ensures same { OnOk result (S.faults source.new ≡ S.faults source.old) }
+        ensures same { StaysUnlessRead result (S.faults source.old) (S.faults source.new) }
     {
         'turns: while self.stage != Stage::Ended {
             if let Some(item) = self.turn(source)? {

@@ -1,7 +1,7 @@
 // A reader of items that owns its source.
 ghost use Rattle.std.specs.Prelude.{◌≡◌, ◌<◌, ◌≤◌, ◌||◌, ℕ, List, Option, [], ◌∷◌, IfOk, OnOk, MatchOption, is_none, is_ok, true, false};
 ghost use Rattle.std.specs.Option.{option_map};
-ghost use Rattle.read_ahead.specs.Causes.{ReadRose};
+ghost use Rattle.read_ahead.specs.Causes.{ReadRose, StaysUnlessRead};
 ghost use Rattle.script_reader.specs.Items.{items};
 ghost use Rattle.script_reader.specs.Held.{IsItem};
 ghost use Rattle.script_reader.specs.State.{is_end};
@@ -66,7 +66,7 @@ impl<S: Source> ScriptReader<S> {
         ensures held { self.new.held ≡ self.old.held }
         ensures later { self.old.faults ≤ self.new.faults }
         ensures failed { ReadRose result self.old.faults self.new.faults }
-        ensures same { OnOk result (self.new.faults ≡ self.old.faults) }
+        ensures same { StaysUnlessRead result self.old.faults self.new.faults }
     {
         let result = self.reader.next_item(&mut self.source);
         self.is_usable = result.is_ok();

@@ -46,7 +46,7 @@ docnos-preserved g c =
         fits = search rules;
         layers = search rules;
         held = search rules;
-        read_same = c.in-Ok-Some.ensures.none ∙ inv.1.read_same;
+        read_same = c.in-Ok-Some.ensures.none (λ e. cc) ∙ inv.1.read_same;
         write_same = done.same (λ e. cc) ∙ inv.1.write_same;
       },
     )

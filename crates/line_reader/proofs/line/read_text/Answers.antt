@@ -44,7 +44,7 @@ pieces-preserved g c =
     }
 
 pub returns-then-branch-2-clause-none : goal.returns-then-branch-2-clause-none
-returns-then-branch-2-clause-none g c = c.in_ok-fill.ensures.none (λ e. cc) ∙ c.pieces.invariant.none
+returns-then-branch-2-clause-none g c = λ _. c.in_ok-fill.ensures.none (λ e. cc) ∙ c.pieces.invariant.none
 
 pub fill-requires : goal.fill-requires
 fill-requires g c =

@@ -9,6 +9,6 @@ rows-preserved g c =
     record {
       followed = followed_next c.rows.kept c.next_row.new.kept c.rows.refused.items c.note_refusal.new.refused.items c.in-Some.line c.rows.lines.ahead.offset c.next_row.new.lines.ahead.offset _ _ _ c.rows.invariant.followed gives c.in_ok-note_refusal.ensures;
       fits = omega (arith, c.in_ok-line.ensures.steps.same_most, c.rows.invariant.fits);
-      none = c.in_ok-line.ensures.none ∙ c.rows.invariant.none;
+      none = c.in_ok-line.ensures.none (λ e. cc) ∙ c.rows.invariant.none;
       moves = moves_then _ _ _ _ _ _ c.rows.invariant.moves (steps_move _ _ _ _ _ _ _ _ _ c.in_ok-line.ensures.steps);
     }

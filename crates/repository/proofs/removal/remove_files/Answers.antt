@@ -1,4 +1,4 @@
-use Rattle.std.proofs.Common.{List, ℕ, arith, subst}
+use Rattle.std.proofs.Common.{◌∙◌, List, ℕ, arith, subst}
 use Rattle.std.proofs.lemmas.List.{take_all}
 use Rattle.repository.specs.Writes.{AreGone}
 use Rattle.repository.proofs.GoingLemmas.{going-then}
@@ -28,6 +28,7 @@ loop-number-preserved g c =
       stops = more-stops c.args.numbers.now i (g.T.Store.since c.args.store.now) (g.T.Store.since c.loop-number.store) (g.T.Store.since c.remove_number.new.store) a b c.loop-number-test.true inv.same inv.stops c.remove_number.ensures.stops;
       goes_on = going-then g.T.Store.layers g.T.Store.clock g.T.Store.longest g.T.Store.held c.args.store.now c.loop-number.store c.remove_number.new.store inv.goes_on c.remove_number.ensures.goes_on;
       later = (let x = inv.later in let y = c.remove_number.ensures.later in omega (arith, x, y));
+      none = c.in_ok-remove_number.ensures.none (λ e. cc) ∙ inv.none;
     }
 
 pub returns-clause-gone : goal.returns-clause-gone

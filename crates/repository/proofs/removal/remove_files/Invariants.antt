@@ -11,4 +11,5 @@ invariant-loop-number g l = record {
   stops : Leaves (g.T.Store.since l.fn.store) (g.T.Store.since l.store) (SameWhere (IsOther (λ n. is_among n l.numbers ≡ true)) (g.T.Store.files l.fn.store));
   goes_on : GoesOn g.T.Store.layers g.T.Store.clock g.T.Store.longest g.T.Store.held l.fn.store l.store;
   later : g.T.Store.faults l.fn.store ≤ g.T.Store.faults l.store;
+  none : g.T.Store.faults l.store ≡ g.T.Store.faults l.fn.store;
 }

@@ -1,4 +1,4 @@
-use Rattle.std.proofs.Common.{List, ap, subst, arith, length}
+use Rattle.std.proofs.Common.{◌∙◌, List, ap, refl, subst, arith, length}
 use Rattle.std.specs.List.{All}
 use Rattle.std.proofs.lemmas.List.{take_all}
 use Rattle.std.proofs.lemmas.List.Elements.{All-nil}
@@ -21,6 +21,7 @@ loop-place-init g c = record {
   stops = Leaves-same (g.T.Store.since c.args.store.now) (SameWhere (IsOther (IsUnlisted c.args.numbers.now.numbers)) (g.T.Store.files c.args.store.now));
   goes_on = going-same g.T.Store.layers g.T.Store.clock g.T.Store.longest g.T.Store.held c.args.store.now;
   later = omega arith;
+  none = refl;
 }
 
 pub write_part-requires : goal.write_part-requires
@@ -46,6 +47,7 @@ loop-place-preserved g c =
       stops = leaves-then _ _ _ c.args.numbers.now.numbers c.loop-place.numbers.numbers _ _ inv.saved.taken inv.same inv.stops c.write_part.ensures.stops;
       goes_on = going-then g.T.Store.layers g.T.Store.clock g.T.Store.longest g.T.Store.held c.args.store.now c.loop-place.store c.write_part.new.store inv.goes_on c.write_part.ensures.goes_on;
       later = (let a = inv.later in let b = c.write_part.ensures.later in omega (arith, a, b));
+      none = c.in_ok-write_part.ensures.none (λ e. cc) ∙ inv.none;
     }
 
 pub returns-clause-on_disk : goal.returns-clause-on_disk

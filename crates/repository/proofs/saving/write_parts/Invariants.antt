@@ -1,4 +1,4 @@
-use Rattle.std.proofs.Common.{◌≤◌, take}
+use Rattle.std.proofs.Common.{◌≡◌, ◌≤◌, take}
 use Rattle.std.specs.List.{All}
 use Rattle.store_ends.specs.Files.{GoesOn, Leaves, SameWhere}
 use Rattle.repository.specs.Entries.{IsOnDisk}
@@ -14,4 +14,5 @@ invariant-loop-place g l = record {
   stops : Leaves (g.T.Store.since l.fn.store) (g.T.Store.since l.store) (SameWhere (IsOther (IsUnlisted l.fn.numbers.numbers)) (g.T.Store.files l.fn.store));
   goes_on : GoesOn g.T.Store.layers g.T.Store.clock g.T.Store.longest g.T.Store.held l.fn.store l.store;
   later : g.T.Store.faults l.fn.store ≤ g.T.Store.faults l.store;
+  none : g.T.Store.faults l.store ≡ g.T.Store.faults l.fn.store;
 }

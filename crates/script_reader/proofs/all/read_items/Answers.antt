@@ -19,6 +19,6 @@ items-preserved g c =
     record {
       followed = rw c.in_ok-push.ensures.items (followed_next c.items.items.items c.in-Some.item (items_left c.items.reader) (items_left c.next_item.new.self) (g.S.Source.left c.items.source) (g.S.Source.left c.next_item.new.source) _ c.items.invariant.followed gives);
       ready = c.in_ok-item.ensures.ready;
-      same = c.in_ok-item.ensures.same ∙ c.items.invariant.same;
+      same = c.in_ok-item.ensures.same (λ e. cc) ∙ c.items.invariant.same;
       moves = moves_then _ _ _ _ _ _ c.items.invariant.moves c.in_ok-item.ensures.moves;
     }

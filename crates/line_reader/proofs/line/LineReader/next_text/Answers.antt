@@ -13,7 +13,7 @@ lines-preserved g c =
     let read = rw c.in-Some.is at c.in_ok-line.ensures.read in
     record {
       texts = c.lines.invariant.texts ∙ texts_none c.in-Some.line c.next_line.new.self.text c.lines.self.ahead.offset c.next_line.new.self.ahead.offset _ _ read c.in_ok-line.ensures.steps.same_end (sym c.is_some.ensures ∙ c.if-is_some.false);
-      none = c.in_ok-line.ensures.none ∙ c.lines.invariant.none;
+      none = c.in_ok-line.ensures.none (λ e. cc) ∙ c.lines.invariant.none;
       steps = steps_then _ _ _ _ _ _ _ _ _ _ _ c.lines.invariant.steps c.in_ok-line.ensures.steps;
     }
 

@@ -34,10 +34,10 @@ returns-in_ok-refusal-in-Err-clause-items g c =
     rw (c.requires.stage, kept.0) (given_refused c.args.self.now.lines.ahead.bytes c.args.missing _ c.args.self.now.documents.ahead c.next_raw-result.new.missing _ c.next_raw-result.new.documents.ahead c.args.place (g.S.Source.left c.args.source.now) (g.S.Source.left c.next_raw-result.new.source) e.rest e.short e.same_end order (omega (arith, e.most, e.lowers)) (omega (arith, e.most, e.lowers, c.taken.ensures, c.taken-taken.ensures)) c.in-Err.refusal (refused_is c.in-Err.refusal c.args.self.now.documents.ahead.offset _ _ kept.1 e.read))
 
 pub returns-in_ok-document_item-in-Ok-Some-clause-same : goal.returns-in_ok-document_item-in-Ok-Some-clause-same
-returns-in_ok-document_item-in-Ok-Some-clause-same g c = c.in-Ok-Some.ensures.none (λ e. cc)
+returns-in_ok-document_item-in-Ok-Some-clause-same g c = λ _. c.in-Ok-Some.ensures.none (λ e. cc)
 
 pub returns-in-Ok-None-clause-same : goal.returns-in-Ok-None-clause-same
-returns-in-Ok-None-clause-same g c = c.in-Ok-None.ensures.none (λ e. cc)
+returns-in-Ok-None-clause-same g c = λ _. c.in-Ok-None.ensures.none (λ e. cc)
 
 pub returns-in_ok-refusal-in-Err-clause-same : goal.returns-in_ok-refusal-in-Err-clause-same
-returns-in_ok-refusal-in-Err-clause-same g c = text_stays c.in-Err.refusal _ _ c.in_ok-refusal-in-Err.ensures.kept.1 c.in-Err.ensures.none
+returns-in_ok-refusal-in-Err-clause-same g c = λ _. text_stays c.in-Err.refusal _ _ c.in_ok-refusal-in-Err.ensures.kept.1 c.in-Err.ensures.none

@@ -115,6 +115,7 @@ fn put_file<T: Store>(store: &mut T, name: &[u8], bytes: &[u8]) -> Result<(), Se
     ensures outside { IfErr result IsOutside }
     ensures later { T.faults store.old ≤ T.faults store.new }
     ensures store { result ≡ Err SegFault.Store → Rose (T.faults store.old) (T.faults store.new) }
+    ensures none { result ≢ Err SegFault.Store → T.faults store.new ≡ T.faults store.old }
 {
     match store.put(as_text(name), bytes) {
         Ok(()) => Ok(()),

@@ -59,18 +59,21 @@ fn done<'a>(answer: Result<(), OutFault>) -> Answer<'a> {
     }
 }
 
-/// The first of these calls that answers otherwise, if one does.
-pub fn first_wrong<T: Store>(store: &mut T, calls: &[(&str, Call, Answer<'_>)]) -> Option<usize>
+/// The name of a file, a call on it, and what it is to answer.
+pub type Row<'a> = (&'a str, Call, Answer<'a>);
+
+/// How many of these calls answer so, one behind the other.
+pub fn answered<T: Store>(store: &mut T, calls: &[Row<'_>]) -> usize
     requires { T.longest store.old ≡ LONGEST_NAME }
     ensures { T.longest store.new ≡ LONGEST_NAME }
 {
     let mut room = [0; 8];
     for (i, (name, call, wanted)) in calls.iter().enumerate() {
         if answer_of(store, name, *call, &mut room) != *wanted {
-            return Some(i);
+            return i;
         }
     }
-    None
+    calls.len()
 }
 
 /// A call of each kind.
@@ -102,7 +105,7 @@ pub fn all_fail<T: Store>(store: &mut T, name: &str) -> bool
 pub const LONG: &str = "a-name-of-64-bytes-is-the-longest-that-a-store-must-be-able-to-a";
 
 /// Calls on a store without files.
-pub static CALLS: [(&str, Call, Answer<'static>); 40] = [
+pub static CALLS: [Row<'static>; 40] = [
     // no file yet
     ("a", Call::Len, Answer::Length(None)),
     ("a", Call::Read(0, 8), Answer::Bytes(b"")),

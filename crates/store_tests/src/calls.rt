@@ -76,29 +76,17 @@ pub fn answered<T: Store>(store: &mut T, calls: &[Row<'_>]) -> usize
     calls.len()
 }
 
-/// A call of each kind.
-static EACH: [Call; 5] = [
-    Call::Len,
-    Call::Read(0, 8),
-    Call::Put(b"new"),
-    Call::Replace(b"new"),
-    Call::Remove,
-];
-
 pub const FAILED: Answer<'static> = Answer::Fault(OutFault::Failed);
 
-/// Whether a call of each kind on the file of this name fails.
-pub fn all_fail<T: Store>(store: &mut T, name: &str) -> bool
-    requires { T.longest store.old ≡ LONGEST_NAME }
-    ensures { T.longest store.new ≡ LONGEST_NAME }
-{
-    let mut room = [0; 8];
-    for call in &EACH {
-        if answer_of(store, name, *call, &mut room) != FAILED {
-            return false;
-        }
-    }
-    true
+/// A call of each kind on the file of this name, which fails.
+pub fn failing_calls(name: &str) -> [Row<'_>; 5] {
+    [
+        (name, Call::Len, FAILED),
+        (name, Call::Read(0, 8), FAILED),
+        (name, Call::Put(b"new"), FAILED),
+        (name, Call::Replace(b"new"), FAILED),
+        (name, Call::Remove, FAILED),
+    ]
 }
 
 /// A name of exactly as many bytes as one may have.

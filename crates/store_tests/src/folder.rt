@@ -1,5 +1,5 @@
 // The store in a folder.
-use crate::calls::{Answer, CALLS, Call, FAILED, Row, all_fail, answered};
+use crate::calls::{Answer, CALLS, Call, FAILED, Row, answered, failing_calls};
 use std::fs;
 use store_ends::FolderStore;
 
@@ -13,27 +13,24 @@ fn removes(rt: &HostRuntime, folder: &str) -> bool {
     fs::remove_dir(rt, folder).is_ok()
 }
 
-/// How many of these calls a new store over the folder answers so; nothing where memory is short.
-fn answered_in(rt: &HostRuntime, folder: &str, calls: &[Row<'_>]) -> Option<usize> {
+/// Whether a new store over the folder answers these calls so.
+fn answers_in(rt: &HostRuntime, folder: &str, calls: &[Row<'_>]) -> bool {
     match FolderStore::new(rt, folder) {
-        Ok(mut store) => Some(answered(&mut store, calls)),
-        Err(_) => None,
+        Ok(mut store) => answered(&mut store, calls) == calls.len(),
+        Err(_) => false,
     }
 }
 
 /// Whether a call of each kind on the file of this name fails over the folder.
 fn all_fail_in(rt: &HostRuntime, folder: &str, name: &str) -> bool {
-    match FolderStore::new(rt, folder) {
-        Ok(mut store) => all_fail(&mut store, name),
-        Err(_) => false,
-    }
+    answers_in(rt, folder, &failing_calls(name))
 }
 
 // The folder is empty behind them, so nothing else was left in it.
 #[test]
 fn calls_in_a_folder(rt: HostRuntime) {
     assert!(rt; makes(&rt, "calls"));
-    assert_eq!(rt; answered_in(&rt, "calls", &CALLS), Some(CALLS.len()));
+    assert!(rt; answers_in(&rt, "calls", &CALLS));
     assert!(rt; removes(&rt, "calls"));
 }
 
@@ -53,8 +50,8 @@ static SEEN: [Row<'static>; 4] = [
 #[test]
 fn a_folder_keeps_its_files(rt: HostRuntime) {
     assert!(rt; makes(&rt, "kept"));
-    assert_eq!(rt; answered_in(&rt, "kept", &KEPT), Some(KEPT.len()));
-    assert_eq!(rt; answered_in(&rt, "kept", &SEEN), Some(SEEN.len()));
+    assert!(rt; answers_in(&rt, "kept", &KEPT));
+    assert!(rt; answers_in(&rt, "kept", &SEEN));
     assert!(rt; removes(&rt, "kept"));
 }
 
@@ -71,7 +68,7 @@ static MISSING: [Row<'static>; 5] = [
 #[test]
 fn no_folder_to_write(rt: HostRuntime) {
     for folder in &["missing", "/proc"] {
-        assert_eq!(rt; answered_in(&rt, folder, &MISSING), Some(MISSING.len()));
+        assert!(rt; answers_in(&rt, folder, &MISSING), "{folder}");
     }
     assert!(rt; all_fail_in(&rt, "", "a"));
 }
@@ -105,7 +102,7 @@ static OUTSIDE: [&str; 8] = [
 fn names_outside_a_folder(rt: HostRuntime) {
     assert!(rt; makes(&rt, "inside") && makes(&rt, "inside/sub"));
     for name in &OUTSIDE {
-        assert!(rt; all_fail_in(&rt, "inside", name));
+        assert!(rt; all_fail_in(&rt, "inside", name), "{name}");
     }
     assert!(rt; removes(&rt, "inside/sub") && removes(&rt, "inside"));
 }

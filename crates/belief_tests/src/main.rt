@@ -1,6 +1,8 @@
-//! Tests of beliefs, priors, logarithms, scores and explained results that were worked out by hand or computed elsewhere. The program itself does nothing.
+//! Tests of passages, beliefs, priors, logarithms, scores and explained results that were worked out by hand or computed elsewhere. The program itself does nothing.
 #![tactic(auto)]
 
+#[cfg(test)]
+mod contexts;
 #[cfg(test)]
 mod dirichlet;
 #[cfg(test)]

@@ -9,27 +9,45 @@ use std::alloc::{AllocError, Global};
 /// As many deeds are in a list, and behind them the end.
 const DEEDS: usize = 60;
 
-/// The lines of the list of this number with what is told of them by the plain definition. Every fourth list has more queries than may be open.
-fn wanted(alloc: Global, list: u64) -> Result<String, AllocError> {
+/// Puts the line of a deed, and what is told of it by the plain definition.
+fn put_both(
+    alloc: Global,
+    model: &mut Model,
+    out: &mut String,
+    deed: Deed,
+) -> Result<(), AllocError> {
+    put_deed(alloc, out, deed)?;
+    model.put_told(alloc, out, deed)
+}
+
+/// The same of all deeds of the list of this number. Every fourth list has more queries than may be open.
+fn put_list(
+    alloc: Global,
+    model: &mut Model,
+    out: &mut String,
+    list: u64,
+) -> Result<(), AllocError> {
     let names = if list % 4 == 0 { 24 } else { 5 };
     let mut chance = Chance { state: list };
+    for _ in 0..DEEDS {
+        put_both(alloc, model, out, chance.deed(names))?;
+    }
+    put_both(alloc, model, out, Deed::End)
+}
+
+/// The lines of the list of this number with what is told of them by the plain definition.
+fn wanted(alloc: Global, list: u64) -> Option<String> {
     let mut model = Model::new(alloc);
     let mut out = String::new(alloc);
-    for place in 0..=DEEDS {
-        let deed = if place < DEEDS {
-            chance.deed(names)
-        } else {
-            Deed::End
-        };
-        put_deed(alloc, &mut out, deed)?;
-        model.put_told(alloc, &mut out, deed)?;
+    match put_list(alloc, &mut model, &mut out, list) {
+        Ok(()) => Some(out),
+        Err(_) => None,
     }
-    Ok(out)
 }
 
 /// Whether a desk does the list of this number as the plain definition says.
 fn is_done_so(alloc: Global, list: u64) -> Option<bool> {
-    let wanted = wanted(alloc, list).ok()?;
+    let wanted = wanted(alloc, list)?;
     let mut store = store_of(alloc, WITH_HOME, Vec::new(alloc))?;
     let limits = limits_of(2, HELD_DOCS as u64, HELD_TOKENS as u64);
     let found = session(alloc, &mut store, limits, wanted.as_str())?;

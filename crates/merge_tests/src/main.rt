@@ -2,8 +2,6 @@
 #![tactic(auto)]
 
 #[cfg(test)]
-mod deeds;
-#[cfg(test)]
 mod fault;
 #[cfg(test)]
 mod full;
@@ -11,10 +9,6 @@ mod full;
 mod job;
 #[cfg(test)]
 mod parts;
-#[cfg(test)]
-mod sessions;
-#[cfg(test)]
-mod stops;
 #[cfg(test)]
 mod turns;
 

@@ -24,7 +24,7 @@ fn terms(alloc: Global, text: &str) -> Option<Terms>
 }
 
 /// The docno that a number is.
-pub fn docno(alloc: Global, number: u32) -> Option<Docno> {
+fn docno(alloc: Global, number: u32) -> Option<Docno> {
     let text = format!(in alloc; "{number}").ok()?;
     Docno::new(alloc, text.as_bytes()).ok()?
 }

@@ -1,14 +1,16 @@
 // What is done with the repository of a store, and what is seen of it.
-ghost use Rattle.std.specs.Prelude.{◌≡◌, false, true, IfSome};
+ghost use Rattle.std.specs.Prelude.{◌≡◌, false, is_some, true, IfSome};
 ghost use Rattle.manifest.specs.Entries.{length_name};
 ghost use Rattle.repository.specs.Priors.{is_same};
 
 use crate::documents::{doc, docno};
-use holdings::Limits;
+use disk_index::BlockCache;
+use holdings::{AddRefusal, Limits};
 use manifest::{PriorRows, read_prior};
-use repository::{Repository, merge_whole};
-use ri_base::Name;
+use repository::{Repository, Turned, merge_whole};
+use ri_base::{Name, SegFault};
 use std::alloc::Global;
+use std::num::NonZeroUsize;
 use store_ends::Store;
 
 /// What is done. A document has so many words, at most ten.
@@ -18,34 +20,116 @@ pub enum Deed {
     Delete(&'static str),
     Flush,
     Sweep,
+    /// A merge is opened, goes on by so many documents, or is given up.
+    Begin,
+    Turn(u64),
+    GiveUp,
     /// All live documents are merged in one turn.
     Merge,
     /// The prior `home` gets the rows of these bytes.
     Prior(&'static [u8]),
+    Live,
 }
 
-/// What is done, and whether it is; else it is refused, or fails.
-pub type Row = (Deed, bool);
+/// What is answered.
+#[derive(Clone, Copy, PartialEq, Eq)]
+pub enum Told {
+    Done,
+    Repeated,
+    Full,
+    Absent,
+    /// How many documents are live, or are to be copied.
+    Count(u64),
+    /// How many documents of all that are to be copied were copied.
+    Open(u64, u64),
+    /// A merge is open, or none is.
+    Refused,
+    /// A call of the store failed, or memory is short.
+    Failed,
+    Unusable,
+}
+
+/// What is done, and what is answered.
+pub type Row = (Deed, Told);
 
 /// How many documents are live, and the belief of the first row of the first prior.
 pub type Seen = (u64, Option<(u64, u64)>);
 
-fn add(alloc: Global, repository: &mut Repository, name: &str, count: usize) -> bool
-    requires { repository.old.usable ≡ true }
-{
-    match doc(alloc, name, count) {
-        Some(doc) => repository.add(alloc, &doc).is_ok(),
-        None => false,
+/// That it is done, or else another answer.
+fn done_or(is_done: bool, other: Told) -> Told {
+    if is_done { Told::Done } else { other }
+}
+
+fn of_add(answer: Result<(), AddRefusal>) -> Told {
+    match answer {
+        Ok(()) => Told::Done,
+        Err(AddRefusal::Repeated { docno: _ }) => Told::Repeated,
+        Err(AddRefusal::CollectionFull { docno: _ }) => Told::Full,
+        Err(AddRefusal::Memory) => Told::Failed,
     }
 }
 
-fn delete(alloc: Global, repository: &mut Repository, name: &str) -> bool
+fn add(alloc: Global, repository: &mut Repository, name: &str, count: usize) -> Told
+    requires { repository.old.usable ≡ true }
+{
+    match doc(alloc, name, count) {
+        Some(doc) => of_add(repository.add(alloc, &doc)),
+        None => Told::Failed,
+    }
+}
+
+fn delete(alloc: Global, repository: &mut Repository, name: &str) -> Told
     requires { repository.old.usable ≡ true }
 {
     match docno(alloc, name) {
-        Some(docno) => repository.delete(&docno).is_ok(),
-        None => false,
+        Some(docno) => done_or(repository.delete(&docno).is_ok(), Told::Absent),
+        None => Told::Failed,
     }
+}
+
+fn begin(alloc: Global, repository: &mut Repository) -> Told
+    requires { repository.old.usable ≡ true }
+{
+    match repository.begin_merge(alloc) {
+        Ok(size) => Told::Count(size),
+        Err(_) => Told::Refused,
+    }
+}
+
+fn of_turn(answer: Result<Turned, SegFault>) -> Told {
+    match answer {
+        Ok(Turned::Open { credit, size }) => Told::Open(credit, size),
+        Ok(Turned::Done) => Told::Done,
+        Err(_) => Told::Failed,
+    }
+}
+
+/// A turn of the open merge, with a cache of its own.
+fn turn_open<S: Store>(alloc: Global, store: &mut S, repository: &mut Repository, docs: u64) -> Told
+    requires usable { repository.old.usable ≡ true }
+    requires open { is_some repository.old.merge ≡ true }
+{
+    match BlockCache::new(alloc, NonZeroUsize::MIN) {
+        Ok(mut cache) => of_turn(repository.merge_turn(alloc, docs, store, &mut cache)),
+        Err(_) => Told::Failed,
+    }
+}
+
+fn turn<S: Store>(alloc: Global, store: &mut S, repository: &mut Repository, docs: u64) -> Told
+    requires { repository.old.usable ≡ true }
+{
+    if repository.merge_open() {
+        turn_open(alloc, store, repository, docs)
+    } else {
+        Told::Refused
+    }
+}
+
+fn give_up(repository: &mut Repository) -> Told
+    requires { repository.old.usable ≡ true }
+{
+    repository.drop_merge();
+    Told::Done
 }
 
 fn flush<S: Store>(alloc: Global, store: &mut S, repository: &mut Repository) -> bool
@@ -108,37 +192,42 @@ fn set_prior<S: Store>(
     }
 }
 
-fn is_done<S: Store>(
+fn answer_to<S: Store>(
     alloc: Global,
     store: &mut S,
     repository: &mut Repository,
     deed: Deed,
-) -> bool {
+) -> Told {
     if !repository.usable() {
-        return false;
+        return Told::Unusable;
     }
     match deed {
         Deed::Add(name, count) => add(alloc, repository, name, count),
         Deed::Delete(name) => delete(alloc, repository, name),
-        Deed::Flush => flush(alloc, store, repository),
-        Deed::Sweep => sweep(alloc, store, repository),
-        Deed::Merge => merge(alloc, store, repository),
-        Deed::Prior(bytes) => set_prior(alloc, store, repository, bytes),
+        Deed::Flush => done_or(flush(alloc, store, repository), Told::Failed),
+        Deed::Sweep => done_or(sweep(alloc, store, repository), Told::Failed),
+        Deed::Begin => begin(alloc, repository),
+        Deed::Turn(docs) => turn(alloc, store, repository, docs),
+        Deed::GiveUp => give_up(repository),
+        Deed::Merge => done_or(merge(alloc, store, repository), Told::Failed),
+        Deed::Prior(bytes) => done_or(set_prior(alloc, store, repository, bytes), Told::Failed),
+        Deed::Live => Told::Count(repository.live_count()),
     }
 }
 
-fn are_done<S: Store>(
+/// How many of these rows are answered so, one behind the other.
+fn answered<S: Store>(
     alloc: Global,
     store: &mut S,
     repository: &mut Repository,
     rows: &[Row],
-) -> bool {
-    for (deed, wanted) in rows {
-        if is_done(alloc, store, repository, *deed) != *wanted {
-            return false;
+) -> usize {
+    for (i, (deed, wanted)) in rows.iter().enumerate() {
+        if answer_to(alloc, store, repository, *deed) != *wanted {
+            return i;
         }
     }
-    true
+    rows.len()
 }
 
 fn first_belief(rows: &PriorRows) -> Option<(u64, u64)> {
@@ -171,6 +260,17 @@ fn opened<S: Store>(alloc: Global, store: &mut S, limits: Limits) -> Option<Repo
     Repository::open(alloc, store, limits).ok()?
 }
 
+/// How many of these rows the repository of these files answers so; nothing where the files can't be opened.
+pub fn answered_by<S: Store>(
+    alloc: Global,
+    store: &mut S,
+    limits: Limits,
+    rows: &[Row],
+) -> Option<usize> {
+    let mut repository = opened(alloc, store, limits)?;
+    Some(answered(alloc, store, &mut repository, rows))
+}
+
 /// What is seen of the repository of these files behind these rows; nothing where one goes otherwise, or the files can't be opened.
 pub fn seen_within<S: Store>(
     alloc: Global,
@@ -179,7 +279,7 @@ pub fn seen_within<S: Store>(
     rows: &[Row],
 ) -> Option<Seen> {
     let mut repository = opened(alloc, store, limits)?;
-    if !are_done(alloc, store, &mut repository, rows) {
+    if answered(alloc, store, &mut repository, rows) != rows.len() {
         return None;
     }
     seen(alloc, store, &repository)

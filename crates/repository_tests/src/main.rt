@@ -8,6 +8,8 @@ mod documents;
 #[cfg(test)]
 mod files;
 #[cfg(test)]
+mod sessions;
+#[cfg(test)]
 mod stays;
 #[cfg(test)]
 mod stops;

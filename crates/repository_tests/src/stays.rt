@@ -1,5 +1,5 @@
 // Documents and priors that stay, in memory and in a folder.
-use crate::deeds::{Deed, Row, Seen, seen_behind};
+use crate::deeds::{Deed, Row, Seen, Told, seen_behind};
 use crate::files::{
     AT_END, ENDED, FIFTH, FIRST, FOURTH, File, HALF, HOME, MANIFEST, MARKED, MERGED, MERGED_ALONE,
     ONE, PRIOR_THREE, PRIOR_TWO, SECOND, SEGMENT, STALE, SWEPT, THIRD, TURNED, are_left, files_of,
@@ -8,7 +8,6 @@ use crate::files::{
 use repository::create;
 use std::alloc::Global;
 use std::fs;
-use std::test::Fail;
 use store_ends::{FolderStore, MemStore, Store};
 
 /// What is done with a repository that is opened, what is seen of it then, and files behind it.
@@ -18,35 +17,35 @@ type Step = (&'static [Row], Seen, &'static [File]);
 static STEPS: [Step; 8] = [
     (
         &[
-            (Deed::Add("d1", 2), true),
-            (Deed::Add("d2", 1), true),
-            (Deed::Add("d1", 1), false),
-            (Deed::Flush, true),
+            (Deed::Add("d1", 2), Told::Done),
+            (Deed::Add("d2", 1), Told::Done),
+            (Deed::Add("d1", 1), Told::Repeated),
+            (Deed::Flush, Told::Done),
         ],
         (2, None),
         &[(MANIFEST, ONE), (FIRST, SEGMENT), (SECOND, b"")],
     ),
     (
         &[
-            (Deed::Delete("d1"), true),
-            (Deed::Delete("d1"), false),
-            (Deed::Flush, true),
+            (Deed::Delete("d1"), Told::Done),
+            (Deed::Delete("d1"), Told::Absent),
+            (Deed::Flush, Told::Done),
         ],
         (1, None),
         &[(MANIFEST, MARKED), (FIRST, SEGMENT)],
     ),
     (
-        &[(Deed::Prior(HALF), true)],
+        &[(Deed::Prior(HALF), Told::Done)],
         (1, Some((1, 2))),
         &[(MANIFEST, HOME), (FIRST, SEGMENT), (PRIOR_TWO, HALF)],
     ),
     (
-        &[(Deed::Prior(THIRD), true)],
+        &[(Deed::Prior(THIRD), Told::Done)],
         (1, Some((1, 3))),
         &[(MANIFEST, STALE), (PRIOR_TWO, HALF), (PRIOR_THREE, THIRD)],
     ),
     (
-        &[(Deed::Sweep, true)],
+        &[(Deed::Sweep, Told::Done)],
         (1, Some((1, 3))),
         &[
             (MANIFEST, SWEPT),
@@ -56,12 +55,12 @@ static STEPS: [Step; 8] = [
         ],
     ),
     (
-        &[(Deed::Add("d1", 1), true), (Deed::Flush, true)],
+        &[(Deed::Add("d1", 1), Told::Done), (Deed::Flush, Told::Done)],
         (2, Some((1, 3))),
         &[(FIRST, SEGMENT), (PRIOR_THREE, THIRD)],
     ),
     (
-        &[(Deed::Merge, true)],
+        &[(Deed::Merge, Told::Done)],
         (2, Some((1, 3))),
         &[
             (MANIFEST, MERGED),
@@ -71,7 +70,10 @@ static STEPS: [Step; 8] = [
         ],
     ),
     (
-        &[(Deed::Sweep, true), (Deed::Add("d1", 1), false)],
+        &[
+            (Deed::Sweep, Told::Done),
+            (Deed::Add("d1", 1), Told::Repeated),
+        ],
         (2, Some((1, 3))),
         &[
             (MANIFEST, MERGED_ALONE),
@@ -137,20 +139,18 @@ fn are_right_in(rt: &HostRuntime, path: &str) -> bool {
 }
 
 #[test]
-fn in_a_folder(rt: HostRuntime) -> Result<(), Fail> {
-    fs::create_dir(&rt, "steps")?;
+fn in_a_folder(rt: HostRuntime) {
+    assert!(rt; fs::create_dir(&rt, "steps").is_ok());
     assert!(rt; are_right_in(&rt, "steps"));
-    fs::remove_dir_all(&rt, "steps")?;
-    Ok(())
 }
 
 /// Files get the least numbers that are free.
 static LAST: [Step; 1] = [(
     &[
-        (Deed::Add("d1", 2), true),
-        (Deed::Add("d2", 1), true),
-        (Deed::Flush, true),
-        (Deed::Prior(HALF), true),
+        (Deed::Add("d1", 2), Told::Done),
+        (Deed::Add("d2", 1), Told::Done),
+        (Deed::Flush, Told::Done),
+        (Deed::Prior(HALF), Told::Done),
     ],
     (2, Some((1, 2))),
     &[(MANIFEST, ENDED), (FIRST, SEGMENT), (PRIOR_TWO, HALF)],

@@ -1,5 +1,5 @@
 // Each call of the store fails in each way where files are written.
-use crate::deeds::{Deed, Row, Seen, seen_behind};
+use crate::deeds::{Deed, Row, Seen, Told, seen_behind};
 use crate::files::{
     FIRST, File, HALF, HOME, MANIFEST, MARKED, ONE, PRIOR_THREE, PRIOR_TWO, SEGMENT, STALE, THIRD,
     files_of,
@@ -19,17 +19,17 @@ struct Case {
 }
 
 /// A flush of two parts, one of a mark alone, a prior that is set, one that is replaced, a sweep, without and with a document to be
-/// saved, and a merge that leaves a dead document out. The first six calls open the repository, and the last ones read the prior, where
-/// there is one.
-static CASES: [Case; 7] = [
+/// saved, a merge that leaves a dead document out, and one in turns that makes two segments. The first six calls open the repository,
+/// and the last ones read the prior, where there is one.
+static CASES: [Case; 8] = [
     Case {
         files: &[(MANIFEST, ONE), (FIRST, SEGMENT)],
         rows: &[
-            (Deed::Add("d3", 1), true),
-            (Deed::Add("d4", 1), true),
-            (Deed::Add("d5", 1), true),
-            (Deed::Delete("d1"), true),
-            (Deed::Flush, true),
+            (Deed::Add("d3", 1), Told::Done),
+            (Deed::Add("d4", 1), Told::Done),
+            (Deed::Add("d5", 1), Told::Done),
+            (Deed::Delete("d1"), Told::Done),
+            (Deed::Flush, Told::Done),
         ],
         calls: 9,
         old: (2, None),
@@ -37,21 +37,21 @@ static CASES: [Case; 7] = [
     },
     Case {
         files: &[(MANIFEST, ONE), (FIRST, SEGMENT)],
-        rows: &[(Deed::Delete("d1"), true), (Deed::Flush, true)],
+        rows: &[(Deed::Delete("d1"), Told::Done), (Deed::Flush, Told::Done)],
         calls: 7,
         old: (2, None),
         new: (1, None),
     },
     Case {
         files: &[(MANIFEST, ONE), (FIRST, SEGMENT)],
-        rows: &[(Deed::Prior(HALF), true)],
+        rows: &[(Deed::Prior(HALF), Told::Done)],
         calls: 10,
         old: (2, None),
         new: (2, Some((1, 2))),
     },
     Case {
         files: &[(MANIFEST, HOME), (FIRST, SEGMENT), (PRIOR_TWO, HALF)],
-        rows: &[(Deed::Prior(THIRD), true)],
+        rows: &[(Deed::Prior(THIRD), Told::Done)],
         calls: 10,
         old: (1, Some((1, 2))),
         new: (1, Some((1, 3))),
@@ -63,7 +63,7 @@ static CASES: [Case; 7] = [
             (PRIOR_TWO, HALF),
             (PRIOR_THREE, THIRD),
         ],
-        rows: &[(Deed::Sweep, true)],
+        rows: &[(Deed::Sweep, Told::Done)],
         calls: 11,
         old: (1, Some((1, 3))),
         new: (1, Some((1, 3))),
@@ -75,17 +75,30 @@ static CASES: [Case; 7] = [
             (PRIOR_TWO, HALF),
             (PRIOR_THREE, THIRD),
         ],
-        rows: &[(Deed::Add("d3", 1), true), (Deed::Sweep, true)],
+        rows: &[(Deed::Add("d3", 1), Told::Done), (Deed::Sweep, Told::Done)],
         calls: 12,
         old: (1, Some((1, 3))),
         new: (2, Some((1, 3))),
     },
     Case {
         files: &[(MANIFEST, MARKED), (FIRST, SEGMENT)],
-        rows: &[(Deed::Merge, true)],
+        rows: &[(Deed::Merge, Told::Done)],
         calls: 10,
         old: (1, None),
         new: (1, None),
+    },
+    Case {
+        files: &[(MANIFEST, ONE), (FIRST, SEGMENT)],
+        rows: &[
+            (Deed::Delete("d1"), Told::Done),
+            (Deed::Add("d3", 1), Told::Done),
+            (Deed::Add("d4", 1), Told::Done),
+            (Deed::Begin, Told::Count(3)),
+            (Deed::Turn(9), Told::Done),
+        ],
+        calls: 11,
+        old: (2, None),
+        new: (3, None),
     },
 ];
 

@@ -1,5 +1,5 @@
 // What may be held within small limits: segments that can't be held together, though each can, and documents that are added.
-use crate::deeds::{Deed, Row, Seen, limits_of, seen_within};
+use crate::deeds::{Deed, Row, Seen, Told, limits_of, seen_within};
 use crate::files::{FIRST, File, MANIFEST, ONE, SECOND, SEGMENT, TWO, files_of};
 use holdings::Limits;
 use repository::Repository;
@@ -52,20 +52,20 @@ fn segments_together(rt: HostRuntime) {
 /// How many documents and tokens may be held, what is done with the repository of one segment with two documents and three tokens, and
 /// what is seen then. A document that is deleted is held as before.
 static WITHIN: [(u64, u64, &[Row], Option<Seen>); 5] = [
-    (2, 3, &[(Deed::Add("d3", 0), false)], Some((2, None))),
+    (2, 3, &[(Deed::Add("d3", 0), Told::Full)], Some((2, None))),
     (1, 3, &[], None),
     (2, 2, &[], None),
     (
         3,
         5,
         &[
-            (Deed::Add("d3", 3), false),
-            (Deed::Add("d3", 2), true),
-            (Deed::Add("d4", 0), false),
-            (Deed::Delete("d1"), true),
-            (Deed::Add("d4", 0), false),
-            (Deed::Flush, true),
-            (Deed::Add("d4", 0), false),
+            (Deed::Add("d3", 3), Told::Full),
+            (Deed::Add("d3", 2), Told::Done),
+            (Deed::Add("d4", 0), Told::Full),
+            (Deed::Delete("d1"), Told::Done),
+            (Deed::Add("d4", 0), Told::Full),
+            (Deed::Flush, Told::Done),
+            (Deed::Add("d4", 0), Told::Full),
         ],
         Some((2, None)),
     ),
@@ -73,10 +73,10 @@ static WITHIN: [(u64, u64, &[Row], Option<Seen>); 5] = [
         9,
         4,
         &[
-            (Deed::Add("d3", 2), false),
-            (Deed::Add("d3", 1), true),
-            (Deed::Add("d4", 1), false),
-            (Deed::Add("d4", 0), true),
+            (Deed::Add("d3", 2), Told::Full),
+            (Deed::Add("d3", 1), Told::Done),
+            (Deed::Add("d4", 1), Told::Full),
+            (Deed::Add("d4", 0), Told::Done),
         ],
         Some((4, None)),
     ),

@@ -1,11 +1,13 @@
-//! Tests of what a session script, the lines of docnos and the rows of a prior are read as. The program itself does
-//! nothing.
+//! Tests of what a session script, the lines of docnos and the rows of a prior are read as, and of the events of a generated
+//! collection. The program itself does nothing.
 #![tactic(auto)]
 
 #[cfg(test)]
 mod adds;
 #[cfg(test)]
 mod docnos;
+#[cfg(test)]
+mod generated;
 #[cfg(test)]
 mod lines;
 #[cfg(test)]

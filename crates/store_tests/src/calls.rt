@@ -59,50 +59,41 @@ fn done<'a>(answer: Result<(), OutFault>) -> Answer<'a> {
     }
 }
 
-/// The first of these calls that answers otherwise, if one does.
-pub fn first_wrong<T: Store>(store: &mut T, calls: &[(&str, Call, Answer<'_>)]) -> Option<usize>
+/// The name of a file, a call on it, and what it is to answer.
+pub type Row<'a> = (&'a str, Call, Answer<'a>);
+
+/// How many of these calls answer so, one behind the other.
+pub fn answered<T: Store>(store: &mut T, calls: &[Row<'_>]) -> usize
     requires { T.longest store.old ≡ LONGEST_NAME }
     ensures { T.longest store.new ≡ LONGEST_NAME }
 {
     let mut room = [0; 8];
     for (i, (name, call, wanted)) in calls.iter().enumerate() {
         if answer_of(store, name, *call, &mut room) != *wanted {
-            return Some(i);
+            return i;
         }
     }
-    None
+    calls.len()
 }
-
-/// A call of each kind.
-static EACH: [Call; 5] = [
-    Call::Len,
-    Call::Read(0, 8),
-    Call::Put(b"new"),
-    Call::Replace(b"new"),
-    Call::Remove,
-];
 
 pub const FAILED: Answer<'static> = Answer::Fault(OutFault::Failed);
 
-/// Whether a call of each kind on the file of this name fails.
-pub fn all_fail<T: Store>(store: &mut T, name: &str) -> bool
-    requires { T.longest store.old ≡ LONGEST_NAME }
-    ensures { T.longest store.new ≡ LONGEST_NAME }
-{
-    let mut room = [0; 8];
-    for call in &EACH {
-        if answer_of(store, name, *call, &mut room) != FAILED {
-            return false;
-        }
-    }
-    true
+/// A call of each kind on the file of this name, which fails.
+pub fn failing_calls(name: &str) -> [Row<'_>; 5] {
+    [
+        (name, Call::Len, FAILED),
+        (name, Call::Read(0, 8), FAILED),
+        (name, Call::Put(b"new"), FAILED),
+        (name, Call::Replace(b"new"), FAILED),
+        (name, Call::Remove, FAILED),
+    ]
 }
 
 /// A name of exactly as many bytes as one may have.
 pub const LONG: &str = "a-name-of-64-bytes-is-the-longest-that-a-store-must-be-able-to-a";
 
 /// Calls on a store without files.
-pub static CALLS: [(&str, Call, Answer<'static>); 40] = [
+pub static CALLS: [Row<'static>; 40] = [
     // no file yet
     ("a", Call::Len, Answer::Length(None)),
     ("a", Call::Read(0, 8), Answer::Bytes(b"")),

@@ -1,8 +1,10 @@
-//! Tests of the stores and of the front of a source, called as their users call them. The program itself does nothing.
+//! Tests of the stores, of the front of a source and of ends over std, called as their users call them. The program itself does nothing.
 #![tactic(auto)]
 
 #[cfg(test)]
 mod calls;
+#[cfg(test)]
+mod ends;
 #[cfg(test)]
 mod folder;
 #[cfg(test)]

@@ -1,15 +1,17 @@
 // The store in memory, and how its calls fail.
-use crate::calls::{Answer, CALLS, Call, FAILED, first_wrong};
-use std::alloc::{AllocError, Global};
-use std::test::Fail;
+use crate::calls::{Answer, CALLS, Call, FAILED, answered};
+use std::alloc::Global;
 use store_ends::{Left, MemStore, StoreFail};
 
-#[test]
-fn calls_in_memory(rt: HostRuntime) -> Result<(), Fail> {
-    let alloc = rt.alloc();
+/// How many calls of the table a store without files answers so.
+fn answered_by_new(alloc: Global) -> usize {
     let mut store = MemStore::new(alloc, Vec::new(alloc), Vec::new(alloc));
-    assert_eq!(rt; first_wrong(&mut store, &CALLS), None);
-    Ok(())
+    answered(&mut store, &CALLS)
+}
+
+#[test]
+fn calls_in_memory(rt: HostRuntime) {
+    assert_eq!(rt; answered_by_new(rt.alloc()), CALLS.len());
 }
 
 /// What a call that fails is to leave.
@@ -35,30 +37,54 @@ static FAILING: [(Call, Leaves, Answer<'static>); 11] = [
     (Call::Read(0, 8), Leaves::Torn, Answer::Bytes(b"old")),
 ];
 
-/// A store with this file, whose second call is to fail.
-fn failing(alloc: Global, leaves: Leaves) -> Result<MemStore, AllocError> {
-    let mut files = Vec::new(alloc);
-    files.push((b"f".to_vec(alloc)?, b"old".to_vec(alloc)?))?;
-    let left = match leaves {
-        Leaves::Old => Left::Old,
-        Leaves::New => Left::New,
-        Leaves::Torn => Left::Torn(b"torn".to_vec(alloc)?),
-    };
+fn left_by(alloc: Global, leaves: Leaves) -> Option<Left> {
+    match leaves {
+        Leaves::Old => Some(Left::Old),
+        Leaves::New => Some(Left::New),
+        Leaves::Torn => Some(Left::Torn(b"torn".to_vec(alloc).ok()?)),
+    }
+}
+
+/// The second call is to fail.
+fn fails_of(alloc: Global, leaves: Leaves) -> Option<Vec<StoreFail>> {
+    let left = left_by(alloc, leaves)?;
     let mut fails = Vec::new(alloc);
-    fails.push(StoreFail { call: 2, left })?;
-    Ok(MemStore::new(alloc, files, fails))
+    fails.push(StoreFail { call: 2, left }).ok()?;
+    Some(fails)
+}
+
+/// The one file.
+fn files(alloc: Global) -> Option<Vec<(Vec<u8>, Vec<u8>)>> {
+    let name = b"f".to_vec(alloc).ok()?;
+    let bytes = b"old".to_vec(alloc).ok()?;
+    let mut files = Vec::new(alloc);
+    files.push((name, bytes)).ok()?;
+    Some(files)
+}
+
+/// A store with the file, whose second call is to fail.
+fn failing(alloc: Global, leaves: Leaves) -> Option<MemStore> {
+    let files = files(alloc)?;
+    let fails = fails_of(alloc, leaves)?;
+    Some(MemStore::new(alloc, files, fails))
+}
+
+/// Whether the call fails and leaves this, where the file is looked at before.
+fn leaves_so(alloc: Global, call: Call, leaves: Leaves, left: Answer<'_>) -> bool {
+    let calls = [
+        ("f", Call::Len, Answer::Length(Some(3))),
+        ("f", call, FAILED),
+        ("f", Call::Read(0, 8), left),
+    ];
+    match failing(alloc, leaves) {
+        Some(mut store) => answered(&mut store, &calls) == calls.len(),
+        None => false,
+    }
 }
 
 #[test]
-fn calls_that_fail(rt: HostRuntime) -> Result<(), Fail> {
-    for (call, leaves, wanted) in &FAILING {
-        let mut store = failing(rt.alloc(), *leaves)?;
-        let calls = [
-            ("f", Call::Len, Answer::Length(Some(3))),
-            ("f", *call, FAILED),
-            ("f", Call::Read(0, 8), *wanted),
-        ];
-        assert_eq!(rt; first_wrong(&mut store, &calls), None);
+fn calls_that_fail(rt: HostRuntime) {
+    for (call, leaves, left) in &FAILING {
+        assert!(rt; leaves_so(rt.alloc(), *call, *leaves, *left));
     }
-    Ok(())
 }

@@ -1,8 +1,7 @@
 // Words of the command line, and what they ask for.
 use command_words::{Words, read_words};
-use ri_base::{ArgList, Name, NoMemory};
+use ri_base::ArgList;
 use std::alloc::Global;
-use std::test::Fail;
 
 /// The words behind a folder with a `|` between two of them, and what they ask for.
 static ASKED: [(&str, &str); 43] = [
@@ -235,64 +234,71 @@ static REFUSED: [&str; 111] = [
     "explain|--help",
 ];
 
-/// The words behind a folder.
-fn words_of(alloc: Global, line: &str) -> Result<ArgList, NoMemory> {
+/// The words behind a folder; nothing where memory is short.
+fn words_of(alloc: Global, line: &str) -> Option<ArgList> {
     let mut words = ArgList::new(alloc);
-    words.push(".")?;
+    words.push(".").ok()?;
     for word in line.split('|') {
-        words.push(word)?;
+        words.push(word).ok()?;
     }
-    Ok(words)
+    Some(words)
 }
 
-/// What these words behind a folder ask for.
-fn asked(alloc: Global, line: &str) -> Result<String, Fail> {
+/// What these words behind a folder ask for; nothing where memory is short.
+fn asked(alloc: Global, line: &str) -> Option<Option<Words>> {
     let words = words_of(alloc, line)?;
-    let found = read_words(alloc, &words)?;
-    Ok(format!(in alloc; "{:?}", found)?)
+    read_words(alloc, &words).ok()
 }
 
-/// The name of the prior that these words ask for.
-fn prior_named(alloc: Global, line: &str) -> Result<Option<Name>, NoMemory> {
-    let words = words_of(alloc, line)?;
-    match read_words(alloc, &words)? {
-        Some(Words::Prior(name)) => Ok(Some(name)),
-        _ => Ok(None),
+/// Whether this is the text of what is asked for.
+fn is_shown(alloc: Global, found: &Option<Words>, wanted: &str) -> bool {
+    match format!(in alloc; "{:?}", found) {
+        Ok(text) => text.as_str() == wanted,
+        Err(_) => false,
+    }
+}
+
+/// Whether these words behind a folder ask for this.
+fn asks_for(alloc: Global, line: &str, wanted: &str) -> bool {
+    match asked(alloc, line) {
+        Some(found) => is_shown(alloc, &found, wanted),
+        None => false,
     }
 }
 
 #[test]
-fn what_words_ask_for(rt: HostRuntime) -> Result<(), Fail> {
+fn what_words_ask_for(rt: HostRuntime) {
     for (line, wanted) in &ASKED {
-        let found = asked(rt.alloc(), line)?;
-        assert_eq!(rt; found.as_str(), *wanted);
+        assert!(rt; asks_for(rt.alloc(), line, wanted), "{line}");
     }
-    Ok(())
+}
+
+/// Whether these words behind a folder ask for the prior `home`.
+fn asks_for_home(alloc: Global, line: &str) -> bool {
+    match asked(alloc, line) {
+        Some(Some(Words::Prior(name))) => name.as_bytes() == b"home".as_slice(),
+        _ => false,
+    }
 }
 
 #[test]
-fn priors_by_their_names(rt: HostRuntime) -> Result<(), Fail> {
+fn priors_by_their_names(rt: HostRuntime) {
     for line in &["prior|home", "prior|HoMe", "prior|--|home"] {
-        let name = prior_named(rt.alloc(), line)?.ok_or("no prior")?;
-        assert_eq!(rt; name.as_bytes(), b"home".as_slice());
+        assert!(rt; asks_for_home(rt.alloc(), line), "{line}");
     }
-    Ok(())
+}
+
+/// Whether these words behind a folder are no command.
+fn is_refused(alloc: Global, line: &str) -> bool {
+    match asked(alloc, line) {
+        Some(found) => found.is_none(),
+        None => false,
+    }
 }
 
 #[test]
-fn words_that_are_refused(rt: HostRuntime) -> Result<(), Fail> {
+fn words_that_are_refused(rt: HostRuntime) {
     for line in &REFUSED {
-        let found = asked(rt.alloc(), line)?;
-        assert_eq!(rt; found.as_str(), "None", "at {line}");
+        assert!(rt; is_refused(rt.alloc(), line), "{line}");
     }
-    Ok(())
-}
-
-#[test]
-fn no_command(rt: HostRuntime) -> Result<(), Fail> {
-    let mut words = ArgList::new(rt.alloc());
-    assert!(rt; read_words(rt.alloc(), &words)?.is_none());
-    words.push(".")?;
-    assert!(rt; read_words(rt.alloc(), &words)?.is_none());
-    Ok(())
 }

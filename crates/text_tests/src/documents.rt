@@ -1,78 +1,81 @@
 // Documents of pieces, and their refusals.
 use ri_base::{Bytes, Doc, Docno, FieldSpan, Name, Term};
 use std::alloc::Global;
-use std::process::Abort;
-use std::test::Fail;
 use tokens::{TokenRefusal, doc_of};
 use trec_reader::{Piece, Pieces, RawDoc};
 
-fn text(alloc: Global, bytes: &[u8]) -> Result<Piece, Fail> {
-    Ok(Piece::Text(Bytes::copy_of(alloc, bytes)?))
+fn text(alloc: Global, bytes: &[u8]) -> Option<Piece> {
+    let bytes = Bytes::copy_of(alloc, bytes).ok()?;
+    Some(Piece::Text(bytes))
 }
 
-fn name(alloc: Global, bytes: &[u8]) -> Result<Name, Fail> {
-    Ok(Name::new(alloc, bytes)?.ok_or("no name")?)
+fn name(alloc: Global, bytes: &[u8]) -> Option<Name> {
+    Name::new(alloc, bytes).ok()?
 }
 
 /// A piece in short: `<` and a name, `>` and a name, `|` for a break, `!` for a text with a byte that no UTF-8 has, and
 /// any other first byte for text.
-fn piece_of(alloc: Global, short: &[u8]) -> Result<Piece, Fail> {
+fn piece_of(alloc: Global, short: &[u8]) -> Option<Piece> {
     match short {
-        [b'<', tag @ ..] => Ok(Piece::Open(name(alloc, tag)?)),
-        [b'>', tag @ ..] => Ok(Piece::Close(name(alloc, tag)?)),
-        [b'|', ..] => Ok(Piece::Break),
+        [b'<', tag @ ..] => Some(Piece::Open(name(alloc, tag)?)),
+        [b'>', tag @ ..] => Some(Piece::Close(name(alloc, tag)?)),
+        [b'|', ..] => Some(Piece::Break),
         [b'!', ..] => text(alloc, b"a\xffb"),
         _ => text(alloc, short),
     }
 }
 
 /// The pieces in short, with one `;` between them.
-fn pieces_of(alloc: Global, short: &str) -> Result<Vec<Piece>, Fail> {
+fn pieces_of(alloc: Global, short: &str) -> Option<Vec<Piece>> {
     let mut pieces = Vec::new(alloc);
     for one in short.split(';') {
-        pieces.push(piece_of(alloc, one.as_bytes())?)?;
+        let piece = piece_of(alloc, one.as_bytes())?;
+        pieces.push(piece).ok()?;
     }
-    Ok(pieces)
+    Some(pieces)
 }
 
-fn raw_of(alloc: Global, pieces: Vec<Piece>) -> Result<RawDoc, Fail> {
-    let docno = Docno::new(alloc, b"d1")?.ok_or("no docno")?;
-    let pieces = Pieces::of(pieces);
-    Ok(RawDoc {
+fn raw_of(alloc: Global, pieces: Vec<Piece>) -> Option<RawDoc> {
+    let docno = Docno::new(alloc, b"d1").ok()??;
+    Some(RawDoc {
         docno,
         offset: 0,
-        pieces,
+        pieces: Pieces::of(pieces),
     })
 }
 
 /// The document of pieces in short.
-fn read(alloc: Global, short: &str) -> Result<Doc, Fail> {
-    match doc_of(alloc, raw_of(alloc, pieces_of(alloc, short)?)?) {
-        Ok(doc) => Ok(doc),
-        Err(_) => Err("refused".into()),
-    }
+fn read(alloc: Global, short: &str) -> Option<Doc> {
+    let pieces = pieces_of(alloc, short)?;
+    let raw = raw_of(alloc, pieces)?;
+    doc_of(alloc, raw).ok()
 }
 
-fn assert_tokens(rt: &impl Abort, tokens: &[Term], wanted: &[&str]) {
-    assert_eq!(rt; tokens.len(), wanted.len());
+/// Whether these are the words.
+pub fn are_tokens(tokens: &[Term], wanted: &[&str]) -> bool {
+    let mut are_so = tokens.len() == wanted.len();
     for (token, word) in tokens.iter().zip(wanted) {
-        assert_eq!(rt; token.as_bytes(), word.as_bytes());
+        are_so &= token.as_bytes() == word.as_bytes();
     }
+    are_so
 }
 
 /// A field: its name, its begin and its end.
 type Field = (&'static str, u32, u32);
 
-fn assert_fields(rt: &impl Abort, fields: &[FieldSpan], wanted: &[Field]) {
-    assert_eq!(rt; fields.len(), wanted.len());
+fn are_fields(fields: &[FieldSpan], wanted: &[Field]) -> bool {
+    let mut are_so = fields.len() == wanted.len();
     for (field, (name, begin, end)) in fields.iter().zip(wanted) {
-        assert_eq!(rt; field.name().as_bytes(), name.as_bytes());
-        assert_eq!(rt; (field.begin(), field.end()), (*begin, *end));
+        are_so &= field.name().as_bytes() == name.as_bytes();
+        are_so &= field.begin() == *begin && field.end() == *end;
     }
+    are_so
 }
 
 /// Pieces, and the tokens and fields of their document.
-static ROWS: [(&str, &[&str], &[Field]); 13] = [
+type Row = (&'static str, &'static [&'static str], &'static [Field]);
+
+static ROWS: [Row; 13] = [
     (
         "<title;Caf;|; au Lait;>title;>b;<text;one ;|; two",
         &["caf", "au", "lait", "one", "two"],
@@ -105,36 +108,66 @@ static ROWS: [(&str, &[&str], &[Field]); 13] = [
     ),
 ];
 
-#[test]
-fn tokens_and_fields(rt: HostRuntime) -> Result<(), Fail> {
-    for (short, tokens, fields) in &ROWS {
-        let doc = read(rt.alloc(), short)?;
-        assert_tokens(&rt, doc.tokens().as_slice(), tokens);
-        assert_fields(&rt, doc.fields().as_slice(), fields);
+/// Whether the pieces of a row have these tokens and fields.
+fn is_read_so(alloc: Global, row: &Row) -> bool {
+    let (short, tokens, fields) = row;
+    match read(alloc, short) {
+        Some(doc) => {
+            are_tokens(doc.tokens().as_slice(), tokens)
+                && are_fields(doc.fields().as_slice(), fields)
+        }
+        None => false,
     }
-    Ok(())
+}
+
+#[test]
+fn tokens_and_fields(rt: HostRuntime) {
+    for row in &ROWS {
+        assert!(rt; is_read_so(rt.alloc(), row), "{}", row.0);
+    }
+}
+
+/// The pieces of so many fields of one token each.
+fn fields_of(alloc: Global, count: usize) -> Option<Vec<Piece>> {
+    let mut pieces = Vec::new(alloc);
+    for _ in 0..count {
+        for short in [b"<f", b"x ", b">f"] {
+            let piece = piece_of(alloc, short)?;
+            pieces.push(piece).ok()?;
+        }
+    }
+    Some(pieces)
+}
+
+/// A text of so many tokens.
+fn words(alloc: Global, count: usize) -> Option<Piece> {
+    let words = "a ".repeat(alloc, count).ok()?;
+    text(alloc, words.as_bytes())
 }
 
 /// Fields of one token each, and further tokens up to so many.
-fn many(alloc: Global, tokens: usize, fields: usize) -> Result<RawDoc, Fail> {
-    let mut pieces = Vec::new(alloc);
-    for _ in 0..fields {
-        for one in [b"<f", b"x ", b">f"] {
-            pieces.push(piece_of(alloc, one)?)?;
-        }
-    }
-    let others = "a ".repeat(alloc, tokens.saturating_sub(fields))?;
-    pieces.push(text(alloc, others.as_bytes())?)?;
+fn many(alloc: Global, tokens: usize, fields: usize) -> Option<RawDoc> {
+    let others = words(alloc, tokens.saturating_sub(fields))?;
+    let mut pieces = fields_of(alloc, fields)?;
+    pieces.push(others).ok()?;
     raw_of(alloc, pieces)
 }
 
 /// Of what a document has too many.
-fn refused(alloc: Global, raw: RawDoc) -> Result<&'static str, Fail> {
+fn refused(alloc: Global, raw: RawDoc) -> &'static str {
     match doc_of(alloc, raw) {
-        Ok(_) => Ok("none"),
-        Err(TokenRefusal::TooManyTokens { .. }) => Ok("tokens"),
-        Err(TokenRefusal::TooManyFields { .. }) => Ok("fields"),
-        Err(TokenRefusal::Memory) => Err("no memory".into()),
+        Ok(_) => "none",
+        Err(TokenRefusal::TooManyTokens { .. }) => "tokens",
+        Err(TokenRefusal::TooManyFields { .. }) => "fields",
+        Err(TokenRefusal::Memory) => "memory",
+    }
+}
+
+/// Of what the document of so many tokens and fields has too many.
+fn too_many(alloc: Global, tokens: usize, fields: usize) -> &'static str {
+    match many(alloc, tokens, fields) {
+        Some(raw) => refused(alloc, raw),
+        None => "memory",
     }
 }
 
@@ -148,10 +181,8 @@ static LIMITS: [(usize, usize, &str); 5] = [
 ];
 
 #[test]
-fn as_many_as_a_document_may_have(rt: HostRuntime) -> Result<(), Fail> {
+fn as_many_as_a_document_may_have(rt: HostRuntime) {
     for (tokens, fields, of) in &LIMITS {
-        let raw = many(rt.alloc(), *tokens, *fields)?;
-        assert_eq!(rt; refused(rt.alloc(), raw)?, *of);
+        assert_eq!(rt; too_many(rt.alloc(), *tokens, *fields), *of);
     }
-    Ok(())
 }

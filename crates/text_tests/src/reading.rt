@@ -1,46 +1,41 @@
+// Documents as a reader gives them, and the refusals that end them.
 use ri_ends::{Lent, MemSource, Source};
 use std::alloc::Global;
-use std::process::Abort;
-use std::test::Fail;
 use trec_reader::{TrecReader, TrecRefusal};
 
 const TWO: &[u8] = b"<DOC><DOCNO>d1</DOCNO>a b</DOC><DOC><DOCNO>d2</DOCNO>a</DOC>";
 
-/// How many documents are read, and the refusal that ends them.
-fn outcome(
-    alloc: Global,
-    input: &[u8],
-    piece: usize,
-) -> Result<(usize, Option<TrecRefusal>), Fail> {
-    let source = MemSource::new(input.to_vec(alloc)?, piece.max(1), Vec::new(alloc));
-    let mut reader = TrecReader::new(alloc, source)?;
+/// How many documents are read, and the refusal that ends them, if one does.
+type Ending = (usize, Option<TrecRefusal>);
+
+/// How a reader ends, of a thousand documents at most.
+fn ending_of(reader: &mut TrecReader<impl Source>) -> Option<Ending> {
     for count in 0..1000 {
         match reader.next_doc() {
             Ok(Some(_)) => {}
-            Ok(None) => return Ok((count, None)),
-            Err(refusal) => return Ok((count, Some(refusal))),
+            Ok(None) => return Some((count, None)),
+            Err(refusal) => return Some((count, Some(refusal))),
         }
     }
-    Err(Fail::from("too many documents"))
+    None
 }
 
-/// So many documents are read, and then comes this refusal or the end, whatever the pieces of the source.
-fn assert_reads(
-    rt: &impl Abort,
-    alloc: Global,
-    input: &[u8],
-    count: usize,
-    refusal: Option<TrecRefusal>,
-) -> Result<(), Fail> {
+/// How the reading of an input in such pieces ends.
+fn ending(alloc: Global, input: &[u8], piece: usize) -> Option<Ending> {
+    let bytes = input.to_vec(alloc).ok()?;
+    let source = MemSource::new(bytes, piece.max(1), Vec::new(alloc));
+    let mut reader = TrecReader::new(alloc, source).ok()?;
+    ending_of(&mut reader)
+}
+
+/// Whether the input is read so, whatever the pieces of the source.
+fn ends_so(alloc: Global, input: &[u8], wanted: Ending) -> bool {
     for piece in [1, 2, 3, 7, 100] {
-        let (read, ends) = outcome(alloc, input, piece)?;
-        assert_eq!(rt;
-            (read, ends),
-            (count, refusal),
-            "{input:?} in pieces of {piece}"
-        );
+        if ending(alloc, input, piece) != Some(wanted) {
+            return false;
+        }
     }
-    Ok(())
+    true
 }
 
 /// Inputs, how many documents are read of each, and the refusal that ends them.
@@ -98,73 +93,92 @@ static ROWS: [(&[u8], usize, Option<TrecRefusal>); 22] = [
 ];
 
 #[test]
-fn inputs(rt: HostRuntime) -> Result<(), Fail> {
+fn inputs(rt: HostRuntime) {
     for (input, count, refusal) in &ROWS {
-        assert_reads(&rt, rt.alloc(), input, *count, *refusal)?;
+        assert!(rt; ends_so(rt.alloc(), input, (*count, *refusal)), "{input:?}");
     }
-    Ok(())
+}
+
+/// A document with a docno of so many bytes.
+fn with_docno(alloc: Global, length: usize) -> Option<Vec<u8>> {
+    let mut input = b"<DOC><DOCNO>".to_vec(alloc).ok()?;
+    input.resize(length.saturating_add(12), b'x').ok()?;
+    input.extend_from_slice(b" </DOCNO></DOC>").ok()?;
+    Some(input)
+}
+
+fn ending_with_docno(alloc: Global, length: usize) -> Option<Ending> {
+    let input = with_docno(alloc, length)?;
+    ending(alloc, &input, 100)
 }
 
 #[test]
-fn long_docnos(rt: HostRuntime) -> Result<(), Fail> {
-    let alloc = rt.alloc();
-    for (length, refusal) in [(255, None), (256, Some(TrecRefusal::DocnoLong { at: 12 }))] {
-        let mut input = b"<DOC><DOCNO>".to_vec(alloc)?;
-        input.resize(12 + length, b'x')?;
-        input.extend_from_slice(b" </DOCNO></DOC>")?;
-        let (_, ends) = outcome(alloc, &input, 100)?;
-        assert_eq!(rt; ends, refusal);
+fn long_docnos(rt: HostRuntime) {
+    assert!(rt; ending_with_docno(rt.alloc(), 255) == Some((1, None)));
+    let refusal = TrecRefusal::DocnoLong { at: 12 };
+    assert!(rt; ending_with_docno(rt.alloc(), 256) == Some((0, Some(refusal))));
+}
+
+/// How the front of so many bytes of the two documents ends.
+fn ending_of_front(length: usize) -> Ending {
+    match length {
+        0 => (0, None),
+        1..5 => (0, Some(TrecRefusal::NotADoc { at: 0 })),
+        5..31 => (0, Some(TrecRefusal::DocOpen { at: 0 })),
+        31 => (1, None),
+        32..36 => (1, Some(TrecRefusal::NotADoc { at: 31 })),
+        _ => (1, Some(TrecRefusal::DocOpen { at: 31 })),
     }
-    Ok(())
 }
 
 #[test]
-fn every_front_of_two_documents(rt: HostRuntime) -> Result<(), Fail> {
-    let alloc = rt.alloc();
+fn every_front_of_two_documents(rt: HostRuntime) {
     for length in 0..TWO.len() {
-        let (read, ends) = outcome(alloc, &TWO[..length], 7)?;
-        let want = match length {
-            0 | 31 => None,
-            1..5 => Some(TrecRefusal::NotADoc { at: 0 }),
-            5..31 => Some(TrecRefusal::DocOpen { at: 0 }),
-            32..36 => Some(TrecRefusal::NotADoc { at: 31 }),
-            _ => Some(TrecRefusal::DocOpen { at: 31 }),
-        };
-        assert_eq!(rt;
-            (read, ends),
-            (usize::from(length >= 31), want),
-            "of {length} bytes"
-        );
+        let found = ending(rt.alloc(), &TWO[..length], 7);
+        assert!(rt; found == Some(ending_of_front(length)), "{length}");
     }
-    Ok(())
 }
 
-/// The next document has this docno, stands at this offset, and has so many pieces.
-fn assert_next(
-    rt: &impl Abort,
-    reader: &mut TrecReader<impl Source>,
-    docno: &[u8],
-    offset: u64,
-    pieces: usize,
-) -> Result<(), Fail> {
-    let raw = reader.next_doc()?.ok_or("no document")?;
-    assert_eq!(rt; raw.docno.as_bytes(), docno);
-    assert_eq!(rt; (raw.offset, raw.pieces.len()), (offset, pieces));
-    Ok(())
+/// Whether the next document has this docno, stands at this offset, and has one piece.
+fn is_next(reader: &mut TrecReader<impl Source>, docno: &[u8], offset: u64) -> bool {
+    match reader.next_doc() {
+        Ok(Some(raw)) => {
+            raw.docno.as_bytes() == docno && raw.offset == offset && raw.pieces.len() == 1
+        }
+        _ => false,
+    }
+}
+
+fn is_refused(reader: &mut TrecReader<impl Source>, refusal: TrecRefusal) -> bool {
+    match reader.next_doc() {
+        Ok(_) => false,
+        Err(found) => found == refusal,
+    }
 }
 
 const REFUSED: &[u8] = b" <DOC><DOCNO>d1</DOCNO>a b</DOC><DOC><DOCNO>d2</DOCNO>a</DOC>x";
 
+/// Whether a reader gives both documents, then the refusal, and then that it has ended.
+fn are_next(reader: &mut TrecReader<impl Source>) -> bool {
+    is_next(reader, b"d1", 1)
+        && is_next(reader, b"d2", 32)
+        && is_refused(reader, TrecRefusal::NotADoc { at: 61 })
+        && is_refused(reader, TrecRefusal::Ended)
+}
+
+/// Whether one does so over a source that is lent to it.
+fn are_read(alloc: Global, source: &mut MemSource) -> Option<bool> {
+    let mut reader = TrecReader::new(alloc, Lent::new(source)).ok()?;
+    Some(are_next(&mut reader))
+}
+
+fn are_read_in_turn(alloc: Global) -> Option<bool> {
+    let input = REFUSED.to_vec(alloc).ok()?;
+    let mut source = MemSource::new(input, 9, Vec::new(alloc));
+    are_read(alloc, &mut source)
+}
+
 #[test]
-fn one_reader(rt: HostRuntime) -> Result<(), Fail> {
-    let input = REFUSED.to_vec(rt.alloc())?;
-    let mut source = MemSource::new(input, 9, Vec::new(rt.alloc()));
-    let mut reader = TrecReader::new(rt.alloc(), Lent::new(&mut source))?;
-    assert_next(&rt, &mut reader, b"d1", 1, 1)?;
-    assert_next(&rt, &mut reader, b"d2", 32, 1)?;
-    for refusal in [TrecRefusal::NotADoc { at: 61 }, TrecRefusal::Ended] {
-        assert_eq!(rt; reader.next_doc().err(), Some(refusal));
-    }
-    let _lent = reader.into_source();
-    Ok(())
+fn one_reader(rt: HostRuntime) {
+    assert!(rt; are_read_in_turn(rt.alloc()) == Some(true));
 }

@@ -3,6 +3,7 @@ use Rattle.std.specs.Prelude.{ℕ, List, [], ◌∷◌, ◌++◌, codes, length}
 use Rattle.std.specs.Fmt.{decimal}
 use Rattle.std.specs.List.{flat_map}
 use Rattle.ri_base.specs.Pair.{Pair}
+use Rattle.command_pieces.specs.ExtentLines.{extent_line}
 use Rattle.ri_base.specs.declared.hit.Hit.{Hit}
 use Rattle.ranked_output.specs.Texts.{lines_of, lines_text}
 
@@ -22,13 +23,13 @@ credit_of credit size = decimal credit ++ codes " of " ++ decimal size
 abbrev pub with_credit : List ℕ → ℕ → ℕ → List ℕ
 with_credit name credit size = name ++ 32 ∷ credit_of credit size
 
--- DOCNO BEGIN END
-abbrev pub extent_line : List ℕ × Pair → List ℕ
-extent_line l = l.0 ++ 32 ∷ decimal l.1.begin ++ 32 ∷ decimal l.1.end ++ 10 ∷ []
+-- the line of an extent that is told with its document's docno
+abbrev pub told_line : List ℕ × Pair → List ℕ
+told_line l = extent_line l.0 l.1
 
 -- a line for each extent, and then how many they are
 unfoldable pub extents_text : List (List ℕ × Pair) → List ℕ
-extents_text lines = flat_map extent_line lines ++ reply_line (codes "scanned") (decimal (length lines))
+extents_text lines = flat_map told_line lines ++ reply_line (codes "scanned") (decimal (length lines))
 
 -- how many results they are, and then the line of each
 unfoldable pub results_text : List ℕ → ℕ → List Hit → List ℕ

@@ -1,10 +1,11 @@
 // The lines of replies.
-ghost use Rattle.std.specs.Prelude.{◌≡◌, ◌++◌, IfOk, OnOk};
+ghost use Rattle.std.specs.Prelude.{◌≡◌, IfOk};
 ghost use Rattle.std.specs.Fmt.{decimal};
-ghost use Rattle.desk.specs.Lines.{credit_of, extent_line, extents_text, reply_line, with_count, with_credit};
+ghost use Rattle.desk.specs.Lines.{credit_of, extents_text, reply_line, with_count, with_credit};
 
 use crate::Scanned;
-use ri_base::{Docno, Extent, NoMemory};
+use command_pieces::push_extent;
+use ri_base::NoMemory;
 use std::alloc::Global;
 
 /// `WORD REST`
@@ -63,24 +64,6 @@ pub(crate) fn with_credit(
     Ok(text)
 }
 
-/// Appends `DOCNO BEGIN END`.
-fn push_extent(
-    alloc: Global,
-    text: &mut Vec<u8>,
-    docno: &Docno,
-    extent: Extent,
-) -> Result<(), NoMemory>
-    ensures { OnOk result (text.new.items ≡ text.old.items ++ extent_line (docno.now, extent)) }
-{
-    text.extend_from_slice(docno.as_bytes())?;
-    text.push(b' ')?;
-    text.extend_from_slice(extent.begin().to_string(alloc)?.as_bytes())?;
-    text.push(b' ')?;
-    text.extend_from_slice(extent.end().to_string(alloc)?.as_bytes())?;
-    text.push(b'\n')?;
-    Ok(())
-}
-
 /// A line for each extent, and then how many they are.
 #[tactic(auto, unfolding(crate::specs::Lines::extents_text))]
 pub(crate) fn extents_text(alloc: Global, lines: &Scanned) -> Result<Vec<u8>, NoMemory>
@@ -88,7 +71,7 @@ pub(crate) fn extents_text(alloc: Global, lines: &Scanned) -> Result<Vec<u8>, No
 {
     let mut text = Vec::new(alloc);
     for line in lines.as_slice() {
-        push_extent(alloc, &mut text, &line.0, line.1)?;
+        push_extent(alloc, &mut text, line.0.as_bytes(), line.1)?;
     }
     let last = count_line(alloc, b"scanned", lines.len() as u64)?;
     text.extend_from_slice(&last)?;

@@ -1,9 +1,12 @@
 -- What the cache of blocks keeps after a call.
 use Rattle.std.proofs.Common.{◌≡◌, ℕ, Bool, true, ◌⊎◌, inl, inr, List, Contains, Option, Some, None, Result, Ok, Err, OnOk, OnErr, IfOk, IfSome, sym, ap, subst, ◌∙◌}
 use Rattle.store_ends.specs.Files.{Files}
+use Rattle.seg_codec.specs.Fits.{FitBlock}
 use Rattle.seg_codec.specs.declared.blocks.BlockEntry.{BlockEntry}
+use Rattle.seg_codec.specs.declared.documents.Entry.{Entry}
 use Rattle.disk_index.specs.Blocks.{IsBlockIn}
 use Rattle.disk_index.specs.Cache.{AllKept, CacheKeeps, KeptBlock}
+use Rattle.disk_index.specs.Faults.{CameFrom}
 use Rattle.disk_index.specs.declared.cache.BlockKey.{BlockKey}
 use Rattle.lru.specs.LruCache.{LruCache, lru_cache, promoted, put_entries}
 use Rattle.lru.proofs.CallerLemmas.{Contains-promoted, Contains-put_entries}
@@ -52,3 +55,9 @@ fetched told key now mid new block stored stay put same right = record {
 -- the files of another number may be named by an equal one
 pub CacheKeeps-number : (told : Option Files) (m n : ℕ) (c d : List KeptBlock) → m ≡ n → CacheKeeps told (λ k. k ≡ m) c d → CacheKeeps told (λ k. k ≡ n) c d
 CacheKeeps-number told m n c d same keeps = subst (λ (x : ℕ). CacheKeeps told (λ k. k ≡ x) c d) same keeps
+
+-- a block that was read came from its file
+pub came-read : {E : Type 0} (told : Option Files) (kept : List KeptBlock) (docs : List Entry) (key : BlockKey) (r : Result (List BlockEntry) E) → IfOk r (FitBlock docs key.range) → ((f : Files) → told ≡ Some f → IfOk r (IsBlockIn f key))
+    → IfOk r (CameFrom told kept docs key)
+came-read told kept docs key (Ok es) fits exact = inr (record { fit = fits; bytes = λ f is. (exact f is).bytes })
+came-read told kept docs key (Err e) fits exact = tt

@@ -1,5 +1,5 @@
 -- Why the places of a document can't be told.
-use Rattle.std.proofs.Common.{◌≡◌, ◌<◌, ◌≤◌, ℕ, zero, suc, ◌+◌, ◌/◌, ◌==◌, List, [], ◌∷◌, length, get_or, Bool, true, false, cond, leb, ltb, Option, Some, None, Result, Ok, Err, IfErr, inl, inr, refl, sym, ap, subst, ◌∙◌, add-one, arith}
+use Rattle.std.proofs.Common.{◌≡◌, ◌<◌, ◌≤◌, ℕ, zero, suc, ◌+◌, ◌/◌, ◌==◌, List, [], ◌∷◌, length, get_or, Bool, true, false, cond, leb, ltb, Option, Some, None, inl, inr, refl, sym, ap, subst, add-one, arith}
 use Rattle.std.specs.List.{All, find}
 use Rattle.std.specs.List.Sorted.{IsStrictlyIncreasing}
 use Rattle.std.specs.Option.{MatchOption, option_map_or}
@@ -20,9 +20,8 @@ use Rattle.seg_codec.specs.declared.dictionary.BlockPlace.{BlockPlace}
 use Rattle.seg_codec.specs.declared.documents.Entry.{Entry}
 use Rattle.disk_index.specs.Blocks.{IsBlockFault, places_of}
 use Rattle.disk_index.specs.Cache.{KeptBlock}
-use Rattle.disk_index.specs.Faults.{ArePlacesIn, CameFrom, IsMalformedBlock, IsPlacesFault, IsRangeFault, IsTermFault}
+use Rattle.disk_index.specs.Faults.{ArePlacesIn, CameFrom, IsPlacesFault, IsTermFault}
 use Rattle.disk_index.specs.Kept.{Kept, key_of, place_of}
-use Rattle.disk_index.specs.Names.{segment_name}
 use Rattle.disk_index.specs.declared.cache.BlockKey.{BlockKey}
 
 -- ---- places that fit
@@ -80,16 +79,16 @@ places-seen ps i size done below rising = record {
 -- ---- faults
 
 -- where the places of a block aren't those of a document, a wrong block was kept
-pub wrong-kept : (f : Files) (cached : List KeptBlock) (kept : Kept) (t : List ℕ) (id place : ℕ) (es : List BlockEntry) → place ≡ option_map_or (λ (p : BlockPlace). p.place) (place_of kept.dictionary t (id / 64)) 0
-    → MatchOption (place_of kept.dictionary t (id / 64)) (es ≡ []) (λ p. CameFrom cached kept.outlines (key_of kept.number (id / 64) p) es)
+pub wrong-kept : (f : Files) (told : Option Files) (cached : List KeptBlock) (kept : Kept) (t : List ℕ) (id place : ℕ) (es : List BlockEntry) → place ≡ option_map_or (λ (p : BlockPlace). p.place) (place_of kept.dictionary t (id / 64)) 0
+    → MatchOption (place_of kept.dictionary t (id / 64)) (es ≡ []) (λ p. CameFrom told cached kept.outlines (key_of kept.number (id / 64) p) es)
     → (ArePlacesIn (tokens_of kept.outlines id) (places_of id es) → ⊥) → IsTermFault f cached kept t id (Malformed (Segment kept.number) parts.Block place)
-wrong-kept f cached kept t id place es at from wrong = by (place_of kept.dictionary t (id / 64)) at from
+wrong-kept f told cached kept t id place es at from wrong = by (place_of kept.dictionary t (id / 64)) at from
   where
-    by : (o : Option BlockPlace) → place ≡ option_map_or (λ (p : BlockPlace). p.place) o 0 → MatchOption o (es ≡ []) (λ p. CameFrom cached kept.outlines (key_of kept.number (id / 64) p) es)
+    by : (o : Option BlockPlace) → place ≡ option_map_or (λ (p : BlockPlace). p.place) o 0 → MatchOption o (es ≡ []) (λ p. CameFrom told cached kept.outlines (key_of kept.number (id / 64) p) es)
         → MatchOption o (IsOutside (Malformed (Segment kept.number) parts.Block place)) (λ p. IsPlacesFault f cached kept.outlines id (key_of kept.number (id / 64) p) (Malformed (Segment kept.number) parts.Block place))
     by None at none = wrong (subst (λ (l : List BlockEntry). ArePlacesIn (tokens_of kept.outlines id) (places_of id l)) (sym none) (no-places (tokens_of kept.outlines id)))
     by (Some p) at (inl there) = inr (record { file_is = refl; part_is = refl; place_is = at; entries = es; is_kept = there; wrong = wrong })
-    by (Some p) at (inr fit) = absurd (wrong (block-places kept.outlines (id / 64) id es fit))
+    by (Some p) at (inr read) = absurd (wrong (block-places kept.outlines (id / 64) id es read.fit))
 
 -- a fault of a block is one of the places
 pub places-fault : (f : Files) (cached : List KeptBlock) (docs : List Entry) (id : ℕ) (key : BlockKey) (e : SegFault) → IsBlockFault f key docs e → IsPlacesFault f cached docs id key e
@@ -114,28 +113,3 @@ memory-fault f cached kept t id = by (place_of kept.dictionary t (id / 64))
     by : (o : Option BlockPlace) → MatchOption o (IsOutside Memory) (λ p. IsPlacesFault f cached kept.outlines id (key_of kept.number (id / 64) p) Memory)
     by None = tt
     by (Some p) = tt
-
--- ---- faults of a range
-
-block-fault : (f : Files) (key : BlockKey) (docs : List Entry) (number : ℕ) → key.number ≡ number → (e : SegFault) → IsBlockFault f key docs e → IsRangeFault f number e
-block-fault f key docs number own (Malformed file part place) h = (h.0 ∙ ap (λ n. Segment n) own, h.1)
-block-fault f key docs number own (Missing file) h = (h.0 ∙ ap (λ n. Segment n) own, subst (λ n. f (segment_name n) ≡ None) own h.1)
-block-fault f key docs number own Store h = tt
-block-fault f key docs number own Memory h = tt
-
--- a fault of a block is one of its range
-pub range-fault : (f : Files) (key : BlockKey) (docs : List Entry) (number : ℕ) → key.number ≡ number → {X : Type 0} (r : Result X SegFault) → IfErr r (IsBlockFault f key docs) → IfErr r (IsRangeFault f number)
-range-fault f key docs number own (Ok x) h = tt
-range-fault f key docs number own (Err e) h = block-fault f key docs number own e h
-
-pub malformed-fault : (f : Files) (number : ℕ) (e : SegFault) → IsMalformedBlock number e → IsRangeFault f number e
-malformed-fault f number (Malformed file part place) h = h
-malformed-fault f number (Missing file) h = absurd h
-malformed-fault f number Store h = absurd h
-malformed-fault f number Memory h = absurd h
-
-pub malformed-apart : (number : ℕ) (e : SegFault) → IsMalformedBlock number e → e ≡ Store → ⊥
-malformed-apart number (Malformed file part place) h is = cc
-malformed-apart number (Missing file) h is = h
-malformed-apart number Store h is = h
-malformed-apart number Memory h is = h

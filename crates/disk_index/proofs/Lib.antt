@@ -18,3 +18,4 @@ pub mod ReadingLemmas
 pub mod RebuildLemmas
 pub mod RebuiltLemmas
 pub mod SameBlock
+pub mod TogetherLemmas

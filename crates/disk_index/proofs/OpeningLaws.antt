@@ -100,8 +100,11 @@ module _ (docs : List Document) (part : IsPart docs) (small : length (segment do
       let a = o.dictionary_is in
       let b = ap (λ (h : Header). dictionary h (dictionary_in (segment docs) h)) head ∙ dictionary_read in
       cc in
-      ap (λ n. record { number = n; outlines = kept.outlines; dictionary = kept.dictionary }) is ∙ ap (λ (es : List Entry). record { number = number; outlines = es; dictionary = kept.dictionary }) outlines
-      ∙ ap (λ (ts : List TermBlocks). record { number = number; outlines = map entry_of docs; dictionary = ts }) terms
+      let begin : kept.begin ≡ blocks_at docs = o.begin_is ∙ ap (λ (h : Header). h.blocks_at) head in
+      ap (λ n. record { number = n; outlines = kept.outlines; dictionary = kept.dictionary; begin = kept.begin }) is
+      ∙ ap (λ (es : List Entry). record { number = number; outlines = es; dictionary = kept.dictionary; begin = kept.begin }) outlines
+      ∙ ap (λ (ts : List TermBlocks). record { number = number; outlines = map entry_of docs; dictionary = ts; begin = kept.begin }) terms
+      ∙ ap (λ n. record { number = number; outlines = map entry_of docs; dictionary = index (blocks_at docs) (vocabulary_of docs) docs; begin = n }) begin
 
   none_broken : (p : PartName) (place : ℕ) → IsFirstBroken (segment docs) (length docs) p place → ⊥
   none_broken parts.Header place h = not_broken (header_in (segment docs) (length docs)) (header_of docs) (length (stretch (segment docs) 0 64)) place header_read h

@@ -1,5 +1,5 @@
 -- The blocks of a range give the documents again.
-use Rattle.std.proofs.Common.{◌≡◌, ◌<◌, ◌≤◌, ℕ, zero, suc, ◌+◌, ◌*◌, ◌/◌, ◌%◌, List, [], ◌∷◌, ◌++◌, length, take, drop, map, get_or, set, length-set, replicate, Bool, true, false, cond, ltb, Option, Some, None, Contains, inl, inr, refl, sym, ap, subst, ◌∙◌, append_assoc, add-zero, arith, length-append, length-drop}
+use Rattle.std.proofs.Common.{◌≡◌, ◌<◌, ◌≤◌, ℕ, zero, suc, ◌+◌, ◌*◌, ◌/◌, ◌%◌, ◌-◌, ◌^◌, min, List, [], ◌∷◌, ◌++◌, length, take, drop, map, get_or, set, length-set, replicate, Bool, true, false, cond, ltb, Option, Some, None, Result, Ok, Err, Contains, inl, inr, refl, sym, ap, subst, ◌∙◌, append_assoc, add-zero, arith, length-append, length-drop}
 use Rattle.std.specs.Prelude.{is_none, is_some, slice_get}
 use Rattle.std.specs.Cmp.Lexicographic.{slice_cmp}
 use Rattle.std.specs.List.{All, AllPairs, find}
@@ -17,6 +17,7 @@ use Rattle.ri_base.specs.Collection.{document_at}
 use Rattle.ri_base.specs.Documents.{Document}
 use Rattle.ri_base.specs.Places.{places, places_from}
 use Rattle.ri_base.specs.Vocabulary.{IsTermBefore}
+use Rattle.ri_base.proofs.Codec.{ok_is}
 use Rattle.ri_base.proofs.ListLemmas.{Contains-cases, Contains-here, Contains-later, Contains-none}
 use Rattle.ri_base.proofs.PlacesLemmas.{occurs_at}
 use Rattle.store_ends.specs.Files.{Files}
@@ -30,7 +31,7 @@ use Rattle.disk_index.specs.Blocks.{block_of, entries_from, entry_of_places, fil
 use Rattle.disk_index.specs.Kept.{Kept, place_in}
 use Rattle.disk_index.specs.Ranks.{ranks_from, ranks_of, term_of}
 use Rattle.disk_index.specs.Reads.{IsBacked}
-use Rattle.disk_index.specs.Rebuild.{Slots, all_terms, document_of, documents_of, is_free, lengths, put_entries, put_entry, put_places, rank_in, rows_of, term_in}
+use Rattle.disk_index.specs.Rebuild.{Slots, all_terms, behind, document_of, documents_of, is_free, lengths, put_block, put_entries, put_entry, put_places, rank_in, rows_of, term_in, then_put}
 use Rattle.disk_index.proofs.EntryLemmas.{document_at-range, places_of-block}
 use Rattle.disk_index.proofs.LookupLemmas.{find-has}
 use Rattle.disk_index.proofs.RankLemmas.{RiseBelow, ranks_of-rise}
@@ -55,68 +56,70 @@ set-behind {X} (x ∷ front) s t rest = ap (λ (l : List X). x ∷ l) (set-behin
 
 -- the places of one term are told, where they were free, and those of others stay
 put-places : (rank : ℕ) (t : List ℕ) (f g : List ℕ → Option ℕ) → ((x : List ℕ) → bytes_eq x t ≡ true → (f x ≡ None) × (g x ≡ Some rank)) → ((x : List ℕ) → bytes_eq x t ≡ false → g x ≡ f x)
-    → (front : Slots) (i : ℕ) (toks : List (List ℕ)) → i ≡ length front → put_places rank (places_from i t toks) (front ++ map f toks) ≡ Some (front ++ map g toks)
-put-places rank t f g own other front i [] is = refl
-put-places rank t f g own other front i (x ∷ xs) is =
-    by (bytes_eq x t) refl (λ s. put-places rank t f g own other (front ++ s ∷ []) (i + 1) xs (let n = length-append front (s ∷ []) in omega (arith, n, is)))
+    → (at : ℕ) (front : Slots) (i : ℕ) (toks : List (List ℕ)) → i ≡ length front → put_places at rank (places_from i t toks) (front ++ map f toks) ≡ Ok (front ++ map g toks)
+put-places rank t f g own other at front i [] is = refl
+put-places rank t f g own other at front i (x ∷ xs) is =
+    by (bytes_eq x t) refl (λ n s. put-places rank t f g own other n (front ++ s ∷ []) (i + 1) xs (let n = length-append front (s ∷ []) in omega (arith, n, is)))
   where
-    by : (b : Bool) → bytes_eq x t ≡ b → ((s : Option ℕ) → put_places rank (places_from (i + 1) t xs) ((front ++ s ∷ []) ++ map f xs) ≡ Some ((front ++ s ∷ []) ++ map g xs))
-        → put_places rank (cond b (i ∷ places_from (i + 1) t xs) (places_from (i + 1) t xs)) (front ++ f x ∷ map f xs) ≡ Some (front ++ g x ∷ map g xs)
+    by : (b : Bool) → bytes_eq x t ≡ b → ((n : ℕ) (s : Option ℕ) → put_places n rank (places_from (i + 1) t xs) ((front ++ s ∷ []) ++ map f xs) ≡ Ok ((front ++ s ∷ []) ++ map g xs))
+        → put_places at rank (cond b (i ∷ places_from (i + 1) t xs) (places_from (i + 1) t xs)) (front ++ f x ∷ map f xs) ≡ Ok (front ++ g x ∷ map g xs)
     by true e rest =
         let o = own x e in
         let slots : Slots = front ++ f x ∷ map f xs in
         let free : is_free slots i ≡ true =
         ap (is_free slots) is ∙ ap (λ (r : Option (Option ℕ)). option_map_or (λ (s : Option ℕ). is_none s) r false) (get-behind front (f x) (map f xs)) ∙ ap (λ (s : Option ℕ). is_none s) o.0 in
         let put : set slots i (Some rank) ≡ (front ++ Some rank ∷ []) ++ map f xs = ap (λ n. set slots n (Some rank)) is ∙ set-behind front (f x) (Some rank) (map f xs) in
-        ap (λ b. cond b (put_places rank (places_from (i + 1) t xs) (set slots i (Some rank))) None) free
-        ∙ ap (put_places rank (places_from (i + 1) t xs)) put ∙ rest (Some rank)
-        ∙ ap Some (append_assoc front (Some rank ∷ []) (map g xs) ∙ ap (λ (s : Option ℕ). front ++ s ∷ map g xs) (sym o.1))
+        ap (λ b. cond b (put_places (behind at 4) rank (places_from (i + 1) t xs) (set slots i (Some rank))) (Err at)) free
+        ∙ ap (put_places (behind at 4) rank (places_from (i + 1) t xs)) put ∙ rest (behind at 4) (Some rank)
+        ∙ ap Ok (append_assoc front (Some rank ∷ []) (map g xs) ∙ ap (λ (s : Option ℕ). front ++ s ∷ map g xs) (sym o.1))
     by false e rest =
         let o = other x e in
-        ap (put_places rank (places_from (i + 1) t xs)) (sym (append_assoc front (f x ∷ []) (map f xs))) ∙ rest (f x)
-        ∙ ap Some (append_assoc front (f x ∷ []) (map g xs) ∙ ap (λ (s : Option ℕ). front ++ s ∷ map g xs) (sym o))
+        ap (put_places at rank (places_from (i + 1) t xs)) (sym (append_assoc front (f x ∷ []) (map f xs))) ∙ rest at (f x)
+        ∙ ap Ok (append_assoc front (f x ∷ []) (map g xs) ∙ ap (λ (s : Option ℕ). front ++ s ∷ map g xs) (sym o))
 
 -- an entry of the document whose row stands behind these
-put-own : (rank : ℕ) (e : BlockEntry) (front : List Slots) (a b : Slots) (behind : List Slots) → e.id % 64 ≡ length front → put_places rank e.positions a ≡ Some b
-    → put_entry rank e (front ++ a ∷ behind) ≡ Some ((front ++ b ∷ []) ++ behind)
-put-own rank e front a b behind is own =
-    let rows : List Slots = front ++ a ∷ behind in
-    let size = length-append front (a ∷ behind) in
+put-own : (at rank : ℕ) (e : BlockEntry) (front : List Slots) (a b : Slots) (others : List Slots) → e.id % 64 ≡ length front → put_places at rank e.positions a ≡ Ok b
+    → put_entry at rank e (front ++ a ∷ others) ≡ Ok ((front ++ b ∷ []) ++ others)
+put-own at rank e front a b others is own =
+    let rows : List Slots = front ++ a ∷ others in
+    let size = length-append front (a ∷ others) in
     let inside : ltb (length front) (length rows) ≡ true = lt-ltb (length front) (length rows) (omega (arith, size)) in
-    let told : ℕ → Option (List Slots) = λ n. option_map (λ (s : Slots). set rows n s) (put_places rank e.positions (get_or rows n [])) in
-    ap (λ n. cond (ltb n (length rows)) (told n) None) is ∙ ap (λ c. cond c (told (length front)) None) inside
-    ∙ ap (λ (r : Slots). option_map (λ (s : Slots). set rows (length front) s) (put_places rank e.positions r)) (at-behind front a behind [])
-    ∙ ap (λ (o : Option Slots). option_map (λ (s : Slots). set rows (length front) s) o) own ∙ ap Some (set-behind front a b behind)
+    let told : ℕ → Result (List Slots) ℕ = λ n. then_put (λ (s : Slots). Ok (set rows n s)) (put_places at rank e.positions (get_or rows n [])) in
+    ap (λ n. cond (ltb n (length rows)) (told n) (Err at)) is ∙ ap (λ c. cond c (told (length front)) (Err at)) inside
+    ∙ ap (λ (r : Slots). then_put (λ (s : Slots). Ok (set rows (length front) s)) (put_places at rank e.positions r)) (at-behind front a others [])
+    ∙ ap (λ (o : Result Slots ℕ). then_put (λ (s : Slots). Ok (set rows (length front) s)) o) own ∙ ap Ok (set-behind front a b others)
 
 abbrev row : (List ℕ → Option ℕ) → Document → Slots
 row f d = map f d.tokens
 
 module _ (rank range : ℕ) (t : List ℕ) (f g : List ℕ → Option ℕ) (own : (x : List ℕ) → bytes_eq x t ≡ true → (f x ≡ None) × (g x ≡ Some rank)) (other : (x : List ℕ) → bytes_eq x t ≡ false → g x ≡ f x) where
-  own-row : (d : Document) (ps : List ℕ) → places t d ≡ ps → put_places rank ps (row f d) ≡ Some (row g d)
+  own-row : (at : ℕ) (d : Document) (ps : List ℕ) → places t d ≡ ps → put_places at rank ps (row f d) ≡ Ok (row g d)
   unfolding places
-  own-row d ps is = subst (λ (l : List ℕ). put_places rank l (row f d) ≡ Some (row g d)) is (put-places rank t f g own other [] 0 d.tokens refl)
+  own-row at d ps is = subst (λ (l : List ℕ). put_places at rank l (row f d) ≡ Ok (row g d)) is (put-places rank t f g own other at [] 0 d.tokens refl)
 
-  put-rows : (front : List Slots) (id : ℕ) (ds : List Document) → id ≡ 64 * range + length front → length front + length ds ≤ 64
-      → put_entries rank (entries_from id t ds) (front ++ map (row f) ds) ≡ Some (front ++ map (row g) ds)
-  put-rows front id [] is few = refl
-  put-rows front id (d ∷ ds) is few =
+  put-rows : (at : ℕ) (front : List Slots) (id : ℕ) (ds : List Document) → id ≡ 64 * range + length front → length front + length ds ≤ 64
+      → put_entries at rank (entries_from id t ds) (front ++ map (row f) ds) ≡ Ok (front ++ map (row g) ds)
+  put-rows at front id [] is few = refl
+  put-rows at front id (d ∷ ds) is few =
       let n = length-append front (row g d ∷ []) in
-      by (places t d) (own-row d (places t d) refl)
-      (put-rows (front ++ row g d ∷ []) (id + 1) ds (omega (arith, n, is)) (omega (arith, n, few)) ∙ ap Some (append_assoc front (row g d ∷ []) (map (row g) ds)))
+      by (places t d) (own-row (behind at 5) d (places t d) refl)
+      (λ k. put-rows k (front ++ row g d ∷ []) (id + 1) ds (omega (arith, n, is)) (omega (arith, n, few)) ∙ ap Ok (append_assoc front (row g d ∷ []) (map (row g) ds)))
     where
-      by : (ps : List ℕ) → put_places rank ps (row f d) ≡ Some (row g d)
-          → put_entries rank (entries_from (id + 1) t ds) ((front ++ row g d ∷ []) ++ map (row f) ds) ≡ Some (front ++ row g d ∷ map (row g) ds)
-          → put_entries rank (entry_of_places id ps ++ entries_from (id + 1) t ds) (front ++ row f d ∷ map (row f) ds) ≡ Some (front ++ row g d ∷ map (row g) ds)
+      by : (ps : List ℕ) → put_places (behind at 5) rank ps (row f d) ≡ Ok (row g d)
+          → ((k : ℕ) → put_entries k rank (entries_from (id + 1) t ds) ((front ++ row g d ∷ []) ++ map (row f) ds) ≡ Ok (front ++ row g d ∷ map (row g) ds))
+          → put_entries at rank (entry_of_places id ps ++ entries_from (id + 1) t ds) (front ++ row f d ∷ map (row f) ds) ≡ Ok (front ++ row g d ∷ map (row g) ds)
       by [] e rest =
-          ap (λ (r : Slots). put_entries rank (entries_from (id + 1) t ds) (front ++ r ∷ map (row f) ds)) (same_Some (row f d) (row g d) e)
-          ∙ ap (put_entries rank (entries_from (id + 1) t ds)) (sym (append_assoc front (row g d ∷ []) (map (row f) ds))) ∙ rest
+          ap (λ (r : Slots). put_entries at rank (entries_from (id + 1) t ds) (front ++ r ∷ map (row f) ds)) (ok_is (row f d) (row g d) e)
+          ∙ ap (put_entries at rank (entries_from (id + 1) t ds)) (sym (append_assoc front (row g d ∷ []) (map (row f) ds))) ∙ rest at
       by (p ∷ ps) e rest =
           let local : id % 64 ≡ length front = omega (arith, is, few) in
-          ap (λ (o : Option (List Slots)). option_and_then (put_entries rank (entries_from (id + 1) t ds)) o) (put-own rank (record { id = id; positions = p ∷ ps }) front (row f d) (row g d) (map (row f) ds) local e) ∙ rest
+          let next = behind (behind at 5) (4 * length (p ∷ ps)) in
+          ap (λ (o : Result (List Slots) ℕ). then_put (put_entries next rank (entries_from (id + 1) t ds)) o)
+          (put-own (behind at 5) rank (record { id = id; positions = p ∷ ps }) front (row f d) (row g d) (map (row f) ds) local e) ∙ rest next
 
-  put-block : (docs : List Document) → put_entries rank (block_of t range docs) (map (row f) (of_range range docs)) ≡ Some (map (row g) (of_range range docs))
+  put-own_block : (begin : ℕ) (docs : List Document) → put_block begin rank (block_of t range docs) (map (row f) (of_range range docs)) ≡ Ok (map (row g) (of_range range docs))
   unfolding block_of
-  put-block docs = put-rows [] (64 * range) (of_range range docs) (omega arith) (omega (arith, length-take 64 (drop (64 * range) docs)))
+  put-own_block begin docs = put-rows (behind begin 1) [] (64 * range) (of_range range docs) (omega arith) (omega (arith, length-take 64 (drop (64 * range) docs)))
 
 -- ---- ranks by term
 
@@ -172,16 +175,16 @@ module _ (dictionary : List TermBlocks) (rising : AllPairs (λ a b. IsTermBefore
       (All-weaker (λ j. j < k) (λ j. bytes_eq (term_of dictionary j) (term_of dictionary k) ≡ false) (λ j less. apart-no (term_of dictionary j) (term_of dictionary k) (are-apart j k less inside)) ks below)
 
   -- one block more
-  pub rank-more : (range k : ℕ) (done : List ℕ) (docs : List Document) → k < length dictionary → All (λ j. j < k) done
-      → put_entries k (block_of (term_of dictionary k) range docs) (rows_of dictionary done (of_range range docs)) ≡ Some (rows_of dictionary (done ++ k ∷ []) (of_range range docs))
-  rank-more range k done docs inside below =
+  pub rank-more : (begin range k : ℕ) (done : List ℕ) (docs : List Document) → k < length dictionary → All (λ j. j < k) done
+      → put_block begin k (block_of (term_of dictionary k) range docs) (rows_of dictionary done (of_range range docs)) ≡ Ok (rows_of dictionary (done ++ k ∷ []) (of_range range docs))
+  rank-more begin range k done docs inside below =
       let t = term_of dictionary k in
       let none : rank_in dictionary done t ≡ None = fresh k done inside below in
-      put-block k range t (rank_in dictionary done) (rank_in dictionary (done ++ k ∷ []))
+      put-own_block k range t (rank_in dictionary done) (rank_in dictionary (done ++ k ∷ []))
       (λ x e.
       let old : rank_in dictionary done x ≡ None = ap (rank_in dictionary done) (yes-same x t e) ∙ none in
       (old, find-behind-none (λ j. bytes_eq (term_of dictionary j) x) done k old (same-yes t x (sym (yes-same x t e)))))
-      (λ x e. find-behind-no (λ j. bytes_eq (term_of dictionary j) x) done k (apart-no t x (λ s. let y = same-yes x t (sym s) in cc))) docs
+      (λ x e. find-behind-no (λ j. bytes_eq (term_of dictionary j) x) done k (apart-no t x (λ s. let y = same-yes x t (sym s) in cc))) begin docs
 
 -- nothing is told of the documents of these outlines
 no-ranks : (dictionary : List TermBlocks) (toks : List (List ℕ)) → replicate (length toks) None ≡ map (rank_in dictionary []) toks
@@ -341,34 +344,37 @@ set-lengths [] n s is = refl
 set-lengths (r ∷ rs) zero s is = ap (λ k. k ∷ lengths rs) is
 set-lengths (r ∷ rs) (suc n) s is = ap (λ (l : List ℕ). length r ∷ l) (set-lengths rs n s is)
 
-places-length : (rank : ℕ) (ps : List ℕ) (slots out : Slots) → put_places rank ps slots ≡ Some out → length out ≡ length slots
-places-length rank [] slots out e = ap (λ (l : Slots). length l) (sym (same_Some slots out e))
-places-length rank (p ∷ ps) slots out e = by (is_free slots p) e (places-length rank ps (set slots p (Some rank)) out)
+places-length : (at rank : ℕ) (ps : List ℕ) (slots out : Slots) → put_places at rank ps slots ≡ Ok out → length out ≡ length slots
+places-length at rank [] slots out e = ap (λ (l : Slots). length l) (sym (ok_is slots out e))
+places-length at rank (p ∷ ps) slots out e = by (is_free slots p) e (places-length (behind at 4) rank ps (set slots p (Some rank)) out)
   where
-    by : (b : Bool) → cond b (put_places rank ps (set slots p (Some rank))) None ≡ Some out → (put_places rank ps (set slots p (Some rank)) ≡ Some out → length out ≡ length (set slots p (Some rank))) → length out ≡ length slots
+    by : (b : Bool) → cond b (put_places (behind at 4) rank ps (set slots p (Some rank))) (Err at) ≡ Ok out → (put_places (behind at 4) rank ps (set slots p (Some rank)) ≡ Ok out → length out ≡ length (set slots p (Some rank))) → length out ≡ length slots
     by true e rest = rest e ∙ length-set slots p (Some rank)
     by false e rest = absurd cc
 
-entry-lengths : (rank : ℕ) (e : BlockEntry) (rows out : List Slots) → put_entry rank e rows ≡ Some out → lengths out ≡ lengths rows
-entry-lengths rank e rows out h = by (ltb (e.id % 64) (length rows)) h
+entry-lengths : (at rank : ℕ) (e : BlockEntry) (rows out : List Slots) → put_entry at rank e rows ≡ Ok out → lengths out ≡ lengths rows
+entry-lengths at rank e rows out h = by (ltb (e.id % 64) (length rows)) h
   where
-    own : (o : Option Slots) → put_places rank e.positions (get_or rows (e.id % 64) []) ≡ o → option_map (λ (s : Slots). set rows (e.id % 64) s) o ≡ Some out → lengths out ≡ lengths rows
-    own None is h = absurd cc
-    own (Some s) is h =
-        ap lengths (sym (same_Some (set rows (e.id % 64) s) out h)) ∙ set-lengths rows (e.id % 64) s (places-length rank e.positions (get_or rows (e.id % 64) []) s is)
+    own : (o : Result Slots ℕ) → put_places at rank e.positions (get_or rows (e.id % 64) []) ≡ o → then_put (λ (s : Slots). Ok (set rows (e.id % 64) s)) o ≡ Ok out → lengths out ≡ lengths rows
+    own (Err n) is h = absurd cc
+    own (Ok s) is h =
+        ap lengths (sym (ok_is (set rows (e.id % 64) s) out h)) ∙ set-lengths rows (e.id % 64) s (places-length at rank e.positions (get_or rows (e.id % 64) []) s is)
 
-    by : (b : Bool) → cond b (option_map (λ (s : Slots). set rows (e.id % 64) s) (put_places rank e.positions (get_or rows (e.id % 64) []))) None ≡ Some out → lengths out ≡ lengths rows
+    by : (b : Bool) → cond b (then_put (λ (s : Slots). Ok (set rows (e.id % 64) s)) (put_places at rank e.positions (get_or rows (e.id % 64) []))) (Err at) ≡ Ok out → lengths out ≡ lengths rows
     by false h = absurd cc
-    by true h = own (put_places rank e.positions (get_or rows (e.id % 64) [])) refl h
+    by true h = own (put_places at rank e.positions (get_or rows (e.id % 64) [])) refl h
 
 -- telling a rank leaves each row as long as it was
-pub entries-lengths : (rank : ℕ) (es : List BlockEntry) (rows out : List Slots) → put_entries rank es rows ≡ Some out → lengths out ≡ lengths rows
-entries-lengths rank [] rows out h = ap lengths (sym (same_Some rows out h))
-entries-lengths rank (e ∷ es) rows out h = by (put_entry rank e rows) refl h (λ mid. entries-lengths rank es mid out)
+pub entries-lengths : (at rank : ℕ) (es : List BlockEntry) (rows out : List Slots) → put_entries at rank es rows ≡ Ok out → lengths out ≡ lengths rows
+entries-lengths at rank [] rows out h = ap lengths (sym (ok_is rows out h))
+entries-lengths at rank (e ∷ es) rows out h =
+    let next = behind (behind at 5) (4 * length e.positions) in
+    by next (put_entry (behind at 5) rank e rows) refl h (λ mid. entries-lengths next rank es mid out)
   where
-    by : (o : Option (List Slots)) → put_entry rank e rows ≡ o → option_and_then (put_entries rank es) o ≡ Some out → ((mid : List Slots) → put_entries rank es mid ≡ Some out → lengths out ≡ lengths mid) → lengths out ≡ lengths rows
-    by None is h rest = absurd cc
-    by (Some mid) is h rest = rest mid h ∙ entry-lengths rank e rows mid is
+    by : (next : ℕ) (o : Result (List Slots) ℕ) → put_entry (behind at 5) rank e rows ≡ o → then_put (put_entries next rank es) o ≡ Ok out
+        → ((mid : List Slots) → put_entries next rank es mid ≡ Ok out → lengths out ≡ lengths mid) → lengths out ≡ lengths rows
+    by next (Err n) is h rest = absurd cc
+    by next (Ok mid) is h rest = rest mid h ∙ entry-lengths (behind at 5) rank e rows mid is
 
 pub terms-length : (dictionary : List TermBlocks) (slots : Slots) (ts : List (List ℕ)) → all_terms dictionary slots ≡ Some ts → length ts ≡ length slots
 terms-length dictionary [] ts e = ap (λ (l : List (List ℕ)). length l) (sym (same_Some [] ts e))
@@ -404,23 +410,24 @@ All-range P range xs all = All-take P 64 (drop (64 * range) xs) (All-drop P (64 
 
 -- ---- the loops
 
-pub places-step : (rank : ℕ) (ps : List ℕ) (i p : ℕ) (slots new : Slots) (total : Option Slots) → i < length ps → p ≡ get_or ps i 0 → is_free slots p ≡ true → new ≡ set slots p (Some rank) → put_places rank (drop i ps) slots ≡ total
-    → put_places rank (drop (i + 1) ps) new ≡ total
-places-step rank ps i p slots new total h is free put so_far =
-    let rest : Slots → Option Slots = put_places rank (drop (i + 1) ps) in
-    let step : put_places rank (drop i ps) slots ≡ cond (is_free slots p) (rest (set slots p (Some rank))) None =
-    at_drop_more (λ (l : List ℕ). put_places rank l slots) ps i 0 h ∙ ap (λ n. cond (is_free slots n) (rest (set slots n (Some rank))) None) (sym is) in
-    ap rest put ∙ sym (step ∙ ap (λ b. cond b (rest (set slots p (Some rank))) None) free) ∙ so_far
+pub places-step : (at rank : ℕ) (ps : List ℕ) (i p : ℕ) (slots new : Slots) (total : Result Slots ℕ) → i < length ps → p ≡ get_or ps i 0 → is_free slots p ≡ true → new ≡ set slots p (Some rank)
+    → put_places at rank (drop i ps) slots ≡ total → put_places (behind at 4) rank (drop (i + 1) ps) new ≡ total
+places-step at rank ps i p slots new total h is free put so_far =
+    let rest : Slots → Result Slots ℕ = put_places (behind at 4) rank (drop (i + 1) ps) in
+    let step : put_places at rank (drop i ps) slots ≡ cond (is_free slots p) (rest (set slots p (Some rank))) (Err at) =
+    at_drop_more (λ (l : List ℕ). put_places at rank l slots) ps i 0 h ∙ ap (λ n. cond (is_free slots n) (rest (set slots n (Some rank))) (Err at)) (sym is) in
+    ap rest put ∙ sym (step ∙ ap (λ b. cond b (rest (set slots p (Some rank))) (Err at)) free) ∙ so_far
 
-pub places-stop : (rank : ℕ) (ps : List ℕ) (i p : ℕ) (slots : Slots) (total : Option Slots) → i < length ps → p ≡ get_or ps i 0 → is_free slots p ≡ false → put_places rank (drop i ps) slots ≡ total → total ≡ None
-places-stop rank ps i p slots total h is taken so_far =
-    let rest : Slots → Option Slots = put_places rank (drop (i + 1) ps) in
-    let step : put_places rank (drop i ps) slots ≡ cond (is_free slots p) (rest (set slots p (Some rank))) None =
-    at_drop_more (λ (l : List ℕ). put_places rank l slots) ps i 0 h ∙ ap (λ n. cond (is_free slots n) (rest (set slots n (Some rank))) None) (sym is) in
-    sym so_far ∙ step ∙ ap (λ b. cond b (rest (set slots p (Some rank))) None) taken
+pub places-stop : (at rank : ℕ) (ps : List ℕ) (i p : ℕ) (slots : Slots) (total : Result Slots ℕ) → i < length ps → p ≡ get_or ps i 0 → is_free slots p ≡ false → put_places at rank (drop i ps) slots ≡ total
+    → total ≡ Err at
+places-stop at rank ps i p slots total h is taken so_far =
+    let rest : Slots → Result Slots ℕ = put_places (behind at 4) rank (drop (i + 1) ps) in
+    let step : put_places at rank (drop i ps) slots ≡ cond (is_free slots p) (rest (set slots p (Some rank))) (Err at) =
+    at_drop_more (λ (l : List ℕ). put_places at rank l slots) ps i 0 h ∙ ap (λ n. cond (is_free slots n) (rest (set slots n (Some rank))) (Err at)) (sym is) in
+    sym so_far ∙ step ∙ ap (λ b. cond b (rest (set slots p (Some rank))) (Err at)) taken
 
-pub places-end : (rank : ℕ) (ps : List ℕ) (i : ℕ) (slots : Slots) (total : Option Slots) → length ps ≤ i → put_places rank (drop i ps) slots ≡ total → total ≡ Some slots
-places-end rank ps i slots total h so_far = sym so_far ∙ at_drop_all (λ (l : List ℕ). put_places rank l slots) ps i h
+pub places-end : (at rank : ℕ) (ps : List ℕ) (i : ℕ) (slots : Slots) (total : Result Slots ℕ) → length ps ≤ i → put_places at rank (drop i ps) slots ≡ total → total ≡ Ok slots
+places-end at rank ps i slots total h so_far = sym so_far ∙ at_drop_all (λ (l : List ℕ). put_places at rank l slots) ps i h
 
 -- whether a place is free, by the length of the slots
 pub free-inside : (slots : Slots) (at : ℕ) (s : Option ℕ) → at < length slots → s ≡ get_or slots at s → is_none s ≡ is_free slots at
@@ -438,35 +445,42 @@ free-below [] at h = absurd cc
 free-below (x ∷ xs) zero h = omega arith
 free-below (x ∷ xs) (suc at) h = let rest = free-below xs at h in omega (arith, rest)
 
-pub entry-step : (rank : ℕ) (e : BlockEntry) (rows : List Slots) (row : ℕ) (s new : Slots) → row ≡ e.id % 64 → row < length rows → s ≡ get_or rows row s → put_places rank e.positions s ≡ Some new
-    → put_entry rank e rows ≡ Some (set rows row new)
-entry-step rank e rows row s new is inside own put =
-    let told : ℕ → Option (List Slots) = λ n. option_map (λ (x : Slots). set rows n x) (put_places rank e.positions (get_or rows n [])) in
+-- what is told of an entry whose row is there
+entry-there : (at rank : ℕ) (e : BlockEntry) (rows : List Slots) (row : ℕ) (s : Slots) (put : Result Slots ℕ) → row ≡ e.id % 64 → row < length rows → s ≡ get_or rows row s → put_places at rank e.positions s ≡ put
+    → put_entry at rank e rows ≡ then_put (λ (x : Slots). Ok (set rows row x)) put
+entry-there at rank e rows row s put is inside own told =
+    let all : ℕ → Result (List Slots) ℕ = λ n. then_put (λ (x : Slots). Ok (set rows n x)) (put_places at rank e.positions (get_or rows n [])) in
     let here : get_or rows row [] ≡ s = get_or_default rows row [] s inside ∙ sym own in
-    ap (λ n. cond (ltb n (length rows)) (told n) None) (sym is) ∙ ap (λ c. cond c (told row) None) (lt-ltb row (length rows) inside)
-    ∙ ap (λ (r : Slots). option_map (λ (x : Slots). set rows row x) (put_places rank e.positions r)) here ∙ ap (λ (o : Option Slots). option_map (λ (x : Slots). set rows row x) o) put
+    ap (λ n. cond (ltb n (length rows)) (all n) (Err at)) (sym is) ∙ ap (λ c. cond c (all row) (Err at)) (lt-ltb row (length rows) inside)
+    ∙ ap (λ (r : Slots). then_put (λ (x : Slots). Ok (set rows row x)) (put_places at rank e.positions r)) here ∙ ap (λ (o : Result Slots ℕ). then_put (λ (x : Slots). Ok (set rows row x)) o) told
 
-pub entry-stop : (rank : ℕ) (e : BlockEntry) (rows : List Slots) (row : ℕ) (s : Slots) → row ≡ e.id % 64 → row < length rows → s ≡ get_or rows row s → put_places rank e.positions s ≡ None → put_entry rank e rows ≡ None
-entry-stop rank e rows row s is inside own put =
-    let told : ℕ → Option (List Slots) = λ n. option_map (λ (x : Slots). set rows n x) (put_places rank e.positions (get_or rows n [])) in
-    let here : get_or rows row [] ≡ s = get_or_default rows row [] s inside ∙ sym own in
-    ap (λ n. cond (ltb n (length rows)) (told n) None) (sym is) ∙ ap (λ c. cond c (told row) None) (lt-ltb row (length rows) inside)
-    ∙ ap (λ (r : Slots). option_map (λ (x : Slots). set rows row x) (put_places rank e.positions r)) here ∙ ap (λ (o : Option Slots). option_map (λ (x : Slots). set rows row x) o) put
+pub entry-step : (at rank : ℕ) (e : BlockEntry) (rows : List Slots) (row : ℕ) (s new : Slots) → row ≡ e.id % 64 → row < length rows → s ≡ get_or rows row s → put_places at rank e.positions s ≡ Ok new
+    → put_entry at rank e rows ≡ Ok (set rows row new)
+entry-step at rank e rows row s new is inside own put = entry-there at rank e rows row s (Ok new) is inside own put
 
-pub entry-past : (rank : ℕ) (e : BlockEntry) (rows : List Slots) → length rows ≤ e.id % 64 → put_entry rank e rows ≡ None
-entry-past rank e rows h =
-    ap (λ b. cond b (option_map (λ (x : Slots). set rows (e.id % 64) x) (put_places rank e.positions (get_or rows (e.id % 64) []))) None) (le-ltb (e.id % 64) (length rows) h)
+pub entry-stop : (at rank : ℕ) (e : BlockEntry) (rows : List Slots) (row : ℕ) (s : Slots) (place : ℕ) → row ≡ e.id % 64 → row < length rows → s ≡ get_or rows row s → put_places at rank e.positions s ≡ Err place
+    → put_entry at rank e rows ≡ Err place
+entry-stop at rank e rows row s place is inside own put = entry-there at rank e rows row s (Err place) is inside own put
 
-pub entries-step : (rank : ℕ) (es : List BlockEntry) (i : ℕ) (e : BlockEntry) (rows : List Slots) (out total : Option (List Slots)) → i < length es → e ≡ get_or es i e → put_entry rank e rows ≡ out
-    → put_entries rank (drop i es) rows ≡ total → option_and_then (put_entries rank (drop (i + 1) es)) out ≡ total
-entries-step rank es i e rows out total h is put so_far =
-    let rest : Option (List Slots) → Option (List Slots) = λ o. option_and_then (put_entries rank (drop (i + 1) es)) o in
-    let step : put_entries rank (drop i es) rows ≡ rest (put_entry rank e rows) =
-    at_drop_more (λ (l : List BlockEntry). put_entries rank l rows) es i e h ∙ ap (λ (x : BlockEntry). rest (put_entry rank x rows)) (sym is) in
-    sym (step ∙ ap rest put) ∙ so_far
+pub entry-past : (at rank : ℕ) (e : BlockEntry) (rows : List Slots) → length rows ≤ e.id % 64 → put_entry at rank e rows ≡ Err at
+entry-past at rank e rows h =
+    ap (λ b. cond b (then_put (λ (x : Slots). Ok (set rows (e.id % 64) x)) (put_places at rank e.positions (get_or rows (e.id % 64) []))) (Err at)) (le-ltb (e.id % 64) (length rows) h)
 
-pub entries-end : (rank : ℕ) (es : List BlockEntry) (i : ℕ) (rows : List Slots) (total : Option (List Slots)) → length es ≤ i → put_entries rank (drop i es) rows ≡ total → total ≡ Some rows
-entries-end rank es i rows total h so_far = sym so_far ∙ at_drop_all (λ (l : List BlockEntry). put_entries rank l rows) es i h
+pub entries-step : (at next rank : ℕ) (es : List BlockEntry) (i : ℕ) (e : BlockEntry) (rows : List Slots) (out total : Result (List Slots) ℕ) → i < length es → e ≡ get_or es i e
+    → next ≡ behind (behind at 5) (4 * length e.positions) → put_entry (behind at 5) rank e rows ≡ out → put_entries at rank (drop i es) rows ≡ total → then_put (put_entries next rank (drop (i + 1) es)) out ≡ total
+entries-step at next rank es i e rows out total h is on put so_far =
+    let rest : ℕ → Result (List Slots) ℕ → Result (List Slots) ℕ = λ n o. then_put (put_entries n rank (drop (i + 1) es)) o in
+    let step : put_entries at rank (drop i es) rows ≡ rest (behind (behind at 5) (4 * length e.positions)) (put_entry (behind at 5) rank e rows) =
+    at_drop_more (λ (l : List BlockEntry). put_entries at rank l rows) es i e h
+    ∙ ap (λ (x : BlockEntry). rest (behind (behind at 5) (4 * length x.positions)) (put_entry (behind at 5) rank x rows)) (sym is) in
+    ap (λ n. rest n out) on ∙ sym (step ∙ ap (rest (behind (behind at 5) (4 * length e.positions))) put) ∙ so_far
+
+-- so many places of four bytes each, counted by parts that stop at the greatest number
+pub behind-places : (at four five n next : ℕ) → five ≡ min (at + 5) (2 ^ 64 - 1) → four ≡ min (n * 4) (2 ^ 64 - 1) → next ≡ min (five + four) (2 ^ 64 - 1) → next ≡ behind (behind at 5) (4 * n)
+behind-places at four five n next a b c = omega (arith, a, b, c)
+
+pub entries-end : (at rank : ℕ) (es : List BlockEntry) (i : ℕ) (rows : List Slots) (total : Result (List Slots) ℕ) → length es ≤ i → put_entries at rank (drop i es) rows ≡ total → total ≡ Ok rows
+entries-end at rank es i rows total h so_far = sym so_far ∙ at_drop_all (λ (l : List BlockEntry). put_entries at rank l rows) es i h
 
 -- as many rows as outlines, each as long as its document
 pub rows-many : (os : List Entry) (rows : List Slots) → lengths rows ≡ lengths_of os → length rows ≡ length os

@@ -1,5 +1,5 @@
 -- Why the places of a document of a part on disk can't be told.
-use Rattle.std.specs.Prelude.{◌≡◌, ◌<◌, ◌⊎◌, ◌/◌, ℕ, List, None}
+use Rattle.std.specs.Prelude.{◌≡◌, ◌<◌, ◌⊎◌, ◌/◌, ℕ, List, [], Option, None, Some, Result, Err}
 use Rattle.std.specs.List.{All, Contains}
 use Rattle.std.specs.List.Sorted.{IsStrictlyIncreasing}
 use Rattle.std.specs.Option.{MatchOption}
@@ -13,17 +13,34 @@ use Rattle.ri_base.specs.declared.seg_fault.SegFault.TheVariants.{Malformed, Mis
 use Rattle.store_ends.specs.Files.{Files}
 use Rattle.seg_codec.specs.Blocks.{tokens_of}
 use Rattle.seg_codec.specs.Fits.{FitBlock}
+use Rattle.seg_codec.specs.Spelling.{block_bytes}
 use Rattle.seg_codec.specs.declared.blocks.BlockEntry.{BlockEntry}
 use Rattle.seg_codec.specs.declared.documents.Entry.{Entry}
-use Rattle.disk_index.specs.Blocks.{IsBlockFault, places_of}
+use Rattle.disk_index.specs.Blocks.{IsBlockFault, bytes_at, places_of}
 use Rattle.disk_index.specs.Cache.{KeptBlock}
 use Rattle.disk_index.specs.Kept.{Kept, key_of, place_of}
 use Rattle.disk_index.specs.Names.{segment_name}
+use Rattle.disk_index.specs.Rebuild.{Slots}
 use Rattle.disk_index.specs.declared.cache.BlockKey.{BlockKey}
 
--- a block that was kept under this key, or is one of these documents
-abbrev pub CameFrom : List KeptBlock → List Entry → BlockKey → List BlockEntry → Type 0
-CameFrom kept docs key es = Contains kept (key, es) ⊎ FitBlock docs key.range es
+-- a block of these documents, whose bytes the file has there where the files are told
+pub record IsRead (told : Option Files) (docs : List Entry) (key : BlockKey) (es : List BlockEntry) : Type 0 where
+  pub fit : FitBlock docs key.range es
+  pub bytes : (files : Files) → told ≡ Some files → bytes_at files key ≡ block_bytes key.range es
+
+-- a block that was kept under this key, or that was read
+abbrev pub CameFrom : Option Files → List KeptBlock → List Entry → BlockKey → List BlockEntry → Type 0
+CameFrom told kept docs key es = Contains kept (key, es) ⊎ IsRead told docs key es
+
+-- the block of a term for a range: it came from there, and is empty where the dictionary has none
+abbrev pub IsTermBlock : Option Files → List KeptBlock → Kept → List ℕ → ℕ → List BlockEntry → Type 0
+IsTermBlock told cached kept term range es = MatchOption (place_of kept.dictionary term range) (es ≡ []) (λ p. CameFrom told cached kept.outlines (key_of kept.number range p) es)
+
+-- the places that this block has in the document
+pub record AreTold (told : Option Files) (cached : List KeptBlock) (kept : Kept) (term : List ℕ) (id : ℕ) (ps : List ℕ) : Type 0 where
+  pub entries : List BlockEntry
+  pub block : IsTermBlock told cached kept term (id / 64) entries
+  pub places : ps ≡ places_of id entries
 
 -- rising places of a document of so many tokens
 pub record ArePlacesIn (size : ℕ) (ps : List ℕ) : Type 0 where
@@ -51,17 +68,17 @@ abbrev pub IsTermFault : Files → List KeptBlock → Kept → List ℕ → ℕ 
 IsTermFault files cached kept term id fault =
     MatchOption (place_of kept.dictionary term (id / 64)) (IsOutside fault) (λ p. IsPlacesFault files cached kept.outlines id (key_of kept.number (id / 64) p) fault)
 
--- Why the documents of a range can't be put together: a block of the file is malformed, which it also is where the blocks of the range
--- don't have each token once, or there is no such file.
+-- why the blocks of a range can't be read: one of the file is malformed, or there is no such file
 abbrev pub IsRangeFault : Files → ℕ → SegFault → Type 0
 IsRangeFault files number (Malformed file part place) = (file ≡ Segment number) × (part ≡ parts.Block)
 IsRangeFault files number (Missing file) = (file ≡ Segment number) × (files (segment_name number) ≡ None)
 IsRangeFault files number Store = Unit {0}
 IsRangeFault files number Memory = Unit {0}
 
--- a block of this file is malformed
-abbrev pub IsMalformedBlock : ℕ → SegFault → Type 0
-IsMalformedBlock number (Malformed file part place) = (file ≡ Segment number) × (part ≡ parts.Block)
-IsMalformedBlock number (Missing file) = ⊥
-IsMalformedBlock number Store = ⊥
-IsMalformedBlock number Memory = ⊥
+-- the fault of a block of this file, at this place
+abbrev pub block_fault : ℕ → ℕ → SegFault
+block_fault number place = Malformed (Segment number) parts.Block place
+
+-- a block couldn't be put, and is malformed where that ended
+abbrev pub IsUnput : ℕ → Result (List Slots) ℕ → SegFault → Type 0
+IsUnput number answer fault = (place : ℕ) × (answer ≡ Err place) × (fault ≡ block_fault number place)

@@ -13,15 +13,16 @@ use Rattle.seg_codec.specs.declared.dictionary.TermBlocks.{TermBlocks}
 use Rattle.seg_codec.specs.declared.documents.Entry.{Entry}
 use Rattle.disk_index.specs.declared.cache.BlockKey.{BlockKey}
 
--- the number of its file, the documents without their tokens, and the dictionary
+-- the number of its file, the documents without their tokens, the dictionary, and where the blocks begin
 pub record Kept : Type 0 where
   pub number : ℕ
   pub outlines : List Entry
   pub dictionary : List TermBlocks
+  pub begin : ℕ
 
 -- what is kept of the segment of these documents
 unfoldable pub kept_of : ℕ → List Document → Kept
-kept_of number docs = record { number = number; outlines = map entry_of docs; dictionary = index (blocks_at docs) (vocabulary_of docs) docs }
+kept_of number docs = record { number = number; outlines = map entry_of docs; dictionary = index (blocks_at docs) (vocabulary_of docs) docs; begin = blocks_at docs }
 
 -- the bytes are the segment of these documents, which are some that have one
 pub record IsSegmentOf (bytes : List ℕ) (docs : List Document) : Type 0 where

@@ -11,3 +11,4 @@ pub mod Ranks
 pub mod Reads
 pub mod Rebuild
 pub mod Snapshots
+pub mod Together

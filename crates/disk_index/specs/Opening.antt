@@ -43,6 +43,7 @@ pub record IsOpened (file : List ℕ) (docs : ℕ) (kept : Kept) : Type 0 where
   pub header_is : header_in file docs ≡ Ok head
   pub outlines_are : documents head (documents_in file head) ≡ Ok kept.outlines
   pub dictionary_is : dictionary head (dictionary_in file head) ≡ Ok kept.dictionary
+  pub begin_is : kept.begin ≡ head.blocks_at
 
 -- a part that ends at this place of its file can't be read, and its first bad field begins at that place
 abbrev pub IsBroken : {A : Type 0} → Result A ℕ → ℕ → ℕ → Type 0

@@ -1,16 +1,19 @@
 -- What a part reads as, together with the files, and when it is backed.
 use Rattle.std.specs.Prelude.{◌≡◌, ◌≤◌, ℕ, List, length, map, Option}
+use Rattle.ri_base.specs.Collection.{document_at}
 use Rattle.ri_base.specs.Documents.{Document}
 use Rattle.ri_base.specs.Faults.{IsOutside}
+use Rattle.ri_base.specs.Places.{places}
 use Rattle.ri_base.specs.declared.seg_fault.SegFault.{SegFault}
 use Rattle.store_ends.specs.Files.{Files, IsQuiet}
 use Rattle.seg_codec.specs.Segment.{entry_of}
 use Rattle.seg_codec.specs.declared.documents.Entry.{Entry}
-use Rattle.disk_index.specs.Blocks.{told_file}
+use Rattle.disk_index.specs.Blocks.{of_range, told_file}
 use Rattle.disk_index.specs.Cache.{CacheKeeps, KeptBlock}
-use Rattle.disk_index.specs.Faults.{IsRangeFault, IsTermFault}
+use Rattle.disk_index.specs.Faults.{AreTold, IsRangeFault, IsTermFault}
 use Rattle.disk_index.specs.Kept.{Kept}
 use Rattle.disk_index.specs.Reads.{IsBacked, rebuilt}
+use Rattle.disk_index.specs.Together.{AreTogether, IsDocumentsFault}
 use Rattle.disk_index.specs.declared.part.Part.{Part}
 use Rattle.disk_index.specs.declared.part.Part.TheVariants.{Memory, Disk}
 
@@ -53,7 +56,22 @@ abbrev pub IsPartFault : Files → List KeptBlock → Source → List ℕ → �
 IsPartFault files cached (InMemory docs) term id fault = IsOutside fault
 IsPartFault files cached (OnDisk kept) term id fault = IsTermFault files cached kept term id fault
 
--- why documents of the part can't be put together; of one in memory no file is to blame
+-- what may be told as the places of a term in a document of the part: of one on disk those of a block that was kept or read
+abbrev pub ArePlacesOf : Option Files → List KeptBlock → Source → List ℕ → ℕ → List ℕ → Type 0
+ArePlacesOf told cached (InMemory docs) term id ps = ps ≡ places term (document_at docs id)
+ArePlacesOf told cached (OnDisk kept) term id ps = AreTold told cached kept term id ps
+
+-- what may be read as the documents of a range of the part: of one on disk what the blocks of the range tell
+abbrev pub AreRangeOf : Option Files → List KeptBlock → Source → ℕ → List Document → Type 0
+AreRangeOf told cached (InMemory docs) range found = found ≡ of_range range docs
+AreRangeOf told cached (OnDisk kept) range found = AreTogether told cached kept range found
+
+-- why the documents of a range of the part can't be put together; of one in memory no file is to blame
+abbrev pub IsRangeFaultOf : Files → List KeptBlock → Source → ℕ → SegFault → Type 0
+IsRangeFaultOf files cached (InMemory docs) range fault = IsOutside fault
+IsRangeFaultOf files cached (OnDisk kept) range fault = IsDocumentsFault files cached kept range fault
+
+-- why blocks of the part can't be read; of one in memory no file is to blame
 abbrev pub IsSourceFault : Files → Source → SegFault → Type 0
 IsSourceFault files (InMemory docs) fault = IsOutside fault
 IsSourceFault files (OnDisk kept) fault = IsRangeFault files kept.number fault

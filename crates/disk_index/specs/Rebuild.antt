@@ -1,5 +1,5 @@
 -- Documents put together again from the blocks of a range.
-use Rattle.std.specs.Prelude.{ℕ, ◌%◌, Bool, false, List, [], ◌∷◌, length, map, set, Option, Some, None, slice_get, slice_index_or, is_none, nat_lt, if◌then◌else◌}
+use Rattle.std.specs.Prelude.{ℕ, ◌+◌, ◌-◌, ◌*◌, ◌%◌, ◌^◌, min, Bool, false, List, [], ◌∷◌, length, map, set, Option, Some, None, Result, Ok, Err, slice_get, slice_index_or, is_none, nat_lt, if◌then◌else◌}
 use Rattle.std.specs.List.{find}
 use Rattle.std.specs.Option.{option_and_then, option_map, option_map_or}
 use Rattle.std.specs.Str.{bytes_eq}
@@ -17,20 +17,34 @@ Slots = List (Option ℕ)
 abbrev pub is_free : Slots → ℕ → Bool
 is_free slots p = option_map_or (λ s. is_none s) (slice_get slots p) false
 
--- the rank is told at these places; none where one of them isn't free
-abbrev pub put_places : ℕ → List ℕ → Slots → Option Slots
-put_places rank [] slots = Some slots
-put_places rank (p ∷ ps) slots = if is_free slots p then put_places rank ps (set slots p (Some rank)) else None
+-- so many bytes behind a place; beyond the greatest number no place is told
+abbrev pub behind : ℕ → ℕ → ℕ
+behind at n = min (at + n) (2 ^ 64 - 1)
+
+-- a further step, where the one before didn't end at a place
+abbrev pub then_put : {A B : Type 0} → (A → Result B ℕ) → Result A ℕ → Result B ℕ
+then_put f (Ok x) = f x
+then_put f (Err place) = Err place
+
+-- The rank is told at these places, the first of which stands there in the file and each further one four bytes on. Where one of
+-- them isn't free, it is told where that one stands.
+abbrev pub put_places : ℕ → ℕ → List ℕ → Slots → Result Slots ℕ
+put_places at rank [] slots = Ok slots
+put_places at rank (p ∷ ps) slots = if is_free slots p then put_places (behind at 4) rank ps (set slots p (Some rank)) else Err at
 
 -- the same of an entry, in the row of its document among those of a range of 64 ids
-abbrev pub put_entry : ℕ → BlockEntry → List Slots → Option (List Slots)
-put_entry rank e rows =
-    if nat_lt (e.id % 64) (length rows) then option_map (λ slots. set rows (e.id % 64) slots) (put_places rank e.positions (slice_index_or rows (e.id % 64) [])) else None
+abbrev pub put_entry : ℕ → ℕ → BlockEntry → List Slots → Result (List Slots) ℕ
+put_entry at rank e rows =
+    if nat_lt (e.id % 64) (length rows) then then_put (λ slots. Ok (set rows (e.id % 64) slots)) (put_places at rank e.positions (slice_index_or rows (e.id % 64) [])) else Err at
 
--- the same of the entries of a block
-abbrev pub put_entries : ℕ → List BlockEntry → List Slots → Option (List Slots)
-put_entries rank [] rows = Some rows
-put_entries rank (e ∷ es) rows = option_and_then (put_entries rank es) (put_entry rank e rows)
+-- The same of entries, the first of which stands there. Before the places of each stand its id, of one byte, and their number, of four.
+abbrev pub put_entries : ℕ → ℕ → List BlockEntry → List Slots → Result (List Slots) ℕ
+put_entries at rank [] rows = Ok rows
+put_entries at rank (e ∷ es) rows = then_put (put_entries (behind (behind at 5) (4 * length e.positions)) rank es) (put_entry (behind at 5) rank e rows)
+
+-- the same of a block that begins there, with the number of its entries in its first byte
+abbrev pub put_block : ℕ → ℕ → List BlockEntry → List Slots → Result (List Slots) ℕ
+put_block begin rank es rows = put_entries (behind begin 1) rank es rows
 
 -- of each row how many tokens there are
 abbrev pub lengths : List Slots → List ℕ

@@ -79,7 +79,7 @@ impl BlockCache {
         requires { key.place + key.length < 2 ^ 64 }
         ensures exact { (f : Files) → T.files store.old ≡ Some f → IsCacheBacked (Some f) self.old → IfOk result (IsBlockIn f key) }
         ensures fault { (f : Files) → T.files store.old ≡ Some f → IfErr result (IsBlockFault f key documents.now) }
-        ensures origin { IfOk result (CameFrom self.old documents.now key) }
+        ensures origin { IfOk result (CameFrom (T.files store.old) self.old documents.now key) }
         ensures cache { CacheKeeps (T.files store.old) (λ n. n ≡ key.number) self.old self.new }
         ensures quiet { IsQuiet T.files T.layers T.clock T.since T.longest T.held store.old store.new }
         ensures later { T.faults store.old ≤ T.faults store.new }
@@ -106,15 +106,16 @@ impl BlockCache {
         requires { key.place + key.length < 2 ^ 64 }
         ensures exact { (f : Files) → T.files store.old ≡ Some f → IsCacheBacked (Some f) self.old → IfOk result (IsBlockIn f key) }
         ensures fault { (f : Files) → T.files store.old ≡ Some f → IfErr result (IsBlockFault f key documents.now) }
+        ensures origin { IfOk result (CameFrom (T.files store.old) self.old documents.now key) }
         ensures cache { AllKept self.old self.new }
         ensures quiet { IsQuiet T.files T.layers T.clock T.since T.longest T.held store.old store.new }
         ensures later { T.faults store.old ≤ T.faults store.new }
         ensures store { result ≡ Err SegFault.Store → Rose (T.faults store.old) (T.faults store.new) }
     {
-        match kept_at(&mut self.kept, key)? {
-            Some(block) => Ok(block),
-            None => read_block(alloc, store, key, documents),
+        if let Some(block) = kept_at(&mut self.kept, key)? {
+            return Ok(block);
         }
+        read_block(alloc, store, key, documents)
     }
 }
 

@@ -1,5 +1,5 @@
 // The documents of a range of a part on disk, put together from its blocks.
-ghost use Rattle.std.specs.Prelude.{◌≡◌, ◌≤◌, ◌<◌, ◌*◌, List, Some, Err, IfOk, IfErr, None, OnOk, OnErr, length, map};
+ghost use Rattle.std.specs.Prelude.{◌≡◌, ◌≤◌, ◌<◌, ◌*◌, List, Some, Ok, Err, IfOk, IfErr, OnOk, length, map};
 ghost use Rattle.ri_base.specs.Documents.{Document};
 ghost use Rattle.ri_base.specs.Faults.{IsOutside};
 ghost use Rattle.ri_base.specs.Keeps.{Rose};
@@ -7,13 +7,14 @@ ghost use Rattle.store_ends.specs.Files.{Files, IsQuiet};
 ghost use Rattle.seg_codec.specs.Held.{lengths_of};
 ghost use Rattle.seg_codec.specs.Segment.{entry_of};
 ghost use Rattle.disk_index.specs.Blocks.{of_range};
-ghost use Rattle.disk_index.specs.Cache.{CacheKeeps, IsCacheBacked};
-ghost use Rattle.disk_index.specs.Faults.{IsMalformedBlock, IsRangeFault};
+ghost use Rattle.disk_index.specs.Cache.{AllKept, IsCacheBacked};
+ghost use Rattle.disk_index.specs.Faults.{IsUnput, block_fault};
 ghost use Rattle.disk_index.specs.Ranks.{ranks_of};
 ghost use Rattle.disk_index.specs.Reads.{IsBacked};
-ghost use Rattle.disk_index.specs.Rebuild.{lengths, put_entries, rows_of};
+ghost use Rattle.disk_index.specs.Rebuild.{lengths, put_block, rows_of};
+ghost use Rattle.disk_index.specs.Together.{AreAllRows, AreTogether, IsDocumentsFault, range_end};
 
-use crate::rebuild::{Slots, documents_of, put_entries, untold_rows};
+use crate::rebuild::{Slots, documents_of, put_block, untold_rows};
 use crate::{Block, BlockCache, DiskIndex};
 use ri_base::{Doc, FileName, List, PartName, SegFault};
 use std::alloc::Global;
@@ -45,8 +46,11 @@ impl DiskIndex {
         // Without their tokens they are what is kept, whatever the file has.
         ensures kept { IfOk result (λ ds. map entry_of ds ≡ of_range range self.now.outlines) }
 
-        ensures fault { (f : Files) → T.files store.old ≡ Some f → IfErr result (IsRangeFault f self.now.number) }
-        ensures cache { CacheKeeps (T.files store.old) (λ n. n ≡ self.now.number) cache.old cache.new }
+        // They are what the blocks of the range tell, so no malformed one is passed by.
+        ensures told { IfOk result (AreTogether (T.files store.old) cache.old self.now range) }
+
+        ensures fault { (f : Files) → T.files store.old ≡ Some f → IfErr result (IsDocumentsFault f cache.old self.now range) }
+        ensures cache { AllKept cache.old cache.new }
         ensures quiet { IsQuiet T.files T.layers T.clock T.since T.longest T.held store.old store.new }
         ensures later { T.faults store.old ≤ T.faults store.new }
         ensures store { result ≡ Err SegFault.Store → Rose (T.faults store.old) (T.faults store.new) }
@@ -72,8 +76,10 @@ impl DiskIndex {
         ensures honest { (docs : List Document) → IsBacked (T.files store.old) self.now docs → IsCacheBacked (T.files store.old) cache.old
             → IfErr result IsOutside }
         ensures shape { IfOk result (λ t. lengths t.rows.items ≡ lengths_of (of_range range self.now.outlines)) }
-        ensures fault { (f : Files) → T.files store.old ≡ Some f → IfErr result (IsRangeFault f self.now.number) }
-        ensures cache { CacheKeeps (T.files store.old) (λ n. n ≡ self.now.number) cache.old cache.new }
+        ensures told { IfOk result (λ t. AreAllRows (T.files store.old) cache.old self.now range t.rows.items) }
+        ensures last { IfOk result (λ t. t.last ≡ range_end self.now range) }
+        ensures fault { (f : Files) → T.files store.old ≡ Some f → IfErr result (IsDocumentsFault f cache.old self.now range) }
+        ensures cache { AllKept cache.old cache.new }
         ensures quiet { IsQuiet T.files T.layers T.clock T.since T.longest T.held store.old store.new }
         ensures later { T.faults store.old ≤ T.faults store.new }
         ensures store { result ≡ Err SegFault.Store → Rose (T.faults store.old) (T.faults store.new) }
@@ -97,11 +103,10 @@ impl DiskIndex {
         rank: u32,
         begin: u64,
     ) -> Result<(), SegFault>
-        ensures ok { OnOk result (put_entries rank block.now rows.old.items ≡ Some rows.new.items) }
-        ensures err { OnErr result (put_entries rank block.now rows.old.items ≡ None) }
-        ensures fault { IfErr result (IsMalformedBlock self.now.number) }
+        ensures ok { OnOk result (put_block begin rank block.now rows.old.items ≡ Ok rows.new.items) }
+        ensures err { IfErr result (IsUnput self.now.number (put_block begin rank block.now rows.old.items)) }
     {
-        match put_entries(rows, block.entries(), rank, begin) {
+        match put_block(rows, block.entries(), rank, begin) {
             Ok(()) => Ok(()),
             Err(taken) => Err(self.malformed(taken.place)),
         }
@@ -109,7 +114,7 @@ impl DiskIndex {
 
     /// The fault of a block of its file at this place.
     fn malformed(&self, place: u64) -> SegFault
-        ensures { IsMalformedBlock self.now.number result }
+        ensures { result ≡ block_fault self.now.number place }
     {
         SegFault::Malformed {
             file: FileName::Segment(self.number()),

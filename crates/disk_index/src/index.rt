@@ -13,13 +13,14 @@ ghost use Rattle.ri_base.specs.declared.limits.TheConstants.{MAX_DOC_TOKENS};
 ghost use Rattle.store_ends.specs.Files.{Files, IsQuiet};
 ghost use Rattle.seg_codec.specs.Blocks.{tokens_of};
 ghost use Rattle.disk_index.specs.Blocks.{IsBlockFault, block_of, file_of, of_range};
-ghost use Rattle.disk_index.specs.Cache.{CacheKeeps, IsCacheBacked};
-ghost use Rattle.disk_index.specs.Faults.{ArePlacesIn, CameFrom, IsRangeFault, IsTermFault};
+ghost use Rattle.disk_index.specs.Cache.{AllKept, CacheKeeps, IsCacheBacked};
+ghost use Rattle.disk_index.specs.Faults.{ArePlacesIn, AreTold, CameFrom, IsTermFault};
 ghost use Rattle.disk_index.specs.Kept.{AreKept, IsOutline, IsSegmentOf, kept_of, key_of, place_of};
 ghost use Rattle.disk_index.specs.Opening.{IsOpenFault, IsOpened};
 ghost use Rattle.disk_index.specs.Presence.{IsNext};
 ghost use Rattle.disk_index.specs.Ranks.{ranks_of, term_of};
 ghost use Rattle.disk_index.specs.Reads.{HasSegment, IsBacked, rebuilt};
+ghost use Rattle.disk_index.specs.Together.{begin_of};
 
 use crate::lookup::{next_place, of_range, place_of, ranked_place};
 use crate::opening::{KeptParts, docs_within, kept_within, read_kept};
@@ -52,7 +53,7 @@ impl Model for DiskIndex {
 
     ghost Value = { Kept };
 
-    ghost view = { λ x. record { number = x.number; outlines = x.documents; dictionary = x.dictionary } };
+    ghost view = { λ x. record { number = x.number; outlines = x.documents; dictionary = x.dictionary; begin = x.blocks_at } };
 
     ghost invariant = { λ x. AreHeld x.documents x.dictionary x.ranks.items };
 }
@@ -98,7 +99,7 @@ impl DiskIndex {
     /// What is kept of a file, with the ranks of its terms by range.
     fn of(alloc: Global, number: u64, parts: KeptParts) -> Result<DiskIndex, NoMemory>
         requires { AreKept parts.documents parts.dictionary }
-        ensures { IfOk result (λ x. x ≡ record { number = number; outlines = parts.documents; dictionary = parts.dictionary }) }
+        ensures { IfOk result (λ x. x ≡ record { number = number; outlines = parts.documents; dictionary = parts.dictionary; begin = parts.blocks_at }) }
     {
         let KeptParts {
             documents,
@@ -186,7 +187,9 @@ impl DiskIndex {
     }
 
     /// Where the blocks begin in its file.
-    pub(crate) fn blocks_at(&self) -> u64 {
+    pub(crate) fn blocks_at(&self) -> u64
+        ensures { result ≡ self.now.begin }
+    {
         self.blocks_at
     }
 
@@ -228,8 +231,11 @@ impl DiskIndex {
         ensures exact { (docs : List Document) → IsBacked (T.files store.old) self.now docs → IsCacheBacked (T.files store.old) cache.old
             → IfOk result (λ b. b ≡ block_of (term_of self.now.dictionary rank) range docs) }
         ensures honest { (docs : List Document) → IsBacked (T.files store.old) self.now docs → IfErr result IsOutside }
-        ensures fault { (f : Files) → T.files store.old ≡ Some f → IfErr result (IsRangeFault f self.now.number) }
-        ensures cache { CacheKeeps (T.files store.old) (λ n. n ≡ self.now.number) cache.old cache.new }
+        ensures fault { (f : Files) → T.files store.old ≡ Some f → MatchOption (place_of self.now.dictionary (term_of self.now.dictionary rank) range)
+            (IfErr result IsOutside) (λ p. IfErr result (IsBlockFault f (key_of self.now.number range p) self.now.outlines)) }
+        ensures origin { MatchOption (place_of self.now.dictionary (term_of self.now.dictionary rank) range) (IfOk result (λ b. b ≡ []))
+            (λ p. IfOk result (CameFrom (T.files store.old) cache.old self.now.outlines (key_of self.now.number range p))) }
+        ensures cache { AllKept cache.old cache.new }
         ensures quiet { IsQuiet T.files T.layers T.clock T.since T.longest T.held store.old store.new }
         ensures later { T.faults store.old ≤ T.faults store.new }
         ensures store { result ≡ Err SegFault.Store → Rose (T.faults store.old) (T.faults store.new) }
@@ -243,6 +249,7 @@ impl DiskIndex {
     /// Where the block of the term of this rank for the range begins in the file; where there is none, the begin of all blocks.
     pub(crate) fn ranked_begin(&self, rank: u32, range: u32) -> u64
         requires { rank < length self.now.dictionary }
+        ensures { result ≡ begin_of self.now range rank }
     {
         match self.ranked_key(rank, range) {
             Some(key) => key.place,
@@ -290,9 +297,9 @@ impl DiskIndex {
         ensures fault { (f : Files) → T.files store.old ≡ Some f → MatchOption (place_of self.now.dictionary term.now range)
             (IfErr result IsOutside) (λ p. IfErr result (IsBlockFault f (key_of self.now.number range p) self.now.outlines)) }
 
-        // A block that is handed out was kept, or has been read as one of these documents.
+        // A block that is handed out was kept, or is the one of these documents that the file has there.
         ensures origin { MatchOption (place_of self.now.dictionary term.now range) (IfOk result (λ b. b ≡ []))
-            (λ p. IfOk result (CameFrom cache.old self.now.outlines (key_of self.now.number range p))) }
+            (λ p. IfOk result (CameFrom (T.files store.old) cache.old self.now.outlines (key_of self.now.number range p))) }
 
         // One step where the dictionary has such a block, whether it is kept or read.
         ensures steps { blocks.new ≡ blocks.old + (if is_some (place_of self.now.dictionary term.now range) then 1 else 0) }
@@ -325,6 +332,10 @@ impl DiskIndex {
             → IfOk result (λ ps. ps ≡ places term.now (document_at docs id)) }
         ensures honest { (docs : List Document) → IsBacked (T.files store.old) self.now docs → IsCacheBacked (T.files store.old) cache.old
             → IfErr result IsOutside }
+
+        // They are those of such a block, so no malformed one is passed by.
+        ensures told { IfOk result (AreTold (T.files store.old) cache.old self.now term.now id) }
+
         ensures rising { IfOk result IsStrictlyIncreasing }
         ensures below { (file : List ℕ) → IfOk result (All (λ p. p < length (document_at (rebuilt self.now file) id).tokens)) }
         ensures fault { (f : Files) → T.files store.old ≡ Some f → IfErr result (IsTermFault f cache.old self.now term.now id) }
@@ -354,6 +365,7 @@ impl DiskIndex {
             → IfOk result (λ ps. ps ≡ places term.now (document_at docs id)) }
         ensures honest { (docs : List Document) → IsBacked (T.files store.old) self.now docs → IsCacheBacked (T.files store.old) cache.old
             → IfErr result IsOutside }
+        ensures told { IfOk result (AreTold (T.files store.old) cache.old self.now term.now id) }
         ensures rising { IfOk result IsStrictlyIncreasing }
         ensures below { (file : List ℕ) → IfOk result (All (λ p. p < length (document_at (rebuilt self.now file) id).tokens)) }
         ensures fault { (f : Files) → T.files store.old ≡ Some f → IfErr result (IsTermFault f cache.old self.now term.now id) }

@@ -108,7 +108,7 @@ pub(crate) fn read_kept<T: Store>(
     ensures kept { IfOk result (λ x. AreKept x.documents x.dictionary) }
     ensures docs { IfOk result (λ x. length x.documents ≡ docs) }
     ensures found { (f : Files) → T.files store.old ≡ Some f → size ≡ length (file_of f number)
-        → IfOk result (λ x. IsOpened (file_of f number) docs (record { number = number; outlines = x.documents; dictionary = x.dictionary })) }
+        → IfOk result (λ x. IsOpened (file_of f number) docs (record { number = number; outlines = x.documents; dictionary = x.dictionary; begin = x.blocks_at })) }
     ensures fault { (f : Files) → T.files store.old ≡ Some f → size ≡ length (file_of f number) → IfErr result (IsOpenFault f number docs) }
     ensures quiet { IsQuiet T.files T.layers T.clock T.since T.longest T.held store.old store.new }
     ensures later { T.faults store.old ≤ T.faults store.new }
@@ -188,7 +188,7 @@ pub(crate) fn kept_within(
 ) -> Result<KeptParts, SegFault>
     ensures kept { IfOk result (λ x. AreKept x.documents x.dictionary) }
     ensures small { IfOk result (λ _. length bytes.now < 2 ^ 64) }
-    ensures found { IfOk result (λ x. IsOpened bytes.now docs (record { number = number; outlines = x.documents; dictionary = x.dictionary })) }
+    ensures found { IfOk result (λ x. IsOpened bytes.now docs (record { number = number; outlines = x.documents; dictionary = x.dictionary; begin = x.blocks_at })) }
 {
     let header = header_within(bytes, number, docs)?;
     let documents = documents_within(alloc, bytes, number, &header)?;

@@ -11,8 +11,8 @@ ghost use Rattle.ri_base.specs.declared.limits.TheConstants.{MAX_DOC_TOKENS};
 ghost use Rattle.store_ends.specs.Files.{Files, IsQuiet};
 ghost use Rattle.seg_codec.specs.Segment.{entry_of};
 ghost use Rattle.disk_index.specs.Blocks.{of_range};
-ghost use Rattle.disk_index.specs.Cache.{CacheKeeps, IsCacheBacked};
-ghost use Rattle.disk_index.specs.Parts.{IsFileOf, IsPartBacked, IsPartFault, IsSourceFault, reads, size, source_of};
+ghost use Rattle.disk_index.specs.Cache.{AllKept, CacheKeeps, IsCacheBacked};
+ghost use Rattle.disk_index.specs.Parts.{ArePlacesOf, AreRangeOf, IsFileOf, IsPartBacked, IsPartFault, IsRangeFaultOf, reads, size, source_of};
 
 use crate::{BlockCache, DiskIndex};
 use ri_base::{Doc, Docno, FieldSpan, List, NoMemory, Positions, Postings, Sealed, SegFault, Term};
@@ -97,6 +97,10 @@ impl Part {
             → IfOk result (λ ps. ps ≡ places term.now (document_at (reads (T.files store.old) (source_of self.now)) id)) }
         ensures honest { IsPartBacked (T.files store.old) (source_of self.now) → IsCacheBacked (T.files store.old) cache.old
             → IfErr result IsOutside }
+
+        // On disk they are those of a block that was kept or read, so no malformed one is passed by.
+        ensures told { IfOk result (ArePlacesOf (T.files store.old) cache.old (source_of self.now) term.now id) }
+
         ensures rising { IfOk result IsStrictlyIncreasing }
         ensures below { IfOk result (All (λ p. p < length (document_at (reads (T.files store.old) (source_of self.now)) id).tokens)) }
         ensures fault { (f : Files) → T.files store.old ≡ Some f → IfErr result (IsPartFault f cache.old (source_of self.now) term.now id) }
@@ -128,8 +132,11 @@ impl Part {
         // Without their tokens they are those of the part, whatever the file has.
         ensures kept { IfOk result (λ ds. map entry_of ds ≡ map entry_of (of_range range (reads (T.files store.old) (source_of self.now)))) }
 
-        ensures fault { (f : Files) → T.files store.old ≡ Some f → IfErr result (IsSourceFault f (source_of self.now)) }
-        ensures cache { CacheKeeps (T.files store.old) (IsFileOf (source_of self.now)) cache.old cache.new }
+        // On disk they are what the blocks of the range tell, so no malformed one is passed by.
+        ensures told { IfOk result (AreRangeOf (T.files store.old) cache.old (source_of self.now) range) }
+
+        ensures fault { (f : Files) → T.files store.old ≡ Some f → IfErr result (IsRangeFaultOf f cache.old (source_of self.now) range) }
+        ensures cache { AllKept cache.old cache.new }
         ensures quiet { IsQuiet T.files T.layers T.clock T.since T.longest T.held store.old store.new }
         ensures later { T.faults store.old ≤ T.faults store.new }
         ensures store { result ≡ Err SegFault.Store → Rose (T.faults store.old) (T.faults store.new) }

@@ -1,10 +1,10 @@
 // Documents put together again from the blocks of a range.
-ghost use Rattle.std.specs.Prelude.{◌≡◌, ◌<◌, Some, None, length, map, replicate, set, slice_get, IfOk, OnOk, OnErr};
+ghost use Rattle.std.specs.Prelude.{◌≡◌, ◌<◌, Some, None, Ok, Err, length, map, replicate, set, slice_get, IfErr, IfOk, OnOk};
 ghost use Rattle.std.specs.List.{All};
 ghost use Rattle.std.specs.Option.{option_copied, option_map};
 ghost use Rattle.seg_codec.specs.Held.{lengths_of};
 ghost use Rattle.disk_index.specs.Kept.{IsOutline};
-ghost use Rattle.disk_index.specs.Rebuild.{all_terms, document_of, documents_of, is_free, lengths, put_entries, put_entry, put_places, term_in};
+ghost use Rattle.disk_index.specs.Rebuild.{all_terms, document_of, documents_of, is_free, lengths, put_block, put_entry, put_places, term_in};
 
 use ri_base::{Doc, List, NoMemory, Term, Terms};
 use seg_codec::{BlockEntry, Entry, TermBlocks};
@@ -76,8 +76,8 @@ pub(crate) fn untold_rows(alloc: Global, outlines: &[Entry]) -> Result<Vec<Slots
 
 /// Tells the rank at these places, the first of which stands there in the file.
 fn put_places(slots: &mut Slots, places: &[u32], rank: u32, begin: u64) -> Result<(), Taken>
-    ensures ok { OnOk result (put_places rank places.now slots.old ≡ Some slots.new) }
-    ensures err { OnErr result (put_places rank places.now slots.old ≡ None) }
+    ensures ok { OnOk result (put_places begin rank places.now slots.old ≡ Ok slots.new) }
+    ensures err { IfErr result (λ taken. put_places begin rank places.now slots.old ≡ Err taken.place) }
 {
     let mut at = begin;
     for place in places {
@@ -92,8 +92,8 @@ fn put_places(slots: &mut Slots, places: &[u32], rank: u32, begin: u64) -> Resul
 
 /// Tells the rank at the places of an entry, the first of which stands there in the file.
 fn put_entry(rows: &mut Vec<Slots>, entry: &BlockEntry, rank: u32, begin: u64) -> Result<(), Taken>
-    ensures ok { OnOk result (put_entry rank entry.now rows.old.items ≡ Some rows.new.items) }
-    ensures err { OnErr result (put_entry rank entry.now rows.old.items ≡ None) }
+    ensures ok { OnOk result (put_entry begin rank entry.now rows.old.items ≡ Ok rows.new.items) }
+    ensures err { IfErr result (λ taken. put_entry begin rank entry.now rows.old.items ≡ Err taken.place) }
 {
     let row = (entry.id % 64) as usize;
     if row >= rows.len() {
@@ -104,14 +104,14 @@ fn put_entry(rows: &mut Vec<Slots>, entry: &BlockEntry, rank: u32, begin: u64) -
 }
 
 /// Tells the rank at the places of a block's entries. The block begins there in the file.
-pub(crate) fn put_entries(
+pub(crate) fn put_block(
     rows: &mut Vec<Slots>,
     entries: &[BlockEntry],
     rank: u32,
     begin: u64,
 ) -> Result<(), Taken>
-    ensures ok { OnOk result (put_entries rank entries.now rows.old.items ≡ Some rows.new.items) }
-    ensures err { OnErr result (put_entries rank entries.now rows.old.items ≡ None) }
+    ensures ok { OnOk result (put_block begin rank entries.now rows.old.items ≡ Ok rows.new.items) }
+    ensures err { IfErr result (λ taken. put_block begin rank entries.now rows.old.items ≡ Err taken.place) }
 {
     let mut at = begin.saturating_add(1);
     for entry in entries {

@@ -1,31 +1,17 @@
 // The scan of documents for an expression.
 ghost use Rattle.std.specs.Prelude.{◌≡◌, ◌++◌, ◌∷◌, [], ⊤, IfOk, OnOk};
 ghost use Rattle.ri_base.specs.Expression.{expr_tree};
-ghost use Rattle.document_handlers.specs.Scan.{document_lines, extent_lines, line};
+ghost use Rattle.document_handlers.specs.Scan.{document_lines, extent_lines};
 ghost use Rattle.document_handlers.specs.Work.{behind, pieces_in, replies, scanning};
 
 use crate::handler::Handler;
-use command_pieces::Reply;
+use command_pieces::{Reply, push_extent};
 use extent_ops::extents_of;
 use refusals::{Refusal, reply_of};
-use ri_base::{Doc, Extent, ExtentExpr, Extents, NoMemory};
+use ri_base::{Doc, ExtentExpr, Extents, NoMemory};
 use std::alloc::{AllocError, Global};
 use tokens::{TokenRefusal, doc_of};
 use trec_reader::RawDoc;
-
-fn push_line(alloc: Global, lines: &mut Vec<u8>, docno: &[u8], x: Extent) -> Result<(), NoMemory>
-    ensures { OnOk result (lines.new.items ≡ lines.old.items ++ line docno.now x) }
-{
-    let begin = x.begin().to_string(alloc)?;
-    let end = x.end().to_string(alloc)?;
-    lines.extend_from_slice(docno)?;
-    lines.push(b' ')?;
-    lines.extend_from_slice(begin.as_bytes())?;
-    lines.push(b' ')?;
-    lines.extend_from_slice(end.as_bytes())?;
-    lines.push(b'\n')?;
-    Ok(())
-}
 
 /// A line for each extent.
 fn extent_lines(alloc: Global, docno: &[u8], found: &Extents) -> Result<Vec<u8>, NoMemory>
@@ -33,7 +19,7 @@ fn extent_lines(alloc: Global, docno: &[u8], found: &Extents) -> Result<Vec<u8>,
 {
     let mut lines = Vec::new(alloc);
     for x in found.as_slice() {
-        push_line(alloc, &mut lines, docno, *x)?;
+        push_extent(alloc, &mut lines, docno, *x)?;
     }
     Ok(lines)
 }

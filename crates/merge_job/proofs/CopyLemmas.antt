@@ -9,9 +9,8 @@ use Rattle.store_ends.specs.Files.{Files}
 use Rattle.seg_codec.specs.Segment.{entry_of}
 use Rattle.seg_codec.specs.declared.documents.Entry.{Entry}
 use Rattle.disk_index.specs.Blocks.{of_range}
-use Rattle.disk_index.specs.Cache.{CacheKeeps, IsCacheBacked, KeptBlock}
+use Rattle.disk_index.specs.Cache.{AllKept, IsCacheBacked, KeptBlock}
 use Rattle.disk_index.specs.Parts.{IsPartBacked, Source, reads, size}
-use Rattle.disk_index.specs.QuietLaws.{IsCacheBacked-kept}
 use Rattle.disk_index.specs.Snapshots.{AreBacked, Marked, unmarked}
 use Rattle.disk_index.proofs.AmongLemmas.{backed-at}
 use Rattle.disk_index.proofs.RebuildLemmas.{map-range}
@@ -19,6 +18,7 @@ use Rattle.disk_index.proofs.RebuiltLemmas.{reads-length}
 use Rattle.merge_job.specs.Range.{IsRange, IsRangeNow}
 use Rattle.merge_job.specs.Walk.{entries, rest, rest_in, tokens_of}
 use Rattle.merge_job.specs.declared.copying.Range.{Range}
+use Rattle.merge_job.proofs.KeepLemmas.{all-backed}
 use Rattle.merge_job.proofs.WalkLemmas.{entries-reads, in-range, length-entries, length-range, rest-part, rest-past, rest_in-dead, rest_in-live, tokens-entries}
 
 -- ---- a range that was read
@@ -120,12 +120,12 @@ module _ (parts : List Marked) (q p : ℕ) (m : Marked) (within : p < length par
   to-next-at f j ys all past before = ap (λ l. ys ++ l) (to-next f parts p j m within at past) ∙ ap (λ k. ys ++ rest f parts k j) (sym same) ∙ before
 
   -- the same of whole documents, as the files that stay have them
-  pub exact-at : (told here : Option Files) (IsOwn : ℕ → Type 0) (c d : List KeptBlock) (i j : ℕ) (xs ys all : List Document) → here ≡ told → CacheKeeps told IsOwn c d
+  pub exact-at : (told here : Option Files) (c d : List KeptBlock) (i j : ℕ) (xs ys all : List Document) → here ≡ told → AllKept c d
       → (IsPartBacked here m.source → IsCacheBacked here d → ys ++ rest_in (reads here) m j ≡ xs ++ rest_in (reads here) m i)
       → (AreBacked told parts → IsCacheBacked told c → xs ++ rest (reads told) parts q i ≡ all) → AreBacked told parts → IsCacheBacked told c → ys ++ rest (reads told) parts q j ≡ all
-  exact-at told here IsOwn c d i j xs ys all stay keeps one before backed cached =
+  exact-at told here c d i j xs ys all stay keeps one before backed cached =
       let now = subst (λ (f : Option Files). IsPartBacked f m.source → IsCacheBacked f d → ys ++ rest_in (reads f) m j ≡ xs ++ rest_in (reads f) m i) stay one in
-      in-part-at (reads told) i j xs ys all (now (backed-at parts p m within at told backed) (IsCacheBacked-kept told IsOwn c d keeps cached)) (before backed cached)
+      in-part-at (reads told) i j xs ys all (now (backed-at parts p m within at told backed) (all-backed told c d keeps cached)) (before backed cached)
 
 -- where nothing is left, all that were wanted are copied
 pub all-copied : (taken more : List Document) (parts : List Marked) (p i q j goal : ℕ) → map entry_of more ++ rest entries parts q j ≡ map entry_of taken ++ rest entries parts p i → length parts ≤ q

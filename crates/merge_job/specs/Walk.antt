@@ -5,7 +5,8 @@ use Rattle.ri_base.specs.declared.seg_fault.SegFault.{SegFault}
 use Rattle.store_ends.specs.Files.{Files}
 use Rattle.seg_codec.specs.Segment.{entry_of}
 use Rattle.seg_codec.specs.declared.documents.Entry.{Entry}
-use Rattle.disk_index.specs.Parts.{Source, InMemory, OnDisk, IsSourceFault}
+use Rattle.disk_index.specs.Cache.{KeptBlock}
+use Rattle.disk_index.specs.Parts.{Source, InMemory, OnDisk, IsRangeFaultOf}
 use Rattle.disk_index.specs.Snapshots.{Marked, unmarked}
 
 -- the documents of a part without their tokens, which are the same whatever its file has
@@ -39,6 +40,10 @@ Grows f parts xs p i ys q j = ys ++ rest f parts q j ≡ xs ++ rest f parts p i
 abbrev pub tokens_of : List Entry → ℕ
 tokens_of es = sum_by (λ e. e.tokens) es
 
+-- why documents of the part can't be put together: those of some range of 64 ids can't
+abbrev pub IsFaultOf : Files → List KeptBlock → Source → SegFault → Type 0
+IsFaultOf files cached source fault = (range : ℕ) × IsRangeFaultOf files cached source range fault
+
 -- why documents of one of the parts can't be put together
-abbrev pub IsFaultAmong : Files → List Marked → SegFault → Type 0
-IsFaultAmong files parts fault = (m : Marked) × Contains parts m × IsSourceFault files m.source fault
+abbrev pub IsFaultAmong : Files → List KeptBlock → List Marked → SegFault → Type 0
+IsFaultAmong files cached parts fault = (m : Marked) × Contains parts m × IsFaultOf files cached m.source fault

@@ -1,16 +1,16 @@
 // Documents are copied from a place of the snapshot on.
-ghost use Rattle.std.specs.Prelude.{◌≡◌, ◌<◌, ◌≤◌, ◌+◌, ◌-◌, ◌*◌, ◌^◌, ◌++◌, Some, Err, length, map, IfOk, IfErr, IfSome, OnOk, OnErr};
+ghost use Rattle.std.specs.Prelude.{◌≡◌, ◌<◌, ◌≤◌, ◌+◌, ◌-◌, ◌*◌, ◌/◌, ◌^◌, ◌++◌, Some, Err, length, map, IfOk, IfErr, IfSome, OnOk, OnErr};
 ghost use Rattle.ri_base.specs.Collection.{token_count};
 ghost use Rattle.ri_base.specs.Faults.{IsOutside};
 ghost use Rattle.ri_base.specs.Keeps.{Rose};
 ghost use Rattle.ri_base.specs.declared.limits.TheConstants.{MAX_HELD_TOKENS};
 ghost use Rattle.store_ends.specs.Files.{Files, IsQuiet};
 ghost use Rattle.seg_codec.specs.Segment.{entry_of};
-ghost use Rattle.disk_index.specs.Cache.{CacheKeeps, IsCacheBacked};
-ghost use Rattle.disk_index.specs.Parts.{IsFileOf, IsPartBacked, IsSourceFault, reads, size};
-ghost use Rattle.disk_index.specs.Snapshots.{AreBacked, IsFileAmong};
+ghost use Rattle.disk_index.specs.Cache.{AllKept, IsCacheBacked};
+ghost use Rattle.disk_index.specs.Parts.{IsPartBacked, IsRangeFaultOf, reads, size};
+ghost use Rattle.disk_index.specs.Snapshots.{AreBacked};
 ghost use Rattle.merge_job.specs.Range.{IsRange, IsRangeNow};
-ghost use Rattle.merge_job.specs.Walk.{Grows, GrowsIn, IsFaultAmong, entries, rest, rest_in, tokens_of};
+ghost use Rattle.merge_job.specs.Walk.{Grows, GrowsIn, IsFaultAmong, IsFaultOf, entries, rest, rest_in, tokens_of};
 
 use crate::copied::Copied;
 use disk_index::{BlockCache, MarkedPart};
@@ -41,8 +41,8 @@ fn read<T: Store>(
     ensures exact { IsPartBacked (T.files store.old) marked.now.source → IsCacheBacked (T.files store.old) cache.old
         → IfSome last (IsRangeNow (T.files store.old) marked.now.source) → IfOk result (IsRangeNow (T.files store.old) marked.now.source) }
     ensures honest { IsPartBacked (T.files store.old) marked.now.source → IsCacheBacked (T.files store.old) cache.old → IfErr result IsOutside }
-    ensures fault { (f : Files) → T.files store.old ≡ Some f → IfErr result (IsSourceFault f marked.now.source) }
-    ensures cache { CacheKeeps (T.files store.old) (IsFileOf marked.now.source) cache.old cache.new }
+    ensures fault { (f : Files) → T.files store.old ≡ Some f → IfErr result (IsRangeFaultOf f cache.old marked.now.source number) }
+    ensures cache { AllKept cache.old cache.new }
     ensures quiet { IsQuiet T.files T.layers T.clock T.since T.longest T.held store.old store.new }
     ensures later { T.faults store.old ≤ T.faults store.new }
     ensures store { result ≡ Err SegFault.Store → Rose (T.faults store.old) (T.faults store.new) }
@@ -82,8 +82,8 @@ fn copy_one<T: Store>(
     ensures kept { OnErr result (copied.new ≡ copied.old) }
     ensures most { copied.new.most ≡ copied.old.most }
     ensures honest { IsPartBacked (T.files store.old) marked.now.source → IsCacheBacked (T.files store.old) cache.old → IfErr result IsOutside }
-    ensures fault { (f : Files) → T.files store.old ≡ Some f → IfErr result (IsSourceFault f marked.now.source) }
-    ensures cache { CacheKeeps (T.files store.old) (IsFileOf marked.now.source) cache.old cache.new }
+    ensures fault { (f : Files) → T.files store.old ≡ Some f → IfErr result (IsRangeFaultOf f cache.old marked.now.source (id / 64)) }
+    ensures cache { AllKept cache.old cache.new }
     ensures quiet { IsQuiet T.files T.layers T.clock T.since T.longest T.held store.old store.new }
     ensures later { T.faults store.old ≤ T.faults store.new }
     ensures store { result ≡ Err SegFault.Store → Rose (T.faults store.old) (T.faults store.new) }
@@ -116,8 +116,8 @@ fn copy_part<T: Store>(
     ensures done { OnOk result (length copied.new.docs < goal → size marked.now.source ≤ id.new) }
     ensures most { copied.new.most ≡ copied.old.most }
     ensures honest { IsPartBacked (T.files store.old) marked.now.source → IsCacheBacked (T.files store.old) cache.old → IfErr result IsOutside }
-    ensures fault { (f : Files) → T.files store.old ≡ Some f → IfErr result (IsSourceFault f marked.now.source) }
-    ensures cache { CacheKeeps (T.files store.old) (IsFileOf marked.now.source) cache.old cache.new }
+    ensures fault { (f : Files) → T.files store.old ≡ Some f → IfErr result (IsFaultOf f cache.old marked.now.source) }
+    ensures cache { AllKept cache.old cache.new }
     ensures quiet { IsQuiet T.files T.layers T.clock T.since T.longest T.held store.old store.new }
     ensures later { T.faults store.old ≤ T.faults store.new }
     ensures store { result ≡ Err SegFault.Store → Rose (T.faults store.old) (T.faults store.new) }
@@ -160,8 +160,8 @@ pub(crate) fn copy<T: Store>(
     ensures done { OnOk result (length copied.new.docs ≡ goal) }
     ensures most { copied.new.most ≡ copied.old.most }
     ensures honest { AreBacked (T.files store.old) parts.now → IsCacheBacked (T.files store.old) cache.old → IfErr result IsOutside }
-    ensures fault { (f : Files) → T.files store.old ≡ Some f → IfErr result (IsFaultAmong f parts.now) }
-    ensures cache { CacheKeeps (T.files store.old) (IsFileAmong parts.now) cache.old cache.new }
+    ensures fault { (f : Files) → T.files store.old ≡ Some f → IfErr result (IsFaultAmong f cache.old parts.now) }
+    ensures cache { AllKept cache.old cache.new }
     ensures quiet { IsQuiet T.files T.layers T.clock T.since T.longest T.held store.old store.new }
     ensures later { T.faults store.old ≤ T.faults store.new }
     ensures store { result ≡ Err SegFault.Store → Rose (T.faults store.old) (T.faults store.new) }

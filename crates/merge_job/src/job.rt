@@ -98,7 +98,7 @@ impl MergeJob {
         ensures snapshot { self.new.snapshot ≡ self.old.snapshot }
         ensures most { self.new.most ≡ self.old.most }
         ensures honest { AreBacked (T.files store.old) self.old.snapshot → IsCacheBacked (T.files store.old) cache.old → IfErr result IsOutside }
-        ensures fault { (f : Files) → T.files store.old ≡ Some f → IfErr result (IsFaultAmong f self.old.snapshot) }
+        ensures fault { (f : Files) → T.files store.old ≡ Some f → IfErr result (IsFaultAmong f cache.old self.old.snapshot) }
         ensures cache { CacheKeeps (T.files store.old) (IsFileAmong self.old.snapshot) cache.old cache.new }
         ensures quiet { IsQuiet T.files T.layers T.clock T.since T.longest T.held store.old store.new }
         ensures later { T.faults store.old ≤ T.faults store.new }

@@ -12,10 +12,11 @@ use Rattle.query_reader.specs.Bytes.{begins, past}
 use Rattle.query_reader.specs.Operators.{extent_operator, operator_of, operator_at, is_belief_operator, is_filter, is_combine}
 use Rattle.query_reader.specs.Parts.{expect}
 use Rattle.query_reader.specs.Items.{hash, is_context, found, until_closing, further, following, first, arguments}
-use Rattle.query_reader.specs.Exprs.{number_then_opening, head_of, head, made, behind_argument, next_expr, operator, simple, atom, with_field, expr_by, inner, expr}
+use Rattle.query_reader.specs.Exprs.{number_then_opening, head_of, head, is_any, made, behind_argument, next_expr, operator, simple, atom, with_field, expr_by, inner, expr}
 use Rattle.query_reader.specs.declared.fault.QueryKind.TheVariants.{ContextInside, EmptyOperator}
+use Rattle.query_reader.specs.declared.operator.Head.{Head}
 use Rattle.query_reader.specs.declared.operator.Head.TheVariants.{AnyOf, BandOf, SynOf, OrderedBy, UnorderedBy}
-use Rattle.query_language.proofs.PrintParts.{here, left_true, right_true, entered-reads, quoted-reads, front-taken, IsName, name_begins, Ends, Stops, field-reads, Item, spaced-none, spaced-one, writes-width, digits-letters, digits-no-letter, operator-number, operator-uw, number-reads}
+use Rattle.query_language.proofs.PrintParts.{here, left_true, right_true, entered-reads, quoted-reads, front-taken, IsName, name_begins, Ends, Stops, field-reads, Item, hash-item, spaced-none, spaced-one, writes-width, digits-letters, digits-no-letter, operator-number, operator-uw, number-reads}
 
 -- the trees of a list of arguments
 abbrev pub list : ExprTrees → List ExprTree
@@ -80,6 +81,17 @@ expr-from_atom : (x : ExprTree) (room n m : ℕ) (bytes rest : List ℕ) → Sto
 unfolding expr_by
 expr-from_atom x room n m bytes rest stops e = rw e (no_field_behind x rest m stops)
 
+-- the laws of an item by how it is read as an atom
+atom-law : (x : ExprTree) → 0 < nodes x → ((rest : List ℕ) → Item (printed x ++ rest)) → ((rest : List ℕ) (n : ℕ) → is_sound x ≡ true → IsPlain (printed x ++ rest) n)
+    → ((room n : ℕ) (rest : List ℕ) → depth x ≤ room → is_sound x ≡ true → n + nodes x ≤ 1000 → Ends rest → atom room (inner room) (here (printed x ++ rest) n) ≡ Ok (x, here rest (n + nodes x))) → Law x
+atom-law x some item plain reads = record {
+  some = some;
+  item = item;
+  plain = plain;
+  of_atom = λ room n rest deep ok alone h ends. reads room n rest deep ok h ends;
+  of_expr = λ room n rest deep ok h stops. expr-from_atom x room n _ _ rest stops (reads room n rest deep ok h stops.ends);
+}
+
 -- a word
 
 word-atom : (t rest : List ℕ) (room n : ℕ) → is_term t ≡ true → n + 1 ≤ 1000 → Ends rest → atom room (inner room) (here (printed (tree.word t) ++ rest) n) ≡ Ok (tree.word t, here rest (n + 1))
@@ -88,13 +100,7 @@ word-atom t rest room n term h ends = rw (append_assoc (doubled t) (34 ∷ []) r
 
 word-law : (t : List ℕ) → Law (tree.word t)
 unfolding printed printed_all printed_more nodes all_nodes depth depths is_sound are_sound are_arguments
-word-law t = record {
-  some = omega arith;
-  item = λ rest. record { space = refl; close = refl; dot = refl; some = omega arith };
-  plain = λ rest n ok. record { belief = refl; filter = refl; combine = refl };
-  of_atom = λ room n rest deep ok alone h ends. word-atom t rest room n ok h ends;
-  of_expr = λ room n rest deep ok h stops. expr-from_atom _ room n _ _ rest stops (word-atom t rest room n ok h stops.ends);
-}
+word-law t = atom-law (tree.word t) (omega arith) (λ rest. record { space = refl; close = refl; dot = refl; some = omega arith }) (λ rest n ok. record { belief = refl; filter = refl; combine = refl }) (λ room n rest deep ok h ends. word-atom t rest room n ok h ends)
 
 -- a field
 
@@ -105,43 +111,49 @@ any-atom f rest (suc r) n deep ok h ends = rw (head-any r n f rest ok ends h) re
 
 any-law : (f : List ℕ) → Law (tree.any f)
 unfolding extent_operator operator_of printed printed_all printed_more nodes all_nodes depth depths is_sound are_sound are_arguments
-any-law f = record {
-  some = omega arith;
-  item = λ rest. record { space = refl; close = refl; dot = refl; some = omega arith };
-  plain = λ rest n ok. record { belief = refl; filter = refl; combine = refl };
-  of_atom = λ room n rest deep ok alone h ends. any-atom f rest room n deep ok h ends;
-  of_expr = λ room n rest deep ok h stops. expr-from_atom _ room n _ _ rest stops (any-atom f rest room n deep ok h stops.ends);
-}
+any-law f = atom-law (tree.any f) (omega arith) (λ rest. hash-item _) (λ rest n ok. record { belief = refl; filter = refl; combine = refl }) (λ room n rest deep ok h ends. any-atom f rest room n deep ok h ends)
 
 -- operators
 
-pub inner-suc : (r : ℕ) → inner (suc r) ≡ expr r
+inner-suc : (r : ℕ) → inner (suc r) ≡ expr r
 unfolding inner
 inner-suc r = refl
 
+-- an operator whose head is read is read with its arguments, on one level less
+pub operator-atom : (h : Head) (x : ExprTree) (xs : ExprTrees) (name inside rest : List ℕ) (room n : ℕ) → is_any h ≡ false → made h (list xs) ≡ x → 1 + depths xs ≤ room → n + (1 + all_nodes xs) ≤ 1000
+    → ((r : ℕ) → n + 1 ≤ 1000 → head (suc r) (here (35 ∷ name) n) ≡ Ok (h, here inside (n + 1)))
+    → ((r mark : ℕ) → depths xs ≤ r → n + 1 + all_nodes xs ≤ 1000 → arguments (expr r) (next_expr (expr r)) mark (here inside (n + 1)) ≡ Ok (list xs, here rest (n + 1 + all_nodes xs)))
+    → atom room (inner room) (here (35 ∷ name) n) ≡ Ok (x, here rest (n + (1 + all_nodes xs)))
+unfolding atom operator
+operator-atom h x xs name inside rest zero n some is deep few heads all = absurd (omega (arith, deep))
+operator-atom h x xs name inside rest (suc r) n some is deep few heads all =
+    rw (heads r (omega (arith, few)), some, inner-suc r, all r _ (omega (arith, deep)) (omega (arith, few)), is) (ap (λ m. Ok (x, here rest m)) (omega arith))
+
 syn-atom : (xs : ExprTrees) → Laws xs → (rest : List ℕ) (room n : ℕ) → 1 + depths xs ≤ room → are_arguments xs ≡ true → n + (1 + all_nodes xs) ≤ 1000 → atom room (inner room) (here (printed (tree.syn xs) ++ rest) n) ≡ Ok (tree.syn xs, here rest (n + (1 + all_nodes xs)))
-unfolding atom operator made printed printed_all printed_more
-syn-atom xs laws rest zero n deep ok h = absurd (omega arith)
-syn-atom xs laws rest (suc r) n deep ok h =
-    rw (head-syn r n (printed_all xs ++ rest) (omega arith), inner-suc r, laws.all r (n + 1) _ rest (omega arith) ok (omega arith), trees-list xs) (ap (λ m. Ok (tree.syn xs, here rest m)) (omega arith))
+unfolding made printed printed_all printed_more
+syn-atom xs laws rest room n deep ok h =
+    let inside = printed_all xs ++ rest in
+    operator-atom SynOf (tree.syn xs) xs (codes "syn(" ++ inside) inside rest room n refl (ap tree.syn (trees-list xs)) deep h (λ r few. head-syn r n inside few) (λ r mark d few. laws.all r (n + 1) mark rest d ok few)
 
 band-atom : (xs : ExprTrees) → Laws xs → (rest : List ℕ) (room n : ℕ) → 1 + depths xs ≤ room → are_arguments xs ≡ true → n + (1 + all_nodes xs) ≤ 1000 → atom room (inner room) (here (printed (tree.band xs) ++ rest) n) ≡ Ok (tree.band xs, here rest (n + (1 + all_nodes xs)))
-unfolding atom operator made printed printed_all printed_more
-band-atom xs laws rest zero n deep ok h = absurd (omega arith)
-band-atom xs laws rest (suc r) n deep ok h =
-    rw (head-band r n (printed_all xs ++ rest) (omega arith), inner-suc r, laws.all r (n + 1) _ rest (omega arith) ok (omega arith), trees-list xs) (ap (λ m. Ok (tree.band xs, here rest m)) (omega arith))
+unfolding made printed printed_all printed_more
+band-atom xs laws rest room n deep ok h =
+    let inside = printed_all xs ++ rest in
+    operator-atom BandOf (tree.band xs) xs (codes "band(" ++ inside) inside rest room n refl (ap tree.band (trees-list xs)) deep h (λ r few. head-band r n inside few) (λ r mark d few. laws.all r (n + 1) mark rest d ok few)
 
 ordered-atom : (width : ℕ) (xs : ExprTrees) → Laws xs → (rest : List ℕ) (room n : ℕ) → 1 + depths xs ≤ room → is_width width ≡ true → are_arguments xs ≡ true → n + (1 + all_nodes xs) ≤ 1000 → atom room (inner room) (here (printed (tree.ordered width xs) ++ rest) n) ≡ Ok (tree.ordered width xs, here rest (n + (1 + all_nodes xs)))
-unfolding atom operator made printed printed_all printed_more
-ordered-atom width xs laws rest zero n deep wide ok h = absurd (omega arith)
-ordered-atom width xs laws rest (suc r) n deep wide ok h =
-    rw (append_assoc (decimal width) (40 ∷ printed_all xs) rest, head-ordered r n width (printed_all xs ++ rest) wide (omega arith), inner-suc r, laws.all r (n + 1) _ rest (omega arith) ok (omega arith), trees-list xs) (ap (λ m. Ok (tree.ordered width xs, here rest m)) (omega arith))
+unfolding made printed printed_all printed_more
+ordered-atom width xs laws rest room n deep wide ok h =
+    let inside = printed_all xs ++ rest in
+    rw (append_assoc (decimal width) (40 ∷ printed_all xs) rest) (
+    operator-atom (OrderedBy width) (tree.ordered width xs) xs (decimal width ++ 40 ∷ inside) inside rest room n refl (ap (tree.ordered width) (trees-list xs)) deep h (λ r few. head-ordered r n width inside wide few) (λ r mark d few. laws.all r (n + 1) mark rest d ok few))
 
 unordered-atom : (width : ℕ) (xs : ExprTrees) → Laws xs → (rest : List ℕ) (room n : ℕ) → 1 + depths xs ≤ room → is_width width ≡ true → are_arguments xs ≡ true → n + (1 + all_nodes xs) ≤ 1000 → atom room (inner room) (here (printed (tree.unordered width xs) ++ rest) n) ≡ Ok (tree.unordered width xs, here rest (n + (1 + all_nodes xs)))
-unfolding atom operator made printed printed_all printed_more
-unordered-atom width xs laws rest zero n deep wide ok h = absurd (omega arith)
-unordered-atom width xs laws rest (suc r) n deep wide ok h =
-    rw (append_assoc (decimal width) (40 ∷ printed_all xs) rest, head-unordered r n width (printed_all xs ++ rest) wide (omega arith), inner-suc r, laws.all r (n + 1) _ rest (omega arith) ok (omega arith), trees-list xs) (ap (λ m. Ok (tree.unordered width xs, here rest m)) (omega arith))
+unfolding made printed printed_all printed_more
+unordered-atom width xs laws rest room n deep wide ok h =
+    let inside = printed_all xs ++ rest in
+    rw (append_assoc (decimal width) (40 ∷ printed_all xs) rest) (
+    operator-atom (UnorderedBy width) (tree.unordered width xs) xs (117 ∷ 119 ∷ (decimal width ++ 40 ∷ inside)) inside rest room n refl (ap (tree.unordered width) (trees-list xs)) deep h (λ r few. head-unordered r n width inside wide few) (λ r mark d few. laws.all r (n + 1) mark rest d ok few))
 
 ordered-plain : (width : ℕ) (rest : List ℕ) (n : ℕ) → is_width width ≡ true → IsPlain (35 ∷ (decimal width ++ 40 ∷ rest)) n
 ordered-plain width rest n ok =
@@ -159,43 +171,23 @@ unordered-plain width rest n ok =
 
 syn-law : (xs : ExprTrees) → Laws xs → Law (tree.syn xs)
 unfolding extent_operator operator_of printed printed_all printed_more nodes all_nodes depth depths is_sound are_sound are_arguments
-syn-law xs laws = record {
-  some = omega arith;
-  item = λ rest. record { space = refl; close = refl; dot = refl; some = omega arith };
-  plain = λ rest n ok. record { belief = refl; filter = refl; combine = refl };
-  of_atom = λ room n rest deep ok alone h ends. syn-atom xs laws rest room n deep ok h;
-  of_expr = λ room n rest deep ok h stops. expr-from_atom _ room n _ _ rest stops (syn-atom xs laws rest room n deep ok h);
-}
+syn-law xs laws = atom-law (tree.syn xs) (omega arith) (λ rest. hash-item _) (λ rest n ok. record { belief = refl; filter = refl; combine = refl }) (λ room n rest deep ok h ends. syn-atom xs laws rest room n deep ok h)
 
 band-law : (xs : ExprTrees) → Laws xs → Law (tree.band xs)
 unfolding extent_operator operator_of printed printed_all printed_more nodes all_nodes depth depths is_sound are_sound are_arguments
-band-law xs laws = record {
-  some = omega arith;
-  item = λ rest. record { space = refl; close = refl; dot = refl; some = omega arith };
-  plain = λ rest n ok. record { belief = refl; filter = refl; combine = refl };
-  of_atom = λ room n rest deep ok alone h ends. band-atom xs laws rest room n deep ok h;
-  of_expr = λ room n rest deep ok h stops. expr-from_atom _ room n _ _ rest stops (band-atom xs laws rest room n deep ok h);
-}
+band-law xs laws = atom-law (tree.band xs) (omega arith) (λ rest. hash-item _) (λ rest n ok. record { belief = refl; filter = refl; combine = refl }) (λ room n rest deep ok h ends. band-atom xs laws rest room n deep ok h)
 
 ordered-law : (width : ℕ) (xs : ExprTrees) → Laws xs → Law (tree.ordered width xs)
 unfolding printed printed_all printed_more nodes all_nodes depth depths is_sound are_sound are_arguments
-ordered-law width xs laws = record {
-  some = omega arith;
-  item = λ rest. record { space = refl; close = refl; dot = refl; some = omega arith };
-  plain = λ rest n ok. rw (append_assoc (decimal width) (40 ∷ printed_all xs) rest) (ordered-plain width (printed_all xs ++ rest) n (left_true (is_width width) _ ok));
-  of_atom = λ room n rest deep ok alone h ends. ordered-atom width xs laws rest room n deep (left_true (is_width width) _ ok) (right_true (is_width width) _ ok) h;
-  of_expr = λ room n rest deep ok h stops. expr-from_atom _ room n _ _ rest stops (ordered-atom width xs laws rest room n deep (left_true (is_width width) _ ok) (right_true (is_width width) _ ok) h);
-}
+ordered-law width xs laws =
+    atom-law (tree.ordered width xs) (omega arith) (λ rest. hash-item _) (λ rest n ok. rw (append_assoc (decimal width) (40 ∷ printed_all xs) rest) (ordered-plain width (printed_all xs ++ rest) n (left_true (is_width width) _ ok)))
+    (λ room n rest deep ok h ends. ordered-atom width xs laws rest room n deep (left_true (is_width width) _ ok) (right_true (is_width width) _ ok) h)
 
 unordered-law : (width : ℕ) (xs : ExprTrees) → Laws xs → Law (tree.unordered width xs)
 unfolding printed printed_all printed_more nodes all_nodes depth depths is_sound are_sound are_arguments
-unordered-law width xs laws = record {
-  some = omega arith;
-  item = λ rest. record { space = refl; close = refl; dot = refl; some = omega arith };
-  plain = λ rest n ok. rw (append_assoc (decimal width) (40 ∷ printed_all xs) rest) (unordered-plain width (printed_all xs ++ rest) n (left_true (is_width width) _ ok));
-  of_atom = λ room n rest deep ok alone h ends. unordered-atom width xs laws rest room n deep (left_true (is_width width) _ ok) (right_true (is_width width) _ ok) h;
-  of_expr = λ room n rest deep ok h stops. expr-from_atom _ room n _ _ rest stops (unordered-atom width xs laws rest room n deep (left_true (is_width width) _ ok) (right_true (is_width width) _ ok) h);
-}
+unordered-law width xs laws =
+    atom-law (tree.unordered width xs) (omega arith) (λ rest. hash-item _) (λ rest n ok. rw (append_assoc (decimal width) (40 ∷ printed_all xs) rest) (unordered-plain width (printed_all xs ++ rest) n (left_true (is_width width) _ ok)))
+    (λ room n rest deep ok h ends. unordered-atom width xs laws rest room n deep (left_true (is_width width) _ ok) (right_true (is_width width) _ ok) h)
 
 -- an expression in a field
 

@@ -13,15 +13,16 @@ use Rattle.query_reader.specs.Bytes.{is_word_byte, begins, begins_in, skip, past
 use Rattle.query_reader.specs.Operators.{operator_of, extent_operator, is_number}
 use Rattle.query_reader.specs.Parts.{expect, number, field}
 use Rattle.query_reader.specs.Items.{entered, hash, is_context, found, until_closing, further, following, first, arguments}
-use Rattle.query_reader.specs.Exprs.{word_of, word, number_then_opening, head_of, head, made, behind_argument, next_expr, operator, simple, atom, with_field, expr_by, inner, expr}
+use Rattle.query_reader.specs.Exprs.{word_of, word, number_then_opening, head_of, head, is_any, made, behind_argument, next_expr, operator, simple, atom, with_field, expr_by, inner, expr}
 use Rattle.query_reader.specs.QueryText.{without_context, ended, lone_expr, expr_text, placed, start}
 use Rattle.query_language.specs.Grammar as grammar
 use Rattle.query_language.specs.Grammar.{AreSpaces, AreArguments, BeginsNoField, IsField, IsNumber, IsWord, IsAtom, IsExpr, IsExprText}
 use Rattle.query_reader.specs.declared.fault.QueryKind.TheVariants.{ContextInside, EmptyOperator}
 use Rattle.query_reader.specs.declared.operator.Operator.TheVariants.{Ordered}
-use Rattle.query_reader.specs.declared.operator.Head.TheVariants.{AnyOf, OrderedBy, UnorderedBy}
-use Rattle.query_language.proofs.PrintParts.{here, left_true, right_true, entered-reads, numbered-reads, quoted-reads, front-taken, front-skipped, Item, digits-letters, digits-no-letter, operator-number, operator-uw, number-is, not_zero}
-use Rattle.query_language.proofs.ExprLaw.{list, trees-list, head-syn, head-band, inner-suc, expr_law}
+use Rattle.query_reader.specs.declared.operator.Head.{Head}
+use Rattle.query_reader.specs.declared.operator.Head.TheVariants.{AnyOf, BandOf, OrderedBy, SynOf, UnorderedBy}
+use Rattle.query_language.proofs.PrintParts.{here, left_true, right_true, entered-reads, numbered-reads, quoted-reads, front-taken, front-skipped, Item, hash-item, digits-letters, digits-no-letter, operator-number, operator-uw, number-is, not_zero}
+use Rattle.query_language.proofs.ExprLaw.{list, trees-list, head-syn, head-band, operator-atom, expr_law}
 use Rattle.query_reader.proofs.ReadFits.{words-nodes}
 use Rattle.query_reader.proofs.Words.{word_of_many}
 
@@ -159,35 +160,29 @@ any_is f name behind (suc r) n h deep k = rw (any_head r n f name behind h k) re
 any_atom : (f name behind : List ℕ) → IsField f name behind → Atom (tree.any f) (codes "#any:" ++ name) behind
 unfolding depth nodes
 any_atom f name behind h = record {
-  item = record { space = refl; close = refl; dot = refl; some = omega arith };
+  item = hash-item _;
   of_atom = λ room n deep few. any_is f name behind room n h deep few;
 }
 
-syn_is : (xs : ExprTrees) (inside behind : List ℕ) → Arguments xs inside behind → (room n : ℕ) → 1 + depths xs ≤ room → n + (1 + all_nodes xs) ≤ 1000 → atom room (inner room) (here (codes "#syn(" ++ (inside ++ behind)) n) ≡ Ok (tree.syn xs, here behind (n + (1 + all_nodes xs)))
-unfolding atom operator made
-syn_is xs inside behind laws zero n deep h = absurd (omega (arith, deep))
-syn_is xs inside behind laws (suc r) n deep h =
-    rw (head-syn r n (inside ++ behind) (omega arith), inner-suc r, laws.all r (n + 1) _ (omega arith) (omega arith), trees-list xs) (ap (λ m. Ok (tree.syn xs, here behind m)) (omega arith))
+-- an operator whose head is read, by its arguments
+operator_is : (h : Head) (x : ExprTree) (xs : ExprTrees) (text name inside behind : List ℕ) → text ++ behind ≡ 35 ∷ name → is_any h ≡ false → made h (list xs) ≡ x → depth x ≡ 1 + depths xs → nodes x ≡ 1 + all_nodes xs
+    → ((r n : ℕ) → n + 1 ≤ 1000 → head (suc r) (here (35 ∷ name) n) ≡ Ok (h, here (inside ++ behind) (n + 1))) → Arguments xs inside behind → Atom x text behind
+operator_is h x xs text name inside behind same some is levels count heads laws = record {
+  item = rw same (hash-item name);
+  of_atom = λ room n deep few.
+      rw (same, count)
+      (operator-atom h x xs name (inside ++ behind) behind room n some is (omega (arith, deep, levels)) (omega (arith, few, count)) (λ r k. heads r n k) (λ r mark d k. laws.all r (n + 1) mark d k));
+}
 
 syn_atom : (xs : ExprTrees) (inside behind : List ℕ) → Arguments xs inside behind → Atom (tree.syn xs) (codes "#syn(" ++ inside) behind
-unfolding depth nodes
-syn_atom xs inside behind h = record {
-  item = record { space = refl; close = refl; dot = refl; some = omega arith };
-  of_atom = λ room n deep few. syn_is xs inside behind h room n deep few;
-}
-
-band_is : (xs : ExprTrees) (inside behind : List ℕ) → Arguments xs inside behind → (room n : ℕ) → 1 + depths xs ≤ room → n + (1 + all_nodes xs) ≤ 1000 → atom room (inner room) (here (codes "#band(" ++ (inside ++ behind)) n) ≡ Ok (tree.band xs, here behind (n + (1 + all_nodes xs)))
-unfolding atom operator made
-band_is xs inside behind laws zero n deep h = absurd (omega (arith, deep))
-band_is xs inside behind laws (suc r) n deep h =
-    rw (head-band r n (inside ++ behind) (omega arith), inner-suc r, laws.all r (n + 1) _ (omega arith) (omega arith), trees-list xs) (ap (λ m. Ok (tree.band xs, here behind m)) (omega arith))
+unfolding depth nodes made
+syn_atom xs inside behind laws =
+    operator_is SynOf (tree.syn xs) xs (codes "#syn(" ++ inside) (codes "syn(" ++ (inside ++ behind)) inside behind refl refl (ap tree.syn (trees-list xs)) refl refl (λ r n k. head-syn r n (inside ++ behind) k) laws
 
 band_atom : (xs : ExprTrees) (inside behind : List ℕ) → Arguments xs inside behind → Atom (tree.band xs) (codes "#band(" ++ inside) behind
-unfolding depth nodes
-band_atom xs inside behind h = record {
-  item = record { space = refl; close = refl; dot = refl; some = omega arith };
-  of_atom = λ room n deep few. band_is xs inside behind h room n deep few;
-}
+unfolding depth nodes made
+band_atom xs inside behind laws =
+    operator_is BandOf (tree.band xs) xs (codes "#band(" ++ inside) (codes "band(" ++ (inside ++ behind)) inside behind refl refl (ap tree.band (trees-list xs)) refl refl (λ r n k. head-band r n (inside ++ behind) k) laws
 
 -- numbers
 
@@ -222,44 +217,23 @@ uw_head r n w ds rest h k =
     let run = front-taken is_letter_or_digit (117 ∷ 119 ∷ ds) (40 ∷ rest) (omega (arith, digits-letters ds digits)) refl in
     rw (run, operator-uw ds some digits, entered-reads r n _ k, digits-no-letter ds (40 ∷ rest) some digits, number_is_read w ds rest (n + 1) h) refl
 
-number_is_atom : (w : ℕ) (xs : ExprTrees) (ds inside behind : List ℕ) → IsNumber w ds → Arguments xs inside behind → (room n : ℕ) → 1 + depths xs ≤ room → n + (1 + all_nodes xs) ≤ 1000 → atom room (inner room) (here (35 ∷ (ds ++ 40 ∷ (inside ++ behind))) n) ≡ Ok (tree.ordered w xs, here behind (n + (1 + all_nodes xs)))
-unfolding atom operator made
-number_is_atom w xs ds inside behind d laws zero n deep h = absurd (omega (arith, deep))
-number_is_atom w xs ds inside behind d laws (suc r) n deep h =
-    rw (number_head r n w ds (inside ++ behind) d (omega arith), inner-suc r, laws.all r (n + 1) _ (omega arith) (omega arith), trees-list xs) (ap (λ m. Ok (tree.ordered w xs, here behind m)) (omega arith))
-
-od_is_atom : (w : ℕ) (xs : ExprTrees) (ds inside behind : List ℕ) → IsNumber w ds → Arguments xs inside behind → (room n : ℕ) → 1 + depths xs ≤ room → n + (1 + all_nodes xs) ≤ 1000 → atom room (inner room) (here (35 ∷ 111 ∷ 100 ∷ (ds ++ 40 ∷ (inside ++ behind))) n) ≡ Ok (tree.ordered w xs, here behind (n + (1 + all_nodes xs)))
-unfolding atom operator made
-od_is_atom w xs ds inside behind d laws zero n deep h = absurd (omega (arith, deep))
-od_is_atom w xs ds inside behind d laws (suc r) n deep h =
-    rw (od_head r n w ds (inside ++ behind) d (omega arith), inner-suc r, laws.all r (n + 1) _ (omega arith) (omega arith), trees-list xs) (ap (λ m. Ok (tree.ordered w xs, here behind m)) (omega arith))
-
-uw_is_atom : (w : ℕ) (xs : ExprTrees) (ds inside behind : List ℕ) → IsNumber w ds → Arguments xs inside behind → (room n : ℕ) → 1 + depths xs ≤ room → n + (1 + all_nodes xs) ≤ 1000 → atom room (inner room) (here (35 ∷ 117 ∷ 119 ∷ (ds ++ 40 ∷ (inside ++ behind))) n) ≡ Ok (tree.unordered w xs, here behind (n + (1 + all_nodes xs)))
-unfolding atom operator made
-uw_is_atom w xs ds inside behind d laws zero n deep h = absurd (omega (arith, deep))
-uw_is_atom w xs ds inside behind d laws (suc r) n deep h =
-    rw (uw_head r n w ds (inside ++ behind) d (omega arith), inner-suc r, laws.all r (n + 1) _ (omega arith) (omega arith), trees-list xs) (ap (λ m. Ok (tree.unordered w xs, here behind m)) (omega arith))
-
 number_atom : (w : ℕ) (xs : ExprTrees) (ds inside behind : List ℕ) → IsNumber w ds → Arguments xs inside behind → Atom (tree.ordered w xs) (codes "#" ++ (ds ++ 40 ∷ inside)) behind
-unfolding depth nodes
-number_atom w xs ds inside behind d h = record {
-  item = record { space = refl; close = refl; dot = refl; some = omega arith };
-  of_atom = λ room n deep few. rw (append_assoc ds (40 ∷ inside) behind) (number_is_atom w xs ds inside behind d h room n deep few);
-}
+unfolding depth nodes made
+number_atom w xs ds inside behind d laws =
+    operator_is (OrderedBy w) (tree.ordered w xs) xs (codes "#" ++ (ds ++ 40 ∷ inside)) (ds ++ 40 ∷ (inside ++ behind)) inside behind
+    (ap (λ bytes. 35 ∷ bytes) (append_assoc ds (40 ∷ inside) behind)) refl (ap (tree.ordered w) (trees-list xs)) refl refl (λ r n k. number_head r n w ds (inside ++ behind) d k) laws
 
 od_atom : (w : ℕ) (xs : ExprTrees) (ds inside behind : List ℕ) → IsNumber w ds → Arguments xs inside behind → Atom (tree.ordered w xs) (codes "#od" ++ (ds ++ 40 ∷ inside)) behind
-unfolding depth nodes
-od_atom w xs ds inside behind d h = record {
-  item = record { space = refl; close = refl; dot = refl; some = omega arith };
-  of_atom = λ room n deep few. rw (append_assoc ds (40 ∷ inside) behind) (od_is_atom w xs ds inside behind d h room n deep few);
-}
+unfolding depth nodes made
+od_atom w xs ds inside behind d laws =
+    operator_is (OrderedBy w) (tree.ordered w xs) xs (codes "#od" ++ (ds ++ 40 ∷ inside)) (111 ∷ 100 ∷ (ds ++ 40 ∷ (inside ++ behind))) inside behind
+    (ap (λ bytes. 35 ∷ 111 ∷ 100 ∷ bytes) (append_assoc ds (40 ∷ inside) behind)) refl (ap (tree.ordered w) (trees-list xs)) refl refl (λ r n k. od_head r n w ds (inside ++ behind) d k) laws
 
 uw_atom : (w : ℕ) (xs : ExprTrees) (ds inside behind : List ℕ) → IsNumber w ds → Arguments xs inside behind → Atom (tree.unordered w xs) (codes "#uw" ++ (ds ++ 40 ∷ inside)) behind
-unfolding depth nodes
-uw_atom w xs ds inside behind d h = record {
-  item = record { space = refl; close = refl; dot = refl; some = omega arith };
-  of_atom = λ room n deep few. rw (append_assoc ds (40 ∷ inside) behind) (uw_is_atom w xs ds inside behind d h room n deep few);
-}
+unfolding depth nodes made
+uw_atom w xs ds inside behind d laws =
+    operator_is (UnorderedBy w) (tree.unordered w xs) xs (codes "#uw" ++ (ds ++ 40 ∷ inside)) (117 ∷ 119 ∷ (ds ++ 40 ∷ (inside ++ behind))) inside behind
+    (ap (λ bytes. 35 ∷ 117 ∷ 119 ∷ bytes) (append_assoc ds (40 ∷ inside) behind)) refl (ap (tree.unordered w) (trees-list xs)) refl refl (λ r n k. uw_head r n w ds (inside ++ behind) d k) laws
 
 -- EXPRESSIONS
 

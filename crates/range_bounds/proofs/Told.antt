@@ -1,7 +1,8 @@
 -- The bounds that a table tells are those of the definition.
-use Rattle.std.proofs.Common.{◌≡◌, ◌<◌, ◌≤◌, ◌+◌, ℕ, zero, suc, List, [], ◌∷◌, ◌++◌, Option, None, Some, length, take, get_or, add-one, max, refl, ap, subst, ◌∙◌, arith}
+use Rattle.std.proofs.Common.{◌≡◌, ◌<◌, ◌≤◌, ◌+◌, ℕ, zero, suc, List, [], ◌∷◌, ◌++◌, Option, None, Some, length, map, take, get_or, add-one, max, refl, ap, subst, ◌∙◌, arith}
 use Rattle.std.specs.Prelude.{All, zip}
 use Rattle.std.specs.List.{AllZip}
+use Rattle.std.proofs.lemmas.List.{length-map, take_all}
 use Rattle.ri_base.specs.Documents.{Document}
 use Rattle.ri_base.specs.Ratio.{Ratio}
 use Rattle.ri_base.specs.declared.hit.LeafStats.{LeafStats}
@@ -78,3 +79,11 @@ module _ (kind : RuleKind) (priors : List Prior) (range : Range) (table : RangeT
   pub bounds_more : (leaves : List LeafTree) (stats : List LeafStats) (bounds : List Ratio) (i : ℕ) (l : LeafTree) (s : LeafStats) (r : Ratio) → i < length leaves → i < length stats → l ≡ get_or leaves i l → s ≡ get_or stats i s
       → AreToldBounds (take i leaves) (take i stats) bounds → IsToldBound kind priors range table counts l s r → AreToldBounds (take (i + 1) leaves) (take (i + 1) stats) (bounds ++ r ∷ [])
   bounds_more leaves stats bounds i l s r inside inside' here here' h k = rw add-one (bounds_suc leaves stats bounds i l s r inside inside' here here' h k)
+
+  -- all of them, where no leaf is left
+  pub all_told : {L : Type 0} (tree : L → LeafTree) (items : List L) (leaves : List LeafTree) (stats : List LeafStats) (bounds : List Ratio) (i : ℕ) → map tree items ≡ leaves → length items ≤ i → length stats ≡ length leaves
+      → AreToldBounds (take i leaves) (take i stats) bounds → AreToldBounds leaves stats bounds
+  all_told tree items leaves stats bounds i are none each told =
+      let long : length (map tree items) ≤ i = rw (length-map items tree) none in
+      let end : length leaves ≤ i = subst (λ (ls : List LeafTree). length ls ≤ i) are long in
+      subst (λ (ls : List LeafTree). AreToldBounds ls stats bounds) (take_all i leaves end) (subst (λ (ss : List LeafStats). AreToldBounds (take i leaves) ss bounds) (take_all i stats (omega (arith, end, each))) told)

@@ -36,8 +36,9 @@ some-not-below P o m docs was not = if-some o m (λ (x : Merging). length x.copi
 pub some-kept : (told : Option Files) (o : Option Merging) (m : Merging) (x y : List KeptBlock) → o ≡ Some m → CacheKeeps told (IsFileAmong m.snapshot) x y → IfSome o (λ k. CacheKeeps told (IsFileAmong k.snapshot) x y)
 some-kept told o m x y was keeps = if-some o m (λ (k : Merging). CacheKeeps told (IsFileAmong k.snapshot) x y) was keeps
 
-pub some-fault : (f : Files) (o : Option Merging) (m : Merging) (fault : SegFault) → o ≡ Some m → IsOutside fault ⊎ IsFaultAmong f m.snapshot fault → IfSome o (λ x. IsOutside fault ⊎ IsFaultAmong f x.snapshot fault)
-some-fault f o m fault was is = if-some o m (λ (x : Merging). IsOutside fault ⊎ IsFaultAmong f x.snapshot fault) was is
+pub some-fault : (f : Files) (cached : List KeptBlock) (o : Option Merging) (m : Merging) (fault : SegFault) → o ≡ Some m → IsOutside fault ⊎ IsFaultAmong f cached m.snapshot fault
+    → IfSome o (λ x. IsOutside fault ⊎ IsFaultAmong f cached x.snapshot fault)
+some-fault f cached o m fault was is = if-some o m (λ (x : Merging). IsOutside fault ⊎ IsFaultAmong f cached x.snapshot fault) was is
 
 -- ---- what is answered
 

@@ -129,8 +129,11 @@ module _ {S : Type 0} (files : S → Option Files) (since : S → ℕ → Files 
         (subst (λ (l : Limits). Leaves (since old) (since new) (IsEither l k (without_dead_of r.merge d))) limits left);
   }
 
-pub fault-begun : (f : Files) (s r : State) (fault : SegFault) → r ≡ merge_begun s → IfSome r.merge (λ m. IsOutside fault ⊎ IsFaultAmong f m.snapshot fault) → IsOutside fault ⊎ IsFaultAmong f (sealed s.held.parts).closed fault
-fault-begun f s r fault begun is = subst (λ (x : State). IfSome x.merge (λ m. IsOutside fault ⊎ IsFaultAmong f m.snapshot fault)) begun is
+pub fault-begun : (f : Files) (s r : State) (cached : List KeptBlock) (fault : SegFault) → r ≡ merge_begun s → cached ≡ [] → IfSome r.merge (λ m. IsOutside fault ⊎ IsFaultAmong f cached m.snapshot fault)
+    → IsOutside fault ⊎ IsFaultAmong f [] (sealed s.held.parts).closed fault
+fault-begun f s r cached fault begun none is =
+    subst (λ (x : State). IfSome x.merge (λ m. IsOutside fault ⊎ IsFaultAmong f [] m.snapshot fault)) begun
+    (subst (λ (k : List KeptBlock). IfSome r.merge (λ m. IsOutside fault ⊎ IsFaultAmong f k m.snapshot fault)) none is)
 
 -- ---- a merge around another call
 

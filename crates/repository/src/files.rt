@@ -99,7 +99,26 @@ pub fn replace_manifest<T: Store>(store: &mut T, manifest: &[u8]) -> Result<(), 
     }
 }
 
+/// Makes the file of this name hold these bytes. A stop within it leaves any bytes, or no such file.
+fn put_file<T: Store>(store: &mut T, name: &[u8], bytes: &[u8]) -> Result<(), SegFault>
+    requires ascii { IsAscii name.now }
+    requires short { length name.now ≤ 30 }
+    ensures done { OnOk result (T.files store.new ≡ option_map (with_file name.now (Some bytes.now)) (T.files store.old)) }
+    ensures changed { AnyState name.now (T.files store.old) (T.files store.new) }
+    ensures stops { Leaves (T.since store.old) (T.since store.new) (AnyState name.now (T.files store.old)) }
+    ensures goes_on { GoesOn T.layers T.clock T.longest T.held store.old store.new }
+    ensures outside { IfErr result IsOutside }
+    ensures later { T.faults store.old ≤ T.faults store.new }
+    ensures store { result ≡ Err SegFault.Store → Rose (T.faults store.old) (T.faults store.new) }
+{
+    match store.put(as_text(name), bytes) {
+        Ok(()) => Ok(()),
+        Err(fault) => Err(store_fault(fault)),
+    }
+}
+
 /// Makes the file of the segment of this number hold these bytes. A stop within it leaves any bytes, or no such file.
+#[tactic(auto, using(crate::proofs::NameLemmas::segment_ascii, crate::proofs::NameLemmas::segment_short))]
 pub fn put_segment<T: Store>(store: &mut T, number: u64, bytes: &[u8]) -> Result<(), SegFault>
     ensures done { OnOk result (T.files store.new ≡ option_map (with_file (segment_name number) (Some bytes.now)) (T.files store.old)) }
     ensures changed { AnyState (segment_name number) (T.files store.old) (T.files store.new) }
@@ -110,13 +129,11 @@ pub fn put_segment<T: Store>(store: &mut T, number: u64, bytes: &[u8]) -> Result
     ensures store { result ≡ Err SegFault.Store → Rose (T.faults store.old) (T.faults store.new) }
 {
     let name = segment_name(number);
-    match store.put(as_text(&name), bytes) {
-        Ok(()) => Ok(()),
-        Err(fault) => Err(store_fault(fault)),
-    }
+    put_file(store, &name, bytes)
 }
 
 /// The same for the file of the prior of this number.
+#[tactic(auto, using(crate::proofs::NameLemmas::prior_ascii, crate::proofs::NameLemmas::prior_short))]
 pub fn put_prior<T: Store>(store: &mut T, number: u64, bytes: &[u8]) -> Result<(), SegFault>
     ensures done { OnOk result (T.files store.new ≡ option_map (with_file (prior_name number) (Some bytes.now)) (T.files store.old)) }
     ensures changed { AnyState (prior_name number) (T.files store.old) (T.files store.new) }
@@ -126,11 +143,8 @@ pub fn put_prior<T: Store>(store: &mut T, number: u64, bytes: &[u8]) -> Result<(
     ensures later { T.faults store.old ≤ T.faults store.new }
     ensures store { result ≡ Err SegFault.Store → Rose (T.faults store.old) (T.faults store.new) }
 {
-    let file = prior_name(number);
-    match store.put(as_text(&file), bytes) {
-        Ok(()) => Ok(()),
-        Err(fault) => Err(store_fault(fault)),
-    }
+    let name = prior_name(number);
+    put_file(store, &name, bytes)
 }
 
 /// Leaves no file of this name.
@@ -152,6 +166,7 @@ fn remove_file<T: Store>(store: &mut T, name: &[u8]) -> Result<(), SegFault>
 }
 
 /// Leaves no file of the segment of this number.
+#[tactic(auto, using(crate::proofs::NameLemmas::segment_ascii, crate::proofs::NameLemmas::segment_short))]
 pub fn remove_segment<T: Store>(store: &mut T, number: u64) -> Result<(), SegFault>
     ensures done { OnOk result (T.files store.new ≡ option_map (with_file (segment_name number) None) (T.files store.old)) }
     ensures changed { OldOrNew (segment_name number) None (T.files store.old) (T.files store.new) }
@@ -166,6 +181,7 @@ pub fn remove_segment<T: Store>(store: &mut T, number: u64) -> Result<(), SegFau
 }
 
 /// Leaves no file of the prior of this number.
+#[tactic(auto, using(crate::proofs::NameLemmas::prior_ascii, crate::proofs::NameLemmas::prior_short))]
 pub fn remove_prior<T: Store>(store: &mut T, number: u64) -> Result<(), SegFault>
     ensures done { OnOk result (T.files store.new ≡ option_map (with_file (prior_name number) None) (T.files store.old)) }
     ensures changed { OldOrNew (prior_name number) None (T.files store.old) (T.files store.new) }

@@ -1,5 +1,5 @@
 // Merges that are run to their end.
-ghost use Rattle.std.specs.Prelude.{◌≡◌, ◌≤◌, ◌⊎◌, Err, None, Some, IsTrue, true, IfErr, IfOk, OnOk};
+ghost use Rattle.std.specs.Prelude.{◌≡◌, ◌≤◌, ◌⊎◌, [], Err, None, Some, IsTrue, true, IfErr, IfOk, OnOk};
 ghost use Rattle.ri_base.specs.Faults.{IsOutside};
 ghost use Rattle.ri_base.specs.Keeps.{Rose};
 ghost use Rattle.store_ends.specs.Files.{Files, GoesOn, IsQuiet};
@@ -38,8 +38,8 @@ pub fn merge_whole<T: Store>(
     ensures usable { OnOk result (repository.new.usable ≡ true) }
     ensures goes_on { GoesOn T.layers T.clock T.longest T.held store.old store.new }
 
-    // Only a document that is copied can be refused by its file, and nothing is written then.
-    ensures fault { (f : Files) → T.files store.old ≡ Some f → IfErr result (λ fault. IsOutside fault ⊎ IsFaultAmong f (sealed repository.old.held.parts).closed fault) }
+    // Only a document that is copied can be refused, by its file alone, since no block is kept from before; and nothing is written then.
+    ensures fault { (f : Files) → T.files store.old ≡ Some f → IfErr result (λ fault. IsOutside fault ⊎ IsFaultAmong f [] (sealed repository.old.held.parts).closed fault) }
     ensures damage { IfErr result (λ fault. IsOutside fault ⊎ IsQuiet T.files T.layers T.clock T.since T.longest T.held store.old store.new) }
     ensures honest { IsBacked (T.files store.old) repository.old → IfErr result IsOutside }
     ensures later { T.faults store.old ≤ T.faults store.new }

@@ -1,9 +1,11 @@
 // A folder of the system.
-ghost use Rattle.std.specs.Prelude.{◌≡◌, ◌≤◌, ◌++◌, ◌∷◌, OnOk, length};
+ghost use Rattle.std.specs.Prelude.{◌≡◌, ◌≤◌, ◌++◌, ◌∷◌, None, IfOk, OnOk, drop, length};
 ghost use Rattle.std.specs.Bool.{OnTrue};
 ghost use Rattle.std.specs.Io.{ReadsAtMost};
 ghost use Rattle.std.specs.String.{string_bytes};
+ghost use Rattle.store_ends.specs.Files.{Fills};
 ghost use Rattle.store_ends.specs.Folders.{IsFileName};
+ghost use Rattle.store_ends.specs.declared.folder.TheConstants.{BESIDE};
 
 use crate::LONGEST_NAME;
 use ri_ends::NoMemory;
@@ -129,16 +131,20 @@ fn read_from(file: &mut (impl Read + Seek), at: u64, buf: &mut [u8]) -> io::Resu
 }
 
 // The bytes from a place on, of which there are none behind the last.
-fn behind(bytes: &[u8], at: usize) -> &[u8] {
+fn behind(bytes: &[u8], at: usize) -> &[u8]
+    ensures { result.now ≡ drop at bytes.now }
+{
     if at >= bytes.len() {
         return &[];
     }
     &bytes[at..]
 }
 
-// Copies as many bytes as have room, and says how many.
+// Copies as many bytes as have room to the front of the buffer, and says how many.
 fn copy_front(bytes: &[u8], buf: &mut [u8]) -> usize
-    ensures { result ≤ length buf.new }
+    ensures within { result ≤ length buf.new }
+    ensures bytes { Fills result buf.new 0 bytes.now }
+    ensures others { drop result buf.new ≡ drop result buf.old }
 {
     let count = bytes.len().min(buf.len());
     buf[..count].copy_from_slice(&bytes[..count]);
@@ -157,7 +163,11 @@ pub(crate) struct Folder<'a, R: Files + AllocGlobal> {
 }
 
 impl<'a, R: Files + AllocGlobal> Folder<'a, R> {
-    pub fn new(rt: &'a R, folder: &'a str) -> Result<Self, NoMemory> {
+    pub fn new(rt: &'a R, folder: &'a str) -> Result<Self, NoMemory>
+        ensures folder { IfOk result (λ f. f.folder.now ≡ folder.now) }
+        ensures beside { IfOk result (λ f. string_bytes f.beside ≡ folder.now ++ 47 ∷ BESIDE.now) }
+        ensures closed { IfOk result (λ f. f.opened ≡ None) }
+    {
         let room = folder.len() + 1 + LONGEST_NAME;
         let path = String::with_capacity(rt.alloc(), room)?;
         let mut beside = String::with_capacity(rt.alloc(), room)?;
@@ -177,6 +187,8 @@ impl<'a, R: Files + AllocGlobal> Folder<'a, R> {
     fn set_path(&mut self, name: &str) -> io::Result<()>
         ensures inside { OnOk result (IsFileName name.now) }
         ensures path { OnOk result (string_bytes self.new.path ≡ self.old.folder.now ++ 47 ∷ name.now) }
+        ensures same_opened { self.new.opened ≡ self.old.opened }
+        ensures same_beside { self.new.beside ≡ self.old.beside }
     {
         if self.folder.is_empty() || !is_file_name(name) {
             return Err(io::Error::from(ErrorKind::InvalidFilename));
@@ -238,6 +250,7 @@ impl<'a, R: Files + AllocGlobal> Folder<'a, R> {
     // Writes a whole file in its place.
     pub fn write(&mut self, name: &str, bytes: &[u8]) -> io::Result<()>
         ensures inside { OnOk result (IsFileName name.now) }
+        ensures closed { self.new.opened ≡ None }
     {
         self.opened = None;
         self.set_path(name)?;
@@ -248,6 +261,7 @@ impl<'a, R: Files + AllocGlobal> Folder<'a, R> {
     // Writes a file beside the one of this name, and renames it.
     pub fn exchange(&mut self, name: &str, bytes: &[u8]) -> io::Result<()>
         ensures inside { OnOk result (IsFileName name.now) }
+        ensures closed { self.new.opened ≡ None }
     {
         self.opened = None;
         self.set_path(name)?;
@@ -259,6 +273,7 @@ impl<'a, R: Files + AllocGlobal> Folder<'a, R> {
     // Removes a file, where there is one.
     pub fn delete(&mut self, name: &str) -> io::Result<()>
         ensures inside { OnOk result (IsFileName name.now) }
+        ensures closed { self.new.opened ≡ None }
     {
         self.opened = None;
         self.set_path(name)?;

@@ -109,7 +109,7 @@ impl Repository {
         ensures broken { OnErr result (self.new.usable ≡ false) }
 
         // Only a document that is copied can be refused by its file, and nothing is written then.
-        ensures fault { (f : Files) → T.files store.old ≡ Some f → IfSome self.old.merge (λ m. IfErr result (λ fault. IsOutside fault ⊎ IsFaultAmong f m.snapshot fault)) }
+        ensures fault { (f : Files) → T.files store.old ≡ Some f → IfSome self.old.merge (λ m. IfErr result (λ fault. IsOutside fault ⊎ IsFaultAmong f cache.old m.snapshot fault)) }
         ensures damage { IfErr result (λ fault. IsOutside fault ⊎ IsQuiet T.files T.layers T.clock T.since T.longest T.held store.old store.new) }
         ensures honest { IsOpenMerging (T.files store.old) self.old → IsCacheBacked (T.files store.old) cache.old → IfErr result IsOutside }
         ensures later { T.faults store.old ≤ T.faults store.new }

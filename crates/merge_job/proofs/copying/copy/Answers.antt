@@ -5,12 +5,13 @@ use Rattle.store_ends.specs.Files.{Files}
 use Rattle.seg_codec.specs.Segment.{entry_of}
 use Rattle.disk_index.specs.Cache.{IsCacheBacked}
 use Rattle.disk_index.specs.Parts.{IsPartBacked, reads, size}
-use Rattle.disk_index.specs.QuietLaws.{IsCacheBacked-kept, IsQuiet-then}
-use Rattle.disk_index.specs.Snapshots.{IsFileAmong}
-use Rattle.disk_index.proofs.AmongLemmas.{backed-at, keeps-among, there-at}
+use Rattle.disk_index.specs.QuietLaws.{IsQuiet-then}
+use Rattle.disk_index.proofs.AmongLemmas.{backed-at, there-at}
 use Rattle.disk_index.proofs.RebuiltLemmas.{reads-length}
+use Rattle.disk_index.proofs.TogetherLemmas.{AllKept-then}
 use Rattle.merge_job.specs.Walk.{entries, rest}
 use Rattle.merge_job.proofs.CopyLemmas.{all-copied, exact-at, in-part-at, to-next-at, tokens-left, tokens-part}
+use Rattle.merge_job.proofs.KeepLemmas.{all-backed, fault-before}
 use Rattle.merge_job.proofs.WalkLemmas.{length-entries}
 use Rattle.merge_job.proofs.copying.copy.Goals as goal
 
@@ -34,13 +35,11 @@ returns-in_err-copy_part-clause-entries g c =
 pub returns-in_err-copy_part-clause-exact : goal.returns-in_err-copy_part-clause-exact
 returns-in_err-copy_part-clause-exact g c =
     exact-at c.args.parts.now c.loop-number.place.part c.loop-number.number c.index-parts-number.result c.loop-number-test.true c.loop-number.invariant.at c.index-parts-number.is
-    (g.T.Store.files c.args.store.now) (g.T.Store.files c.loop-number.store) (IsFileAmong c.args.parts.now) c.args.cache.now c.loop-number.cache c.loop-number.place.id c.copy_part.new.id _ _ _
+    (g.T.Store.files c.args.store.now) (g.T.Store.files c.loop-number.store) c.args.cache.now c.loop-number.cache c.loop-number.place.id c.copy_part.new.id _ _ _
     c.loop-number.invariant.quiet.same_files c.loop-number.invariant.cache c.copy_part.ensures.exact c.loop-number.invariant.exact
 
 pub returns-in_err-copy_part-clause-cache : goal.returns-in_err-copy_part-clause-cache
-returns-in_err-copy_part-clause-cache g c =
-    keeps-among c.args.parts.now c.loop-number.number c.index-parts-number.result c.loop-number-test.true c.index-parts-number.is
-    (g.T.Store.files c.args.store.now) (g.T.Store.files c.loop-number.store) c.args.cache.now c.loop-number.cache c.copy_part.new.cache c.loop-number.invariant.quiet.same_files c.loop-number.invariant.cache c.copy_part.ensures.cache
+returns-in_err-copy_part-clause-cache g c = AllKept-then c.args.cache.now c.loop-number.cache c.copy_part.new.cache c.loop-number.invariant.cache c.copy_part.ensures.cache
 
 pub returns-in_err-copy_part-clause-honest : goal.returns-in_err-copy_part-clause-honest
 returns-in_err-copy_part-clause-honest g c = λ backed cached.
@@ -50,14 +49,19 @@ returns-in_err-copy_part-clause-honest g c = λ backed cached.
     let p = err_from_is_err_and c.from_residual.result c.from_residual.ensures.1 in
     rw (p.1, p.2) (subst (λ (f : Option Files). IsPartBacked f m.source → IsCacheBacked f c.loop-number.cache → IsOutside c.in_err-copy_part.field-0.0) inv.quiet.same_files c.in_err-copy_part.ensures.honest
     (backed-at c.args.parts.now c.loop-number.number m c.loop-number-test.true c.index-parts-number.is told backed)
-    (IsCacheBacked-kept told (IsFileAmong c.args.parts.now) c.args.cache.now c.loop-number.cache inv.cache cached))
+    (all-backed told c.args.cache.now c.loop-number.cache inv.cache cached))
 
 pub returns-in_err-copy_part-clause-fault : goal.returns-in_err-copy_part-clause-fault
 returns-in_err-copy_part-clause-fault g c = λ f told.
     let inv = c.loop-number.invariant in
     let m = c.index-parts-number.result in
     let p = err_from_is_err_and c.from_residual.result c.from_residual.ensures.1 in
-    rw (p.1, p.2) (m, there-at c.args.parts.now c.loop-number.number m c.loop-number-test.true c.index-parts-number.is, c.in_err-copy_part.ensures.fault f (inv.quiet.same_files ∙ told))
+    let fault = c.in_err-copy_part.ensures.fault f (inv.quiet.same_files ∙ told) in
+    rw (p.1, p.2) (
+      m,
+      there-at c.args.parts.now c.loop-number.number m c.loop-number-test.true c.index-parts-number.is,
+      (fault.0, fault-before f c.args.cache.now c.loop-number.cache m.source fault.0 c.in_err-copy_part.field-0.0 inv.cache fault.1),
+    )
 
 -- ---- the last part that is wanted
 
@@ -69,13 +73,11 @@ returns-then-len-goal-clause-entries g c =
 pub returns-then-len-goal-clause-exact : goal.returns-then-len-goal-clause-exact
 returns-then-len-goal-clause-exact g c =
     exact-at c.args.parts.now c.loop-number.place.part c.loop-number.number c.index-parts-number.result c.loop-number-test.true c.loop-number.invariant.at c.index-parts-number.is
-    (g.T.Store.files c.args.store.now) (g.T.Store.files c.loop-number.store) (IsFileAmong c.args.parts.now) c.args.cache.now c.loop-number.cache c.loop-number.place.id c.copy_part.new.id _ _ _
+    (g.T.Store.files c.args.store.now) (g.T.Store.files c.loop-number.store) c.args.cache.now c.loop-number.cache c.loop-number.place.id c.copy_part.new.id _ _ _
     c.loop-number.invariant.quiet.same_files c.loop-number.invariant.cache c.copy_part.ensures.exact c.loop-number.invariant.exact
 
 pub returns-then-len-goal-clause-cache : goal.returns-then-len-goal-clause-cache
-returns-then-len-goal-clause-cache g c =
-    keeps-among c.args.parts.now c.loop-number.number c.index-parts-number.result c.loop-number-test.true c.index-parts-number.is
-    (g.T.Store.files c.args.store.now) (g.T.Store.files c.loop-number.store) c.args.cache.now c.loop-number.cache c.copy_part.new.cache c.loop-number.invariant.quiet.same_files c.loop-number.invariant.cache c.copy_part.ensures.cache
+returns-then-len-goal-clause-cache g c = AllKept-then c.args.cache.now c.loop-number.cache c.copy_part.new.cache c.loop-number.invariant.cache c.copy_part.ensures.cache
 
 -- ---- a part that is copied to its end
 
@@ -98,11 +100,11 @@ loop-number-preserved g c =
           (in-part-at ms q n m c.loop-number-test.true inv.at c.index-parts-number.is entries c.loop-number.place.id c.copy_part.new.id (map entry_of xs) (map entry_of ys) all_entries c.copy_part.ensures.entries inv.entries);
       exact = λ backed cached.
           to-next-at ms q n m c.loop-number-test.true inv.at c.index-parts-number.is (reads told) c.copy_part.new.id ys all_docs (let l = reads-length told m.source in omega (arith, l, past))
-          (exact-at ms q n m c.loop-number-test.true inv.at c.index-parts-number.is told (g.T.Store.files c.loop-number.store) (IsFileAmong ms) c.args.cache.now c.loop-number.cache c.loop-number.place.id c.copy_part.new.id xs ys all_docs
+          (exact-at ms q n m c.loop-number-test.true inv.at c.index-parts-number.is told (g.T.Store.files c.loop-number.store) c.args.cache.now c.loop-number.cache c.loop-number.place.id c.copy_part.new.id xs ys all_docs
           inv.quiet.same_files inv.cache c.copy_part.ensures.exact inv.exact backed cached);
       goal = c.copy_part.ensures.goal;
       most = c.copy_part.ensures.most ∙ inv.most;
-      cache = keeps-among ms n m c.loop-number-test.true c.index-parts-number.is told (g.T.Store.files c.loop-number.store) c.args.cache.now c.loop-number.cache c.copy_part.new.cache inv.quiet.same_files inv.cache c.copy_part.ensures.cache;
+      cache = AllKept-then c.args.cache.now c.loop-number.cache c.copy_part.new.cache inv.cache c.copy_part.ensures.cache;
       quiet = IsQuiet-then _ _ _ _ _ _ g.T.Store.faults _ _ _ inv.quiet c.copy_part.ensures.quiet;
       later = (let l = inv.later in let k = c.copy_part.ensures.later in omega (arith, l, k));
     }

@@ -1,9 +1,9 @@
 use Rattle.std.proofs.Common.{◌≡◌, ◌≤◌, ◌++◌, length, map}
 use Rattle.store_ends.specs.Files.{IsQuiet}
 use Rattle.seg_codec.specs.Segment.{entry_of}
-use Rattle.disk_index.specs.Cache.{CacheKeeps, IsCacheBacked}
+use Rattle.disk_index.specs.Cache.{AllKept, IsCacheBacked}
 use Rattle.disk_index.specs.Parts.{reads}
-use Rattle.disk_index.specs.Snapshots.{AreBacked, IsFileAmong}
+use Rattle.disk_index.specs.Snapshots.{AreBacked}
 use Rattle.merge_job.specs.Walk.{entries, rest}
 use Rattle.merge_job.proofs.copying.copy.Given as goal
 
@@ -15,7 +15,7 @@ invariant-loop-number g l = record {
       → l.copied.docs ++ rest (reads (g.T.Store.files l.fn.store)) l.parts l.place.part l.place.id ≡ l.fn.copied.docs ++ rest (reads (g.T.Store.files l.fn.store)) l.parts l.fn.place.part l.fn.place.id;
   goal : length l.copied.docs ≤ l.goal;
   most : l.copied.most ≡ l.fn.copied.most;
-  cache : CacheKeeps (g.T.Store.files l.fn.store) (IsFileAmong l.parts) l.fn.cache l.cache;
+  cache : AllKept l.fn.cache l.cache;
   quiet : IsQuiet g.T.Store.files g.T.Store.layers g.T.Store.clock g.T.Store.since g.T.Store.longest g.T.Store.held l.fn.store l.store;
   later : g.T.Store.faults l.fn.store ≤ g.T.Store.faults l.store;
 }

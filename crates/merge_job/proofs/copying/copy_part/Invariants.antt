@@ -1,8 +1,8 @@
 use Rattle.std.proofs.Common.{◌≡◌, ◌≤◌, ◌++◌, length, map, IfSome}
 use Rattle.store_ends.specs.Files.{IsQuiet}
 use Rattle.seg_codec.specs.Segment.{entry_of}
-use Rattle.disk_index.specs.Cache.{CacheKeeps, IsCacheBacked}
-use Rattle.disk_index.specs.Parts.{IsFileOf, IsPartBacked, reads}
+use Rattle.disk_index.specs.Cache.{AllKept, IsCacheBacked}
+use Rattle.disk_index.specs.Parts.{IsPartBacked, reads}
 use Rattle.merge_job.specs.Range.{IsRange, IsRangeNow}
 use Rattle.merge_job.specs.Walk.{entries, rest_in}
 use Rattle.merge_job.proofs.copying.copy_part.Given as goal
@@ -17,7 +17,7 @@ invariant-loop-i g l = record {
   range_now : IsPartBacked (g.T.Store.files l.fn.store) l.marked.source → IsCacheBacked (g.T.Store.files l.fn.store) l.fn.cache → IfSome l.last (IsRangeNow (g.T.Store.files l.fn.store) l.marked.source);
   goal : length l.copied.docs ≤ l.goal;
   most : l.copied.most ≡ l.fn.copied.most;
-  cache : CacheKeeps (g.T.Store.files l.fn.store) (IsFileOf l.marked.source) l.fn.cache l.cache;
+  cache : AllKept l.fn.cache l.cache;
   quiet : IsQuiet g.T.Store.files g.T.Store.layers g.T.Store.clock g.T.Store.since g.T.Store.longest g.T.Store.held l.fn.store l.store;
   later : g.T.Store.faults l.fn.store ≤ g.T.Store.faults l.store;
 }

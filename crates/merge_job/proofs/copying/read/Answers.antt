@@ -1,8 +1,7 @@
 use Rattle.std.proofs.Common.{◌<◌, ◌*◌, ◌∙◌, ap, subst, sym}
 use Rattle.std.proofs.lemmas.Result.{err_from_is_err_and}
 use Rattle.disk_index.specs.Blocks.{of_range}
-use Rattle.disk_index.specs.Cache.{CacheKeeps}
-use Rattle.disk_index.specs.Parts.{IsFileOf, IsPartBacked, IsSourceFault, Source, reads, size, source_of}
+use Rattle.disk_index.specs.Parts.{IsPartBacked, IsRangeFaultOf, Source, reads, size, source_of}
 use Rattle.merge_job.proofs.CopyLemmas.{range-read}
 use Rattle.merge_job.proofs.copying.read.Goals as goal
 
@@ -17,9 +16,6 @@ returns-clause-exact g c = λ backed cached _.
     let told = g.T.Store.files c.args.store.now in
     c.in_ok-docs.ensures.exact (subst (IsPartBacked told) (sym c.part.ensures.part) backed) cached ∙ ap (λ (p : Source). of_range c.args.number (reads told p)) c.part.ensures.part
 
-pub returns-clause-cache : goal.returns-clause-cache
-returns-clause-cache g c = subst (λ (p : Source). CacheKeeps (g.T.Store.files c.args.store.now) (IsFileOf p) c.args.cache.now c.documents.new.cache) c.part.ensures.part c.documents.ensures.cache
-
 -- ---- a range that can't be read
 
 pub returns-in_err-docs-clause-honest : goal.returns-in_err-docs-clause-honest
@@ -30,7 +26,4 @@ returns-in_err-docs-clause-honest g c = λ backed cached.
 pub returns-in_err-docs-clause-fault : goal.returns-in_err-docs-clause-fault
 returns-in_err-docs-clause-fault g c = λ f told.
     let p = err_from_is_err_and c.from_residual.result c.from_residual.ensures.1 in
-    rw (p.1, p.2) (subst (λ (s : Source). IsSourceFault f s c.in_err-docs.field-0.0) c.part.ensures.part (c.in_err-docs.ensures.fault f told))
-
-pub returns-in_err-docs-clause-cache : goal.returns-in_err-docs-clause-cache
-returns-in_err-docs-clause-cache g c = subst (λ (p : Source). CacheKeeps (g.T.Store.files c.args.store.now) (IsFileOf p) c.args.cache.now c.documents.new.cache) c.part.ensures.part c.documents.ensures.cache
+    rw (p.1, p.2) (subst (λ (s : Source). IsRangeFaultOf f c.args.cache.now s c.args.number c.in_err-docs.field-0.0) c.part.ensures.part (c.in_err-docs.ensures.fault f told))

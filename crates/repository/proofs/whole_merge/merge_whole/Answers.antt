@@ -31,7 +31,7 @@ returns-clause-writes g c =
     (λ k d backed stands read. c.merge_turn.ensures.stops k d (c.in-Ok.ensures.merging a backed) (empty-cache a c.in_ok-cache.cache c.in_ok-cache.ensures) stands read)
 
 pub returns-clause-fault : goal.returns-clause-fault
-returns-clause-fault g c f told = fault-begun f c.args.repository.now c.begin_merge.new.self c.in-Err.fault c.in-Ok.ensures.begun (c.in-Err.ensures.fault f told)
+returns-clause-fault g c f told = fault-begun f c.args.repository.now c.begin_merge.new.self c.in_ok-cache.cache c.in-Err.fault c.in-Ok.ensures.begun c.in_ok-cache.ensures (c.in-Err.ensures.fault f told)
 
 pub returns-clause-honest : goal.returns-clause-honest
 returns-clause-honest g c backed =

@@ -24,7 +24,7 @@ returns-in-Some-clause-origin g c =
     inl (subst (λ (l : List KeptBlock). Contains l (c.args.key, c.in-Some.block)) c.self.view_is found)
 
 pub returns-clause-origin : goal.returns-clause-origin
-returns-clause-origin g c = inr c.in_ok-block-2.ensures.fits
+returns-clause-origin g c = inr (record { fit = c.in_ok-block-2.ensures.fits; bytes = λ f told. (c.in_ok-block-2.ensures.exact f told).bytes })
 
 pub returns-in_err-block-2-clause-cache : goal.returns-in_err-block-2-clause-cache
 returns-in_err-block-2-clause-cache g c = record { each = λ e h. inl (subst (λ (l : List KeptBlock). Contains l e) c.self.view_is (c.in_ok-block.ensures.stay e h)) }

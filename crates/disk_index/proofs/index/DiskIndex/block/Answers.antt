@@ -50,5 +50,5 @@ pub returns-in-Some-clause-origin : goal.returns-in-Some-clause-origin
 returns-in-Some-clause-origin g c =
     let same : c.self.inside.documents ≡ c.args.self.now.outlines = ap (λ (k : Kept). k.outlines) c.self.view_is in
     match_some (key_of c.args.self.now.number c.args.range) (place_of c.args.self.now.dictionary c.args.term.now c.args.range) c.in-Some.key _
-    (λ (k : BlockKey). IfOk c.fetch.result (CameFrom c.args.cache.now c.args.self.now.outlines k)) c.in-Some.ensures.key
-    (subst (λ (es : List Entry). IfOk c.fetch.result (CameFrom c.args.cache.now es c.in-Some.key)) same c.fetch.ensures.origin)
+    (λ (k : BlockKey). IfOk c.fetch.result (CameFrom (g.T.Store.files c.args.store.now) c.args.cache.now c.args.self.now.outlines k)) c.in-Some.ensures.key
+    (subst (λ (es : List Entry). IfOk c.fetch.result (CameFrom (g.T.Store.files c.args.store.now) c.args.cache.now es c.in-Some.key)) same c.fetch.ensures.origin)

@@ -51,7 +51,7 @@ pub returns-then-not-are_places-clause-fault : goal.returns-then-not-are_places-
 returns-then-not-are_places-clause-fault g c = λ f told.
     let own : c.self.inside.number ≡ c.args.self.now.number = ap (λ (k : Kept). k.number) c.self.view_is in
     subst (λ n. IsTermFault f c.args.cache.now c.args.self.now c.args.term.now c.args.id (Malformed (Segment n) parts.Block c.block_place.result)) (sym own)
-    (wrong-kept f c.args.cache.now c.args.self.now c.args.term.now c.args.id c.block_place.result c.in_ok-block.block c.block_place.ensures c.in_ok-block.ensures.origin (λ h.
+    (wrong-kept f (g.T.Store.files c.args.store.now) c.args.cache.now c.args.self.now c.args.term.now c.args.id c.block_place.result c.in_ok-block.block c.block_place.ensures c.in_ok-block.ensures.origin (λ h.
     let rises : IsTrue c.are_places.result =
     c.are_places.ensures.no (subst (λ n. ArePlacesIn n c.places-places.result.now) (sym c.length.ensures.kept) (subst (λ (l : List ℕ). ArePlacesIn (tokens_of c.args.self.now.outlines c.args.id) l) (sym c.places-places.ensures) h)) in
     search (rules, rises)))
@@ -60,3 +60,6 @@ pub returns-in_err-positions_of-clause-fault : goal.returns-in_err-positions_of-
 returns-in_err-positions_of-clause-fault g c = λ f told.
     let p = err_from_is_err_and c.from_residual-in_err-positions_of.result c.from_residual-in_err-positions_of.ensures.1 in
     rw (p.1, p.2) (memory-fault f c.args.cache.now c.args.self.now c.args.term.now c.args.id)
+
+pub returns-clause-told : goal.returns-clause-told
+returns-clause-told g c = record { entries = c.in_ok-block.block; block = c.in_ok-block.ensures.origin; places = c.in_ok-positions_of.ensures ∙ c.places-places.ensures }

@@ -1,14 +1,19 @@
-use Rattle.std.proofs.Common.{◌≡◌, List, None, Some, sym, ap, ◌∙◌}
+use Rattle.std.proofs.Common.{◌≡◌, List, Option, None, Some, sym, ap, subst, ◌∙◌}
 use Rattle.std.proofs.lemmas.Option.{same_Some}
 use Rattle.std.proofs.lemmas.Result.{err_from_is_err_and}
+use Rattle.store_ends.specs.Files.{Files}
 use Rattle.seg_codec.specs.Held.{lengths_of}
 use Rattle.seg_codec.specs.declared.dictionary.TermBlocks.{TermBlocks}
 use Rattle.seg_codec.specs.declared.documents.Entry.{Entry}
 use Rattle.disk_index.specs.Blocks.{of_range}
-use Rattle.disk_index.specs.Rebuild.{documents_of, lengths}
-use Rattle.disk_index.proofs.FaultLemmas.{malformed-apart, malformed-fault}
+use Rattle.disk_index.specs.Rebuild.{Slots, documents_of, lengths}
+use Rattle.disk_index.specs.Together.{AreAllRows}
 use Rattle.disk_index.proofs.RebuildLemmas.{documents-outlines, range-again}
+use Rattle.disk_index.proofs.TogetherLemmas.{block-apart, untold-token}
 use Rattle.disk_index.proofs.index.DiskIndex.documents.Goals as goal
+
+shown : (d e : List TermBlocks) (os ps : List Entry) (rs ss : List Slots) → e ≡ d → os ≡ ps → rs ≡ ss → documents_of e os rs ≡ documents_of d ps ss
+shown d e os ps rs ss a b c = cc
 
 pub returns-in_err-told-clause-honest : goal.returns-in_err-told-clause-honest
 returns-in_err-told-clause-honest g c = λ docs b kept.
@@ -48,7 +53,19 @@ returns-clause-honest g c = λ docs b kept.
     absurd cc
 
 pub returns-clause-fault : goal.returns-clause-fault
-returns-clause-fault g c = λ f is_told. malformed-fault f c.args.self.now.number c.malformed.result c.malformed.ensures
+returns-clause-fault g c = λ f is_told.
+    let files = g.T.Store.files c.args.store.now in
+    untold-token f c.args.cache.now c.args.self.now c.args.range c.in_ok-told.told.last c.in_ok-told.told.rows.items c.malformed.result
+    (subst (λ (t : Option Files). AreAllRows t c.args.cache.now c.args.self.now c.args.range c.in_ok-told.told.rows.items) is_told c.in_ok-told.ensures.told)
+    (sym (shown c.args.self.now.dictionary _ c.outlines.result.now _ c.deref.result.now _ c.dictionary.ensures c.outlines.ensures.are c.deref.ensures.value) ∙ sym c.in_ok-docs.ensures ∙ c.in-None.is)
+    c.in_ok-told.ensures.last c.malformed.ensures
 
 pub returns-clause-store : goal.returns-clause-store
-returns-clause-store g c = λ is. absurd (malformed-apart c.args.self.now.number c.malformed.result c.malformed.ensures cc)
+returns-clause-store g c = λ is. absurd (block-apart c.args.self.now.number _ c.malformed.result c.malformed.ensures cc)
+
+pub returns-in-Some-clause-told : goal.returns-in-Some-clause-told
+returns-in-Some-clause-told g c = record {
+  rows = c.in_ok-told.told.rows.items;
+  each = c.in_ok-told.ensures.told;
+  are = sym (shown c.args.self.now.dictionary _ c.outlines.result.now _ c.deref.result.now _ c.dictionary.ensures c.outlines.ensures.are c.deref.ensures.value) ∙ sym c.in_ok-docs.ensures ∙ c.in-Some.is;
+}

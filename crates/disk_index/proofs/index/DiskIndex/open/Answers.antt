@@ -30,5 +30,5 @@ pub returns-clause-exact : goal.returns-clause-exact
 returns-clause-exact g c = λ ds s few.
     let is = c.in_ok-size.ensures.length s.files s.is_told in
     c.in_ok-of.ensures ∙ opened_as (g.T.Store.files c.args.store.now) c.args.number c.args.docs c.in_ok-size.size ds s few is (omega arith)
-    (record { number = c.args.number; outlines = c.in_ok-parts.parts.documents; dictionary = c.in_ok-parts.parts.dictionary }) refl
+    (record { number = c.args.number; outlines = c.in_ok-parts.parts.documents; dictionary = c.in_ok-parts.parts.dictionary; begin = c.in_ok-parts.parts.blocks_at }) refl
     (c.in_ok-parts.ensures.found s.files (c.in_ok-size.ensures.quiet.same_files ∙ s.is_told) is)

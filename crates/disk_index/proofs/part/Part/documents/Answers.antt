@@ -3,11 +3,10 @@ use Rattle.ri_base.specs.Documents.{Document}
 use Rattle.seg_codec.specs.Segment.{entry_of}
 use Rattle.seg_codec.specs.declared.documents.Entry.{Entry}
 use Rattle.disk_index.specs.Blocks.{of_range, told_file}
-use Rattle.disk_index.specs.Cache.{CacheKeeps}
-use Rattle.disk_index.specs.Faults.{IsRangeFault}
 use Rattle.disk_index.specs.Kept.{Kept}
-use Rattle.disk_index.specs.Parts.{IsFileOf, IsPartBacked, IsSourceFault, reads, source_of}
+use Rattle.disk_index.specs.Parts.{AreRangeOf, IsPartBacked, IsRangeFaultOf, reads, source_of}
 use Rattle.disk_index.specs.Reads.{IsBacked, rebuilt}
+use Rattle.disk_index.specs.Together.{AreTogether, IsDocumentsFault}
 use Rattle.disk_index.specs.declared.part.Part.{Part}
 use Rattle.disk_index.proofs.RebuildLemmas.{map-range}
 use Rattle.disk_index.proofs.RebuiltLemmas.{reads-backed, rebuilt-outlines}
@@ -16,12 +15,6 @@ use Rattle.disk_index.proofs.part.Part.documents.Goals as goal
 outlines-same : {E : Type 0} (r : Result (List Document) E) (xs : List Document) → IfOk r (λ ds. ds ≡ xs) → IfOk r (λ ds. map entry_of ds ≡ map entry_of xs)
 outlines-same (Ok ds) xs h = ap (λ (l : List Document). map entry_of l) h
 outlines-same (Err e) xs h = tt
-
-pub returns-in-Disk-clause-cache : goal.returns-in-Disk-clause-cache
-returns-in-Disk-clause-cache g c =
-    let told = g.T.Store.files c.args.store.now in
-    subst (λ (p : Part). CacheKeeps told (IsFileOf (source_of p)) c.args.cache.now c.documents.new.cache) (sym c.in-Disk.is)
-    (subst (λ (k : Kept). CacheKeeps told (λ n. n ≡ k.number) c.args.cache.now c.documents.new.cache) c.deref-in-Disk.ensures c.documents.ensures.cache)
 
 pub returns-in-Disk-clause-exact : goal.returns-in-Disk-clause-exact
 returns-in-Disk-clause-exact g c = λ part backed.
@@ -52,4 +45,12 @@ returns-in-Disk-clause-kept g c =
 pub returns-in-Disk-clause-fault : goal.returns-in-Disk-clause-fault
 returns-in-Disk-clause-fault g c = λ f told.
     let r = c.documents.result in
-    subst (λ (p : Part). IfErr r (IsSourceFault f (source_of p))) (sym c.in-Disk.is) (subst (λ (k : Kept). IfErr r (IsRangeFault f k.number)) c.deref-in-Disk.ensures (c.documents.ensures.fault f told))
+    subst (λ (p : Part). IfErr r (IsRangeFaultOf f c.args.cache.now (source_of p) c.args.range)) (sym c.in-Disk.is)
+    (subst (λ (k : Kept). IfErr r (IsDocumentsFault f c.args.cache.now k c.args.range)) c.deref-in-Disk.ensures (c.documents.ensures.fault f told))
+
+pub returns-in-Disk-clause-told : goal.returns-in-Disk-clause-told
+returns-in-Disk-clause-told g c =
+    let told = g.T.Store.files c.args.store.now in
+    let r = c.documents.result in
+    subst (λ (p : Part). IfOk r (AreRangeOf told c.args.cache.now (source_of p) c.args.range)) (sym c.in-Disk.is)
+    (subst (λ (k : Kept). IfOk r (AreTogether told c.args.cache.now k c.args.range)) c.deref-in-Disk.ensures c.documents.ensures.told)

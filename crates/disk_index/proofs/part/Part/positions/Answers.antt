@@ -4,9 +4,9 @@ use Rattle.ri_base.specs.Documents.{Document}
 use Rattle.ri_base.specs.Places.{places}
 use Rattle.disk_index.specs.Blocks.{told_file}
 use Rattle.disk_index.specs.Cache.{CacheKeeps}
-use Rattle.disk_index.specs.Faults.{IsTermFault}
+use Rattle.disk_index.specs.Faults.{AreTold, IsTermFault}
 use Rattle.disk_index.specs.Kept.{Kept}
-use Rattle.disk_index.specs.Parts.{IsFileOf, IsPartBacked, IsPartFault, reads, source_of}
+use Rattle.disk_index.specs.Parts.{ArePlacesOf, IsFileOf, IsPartBacked, IsPartFault, reads, source_of}
 use Rattle.disk_index.specs.Reads.{IsBacked, rebuilt}
 use Rattle.disk_index.specs.declared.part.Part.{Part}
 use Rattle.disk_index.proofs.RebuiltLemmas.{reads-backed}
@@ -46,3 +46,10 @@ returns-in-Disk-clause-fault g c = λ f told.
     let r = c.positions.result in
     subst (λ (p : Part). IfErr r (IsPartFault f c.args.cache.now (source_of p) c.args.term.now c.args.id)) (sym c.in-Disk.is)
     (subst (λ (k : Kept). IfErr r (IsTermFault f c.args.cache.now k c.args.term.now c.args.id)) c.deref-in-Disk.ensures (c.positions.ensures.fault f told))
+
+pub returns-in-Disk-clause-told : goal.returns-in-Disk-clause-told
+returns-in-Disk-clause-told g c =
+    let told = g.T.Store.files c.args.store.now in
+    let r = c.positions.result in
+    subst (λ (p : Part). IfOk r (ArePlacesOf told c.args.cache.now (source_of p) c.args.term.now c.args.id)) (sym c.in-Disk.is)
+    (subst (λ (k : Kept). IfOk r (AreTold told c.args.cache.now k c.args.term.now c.args.id)) c.deref-in-Disk.ensures c.positions.ensures.told)

@@ -5,10 +5,11 @@ use Rattle.ri_base.specs.declared.limits.TheConstants.{MAX_HELD_TOKENS}
 use Rattle.store_ends.specs.Files.{Files}
 use Rattle.disk_index.specs.Cache.{IsCacheBacked}
 use Rattle.disk_index.specs.Parts.{reads}
-use Rattle.disk_index.specs.Snapshots.{AreBacked, Marked, live}
+use Rattle.disk_index.specs.Snapshots.{AreBacked, IsFileAmong, Marked, live}
 use Rattle.merge_job.specs.Merge.{AreTaken, Merging, size_of}
 use Rattle.merge_job.specs.Walk.{entries, rest, tokens_of}
 use Rattle.merge_job.proofs.JobLemmas.{job-lengths, job-tokens, taken-on}
+use Rattle.merge_job.proofs.KeepLemmas.{all-kept}
 use Rattle.merge_job.proofs.job.MergeJob.turn.Given as given
 use Rattle.merge_job.proofs.job.MergeJob.turn.Goals as goal
 use Rattle.merge_job.proofs.job.MergeJob.turn.Goals.{After-copy}
@@ -71,3 +72,9 @@ pub returns-in_err-copy-clause-honest : goal.returns-in_err-copy-clause-honest
 returns-in_err-copy-clause-honest g c = λ backed cached.
     let p = err_from_is_err_and c.from_residual.result c.from_residual.ensures.1 in
     rw (p.1, p.2) (c.in_err-copy.ensures.honest (under g (goal.at.returns-in_err-copy-clause-honest g c).After-copy backed) cached)
+
+pub returns-in_err-copy-clause-cache : goal.returns-in_err-copy-clause-cache
+returns-in_err-copy-clause-cache g c = all-kept (g.T.Store.files c.args.store.now) (IsFileAmong c.args.self.now.snapshot) c.args.cache.now c.copy.new.cache c.copy.ensures.cache
+
+pub returns-clause-cache : goal.returns-clause-cache
+returns-clause-cache g c = all-kept (g.T.Store.files c.args.store.now) (IsFileAmong c.args.self.now.snapshot) c.args.cache.now c.copy.new.cache c.copy.ensures.cache

@@ -1,8 +1,8 @@
-use Rattle.std.proofs.Common.{rules, ◌≡◌, ◌<◌, ◌≤◌, ◌+◌, ◌∙◌, ◌++◌, ◌∷◌, [], List, length, get_or, map, take, sym, ap, subst, arith}
+use Rattle.std.proofs.Common.{rules, ◌≡◌, ◌<◌, ◌+◌, ◌∙◌, ◌++◌, ◌∷◌, [], List, length, get_or, map, take, sym, ap, subst, arith}
 use Rattle.std.specs.Prelude.{All}
 use Rattle.std.specs.Option.{option_copied}
 use Rattle.std.proofs.Math.ListN.{get_or-map}
-use Rattle.std.proofs.lemmas.List.{get_or_default, length-map, map-append, take_all}
+use Rattle.std.proofs.lemmas.List.{get_or_default, length-map, map-append}
 use Rattle.ri_base.specs.Ratio.{ratio_of}
 use Rattle.ri_base.specs.declared.hit.LeafStats.{LeafStats}
 use Rattle.ri_base.specs.declared.query.Range.{Range}
@@ -16,7 +16,7 @@ use Rattle.range_bounds.specs.Tables.{AreCountsOf, names_of, terms_of}
 use Rattle.range_bounds.specs.declared.range_counts.RangeCounts.{RangeCounts}
 use Rattle.range_bounds.proofs.Covers.{all_covered}
 use Rattle.range_bounds.proofs.Leads.{all_are_beliefs, are_beliefs, each_told, keys_lead}
-use Rattle.range_bounds.proofs.Told.{AreToldBounds, bounds_length, bounds_more, bounds_told, counts_told}
+use Rattle.range_bounds.proofs.Told.{AreToldBounds, all_told, bounds_length, bounds_more, bounds_told, counts_told}
 use Rattle.range_bounds.proofs.table.RangeTable.bound_fractions.Goals as goal
 
 pub leaf_bound-bound-requires-clause-plugs : goal.leaf_bound-bound-requires-clause-plugs
@@ -63,20 +63,12 @@ pub returns-clause-each : goal.returns-clause-each
 returns-clause-each g c =
     let kind = c.args.rule.now.kind in
     let priors = map (λ b. (goal.BeliefNode-dyn g (b.vtable, b.value)).meaning b.value) c.args.plugs.now in
-    let table = c.args.self.now in
-    let counts : RangeCounts = c.unwrap-counts.result.now in
     let network = c.args.network.now in
     let leaves : List LeafTree = map leaf_tree network.leaves.items in
-    let items = c.leaves-leaf-items.result.now in
-    let i = c.loop-i.i in
-    let told : map leaf_tree items ≡ leaves = c.leaves-leaf-items.ensures in
-    let long : length (map leaf_tree items) ≤ i = rw (length-map items leaf_tree) c.loop-i-test.false in
-    let end : length leaves ≤ i = subst (λ (ls : List LeafTree). length ls ≤ i) told long in
-    let all : AreToldBounds kind priors network.range table counts leaves network.stats.items (map ratio_of c.loop-i.bounds.items) =
-    subst (λ (ls : List LeafTree). AreToldBounds kind priors network.range table counts ls network.stats.items (map ratio_of c.loop-i.bounds.items)) (take_all i leaves end)
-    (subst (λ (ss : List LeafStats). AreToldBounds kind priors network.range table counts (take i leaves) ss (map ratio_of c.loop-i.bounds.items)) (take_all i network.stats.items (omega (arith, end, network.kept.each))) c.loop-i.invariant) in
+    let bounds = map ratio_of c.loop-i.bounds.items in
+    let all = all_told kind priors network.range c.args.self.now c.unwrap-counts.result.now leaf_tree _ leaves network.stats.items bounds c.loop-i.i c.leaves-leaf-items.ensures c.loop-i-test.false network.kept.each c.loop-i.invariant in
     ap length c.of.ensures ∙ sym (length-map c.loop-i.bounds.items ratio_of)
-    ∙ bounds_length kind priors network.range table counts leaves network.stats.items (map ratio_of c.loop-i.bounds.items) (omega (arith, network.kept.each)) all
+    ∙ bounds_length kind priors network.range c.args.self.now c.unwrap-counts.result.now leaves network.stats.items bounds (omega (arith, network.kept.each)) all
 
 pub returns-clause-exact : goal.returns-clause-exact
 returns-clause-exact g c = λ docs is_table.
@@ -86,15 +78,8 @@ returns-clause-exact g c = λ docs is_table.
     let counts : RangeCounts = c.unwrap-counts.result.now in
     let network = c.args.network.now in
     let leaves : List LeafTree = map leaf_tree network.leaves.items in
-    let items = c.leaves-leaf-items.result.now in
-    let i = c.loop-i.i in
-    let told : map leaf_tree items ≡ leaves = c.leaves-leaf-items.ensures in
-    let long : length (map leaf_tree items) ≤ i = rw (length-map items leaf_tree) c.loop-i-test.false in
-    let end : length leaves ≤ i = subst (λ (ls : List LeafTree). length ls ≤ i) told long in
     let counted : AreCountsOf leaves (terms_of table) (names_of table) (range_documents docs c.args.range) counts = counts_told leaves docs table c.args.range counts is_table (sym c.counts.ensures.value ∙ ap option_copied c.unwrap-counts.ensures) in
-    let all : AreToldBounds kind priors network.range table counts leaves network.stats.items (map ratio_of c.loop-i.bounds.items) =
-    subst (λ (ls : List LeafTree). AreToldBounds kind priors network.range table counts ls network.stats.items (map ratio_of c.loop-i.bounds.items)) (take_all i leaves end)
-    (subst (λ (ss : List LeafStats). AreToldBounds kind priors network.range table counts (take i leaves) ss (map ratio_of c.loop-i.bounds.items)) (take_all i network.stats.items (omega (arith, end, network.kept.each))) c.loop-i.invariant) in
+    let all = all_told kind priors network.range table counts leaf_tree _ leaves network.stats.items (map ratio_of c.loop-i.bounds.items) c.loop-i.i c.leaves-leaf-items.ensures c.loop-i-test.false network.kept.each c.loop-i.invariant in
     rw c.of.ensures (bounds_told kind priors network.range table counts (range_documents docs c.args.range) leaves network.stats.items (map ratio_of c.loop-i.bounds.items) counted.least counted.most all)
 
 pub returns-clause-covers : goal.returns-clause-covers

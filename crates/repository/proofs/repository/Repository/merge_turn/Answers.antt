@@ -23,7 +23,7 @@ returns-in-Err-clause-stops g c k d open_now cached stands read =
 
 pub returns-in-Err-clause-fault : goal.returns-in-Err-clause-fault
 returns-in-Err-clause-fault g c f told =
-    some-fault f c.args.self.now.merge c.take_merge-job.result c.in-Err.fault c.take_merge-job.ensures.taken (inr (c.in-Err.ensures.fault f told))
+    some-fault f c.args.cache.now c.args.self.now.merge c.take_merge-job.result c.in-Err.fault c.take_merge-job.ensures.taken (inr (c.in-Err.ensures.fault f told))
 
 -- the end of the merge stays within these, whatever it answers
 snapshots : (g : given.Over) (c : After-end_merge g) (ms : List Marked) → AreListed c.args.self.now ms → AreBacked (g.T.Store.files c.args.store.now) ms

@@ -11,6 +11,7 @@ ranges or searches for it, once for each line that it is sent. `rt run` in crate
     searched        as many, with three words of a tenth of them each and one of 500
     alike, mixed,   as many, with three words of a tenth of them each: once in 16 words; up to four times in 16 to 64 words, in no
     early           order; and in 16 words four times in the first thousand documents, and once in the others
+    held            as many as mixed ones, with all three words in each of them
 
 A row of an opening has MB of what is read in a second of processor time, the best of the rounds, and the peak of memory for
 each byte of that. Only the header, the documents and the dictionary may be read, and one page beside them: the store reads its
@@ -23,9 +24,15 @@ many documents, over that of 4. Below it stands the same with the tables of the 
 take. These searches are for 1,000 results.
 
 A search for 10 results has two rows: what the opening, the first counts and the search take without tables; and with tables, what these
-and the search take, and how many times as much this is as the search without. It is bounded for the documents of `early` alone. Where
-documents are alike, or their counts and lengths vary in no order, few ranges have no document that may be among the first 10 by what is
-known of the range, or none: there the tables are made for little or for nothing, and the row says what they cost.
+and the search take, and how many times as much this is as the search without. Both have the exponent, by a quarter of the documents.
+With tables no search may take more than a tenth more than without, and the tables no more than a tenth of it; but where there are fewer
+than 1,000 results of 1,000 the row only says what they take, since the program makes none then. For the documents of
+`early` the tables and the search may take half of it at most. Where documents are alike, or their counts and lengths vary in no order,
+few ranges have no document that may be among the first 10 by what is known of the range, or none: there the tables are made for little
+or for nothing.
+
+A row of memory has how much more the peak is of a search for 10,000 results than of one for 10, for each result more and each leaf of
+the query. The search is the first of its process.
 
 The status is 1 where a row is beyond its bound, or where the program reads or says something else than it must.
 """
@@ -51,9 +58,12 @@ COMMON, WORDS = 97, 5003
 TOKENS = 8
 
 TENTHS, RARE, FEW = (1, 2, 3), 4, 500
-SEARCHED = {"absent": 0.1, f"w{RARE}": 3, " ".join(f"w{word}" for word in TENTHS): 60}
+ALL_TENTHS = " ".join(f"w{word}" for word in TENTHS)
+SEARCHED = {"absent": 0.1, f"w{RARE}": 3, ALL_TENTHS: 60}
 STEPS, SEARCH_EXPONENT = 1.3, 0.3
 MANY, TEN, HALF = 1000, 10, 0.5
+DEARER, TABLES = 1.1, 0.1
+HELD, MOST_HELD = 200, 10_000
 
 
 @dataclass(frozen=True)
@@ -78,6 +88,11 @@ class Reader(Program):
         spent = self.ask(line)
         after = self.reads()
         return spent, Reads(after.calls - before.calls - line_bytes, after.size - before.size - line_bytes)
+
+
+def exponent(times):
+    """By which power the time goes up, where four times as much takes so many times as long."""
+    return math.log(times) / math.log(4)
 
 
 def number(width, value):
@@ -106,12 +121,12 @@ SHAPES = {
 }
 
 
-def shaped_tokens(shape):
-    """The words of a document, of which each of three is in one of ten."""
+def shaped_tokens(shape, share=0.1):
+    """The words of a document, of which each of three is in such a share of all."""
     def tokens_of(document):
         dice = random.Random(document)
         times, length = shape(document, dice)
-        tokens = [word for word in TENTHS if dice.random() < 0.1 for _ in range(times)]
+        tokens = [word for word in TENTHS if dice.random() < share for _ in range(times)]
         return tokens + [100 + (document * k) % WORDS for k in range(1, length - len(tokens) + 1)]
     return tokens_of
 
@@ -232,7 +247,7 @@ class Table:
             return opening, run.ask(query).seconds
 
     def steps(self, command, folder, documents, query, bound=None, most=None, behind=()):
-        """A row of a search by one step and by steps of one; what it says of the results."""
+        """A row of a search by one step and by steps of one; what it says of the results, and its time."""
         said, whole = self.best(query, command, folder, documents, MANY, documents)
         said_by_one, by_one = self.best(query, command, folder, documents, MANY, 1)
         self.wanted("said by steps of one", said_by_one, said)
@@ -245,7 +260,7 @@ class Table:
             *behind,
         )
         print(f"{command + ', ' + query:<24}", "   ".join(cells), flush=True)
-        return said
+        return said, whole
 
     def searched(self, documents):
         folders = {}
@@ -254,33 +269,70 @@ class Table:
             (folders[count] / NAME).write_bytes(segment(count, searched_tokens(count))[0])
         for query, bound in SEARCHED.items():
             folder = folders[documents]
-            said = self.steps("search", folder, documents, query, bound, STEPS if bound == max(SEARCHED.values()) else None)
-            tables = self.best(query, "table", folder, documents)[1]
-            said_with = self.steps("skip", folder, documents, query, behind=[f"tables {1000 * tables:6.3f} ms of it"])
+            said, whole = self.steps("search", folder, documents, query, bound, STEPS if query == ALL_TENTHS else None)
+            shown = self.tables_shown(query, folder, documents, whole, said.split()[0] == str(MANY))
+            said_with, _ = self.steps("skip", folder, documents, query, behind=[shown])
             self.wanted("said with tables", said_with, said)
         times = [self.best(f"w{RARE}", "search", folders[count], count, MANY, count)[1] for count in (documents, documents // 4)]
-        exponent = math.log(times[0] / times[1]) / math.log(4)
-        print(f"{'search, exponent':<24}", self.bounded(f"{exponent:4.2f}", exponent <= SEARCH_EXPONENT, f"at most {SEARCH_EXPONENT}"), flush=True)
+        power = exponent(times[0] / times[1])
+        print(f"{'search, exponent':<24}", self.bounded(f"{power:4.2f}", power <= SEARCH_EXPONENT, f"at most {SEARCH_EXPONENT}"), flush=True)
+
+    def ten_of(self, name, documents):
+        """The folder of so many documents of a shape, and the times of searches for ten of them without tables and with them."""
+        folder = self.made(f"{name} {documents}")
+        (folder / NAME).write_bytes(segment(documents, shaped_tokens(SHAPES[name]))[0])
+        said, without = self.best(ALL_TENTHS, "search", folder, documents, TEN, documents)
+        said_with, both = self.best(ALL_TENTHS, "skip", folder, documents, TEN, documents)
+        self.wanted("said with tables", said_with, said)
+        return folder, without, both
 
     def first_ten(self, name, documents):
         """The first ten of documents of a shape, without tables and with them."""
-        folder, query = self.made(name), " ".join(f"w{word}" for word in TENTHS)
-        (folder / NAME).write_bytes(segment(documents, shaped_tokens(SHAPES[name]))[0])
-        opening, counts = self.first_times(query, folder, documents)
-        said, without = self.best(query, "search", folder, documents, TEN, documents)
-        said_with, both = self.best(query, "skip", folder, documents, TEN, documents)
-        self.wanted("said with tables", said_with, said)
-        tables = self.best(query, "table", folder, documents)[1]
-        cells = (f"opening {1000 * opening:6.2f} ms", f"counts {1000 * counts:6.2f} ms", f"search {1000 * without:6.2f} ms")
-        print(f"{'10 of them, ' + name:<24}", "   ".join(cells), flush=True)
-        ratio = both / without
-        shown = f"both {ratio:4.2f} times the search without"
+        _, fewer_without, fewer_both = self.ten_of(name, documents // 4)
+        folder, without, both = self.ten_of(name, documents)
+        opening, counts = self.first_times(ALL_TENTHS, folder, documents)
         cells = (
-            f"tables {1000 * tables:7.2f} ms",
-            f"search {1000 * max(both - tables, 0):6.2f} ms",
-            self.bounded(shown, ratio <= HALF, f"at most {HALF}") if name == "early" else shown,
+            f"opening {1000 * opening:6.2f} ms",
+            f"counts {1000 * counts:6.2f} ms",
+            f"search {1000 * without:6.2f} ms",
+            f"exponent {exponent(without / fewer_without):4.2f}",
+        )
+        print(f"{'10 of them, ' + name:<24}", "   ".join(cells), flush=True)
+        most = HALF if name == "early" else DEARER
+        cells = (
+            self.tables_shown(ALL_TENTHS, folder, documents, without),
+            f"exponent {exponent(both / fewer_both):4.2f}",
+            self.bounded(f"with the search {1000 * both:6.2f} ms, {both / without:4.2f} times", both <= most * without, f"at most {most}"),
         )
         print(f"{'  with tables':<24}", "   ".join(cells), flush=True)
+
+    def tables_shown(self, query, folder, documents, search, is_bounded=True):
+        """What the tables take, beside a search without them."""
+        tables = self.best(query, "table", folder, documents)[1]
+        share = tables / search
+        shown = f"tables {1000 * tables:6.3f} ms, {share:5.3f} of the search without"
+        return self.bounded(shown, share <= TABLES, f"at most {TABLES}") if is_bounded else shown
+
+    def peak(self, query, folder, documents, most):
+        """The peak of the first search of a process, for so many results."""
+        with Reader(self.program, "search", folder, documents, most, documents) as run:
+            first = run.ask(query)
+        self.wanted("results", first.said.split()[0], str(most))
+        return first.peak
+
+    def held(self, documents):
+        """What a search holds for each result and leaf."""
+        folder, most = self.made("held"), min(MOST_HELD, documents)
+        (folder / NAME).write_bytes(segment(documents, shaped_tokens(SHAPES["mixed"], 1))[0])
+        for leaves in (1, len(TENTHS)):
+            query = " ".join(f"w{word}" for word in TENTHS[:leaves])
+            few, many = (self.peak(query, folder, documents, results) for results in (TEN, most))
+            each = (many - few) / (most - TEN) / leaves
+            cells = (
+                f"peak {few / MEGA:5.2f} MB for {TEN}, {many / MEGA:5.2f} MB for {most}",
+                self.bounded(f"{each:4.0f} bytes a result and leaf", each <= HELD, f"at most {HELD}"),
+            )
+            print(f"{'memory, ' + query:<24}", "   ".join(cells), flush=True)
 
     def usual_words(self, size):
         spread, each = COLLECTIONS["usual words"]
@@ -318,6 +370,7 @@ def main():
         table.searched(chosen.documents)
         for name in SHAPES:
             table.first_ten(name, chosen.documents)
+        table.held(chosen.documents)
     sys.exit(0 if table.is_within else 1)
 
 

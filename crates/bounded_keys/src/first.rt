@@ -5,6 +5,7 @@ ghost use Rattle.log_chain.specs.declared.chain.TheConstants.{FIRST, LAST};
 ghost use Rattle.bounded_keys.specs.Entries.{IsEarly, WereOffered, by_key, in_question, settled};
 ghost use Rattle.bounded_keys.specs.Kept.{AreAmong};
 
+use crate::room::take_last;
 use crate::{Combination, Contenders, Entry, Settled};
 use first_few::FirstFew;
 use ri_base::{NoMemory, Steps};
@@ -26,7 +27,7 @@ fn offer_settled<W: Ord + Drop, C: Combination, L: Ledger>(
     ensures cost { OnOk result (squares.new ≡ squares.old + (LAST - FIRST) * C.leaves combination.now * length entries.items) }
     ensures within { squares.new ≤ squares.old + (LAST - FIRST) * C.leaves combination.now * length entries.items }
 {
-    while let Some(entry) = entries.pop() {
+    while let Some(entry) = take_last(&mut entries) {
         first.offer(entry.settle(alloc, combination, squares)?)?;
     }
     Ok(())

@@ -9,6 +9,7 @@ mod laws;
 mod leading;
 mod likeness;
 mod near;
+mod room;
 mod runs;
 mod threshold;
 

@@ -10,14 +10,23 @@ use crate::threshold::Threshold;
 use std::alloc::{AllocError, Global};
 use std::mem;
 
-/// Items of which none is known to be behind so many others. They are looked through when they are more than the limit, which is at
-/// least twice as many as were left the last time. From then on `full` tells of one of them that so many stand before what it
-/// stands before.
+/// Items of which none is known to be behind so many others. They are looked through when they are more than the limit. From then on
+/// `full` tells of one of them that so many stand before what it stands before.
 #[derive(Drop)]
 pub struct Near<T: Leading> {
     pub items: Vec<T>,
     pub full: Option<usize>,
     limit: usize,
+}
+
+/// How many items may come beside those that were left before all are looked through again.
+const LEAST_ROOM: usize = 16;
+
+/// The limit where so many items are left and so many may be held. There is room for a quarter of the greater number, so each item that
+/// comes pays for a look at five, and few items are held beside those that must be.
+fn limit_of(left: usize, most: usize) -> usize {
+    left.saturating_add(left.max(most) / 4)
+        .saturating_add(LEAST_ROOM)
 }
 
 /// Keeps those that aren't above the threshold.
@@ -29,14 +38,14 @@ pub fn drop_above<T: Leading + Drop>(items: &mut Vec<T>, threshold: Threshold)
 
 impl<T: Leading + Drop> Near<T> {
     /// None is kept yet.
-    pub fn new(alloc: Global, limit: usize) -> Near<T>
+    pub fn new(alloc: Global, most: usize) -> Near<T>
         ensures items { result.items.items ≡ [] }
         ensures full { result.full ≡ None }
     {
         Near {
             items: Vec::new(alloc),
             full: None,
-            limit,
+            limit: limit_of(0, most),
         }
     }
 
@@ -65,7 +74,7 @@ impl<T: Leading + Drop> Near<T> {
         let runs = first_of_runs(alloc, items, most)?;
         self.items = runs.items;
         self.full = runs.full;
-        self.limit = self.items.len().saturating_mul(2).max(self.limit);
+        self.limit = limit_of(self.items.len(), most);
         Ok(())
     }
 

@@ -3,6 +3,7 @@ ghost use Rattle.std.specs.Prelude.{◌≡◌, ◌∷◌, [], List, IfOk, OnOk};
 ghost use Rattle.bounded_keys.specs.Runs.{Continues, HoldsRuns};
 
 use crate::Leading;
+use crate::room::take_last;
 use std::alloc::{AllocError, Global};
 
 /// Of items that were taken the first of each run, at most so many. It tells where the last item stands that is kept of the longest run
@@ -67,7 +68,7 @@ pub fn first_of_runs<T: Leading + Drop>(
 {
     items.sort_unstable_by(|a, b| b.in_runs(a));
     let mut runs = Runs::new(alloc, most);
-    while let Some(item) = items.pop() {
+    while let Some(item) = take_last(&mut items) {
         runs.take(item)?;
     }
     Ok(runs)

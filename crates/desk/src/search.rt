@@ -38,8 +38,21 @@ fn occurrences(stats: &[LeafStats]) -> u64 {
     all
 }
 
-/// The parts of which a search for so many results may pass over a range. Of whole documents there are no more candidates than
-/// occurrences, so where these are fewer the results are never all held before the end, and no range is passed over.
+/// How often each leaf occurs in a range at least, on average, where tables are made. Where it occurs less often they take more than a
+/// tenth of the search.
+const LEAST_IN_RANGE: u64 = 4;
+
+/// Whether tables of the ranges of so many documents are made for a search for so many results. Of whole documents there are no more
+/// candidates than occurrences, so where these are fewer the results are never all held before the end, and no range is passed over.
+fn are_worthwhile(docs: u32, range: &Range, stats: &[LeafStats], most: u32) -> bool {
+    let found = occurrences(stats);
+    let least = u64::from(docs.div_ceil(64))
+        .saturating_mul(stats.len() as u64)
+        .saturating_mul(LEAST_IN_RANGE);
+    found >= least && (!matches!(range, Range::Whole) || found >= u64::from(most))
+}
+
+/// The parts of which tables are made: all, or none where the search gains too little by them.
 fn passable<'a>(
     snapshot: &'a Snapshot,
     range: &Range,
@@ -49,10 +62,10 @@ fn passable<'a>(
     ensures { (result.now ≡ []) ⊎ (result.now ≡ snapshot.now) }
 {
     let parts = snapshot.parts();
-    match range {
-        Range::Whole if occurrences(stats) < u64::from(most) => &parts[..0],
-        _ => parts,
+    if are_worthwhile(snapshot.live_count(), range, stats, most) {
+        return parts;
     }
+    &parts[..0]
 }
 
 /// A search over the documents of a snapshot that has passed none yet, with the tables of the ranges of its parts, or without any

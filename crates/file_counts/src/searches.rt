@@ -66,18 +66,18 @@ fn step<T: Store, F: Fn(u32, u32, u64, u64) -> Fraction>(
     Ok(search.step(alloc, docs, rule, &mut [], store, cache)?)
 }
 
-/// The results of the search.
-fn results(alloc: Global, search: &Search) -> Result<Hits> {
+/// The results of a search that is at its end.
+pub fn results(search: &Search) -> Result<&Hits> {
     if !search.usable() {
         bail!("a search that can't go on");
     }
     match search.results() {
-        Some(hits) => Ok(hits.clone_in(alloc)?),
+        Some(hits) => Ok(hits),
         None => bail!("no results"),
     }
 }
 
-/// The results of the search once it is at its end, by steps of so many documents.
+/// Brings the search to its end, by steps of so many documents.
 fn go_through<T: Store, F: Fn(u32, u32, u64, u64) -> Fraction>(
     alloc: Global,
     search: &mut Search,
@@ -85,26 +85,26 @@ fn go_through<T: Store, F: Fn(u32, u32, u64, u64) -> Fraction>(
     rule: &Rule<F>,
     store: &mut T,
     cache: &mut BlockCache,
-) -> Result<Hits>
+) -> Result<()>
     requires rule { Computes F.pre F.post rule.now.kind rule.now.f }
     requires priors { All (HasPrior 0) (network_tree search.old.network).leaves }
 {
     for _ in 0..10_000_000u32 {
         if step(alloc, search, docs, rule, store, cache)? {
-            return results(alloc, search);
+            return Ok(());
         }
     }
     bail!("too many steps")
 }
 
-/// The results of a query.
-pub fn found<T: Store>(
+/// The search for a query at its end.
+pub fn searched<T: Store>(
     alloc: Global,
     counted: &mut Counted,
     text: &str,
     wanted: Wanted,
     store: &mut T,
-) -> Result<Hits> {
+) -> Result<Search> {
     let rule = Rule::new(
         RuleKind::Dirichlet { mu: 2500 },
         |tf, len, cf, total| -> Fraction
@@ -120,5 +120,6 @@ pub fn found<T: Store>(
         &rule,
         store,
         counted.blocks(),
-    )
+    )?;
+    Ok(search)
 }

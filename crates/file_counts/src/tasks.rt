@@ -1,7 +1,7 @@
 // What is done with a query.
 use crate::parts::Counted;
 use crate::queries::query;
-use crate::searches::{Wanted, found};
+use crate::searches::{Wanted, results, searched};
 use crate::sums::all_stats;
 use anyhow::Result;
 use ri_base::{Hit, LeafStats};
@@ -76,8 +76,8 @@ pub fn answer<T: Store>(
         Task::Count => count(alloc, counted, text, store),
         Task::Table => make_tables(alloc, counted, text, store),
         Task::Search(wanted) => {
-            let hits = found(alloc, counted, text, wanted, store)?;
-            hits_text(alloc, hits.as_slice())
+            let search = searched(alloc, counted, text, wanted, store)?;
+            hits_text(alloc, results(&search)?.as_slice())
         }
     }
 }

@@ -4,6 +4,7 @@ ghost use Rattle.std.proofs.Props.{props};
 ghost use Rattle.disk_index.specs.Parts.{outlines_of, source_of};
 ghost use Rattle.range_masks.specs.Held.{FitDocuments};
 
+use crate::most::most_in_part;
 use crate::part::mask_in_part;
 use crate::{OpensRanges, RangeBlocks, TermMasks};
 use disk_index::{BlockCache, Part};
@@ -98,6 +99,13 @@ impl<'a, T: Store> TermMasks for OpeningReader<'a, T> {
         match self.held.mask(term, range) {
             Some(mask) => Ok(mask),
             None => mask_in_part(alloc, self.part, self.store, self.cache, term, range),
+        }
+    }
+
+    fn most_places(&mut self, alloc: Global, term: &Term, range: u32) -> Result<usize, SegFault> {
+        match self.held.most(term, range) {
+            Some(most) => Ok(most),
+            None => most_in_part(alloc, self.part, self.store, self.cache, term, range),
         }
     }
 

@@ -5,7 +5,7 @@ use Rattle.disk_index.specs.Parts.{IsFileOf, IsPartBacked, reads, source_of}
 use Rattle.disk_index.specs.QuietLaws.{IsCacheBacked-kept}
 use Rattle.range_masks.specs.Held.{AreAnswersOf, most_answer}
 use Rattle.range_masks.specs.Most.{most_places}
-use Rattle.range_masks.proofs.reader.RangeReaderTermMasks.most_places.Goals as goal
+use Rattle.range_masks.proofs.opening_reader.OpeningReaderTermMasks.most_places.Goals as goal
 
 pub returns-in-Some-clause-exact : goal.returns-in-Some-clause-exact
 returns-in-Some-clause-exact g c = λ sound.
@@ -22,5 +22,5 @@ returns-in-None-clause-keeps g c =
       no_fault_lost = c.most_in_part.ensures.later;
       sound_stays = λ s. subst (λ (f : Option Files). IsPartBacked f part × IsCacheBacked f c.most_in_part.new.cache × AreAnswersOf (reads f part) c.args.self.now.held.now) (sym quiet.same_files)
           (s.0, IsCacheBacked-kept _ (IsFileOf part) c.args.self.now.cache.now c.most_in_part.new.cache c.most_in_part.ensures.cache s.1, s.2);
-      stays_quiet = record { same_part = refl; same_store = refl; same_cache = refl; store = quiet; no_fault_lost = c.most_in_part.ensures.later; cache = c.most_in_part.ensures.cache };
+      stays_quiet = (record { same_part = refl; same_store = refl; same_cache = refl; store = quiet; no_fault_lost = c.most_in_part.ensures.later; cache = c.most_in_part.ensures.cache }, refl, refl);
     }

@@ -11,7 +11,7 @@ use Rattle.ranker.specs.Blocks.{AreReadAt, AreReadBy, OpensWithin, opened_at, op
 use Rattle.ranker.specs.First.{Advances, SpendsWithin, counted}
 use Rattle.ranker.specs.Passed.{IsAheadAt, IsKnown, IsPlace, asked_at, asked_of, behind, layout, layout_in, live_ranges, part_at, passed, ranges_in, ranges_of}
 use Rattle.ranker.specs.declared.place.Place.{Place}
-use Rattle.ranker.proofs.AskedLemmas.{asked-all, asked-behind, layout-front}
+use Rattle.ranker.proofs.AskedLemmas.{asked-all, asked-behind, layout-front, ranges-front}
 use Rattle.ranker.proofs.PassedLemmas.{Advances-further}
 use Rattle.ranker.proofs.PlaceLemmas.{Advances-place, IsAheadAt-behind, IsPlace-behind, credit-behind, credit-few, part-behind, part-is}
 use Rattle.ranker.proofs.DocumentLemmas.{live-among}

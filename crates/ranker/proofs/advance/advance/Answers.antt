@@ -5,7 +5,7 @@ use Rattle.disk_index.specs.Snapshots.{live}
 use Rattle.document_scoring.specs.Candidates.{Candidate, candidates}
 use Rattle.ranker.specs.Blocks.{opened_at}
 use Rattle.ranker.specs.Held.{is_open}
-use Rattle.ranker.specs.Passed.{asked_at, passed, layout}
+use Rattle.ranker.specs.Passed.{asked_at, layout, passed, ranges_in}
 use Rattle.ranker.proofs.AskedLemmas.{asked-le}
 use Rattle.ranker.proofs.HeldLemmas.{HoldsEntries-on, HoldsEntries-shut, IsHeld-on, ended-credit}
 use Rattle.ranker.proofs.OpeningLemmas.{opened-all, opens-same}

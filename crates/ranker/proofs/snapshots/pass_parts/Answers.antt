@@ -7,7 +7,7 @@ use Rattle.disk_index.specs.QuietLaws.{CacheKeeps-after, CacheKeeps-same, IsQuie
 use Rattle.disk_index.specs.Snapshots.{AreBacked, IsFileAmong, live}
 use Rattle.ranker.specs.Blocks.{AreReadAt, opened_at}
 use Rattle.ranker.specs.First.{counted}
-use Rattle.ranker.specs.Passed.{asked_at, passed, layout}
+use Rattle.ranker.specs.Passed.{asked_at, layout, passed, ranges_in}
 use Rattle.ranker.specs.Windows.{KeepsWindows}
 use Rattle.ranker.proofs.AskedLemmas.{asked-le}
 use Rattle.ranker.proofs.OpeningLemmas.{opened-all, opens-more, opens-same, opens-then, times-sum}

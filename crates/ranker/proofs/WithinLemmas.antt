@@ -8,7 +8,7 @@ use Rattle.belief_nodes.specs.Network.{NetworkTree}
 use Rattle.belief_nodes.specs.Priors.{Prior}
 use Rattle.disk_index.specs.Snapshots.{Marked, live, live_in, unmarked}
 use Rattle.ranker.specs.First.{AsksWithin, SpendsWithin}
-use Rattle.ranker.specs.Passed.{live_before, part_at, passed, ranges_of}
+use Rattle.ranker.specs.Passed.{live_before, live_ranges, part_at, passed, ranges_of}
 use Rattle.ranker.specs.declared.place.Place.{Place}
 use Rattle.ranker.proofs.PassedLemmas.{cost-append, cost-front, cost-more, spent_on}
 use Rattle.ranker.proofs.PlaceLemmas.{live-front, live-next, unmarked-front}
@@ -66,11 +66,11 @@ module _ (kind : RuleKind) (priors : List Prior) (filters : List FilterTree) (ne
 
 -- by what was read, and what the priors told, before
 pub within-read : (kind : RuleKind) (told priors : List Prior) (filters : List FilterTree) (network : NetworkTree) (read docs : List Document) (marks : List Bool) (i was : ℕ) (a b : ℕ) → told ≡ priors → read ≡ docs
-    → SpendsWithin kind told filters network (unmarked (take i read) marks) (unmarked read marks) was (ranges_of (length read)) a b
-    → SpendsWithin kind priors filters network (unmarked (take i docs) marks) (unmarked docs marks) was (ranges_of (length docs)) a b
+    → SpendsWithin kind told filters network (unmarked (take i read) marks) (unmarked read marks) was (live_ranges marks (ranges_of (length read))) a b
+    → SpendsWithin kind priors filters network (unmarked (take i docs) marks) (unmarked docs marks) was (live_ranges marks (ranges_of (length docs))) a b
 within-read kind told priors filters network read docs marks i was a b stay same h =
-    subst (λ (ds : List Document). SpendsWithin kind priors filters network (unmarked (take i ds) marks) (unmarked ds marks) was (ranges_of (length ds)) a b) same
-    (subst (λ (ps : List Prior). SpendsWithin kind ps filters network (unmarked (take i read) marks) (unmarked read marks) was (ranges_of (length read)) a b) stay h)
+    subst (λ (ds : List Document). SpendsWithin kind priors filters network (unmarked (take i ds) marks) (unmarked ds marks) was (live_ranges marks (ranges_of (length ds))) a b) same
+    (subst (λ (ps : List Prior). SpendsWithin kind ps filters network (unmarked (take i read) marks) (unmarked read marks) was (live_ranges marks (ranges_of (length read))) a b) stay h)
 
 -- the same up to an id
 pub within-to : (kind : RuleKind) (told priors : List Prior) (filters : List FilterTree) (network : NetworkTree) (read docs : List Document) (marks : List Bool) (i j : ℕ) (a b : ℕ) → told ≡ priors → read ≡ docs

@@ -1,6 +1,7 @@
 -- How far a search has come.
-use Rattle.std.specs.Prelude.{◌≡◌, ◌<◌, ◌≤◌, ◌+◌, ◌*◌, ◌/◌, ◌%◌, ◌^◌, ◌==◌, if◌then◌else◌, nat_lt, ℕ, zero, suc, Bool, true, false, List, [], ◌∷◌, ◌++◌, Option, None, Some, length, slice_get, take, slice_index_or}
+use Rattle.std.specs.Prelude.{◌≡◌, ◌<◌, ◌≤◌, ◌+◌, ◌*◌, ◌/◌, ◌%◌, ◌^◌, ◌==◌, if◌then◌else◌, nat_lt, ℕ, zero, suc, Bool, true, false, List, [], ◌∷◌, ◌++◌, Option, None, Some, cond, drop, length, not, slice_get, take, slice_index_or}
 use Rattle.std.specs.Int.{bit_at}
+use Rattle.std.specs.List.{list_any}
 use Rattle.ri_base.specs.Collection.{document_at}
 use Rattle.ri_base.specs.Documents.{Document}
 use Rattle.ri_base.specs.Query.{FilterTree}
@@ -119,20 +120,38 @@ pub record IsBareTo (parts : List Marked) (at : Place) (count to : ℕ) : Type 0
 abbrev pub ranges_of : ℕ → ℕ
 ranges_of size = (size + 63) / 64
 
--- the ranges before that of an id, and with a bound up to the end of what is known
-abbrev pub asked_by : Option ℕ → ℕ → ℕ → ℕ
-asked_by None id end = id / 64
-asked_by (Some least) id end = ranges_of end
-
--- of how many ranges of a part, at most, a bound was asked for before an id
-abbrev pub asked_of : ℕ → Ahead → ℕ
-asked_of id ahead = asked_by ahead.bound id ahead.end
-
 -- how many ranges parts have
 abbrev pub ranges_in : List Marked → ℕ
 ranges_in [] = 0
 ranges_in (m ∷ parts) = ranges_of (size m.source) + ranges_in parts
 
+-- whether a range has an id that isn't marked
+abbrev pub has_live : List Bool → ℕ → Bool
+has_live marks range = list_any not (take 64 (drop (64 * range) marks))
+
+-- how many of so many first ranges have one
+abbrev pub live_ranges : List Bool → ℕ → ℕ
+live_ranges marks zero = 0
+live_ranges marks (suc n) = live_ranges marks n + cond (has_live marks n) 1 0
+
+-- the ranges with live ids before that of an id, and with a bound up to the end of what is known
+abbrev pub asked_by : List Bool → Option ℕ → ℕ → ℕ → ℕ
+asked_by marks None id end = live_ranges marks (id / 64)
+asked_by marks (Some least) id end = live_ranges marks (ranges_of end)
+
+-- of how many ranges of a part, at most, a bound was asked for before an id
+abbrev pub asked_of : List Bool → ℕ → Ahead → ℕ
+asked_of marks id ahead = asked_by marks ahead.bound id ahead.end
+
+-- how many ranges of a part have live documents
+abbrev pub layout_in : Marked → ℕ
+layout_in m = live_ranges m.marks (ranges_of (size m.source))
+
+-- so of parts
+abbrev pub layout : List Marked → ℕ
+layout [] = 0
+layout (m ∷ parts) = layout_in m + layout parts
+
 -- of how many ranges of the parts, at most, a bound was asked for before a place
 abbrev pub asked_at : List Marked → Place → ℕ
-asked_at parts at = ranges_in (take at.part parts) + asked_of at.id at.ahead
+asked_at parts at = layout (take at.part parts) + asked_of (part_at parts at.part).marks at.id at.ahead

@@ -14,7 +14,7 @@ use Rattle.document_scoring.specs.Candidates.{candidates}
 use Rattle.ranker.specs.Held.{IsHeld, is_open}
 use Rattle.range_masks.specs.Held.{AreAnswersOf}
 use Rattle.ranker.specs.Blocks.{opened_at}
-use Rattle.ranker.specs.Passed.{IsAheadAt, IsTold, asked_at, part_at, passed, ranges_in}
+use Rattle.ranker.specs.Passed.{IsAheadAt, IsTold, asked_at, layout, part_at, passed}
 use Rattle.ranker.specs.Ranking.{IsAnswerBy}
 use Rattle.ranker.specs.Squares.{spent}
 use Rattle.ranker.specs.declared.search.Search.{Search}
@@ -58,7 +58,7 @@ spent_by kind priors told s = spent (network_tree s.network) s.most (is_open s.h
 
 -- what it spends on squarings in the whole, by all its documents and ranges
 abbrev pub whole_cost : RuleKind → List Prior → Option Files → Search → ℕ
-whole_cost kind priors told s = spent (network_tree s.network) s.most false (ranges_in s.snapshot) (candidates kind priors (filters_of s) (network_tree s.network) (searched told s))
+whole_cost kind priors told s = spent (network_tree s.network) s.most false (layout s.snapshot) (candidates kind priors (filters_of s) (network_tree s.network) (searched told s))
 
 -- of how many ranges of its parts it has opened the blocks, at most
 abbrev pub opened_by : Search → ℕ

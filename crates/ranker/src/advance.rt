@@ -18,7 +18,7 @@ ghost use Rattle.range_masks.specs.Held.{FitDocuments};
 ghost use Rattle.ranker.specs.Blocks.{AreReadAt, OpensWithin, opened_at};
 ghost use Rattle.ranker.specs.First.{scale_of};
 ghost use Rattle.ranker.specs.Held.{HoldsEntries, IsHeld, is_open};
-ghost use Rattle.ranker.specs.Passed.{IsAheadAt, IsPlace, asked_at, part_at, passed, ranges_in};
+ghost use Rattle.ranker.specs.Passed.{IsAheadAt, IsPlace, asked_at, layout, part_at, passed, ranges_in};
 ghost use Rattle.ranker.specs.Squares.{spent};
 ghost use Rattle.ranker.specs.Windows.{HasWindows};
 
@@ -81,7 +81,7 @@ pub fn advance<T: Store, F: Fn(u32, u32, u64, u64) -> Fraction, L: Ledger, B: Le
     ensures within { AreBacked (T.files store.old) parts.now → AreReadAt (T.files store.old) parts.now at.old cache.old read.old → IsAheadAt rule.now.kind (map (λ plug. meaning plug) plugs.old) (map filter_tree filters.now) (network_tree network.now) tables.now (T.files store.old) parts.now at.old → (most : ℕ)
         → IsHeld rule.now.kind (map (λ plug. meaning plug) plugs.old) (map filter_tree filters.now) (network_tree network.now) (passed (T.files store.old) parts.now at.old) most held.old
         → squares.new + spent (network_tree network.now) most (is_open held.old) (asked_at parts.now at.old) (candidates rule.now.kind (map (λ plug. meaning plug) plugs.old) (map filter_tree filters.now) (network_tree network.now) (passed (T.files store.old) parts.now at.old))
-        ≤ squares.old + spent (network_tree network.now) most false (ranges_in parts.now) (candidates rule.now.kind (map (λ plug. meaning plug) plugs.old) (map filter_tree filters.now) (network_tree network.now) (live (T.files store.old) parts.now)) }
+        ≤ squares.old + spent (network_tree network.now) most false (layout parts.now) (candidates rule.now.kind (map (λ plug. meaning plug) plugs.old) (map filter_tree filters.now) (network_tree network.now) (live (T.files store.old) parts.now)) }
     ensures windows { OnOk result ((told : Option Files) (most : ℕ)
         → HasWindows (live told parts.now) (length (network_tree network.now).leaves) most held.old → HasWindows (live told parts.now) (length (network_tree network.now).leaves) most held.new) }
     ensures entries { OnOk result (HoldsEntries (network_tree network.now) held.new) }

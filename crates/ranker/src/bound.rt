@@ -1,5 +1,5 @@
 // Ranges whose candidates can't be among the first.
-ghost use Rattle.std.specs.Prelude.{ℕ, ◌≡◌, ◌≤◌, ◌<◌, ◌+◌, ◌++◌, true, false, List, None, Some, All, Contains, length, map, IfOk, IfSome};
+ghost use Rattle.std.specs.Prelude.{ℕ, ◌≡◌, ◌≤◌, ◌<◌, ◌+◌, ◌++◌, ◌⊎◌, true, false, is_some, List, None, Some, All, Contains, length, map, IfErr, IfOk, IfSome};
 ghost use Rattle.ri_base.specs.Documents.{Document};
 ghost use Rattle.ri_base.specs.Query.{FilterTree};
 ghost use Rattle.smoothing.specs.Fractions.{Computes};
@@ -7,9 +7,9 @@ ghost use Rattle.belief_nodes.specs.Leaves.{HasPrior};
 ghost use Rattle.belief_nodes.specs.Network.{network_tree};
 ghost use Rattle.range_bounds.specs.Ranges.{range_documents};
 ghost use Rattle.range_bounds.specs.Tables.{IsTableOf, has_counts};
-ghost use Rattle.ranker.specs.First.{AsksWithin, WereOffered, early_cost};
+ghost use Rattle.ranker.specs.First.{WereOffered, early_cost};
 ghost use Rattle.ranker.specs.Least.{AreFrom};
-ghost use Rattle.ranker.specs.Passed.{IsKnown, IsSpan, IsTold, asked_of, is_clear, ranges_of};
+ghost use Rattle.ranker.specs.Passed.{IsKnown, IsTold, is_clear};
 
 use crate::keys::NetworkKeys;
 use crate::place::Ahead;
@@ -95,8 +95,9 @@ pub fn bounded<P: Postings, F: Fn(u32, u32, u64, u64) -> Fraction, L: Ledger>(
         → IfOk result (IsKnown rule.now.kind (map (λ plug. meaning plug) plugs.now) filters (network_tree network.now) tables.now number (P.documents part.now) id) }
     ensures end { IfOk result (λ to. to.end ≡ ahead.end) }
     ensures mask { IfOk result (λ to. to.mask ≡ ahead.mask) }
-    ensures cost { IsSpan (length (P.documents part.now)) id ahead → IfOk result (λ to. AsksWithin (network_tree network.now) (asked_of id ahead) (asked_of id to) squares.old squares.new) }
-    ensures within { IsSpan (length (P.documents part.now)) id ahead → AsksWithin (network_tree network.now) (asked_of id ahead) (ranges_of (length (P.documents part.now))) squares.old squares.new }
+    ensures asked { IfOk result (λ to. ((to.bound ≡ ahead.bound) × (squares.new ≡ squares.old)) ⊎ ((ahead.bound ≡ None) × (is_some to.bound ≡ true))) }
+    ensures unasked { IfErr result (λ e. ahead.bound ≡ None) }
+    ensures cost { squares.new ≤ squares.old + early_cost (network_tree network.now) 1 }
 {
     if ahead.bound.is_some() || !first.is_beaten(u128::MAX) {
         return Ok(ahead);

@@ -9,7 +9,7 @@ ghost use Rattle.belief_nodes.specs.Network.{network_tree};
 ghost use Rattle.disk_index.specs.Snapshots.{unmarked};
 ghost use Rattle.ranker.specs.Blocks.{OpensWithin, opened_of};
 ghost use Rattle.ranker.specs.First.{Advances, SpendsWithin, counted};
-ghost use Rattle.ranker.specs.Passed.{IsAhead, IsKnown, IsPassed, asked_of, is_clear, ranges_of};
+ghost use Rattle.ranker.specs.Passed.{IsAhead, IsKnown, IsPassed, asked_of, is_clear, live_ranges, ranges_of};
 ghost use Rattle.ranker.specs.Windows.{KeepsWindows};
 
 use crate::ahead::{ahead_of, masked};
@@ -120,9 +120,9 @@ fn pass_open<P: TermMasks, F: Fn(u32, u32, u64, u64) -> Fraction, L: Ledger>(
     requires open { is_clear ahead.mask ≡ false }
     ensures keeps { Keeps P.documents P.faults P.sound P.quiet part.old part.new }
     ensures first { P.sound part.old → IsKnown rule.now.kind (map (λ plug. meaning plug) plugs.old) (map filter_tree filters.now) (network_tree network.now) tables.now number (P.documents part.old) id ahead → IfOk result (λ to.
-        Advances rule.now.kind (map (λ plug. meaning plug) plugs.old) (map filter_tree filters.now) (network_tree network.now) (unmarked (take id (P.documents part.old)) marks.now) (unmarked (take to.id (P.documents part.old)) marks.now) (counted first.old squares.old (asked_of id ahead)) (counted first.new squares.new (asked_of to.id to.ahead))) }
+        Advances rule.now.kind (map (λ plug. meaning plug) plugs.old) (map filter_tree filters.now) (network_tree network.now) (unmarked (take id (P.documents part.old)) marks.now) (unmarked (take to.id (P.documents part.old)) marks.now) (counted first.old squares.old (asked_of marks.now id ahead)) (counted first.new squares.new (asked_of marks.now to.id to.ahead))) }
     ensures within { P.sound part.old → IsKnown rule.now.kind (map (λ plug. meaning plug) plugs.old) (map filter_tree filters.now) (network_tree network.now) tables.now number (P.documents part.old) id ahead
-        → SpendsWithin rule.now.kind (map (λ plug. meaning plug) plugs.old) (map filter_tree filters.now) (network_tree network.now) (unmarked (take id (P.documents part.old)) marks.now) (unmarked (P.documents part.old) marks.now) (asked_of id ahead) (ranges_of (length (P.documents part.old))) squares.old squares.new }
+        → SpendsWithin rule.now.kind (map (λ plug. meaning plug) plugs.old) (map filter_tree filters.now) (network_tree network.now) (unmarked (take id (P.documents part.old)) marks.now) (unmarked (P.documents part.old) marks.now) (asked_of marks.now id ahead) (live_ranges marks.now (ranges_of (length (P.documents part.old)))) squares.old squares.new }
     ensures windows { OnOk result (KeepsWindows (network_tree network.now) (unmarked (P.documents part.old) marks.now) first.old first.new) }
     ensures ahead { P.sound part.old → IsKnown rule.now.kind (map (λ plug. meaning plug) plugs.old) (map filter_tree filters.now) (network_tree network.now) tables.now number (P.documents part.old) id ahead → IfOk result (λ to.
         IsKnown rule.now.kind (map (λ plug. meaning plug) plugs.old) (map filter_tree filters.now) (network_tree network.now) tables.now number (P.documents part.old) to.id to.ahead) }
@@ -169,9 +169,9 @@ fn pass_opened<P: OpensRanges, F: Fn(u32, u32, u64, u64) -> Fraction, L: Ledger,
     requires open { is_clear ahead.mask ≡ false }
     ensures keeps { Keeps P.documents P.faults P.sound P.calm part.old part.new }
     ensures first { P.sound part.old → IsKnown rule.now.kind (map (λ plug. meaning plug) plugs.old) (map filter_tree filters.now) (network_tree network.now) tables.now number (P.documents part.old) id ahead → IfOk result (λ to.
-        Advances rule.now.kind (map (λ plug. meaning plug) plugs.old) (map filter_tree filters.now) (network_tree network.now) (unmarked (take id (P.documents part.old)) marks.now) (unmarked (take to.id (P.documents part.old)) marks.now) (counted first.old squares.old (asked_of id ahead)) (counted first.new squares.new (asked_of to.id to.ahead))) }
+        Advances rule.now.kind (map (λ plug. meaning plug) plugs.old) (map filter_tree filters.now) (network_tree network.now) (unmarked (take id (P.documents part.old)) marks.now) (unmarked (take to.id (P.documents part.old)) marks.now) (counted first.old squares.old (asked_of marks.now id ahead)) (counted first.new squares.new (asked_of marks.now to.id to.ahead))) }
     ensures within { P.sound part.old → IsKnown rule.now.kind (map (λ plug. meaning plug) plugs.old) (map filter_tree filters.now) (network_tree network.now) tables.now number (P.documents part.old) id ahead
-        → SpendsWithin rule.now.kind (map (λ plug. meaning plug) plugs.old) (map filter_tree filters.now) (network_tree network.now) (unmarked (take id (P.documents part.old)) marks.now) (unmarked (P.documents part.old) marks.now) (asked_of id ahead) (ranges_of (length (P.documents part.old))) squares.old squares.new }
+        → SpendsWithin rule.now.kind (map (λ plug. meaning plug) plugs.old) (map filter_tree filters.now) (network_tree network.now) (unmarked (take id (P.documents part.old)) marks.now) (unmarked (P.documents part.old) marks.now) (asked_of marks.now id ahead) (live_ranges marks.now (ranges_of (length (P.documents part.old)))) squares.old squares.new }
     ensures windows { OnOk result (KeepsWindows (network_tree network.now) (unmarked (P.documents part.old) marks.now) first.old first.new) }
     ensures ahead { P.sound part.old → IsKnown rule.now.kind (map (λ plug. meaning plug) plugs.old) (map filter_tree filters.now) (network_tree network.now) tables.now number (P.documents part.old) id ahead → IfOk result (λ to.
         IsKnown rule.now.kind (map (λ plug. meaning plug) plugs.old) (map filter_tree filters.now) (network_tree network.now) tables.now number (P.documents part.old) to.id to.ahead) }
@@ -219,9 +219,9 @@ fn pass_on<P: OpensRanges, F: Fn(u32, u32, u64, u64) -> Fraction, L: Ledger, B: 
     requires plugs { All (HasPrior (length plugs.old)) (network_tree network.now).leaves }
     ensures keeps { Keeps P.documents P.faults P.sound P.calm part.old part.new }
     ensures first { P.sound part.old → IsKnown rule.now.kind (map (λ plug. meaning plug) plugs.old) (map filter_tree filters.now) (network_tree network.now) tables.now number (P.documents part.old) id ahead → IfOk result (λ to.
-        Advances rule.now.kind (map (λ plug. meaning plug) plugs.old) (map filter_tree filters.now) (network_tree network.now) (unmarked (take id (P.documents part.old)) marks.now) (unmarked (take to.id (P.documents part.old)) marks.now) (counted first.old squares.old (asked_of id ahead)) (counted first.new squares.new (asked_of to.id to.ahead))) }
+        Advances rule.now.kind (map (λ plug. meaning plug) plugs.old) (map filter_tree filters.now) (network_tree network.now) (unmarked (take id (P.documents part.old)) marks.now) (unmarked (take to.id (P.documents part.old)) marks.now) (counted first.old squares.old (asked_of marks.now id ahead)) (counted first.new squares.new (asked_of marks.now to.id to.ahead))) }
     ensures within { P.sound part.old → IsKnown rule.now.kind (map (λ plug. meaning plug) plugs.old) (map filter_tree filters.now) (network_tree network.now) tables.now number (P.documents part.old) id ahead
-        → SpendsWithin rule.now.kind (map (λ plug. meaning plug) plugs.old) (map filter_tree filters.now) (network_tree network.now) (unmarked (take id (P.documents part.old)) marks.now) (unmarked (P.documents part.old) marks.now) (asked_of id ahead) (ranges_of (length (P.documents part.old))) squares.old squares.new }
+        → SpendsWithin rule.now.kind (map (λ plug. meaning plug) plugs.old) (map filter_tree filters.now) (network_tree network.now) (unmarked (take id (P.documents part.old)) marks.now) (unmarked (P.documents part.old) marks.now) (asked_of marks.now id ahead) (live_ranges marks.now (ranges_of (length (P.documents part.old)))) squares.old squares.new }
     ensures windows { OnOk result (KeepsWindows (network_tree network.now) (unmarked (P.documents part.old) marks.now) first.old first.new) }
     ensures ahead { P.sound part.old → IsKnown rule.now.kind (map (λ plug. meaning plug) plugs.old) (map filter_tree filters.now) (network_tree network.now) tables.now number (P.documents part.old) id ahead → IfOk result (λ to.
         IsKnown rule.now.kind (map (λ plug. meaning plug) plugs.old) (map filter_tree filters.now) (network_tree network.now) tables.now number (P.documents part.old) to.id to.ahead) }
@@ -280,9 +280,9 @@ pub fn pass_part<P: OpensRanges, F: Fn(u32, u32, u64, u64) -> Fraction, L: Ledge
     requires plugs { All (HasPrior (length plugs.old)) (network_tree network.now).leaves }
     ensures keeps { Keeps P.documents P.faults P.sound P.calm part.old part.new }
     ensures first { P.sound part.old → IsKnown rule.now.kind (map (λ plug. meaning plug) plugs.old) (map filter_tree filters.now) (network_tree network.now) tables.now number (P.documents part.old) id ahead → IfOk result (λ to.
-        Advances rule.now.kind (map (λ plug. meaning plug) plugs.old) (map filter_tree filters.now) (network_tree network.now) (unmarked (take id (P.documents part.old)) marks.now) (unmarked (take to.id (P.documents part.old)) marks.now) (counted first.old squares.old (asked_of id ahead)) (counted first.new squares.new (asked_of to.id to.ahead))) }
+        Advances rule.now.kind (map (λ plug. meaning plug) plugs.old) (map filter_tree filters.now) (network_tree network.now) (unmarked (take id (P.documents part.old)) marks.now) (unmarked (take to.id (P.documents part.old)) marks.now) (counted first.old squares.old (asked_of marks.now id ahead)) (counted first.new squares.new (asked_of marks.now to.id to.ahead))) }
     ensures within { P.sound part.old → IsKnown rule.now.kind (map (λ plug. meaning plug) plugs.old) (map filter_tree filters.now) (network_tree network.now) tables.now number (P.documents part.old) id ahead
-        → SpendsWithin rule.now.kind (map (λ plug. meaning plug) plugs.old) (map filter_tree filters.now) (network_tree network.now) (unmarked (take id (P.documents part.old)) marks.now) (unmarked (P.documents part.old) marks.now) (asked_of id ahead) (ranges_of (length (P.documents part.old))) squares.old squares.new }
+        → SpendsWithin rule.now.kind (map (λ plug. meaning plug) plugs.old) (map filter_tree filters.now) (network_tree network.now) (unmarked (take id (P.documents part.old)) marks.now) (unmarked (P.documents part.old) marks.now) (asked_of marks.now id ahead) (live_ranges marks.now (ranges_of (length (P.documents part.old)))) squares.old squares.new }
     ensures windows { OnOk result (KeepsWindows (network_tree network.now) (unmarked (P.documents part.old) marks.now) first.old first.new) }
     ensures ahead { P.sound part.old → IsKnown rule.now.kind (map (λ plug. meaning plug) plugs.old) (map filter_tree filters.now) (network_tree network.now) tables.now number (P.documents part.old) id ahead → IfOk result (λ to.
         IsKnown rule.now.kind (map (λ plug. meaning plug) plugs.old) (map filter_tree filters.now) (network_tree network.now) tables.now number (P.documents part.old) to.id to.ahead) }

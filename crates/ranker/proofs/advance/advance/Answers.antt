@@ -5,7 +5,7 @@ use Rattle.disk_index.specs.Snapshots.{live}
 use Rattle.document_scoring.specs.Candidates.{Candidate, candidates}
 use Rattle.ranker.specs.Blocks.{opened_at}
 use Rattle.ranker.specs.Held.{is_open}
-use Rattle.ranker.specs.Passed.{asked_at, passed, ranges_in}
+use Rattle.ranker.specs.Passed.{asked_at, layout, passed, ranges_in}
 use Rattle.ranker.proofs.AskedLemmas.{asked-le}
 use Rattle.ranker.proofs.HeldLemmas.{HoldsEntries-on, HoldsEntries-shut, IsHeld-on, ended-credit}
 use Rattle.ranker.proofs.OpeningLemmas.{opened-all, opens-same}
@@ -100,7 +100,7 @@ returns-in_default-clause-within g c = λ backed cached known most h.
     let few : at.credit ≤ c.args.count = omega (arith, whole, below) in
     let end : at.credit ≡ c.args.count = ended-credit c.args.held.now c.in_default.field-0 at.credit c.args.count c.in_default.is c.requires.open few in
     let all : passed told parts at ≡ live told parts = passed-all told parts at (sym (c.requires.place.credit told) ∙ end ∙ whole) in
-    squares_ended network most (is_open c.args.held.now) (asked_at parts at) (ranges_in parts) _ _ c.args.squares.now (ap is_open c.in_default.is) (asked-le told parts at known.here.span) (ap (candidates kind priors filters network) all)
+    squares_ended network most (is_open c.args.held.now) (asked_at parts at) (layout parts) _ _ c.args.squares.now (ap is_open c.in_default.is) (asked-le told parts at known.here.span) (ap (candidates kind priors filters network) all)
 
 pub returns-in_err-pass_parts-clause-within : goal.returns-in_err-pass_parts-clause-within
 returns-in_err-pass_parts-clause-within g c = λ backed cached known most h.
@@ -111,7 +111,7 @@ returns-in_err-pass_parts-clause-within g c = λ backed cached known most h.
     let filters = map filter_tree c.args.filters.now in
     let network = network_tree c.args.network.now in
     let whole : List Candidate = candidates kind priors filters network (live told parts) in
-    squares_whole network most (is_open c.args.held.now) (asked_at parts c.args.at.now) (ranges_in parts) (ranges_in parts) _ whole whole c.args.squares.now c.pass_parts.new.squares (ap is_open c.in-Open.is) (omega arith) (c.pass_parts.ensures.within backed cached known) (omega arith)
+    squares_whole network most (is_open c.args.held.now) (asked_at parts c.args.at.now) (layout parts) (layout parts) _ whole whole c.args.squares.now c.pass_parts.new.squares (ap is_open c.in-Open.is) (omega arith) (c.pass_parts.ensures.within backed cached known) (omega arith)
 
 pub returns-then-at-count-clause-within : goal.returns-then-at-count-clause-within
 returns-then-at-count-clause-within g c = λ backed cached known most h.
@@ -121,7 +121,7 @@ returns-then-at-count-clause-within g c = λ backed cached known most h.
     let priors = map (λ b. (goal.BeliefNode-dyn g (b.vtable, b.value)).meaning b.value) c.args.plugs.now in
     let filters = map filter_tree c.args.filters.now in
     let network = network_tree c.args.network.now in
-    squares_whole network most (is_open c.args.held.now) (asked_at parts c.args.at.now) (asked_at parts c.pass_parts.new.at) (ranges_in parts) _ (candidates kind priors filters network (passed told parts c.pass_parts.new.at)) _ c.args.squares.now c.pass_parts.new.squares (ap is_open c.in-Open.is)
+    squares_whole network most (is_open c.args.held.now) (asked_at parts c.args.at.now) (asked_at parts c.pass_parts.new.at) (layout parts) _ (candidates kind priors filters network (passed told parts c.pass_parts.new.at)) _ c.args.squares.now c.pass_parts.new.squares (ap is_open c.in-Open.is)
     (asked-le told parts c.pass_parts.new.at (c.in_ok-pass_parts.ensures.ahead backed cached known).here.span)
     (c.in_ok-pass_parts.ensures.first backed cached known).cost (cost-passed kind priors filters network told parts c.pass_parts.new.at)
 
@@ -139,7 +139,7 @@ returns-in_err-end-clause-within g c = λ backed cached known most h.
     let below : now.credit ≤ length (live told parts) = credit-le told parts now c.pass_parts.ensures.place in
     let end : now.credit ≡ length (live told parts) = omega (arith, whole, below, c.if-at-count.false) in
     let all : passed told parts now ≡ live told parts = passed-all told parts now (sym (c.pass_parts.ensures.place.credit told) ∙ end) in
-    squares_met network most (is_open c.args.held.now) (asked_at parts c.args.at.now) (asked_at parts now) (ranges_in parts) _ (candidates kind priors filters network (passed told parts c.pass_parts.new.at)) _ c.args.squares.now c.pass_parts.new.squares c.end.new.squares (ap is_open c.in-Open.is)
+    squares_met network most (is_open c.args.held.now) (asked_at parts c.args.at.now) (asked_at parts now) (layout parts) _ (candidates kind priors filters network (passed told parts c.pass_parts.new.at)) _ c.args.squares.now c.pass_parts.new.squares c.end.new.squares (ap is_open c.in-Open.is)
     (asked-le told parts now (c.in_ok-pass_parts.ensures.ahead backed cached known).here.span)
     (ap (candidates kind priors filters network) all) on.cost
     (c.end.ensures.cost kind priors filters (passed told parts c.pass_parts.new.at) most refl
@@ -160,7 +160,7 @@ returns-clause-within g c = λ backed cached known most h.
     let below : now.credit ≤ length (live told parts) = credit-le told parts now c.pass_parts.ensures.place in
     let end : now.credit ≡ length (live told parts) = omega (arith, whole, below, c.if-at-count.false) in
     let all : passed told parts now ≡ live told parts = passed-all told parts now (sym (c.pass_parts.ensures.place.credit told) ∙ end) in
-    squares_met network most (is_open c.args.held.now) (asked_at parts c.args.at.now) (asked_at parts now) (ranges_in parts) _ (candidates kind priors filters network (passed told parts c.pass_parts.new.at)) _ c.args.squares.now c.pass_parts.new.squares c.end.new.squares (ap is_open c.in-Open.is)
+    squares_met network most (is_open c.args.held.now) (asked_at parts c.args.at.now) (asked_at parts now) (layout parts) _ (candidates kind priors filters network (passed told parts c.pass_parts.new.at)) _ c.args.squares.now c.pass_parts.new.squares c.end.new.squares (ap is_open c.in-Open.is)
     (asked-le told parts now (c.in_ok-pass_parts.ensures.ahead backed cached known).here.span)
     (ap (candidates kind priors filters network) all) on.cost
     (c.end.ensures.cost kind priors filters (passed told parts c.pass_parts.new.at) most refl

@@ -4,9 +4,9 @@ use Rattle.belief_nodes.specs.Network.{network_tree}
 use Rattle.disk_index.specs.Snapshots.{unmarked}
 use Rattle.ranker.specs.Blocks.{opened_of}
 use Rattle.ranker.specs.First.{Advances, counted}
-use Rattle.ranker.specs.Passed.{IsKnown, asked_of, ranges_of}
+use Rattle.ranker.specs.Passed.{IsKnown, asked_of, live_ranges, ranges_of}
 use Rattle.ranker.proofs.AheadLemmas.{IsKnown-found, IsKnown-on, bare}
-use Rattle.ranker.proofs.AskedLemmas.{asked-all, asked-found, asked-on, asks-same, asks-then}
+use Rattle.ranker.proofs.AskedLemmas.{asked-all, asked-found, asked-on, asks-all, asks-bounded, asks-same, asks-then, live-here}
 use Rattle.ranker.proofs.OpenedLemmas.{Advances-bounded}
 use Rattle.ranker.proofs.OpeningLemmas.{each-passed, opened-le, opened-on, opens-one, opens-passed, opens-same}
 use Rattle.ranker.proofs.PassedLemmas.{Advances-asks, Advances-bare, Advances-beaten, Advances-dead}
@@ -30,14 +30,14 @@ returns-then-is_clear-clause-first g c = λ sound known.
     let ahead = c.args.ahead in
     let found = c.ahead_of-found.result in
     let foundly : IsKnown kind priors filters network tables number docs id found = IsKnown-found kind priors filters network tables number docs id ahead found c.ahead_of-found.ensures.found (c.ahead_of-found.ensures.ahead sound known.may) (c.ahead_of-found.ensures.span known.span) known in
-    let asked = asked-found (length docs) id ahead found c.ahead_of-found.ensures.found known.span c.requires.id in
+    let asked = asked-found marks (length docs) id ahead found c.ahead_of-found.ensures.found known.span c.requires.id in
     let to = c.pass_unseen.result in
     let inside = c.pass_unseen.ensures.passed.inside in
     let within = c.pass_unseen.ensures.inside in
     let clear = sym c.is_clear.ensures ∙ c.if-is_clear.true in
-    let on = asked-on id to.id found to.ahead c.pass_unseen.ensures.back c.pass_unseen.ensures.same in
-    Advances-asks kind priors filters network (unmarked (take id docs) marks) (unmarked (take to.id docs) marks) c.args.first.now c.args.first.now c.args.squares.now c.args.squares.now c.args.squares.now (asked_of id ahead) (asked_of id found) (asked_of to.id to.ahead)
-    (asks-same network (asked_of id ahead) (asked_of id found) c.args.squares.now asked) on
+    let on = asked-on marks id to.id found to.ahead c.pass_unseen.ensures.back c.pass_unseen.ensures.same in
+    Advances-asks kind priors filters network (unmarked (take id docs) marks) (unmarked (take to.id docs) marks) c.args.first.now c.args.first.now c.args.squares.now c.args.squares.now c.args.squares.now (asked_of marks id ahead) (asked_of marks id found) (asked_of marks to.id to.ahead)
+    (asks-same network (asked_of marks id ahead) (asked_of marks id found) c.args.squares.now asked) on
     (Advances-bare kind priors filters network docs marks (counted c.args.first.now c.args.squares.now 0) id to.id c.pass_unseen.ensures.back (omega (arith, inside, c.requires.marks)) c.requires.marks
     (λ i low high. bare filters network.leaves docs id found clear foundly.may i low (omega (arith, high, within))))
 
@@ -77,9 +77,9 @@ returns-then-is_clear-clause-within g c = λ sound known.
     let ahead = c.args.ahead in
     let found = c.ahead_of-found.result in
     let foundly : IsKnown kind priors filters network tables number docs id found = IsKnown-found kind priors filters network tables number docs id ahead found c.ahead_of-found.ensures.found (c.ahead_of-found.ensures.ahead sound known.may) (c.ahead_of-found.ensures.span known.span) known in
-    let asked = asked-found (length docs) id ahead found c.ahead_of-found.ensures.found known.span c.requires.id in
-    within-asks kind priors filters network (unmarked (take id docs) marks) (unmarked docs marks) (asked_of id ahead) (asked_of id found) (ranges_of (length docs)) c.args.squares.now c.args.squares.now c.args.squares.now
-    (asks-same network (asked_of id ahead) (asked_of id found) c.args.squares.now asked) (asked-all (length docs) id found foundly.span)
+    let asked = asked-found marks (length docs) id ahead found c.ahead_of-found.ensures.found known.span c.requires.id in
+    within-asks kind priors filters network (unmarked (take id docs) marks) (unmarked docs marks) (asked_of marks id ahead) (asked_of marks id found) (live_ranges marks (ranges_of (length docs))) c.args.squares.now c.args.squares.now c.args.squares.now
+    (asks-same network (asked_of marks id ahead) (asked_of marks id found) c.args.squares.now asked) (asked-all marks (length docs) id found foundly.span)
     (within-same kind priors filters network (unmarked (take id docs) marks) (unmarked docs marks) c.args.squares.now (cost-take kind priors filters network docs marks id))
 
 -- ---- the document is dead
@@ -98,12 +98,12 @@ returns-then-is_marked-clause-first g c = λ sound known.
     let ahead = c.args.ahead in
     let found = c.ahead_of-found.result in
     let foundly : IsKnown kind priors filters network tables number docs id found = IsKnown-found kind priors filters network tables number docs id ahead found c.ahead_of-found.ensures.found (c.ahead_of-found.ensures.ahead sound known.may) (c.ahead_of-found.ensures.span known.span) known in
-    let asked = asked-found (length docs) id ahead found c.ahead_of-found.ensures.found known.span c.requires.id in
+    let asked = asked-found marks (length docs) id ahead found c.ahead_of-found.ensures.found known.span c.requires.id in
     let to = c.pass_dead.result in
     let next = c.pass_dead.ensures.next in
-    let on = asked-on id to.id found to.ahead (omega (arith, next)) c.pass_dead.ensures.same in
-    Advances-asks kind priors filters network (unmarked (take id docs) marks) (unmarked (take to.id docs) marks) c.args.first.now c.args.first.now c.args.squares.now c.args.squares.now c.args.squares.now (asked_of id ahead) (asked_of id found) (asked_of to.id to.ahead)
-    (asks-same network (asked_of id ahead) (asked_of id found) c.args.squares.now asked) on
+    let on = asked-on marks id to.id found to.ahead (omega (arith, next)) c.pass_dead.ensures.same in
+    Advances-asks kind priors filters network (unmarked (take id docs) marks) (unmarked (take to.id docs) marks) c.args.first.now c.args.first.now c.args.squares.now c.args.squares.now c.args.squares.now (asked_of marks id ahead) (asked_of marks id found) (asked_of marks to.id to.ahead)
+    (asks-same network (asked_of marks id ahead) (asked_of marks id found) c.args.squares.now asked) on
     (subst (λ n. Advances kind priors filters network (unmarked (take id docs) marks) (unmarked (take n docs) marks) (counted c.args.first.now c.args.squares.now 0) (counted c.args.first.now c.args.squares.now 0)) (sym next)
     (Advances-dead kind priors filters network docs marks id (counted c.args.first.now c.args.squares.now 0) c.requires.id c.requires.marks (sym c.is_marked.ensures ∙ c.if-is_marked.true)))
 
@@ -145,9 +145,9 @@ returns-then-is_marked-clause-within g c = λ sound known.
     let ahead = c.args.ahead in
     let found = c.ahead_of-found.result in
     let foundly : IsKnown kind priors filters network tables number docs id found = IsKnown-found kind priors filters network tables number docs id ahead found c.ahead_of-found.ensures.found (c.ahead_of-found.ensures.ahead sound known.may) (c.ahead_of-found.ensures.span known.span) known in
-    let asked = asked-found (length docs) id ahead found c.ahead_of-found.ensures.found known.span c.requires.id in
-    within-asks kind priors filters network (unmarked (take id docs) marks) (unmarked docs marks) (asked_of id ahead) (asked_of id found) (ranges_of (length docs)) c.args.squares.now c.args.squares.now c.args.squares.now
-    (asks-same network (asked_of id ahead) (asked_of id found) c.args.squares.now asked) (asked-all (length docs) id found foundly.span)
+    let asked = asked-found marks (length docs) id ahead found c.ahead_of-found.ensures.found known.span c.requires.id in
+    within-asks kind priors filters network (unmarked (take id docs) marks) (unmarked docs marks) (asked_of marks id ahead) (asked_of marks id found) (live_ranges marks (ranges_of (length docs))) c.args.squares.now c.args.squares.now c.args.squares.now
+    (asks-same network (asked_of marks id ahead) (asked_of marks id found) c.args.squares.now asked) (asked-all marks (length docs) id found foundly.span)
     (within-same kind priors filters network (unmarked (take id docs) marks) (unmarked docs marks) c.args.squares.now (cost-take kind priors filters network docs marks id))
 
 -- ---- no bound is told
@@ -166,9 +166,9 @@ returns-in_err-known-clause-within g c = λ sound known.
     let ahead = c.args.ahead in
     let found = c.ahead_of-found.result in
     let foundly : IsKnown kind priors filters network tables number docs id found = IsKnown-found kind priors filters network tables number docs id ahead found c.ahead_of-found.ensures.found (c.ahead_of-found.ensures.ahead sound known.may) (c.ahead_of-found.ensures.span known.span) known in
-    let asked = asked-found (length docs) id ahead found c.ahead_of-found.ensures.found known.span c.requires.id in
-    let asks = asks-then network (asked_of id ahead) (asked_of id found) (ranges_of (length docs)) c.args.squares.now c.args.squares.now c.bounded.new.squares (asks-same network (asked_of id ahead) (asked_of id found) c.args.squares.now asked) (c.bounded.ensures.within foundly.span) in
-    within-asks kind priors filters network (unmarked (take id docs) marks) (unmarked docs marks) (asked_of id ahead) (ranges_of (length docs)) (ranges_of (length docs)) c.args.squares.now c.bounded.new.squares c.bounded.new.squares asks (omega arith)
+    let asked = asked-found marks (length docs) id ahead found c.ahead_of-found.ensures.found known.span c.requires.id in
+    let asks = asks-then network (asked_of marks id ahead) (asked_of marks id found) (live_ranges marks (ranges_of (length docs))) c.args.squares.now c.args.squares.now c.bounded.new.squares (asks-same network (asked_of marks id ahead) (asked_of marks id found) c.args.squares.now asked) (asks-all network marks (length docs) id found c.args.squares.now c.bounded.new.squares c.in_err-known.ensures.unasked c.requires.id (live-here marks id (omega (arith, c.requires.id, c.requires.marks)) (sym c.is_marked.ensures ∙ c.if-is_marked.false)) c.bounded.ensures.cost) in
+    within-asks kind priors filters network (unmarked (take id docs) marks) (unmarked docs marks) (asked_of marks id ahead) (live_ranges marks (ranges_of (length docs))) (live_ranges marks (ranges_of (length docs))) c.args.squares.now c.bounded.new.squares c.bounded.new.squares asks (omega arith)
     (within-same kind priors filters network (unmarked (take id docs) marks) (unmarked docs marks) c.bounded.new.squares (cost-take kind priors filters network docs marks id))
 
 -- ---- no candidate of the range can be among the first
@@ -187,18 +187,18 @@ returns-then-is_beaten-clause-first g c = λ sound known.
     let ahead = c.args.ahead in
     let found = c.ahead_of-found.result in
     let foundly : IsKnown kind priors filters network tables number docs id found = IsKnown-found kind priors filters network tables number docs id ahead found c.ahead_of-found.ensures.found (c.ahead_of-found.ensures.ahead sound known.may) (c.ahead_of-found.ensures.span known.span) known in
-    let asked = asked-found (length docs) id ahead found c.ahead_of-found.ensures.found known.span c.requires.id in
+    let asked = asked-found marks (length docs) id ahead found c.ahead_of-found.ensures.found known.span c.requires.id in
     let now = c.in_ok-known.known in
     let bounded : IsKnown kind priors filters network tables number docs id now = c.in_ok-known.ensures.known filters foundly in
-    let asks = asks-then network (asked_of id ahead) (asked_of id found) (asked_of id now) c.args.squares.now c.args.squares.now c.bounded.new.squares (asks-same network (asked_of id ahead) (asked_of id found) c.args.squares.now asked) (c.in_ok-known.ensures.cost foundly.span) in
+    let asks = asks-then network (asked_of marks id ahead) (asked_of marks id found) (asked_of marks id now) c.args.squares.now c.args.squares.now c.bounded.new.squares (asks-same network (asked_of marks id ahead) (asked_of marks id found) c.args.squares.now asked) (asks-bounded network marks (length docs) id found now c.args.squares.now c.bounded.new.squares c.in_ok-known.ensures.asked c.in_ok-known.ensures.end c.ahead_of-found.ensures.some (sym c.is_clear.ensures ∙ c.if-is_clear.false) (live-here marks id (omega (arith, c.requires.id, c.requires.marks)) (sym c.is_marked.ensures ∙ c.if-is_marked.false)) c.bounded.ensures.cost foundly.span) in
     let to = c.pass_unseen-then-is_beaten.result in
     let inside = c.pass_unseen-then-is_beaten.ensures.passed.inside in
     let within = c.pass_unseen-then-is_beaten.ensures.inside in
-    let on = asked-on id to.id now to.ahead c.pass_unseen-then-is_beaten.ensures.back c.pass_unseen-then-is_beaten.ensures.same in
+    let on = asked-on marks id to.id now to.ahead c.pass_unseen-then-is_beaten.ensures.back c.pass_unseen-then-is_beaten.ensures.same in
     let beaten = c.is_beaten.ensures c.if-is_beaten.true in
     let stats = c.args.network.now.kept.each in
     let leaves : length network.leaves ≤ length network.stats = omega (arith, stats) in
-    Advances-asks kind priors filters network (unmarked (take id docs) marks) (unmarked (take to.id docs) marks) c.args.first.now c.args.first.now c.args.squares.now c.bounded.new.squares c.bounded.new.squares (asked_of id ahead) (asked_of id now) (asked_of to.id to.ahead) asks on
+    Advances-asks kind priors filters network (unmarked (take id docs) marks) (unmarked (take to.id docs) marks) c.args.first.now c.args.first.now c.args.squares.now c.bounded.new.squares c.bounded.new.squares (asked_of marks id ahead) (asked_of marks id now) (asked_of marks to.id to.ahead) asks on
     (Advances-beaten kind priors filters network docs marks (counted c.args.first.now c.bounded.new.squares 0) id to.id beaten.0 c.pass_unseen-then-is_beaten.ensures.back (omega (arith, inside, c.requires.marks)) c.requires.marks leaves beaten.2
     (λ i low high. bounded.least beaten.0 i beaten.1 low (omega (arith, high, within))))
 
@@ -216,10 +216,10 @@ returns-then-is_beaten-clause-ahead g c = λ sound known.
     let ahead = c.args.ahead in
     let found = c.ahead_of-found.result in
     let foundly : IsKnown kind priors filters network tables number docs id found = IsKnown-found kind priors filters network tables number docs id ahead found c.ahead_of-found.ensures.found (c.ahead_of-found.ensures.ahead sound known.may) (c.ahead_of-found.ensures.span known.span) known in
-    let asked = asked-found (length docs) id ahead found c.ahead_of-found.ensures.found known.span c.requires.id in
+    let asked = asked-found marks (length docs) id ahead found c.ahead_of-found.ensures.found known.span c.requires.id in
     let now = c.in_ok-known.known in
     let bounded : IsKnown kind priors filters network tables number docs id now = c.in_ok-known.ensures.known filters foundly in
-    let asks = asks-then network (asked_of id ahead) (asked_of id found) (asked_of id now) c.args.squares.now c.args.squares.now c.bounded.new.squares (asks-same network (asked_of id ahead) (asked_of id found) c.args.squares.now asked) (c.in_ok-known.ensures.cost foundly.span) in
+    let asks = asks-then network (asked_of marks id ahead) (asked_of marks id found) (asked_of marks id now) c.args.squares.now c.args.squares.now c.bounded.new.squares (asks-same network (asked_of marks id ahead) (asked_of marks id found) c.args.squares.now asked) (asks-bounded network marks (length docs) id found now c.args.squares.now c.bounded.new.squares c.in_ok-known.ensures.asked c.in_ok-known.ensures.end c.ahead_of-found.ensures.some (sym c.is_clear.ensures ∙ c.if-is_clear.false) (live-here marks id (omega (arith, c.requires.id, c.requires.marks)) (sym c.is_marked.ensures ∙ c.if-is_marked.false)) c.bounded.ensures.cost foundly.span) in
     let to = c.pass_unseen-then-is_beaten.result in
     let inside = c.pass_unseen-then-is_beaten.ensures.passed.inside in
     let within = c.pass_unseen-then-is_beaten.ensures.inside in
@@ -242,11 +242,11 @@ returns-then-is_beaten-clause-within g c = λ sound known.
     let ahead = c.args.ahead in
     let found = c.ahead_of-found.result in
     let foundly : IsKnown kind priors filters network tables number docs id found = IsKnown-found kind priors filters network tables number docs id ahead found c.ahead_of-found.ensures.found (c.ahead_of-found.ensures.ahead sound known.may) (c.ahead_of-found.ensures.span known.span) known in
-    let asked = asked-found (length docs) id ahead found c.ahead_of-found.ensures.found known.span c.requires.id in
+    let asked = asked-found marks (length docs) id ahead found c.ahead_of-found.ensures.found known.span c.requires.id in
     let now = c.in_ok-known.known in
     let bounded : IsKnown kind priors filters network tables number docs id now = c.in_ok-known.ensures.known filters foundly in
-    let asks = asks-then network (asked_of id ahead) (asked_of id found) (asked_of id now) c.args.squares.now c.args.squares.now c.bounded.new.squares (asks-same network (asked_of id ahead) (asked_of id found) c.args.squares.now asked) (c.in_ok-known.ensures.cost foundly.span) in
-    within-asks kind priors filters network (unmarked (take id docs) marks) (unmarked docs marks) (asked_of id ahead) (asked_of id now) (ranges_of (length docs)) c.args.squares.now c.bounded.new.squares c.bounded.new.squares asks (asked-all (length docs) id now bounded.span)
+    let asks = asks-then network (asked_of marks id ahead) (asked_of marks id found) (asked_of marks id now) c.args.squares.now c.args.squares.now c.bounded.new.squares (asks-same network (asked_of marks id ahead) (asked_of marks id found) c.args.squares.now asked) (asks-bounded network marks (length docs) id found now c.args.squares.now c.bounded.new.squares c.in_ok-known.ensures.asked c.in_ok-known.ensures.end c.ahead_of-found.ensures.some (sym c.is_clear.ensures ∙ c.if-is_clear.false) (live-here marks id (omega (arith, c.requires.id, c.requires.marks)) (sym c.is_marked.ensures ∙ c.if-is_marked.false)) c.bounded.ensures.cost foundly.span) in
+    within-asks kind priors filters network (unmarked (take id docs) marks) (unmarked docs marks) (asked_of marks id ahead) (asked_of marks id now) (live_ranges marks (ranges_of (length docs))) c.args.squares.now c.bounded.new.squares c.bounded.new.squares asks (asked-all marks (length docs) id now bounded.span)
     (within-same kind priors filters network (unmarked (take id docs) marks) (unmarked docs marks) c.bounded.new.squares (cost-take kind priors filters network docs marks id))
 
 -- ---- the range is gone over
@@ -265,11 +265,11 @@ returns-clause-first g c = λ sound known.
     let ahead = c.args.ahead in
     let found = c.ahead_of-found.result in
     let foundly : IsKnown kind priors filters network tables number docs id found = IsKnown-found kind priors filters network tables number docs id ahead found c.ahead_of-found.ensures.found (c.ahead_of-found.ensures.ahead sound known.may) (c.ahead_of-found.ensures.span known.span) known in
-    let asked = asked-found (length docs) id ahead found c.ahead_of-found.ensures.found known.span c.requires.id in
+    let asked = asked-found marks (length docs) id ahead found c.ahead_of-found.ensures.found known.span c.requires.id in
     let now = c.in_ok-known.known in
     let bounded : IsKnown kind priors filters network tables number docs id now = c.in_ok-known.ensures.known filters foundly in
-    let asks = asks-then network (asked_of id ahead) (asked_of id found) (asked_of id now) c.args.squares.now c.args.squares.now c.bounded.new.squares (asks-same network (asked_of id ahead) (asked_of id found) c.args.squares.now asked) (c.in_ok-known.ensures.cost foundly.span) in
-    Advances-bounded kind priors filters network docs marks id c.pass_opened.result c.args.first.now c.pass_opened.new.first c.args.squares.now c.bounded.new.squares c.pass_opened.new.squares (asked_of id ahead) (asked_of id now) asks
+    let asks = asks-then network (asked_of marks id ahead) (asked_of marks id found) (asked_of marks id now) c.args.squares.now c.args.squares.now c.bounded.new.squares (asks-same network (asked_of marks id ahead) (asked_of marks id found) c.args.squares.now asked) (asks-bounded network marks (length docs) id found now c.args.squares.now c.bounded.new.squares c.in_ok-known.ensures.asked c.in_ok-known.ensures.end c.ahead_of-found.ensures.some (sym c.is_clear.ensures ∙ c.if-is_clear.false) (live-here marks id (omega (arith, c.requires.id, c.requires.marks)) (sym c.is_marked.ensures ∙ c.if-is_marked.false)) c.bounded.ensures.cost foundly.span) in
+    Advances-bounded kind priors filters network docs marks id c.pass_opened.result c.args.first.now c.pass_opened.new.first c.args.squares.now c.bounded.new.squares c.pass_opened.new.squares (asked_of marks id ahead) (asked_of marks id now) asks
     (c.pass_opened.ensures.first sound bounded)
 
 pub returns-clause-ahead : goal.returns-clause-ahead
@@ -304,11 +304,11 @@ returns-clause-within g c = λ sound known.
     let ahead = c.args.ahead in
     let found = c.ahead_of-found.result in
     let foundly : IsKnown kind priors filters network tables number docs id found = IsKnown-found kind priors filters network tables number docs id ahead found c.ahead_of-found.ensures.found (c.ahead_of-found.ensures.ahead sound known.may) (c.ahead_of-found.ensures.span known.span) known in
-    let asked = asked-found (length docs) id ahead found c.ahead_of-found.ensures.found known.span c.requires.id in
+    let asked = asked-found marks (length docs) id ahead found c.ahead_of-found.ensures.found known.span c.requires.id in
     let now = c.in_ok-known.known in
     let bounded : IsKnown kind priors filters network tables number docs id now = c.in_ok-known.ensures.known filters foundly in
-    let asks = asks-then network (asked_of id ahead) (asked_of id found) (asked_of id now) c.args.squares.now c.args.squares.now c.bounded.new.squares (asks-same network (asked_of id ahead) (asked_of id found) c.args.squares.now asked) (c.in_ok-known.ensures.cost foundly.span) in
-    within-bounded kind priors filters network (unmarked (take id docs) marks) (unmarked docs marks) (asked_of id ahead) (asked_of id now) (ranges_of (length docs)) c.args.squares.now c.bounded.new.squares c.pass_opened.new.squares asks (c.pass_opened.ensures.within sound bounded)
+    let asks = asks-then network (asked_of marks id ahead) (asked_of marks id found) (asked_of marks id now) c.args.squares.now c.args.squares.now c.bounded.new.squares (asks-same network (asked_of marks id ahead) (asked_of marks id found) c.args.squares.now asked) (asks-bounded network marks (length docs) id found now c.args.squares.now c.bounded.new.squares c.in_ok-known.ensures.asked c.in_ok-known.ensures.end c.ahead_of-found.ensures.some (sym c.is_clear.ensures ∙ c.if-is_clear.false) (live-here marks id (omega (arith, c.requires.id, c.requires.marks)) (sym c.is_marked.ensures ∙ c.if-is_marked.false)) c.bounded.ensures.cost foundly.span) in
+    within-bounded kind priors filters network (unmarked (take id docs) marks) (unmarked docs marks) (asked_of marks id ahead) (asked_of marks id now) (live_ranges marks (ranges_of (length docs))) c.args.squares.now c.bounded.new.squares c.pass_opened.new.squares asks (c.pass_opened.ensures.within sound bounded)
 
 -- ---- blocks
 

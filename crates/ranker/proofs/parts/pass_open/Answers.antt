@@ -3,7 +3,7 @@ use Rattle.ri_base.specs.Query.{filter_tree}
 use Rattle.belief_nodes.specs.Network.{network_tree}
 use Rattle.disk_index.specs.Snapshots.{unmarked}
 use Rattle.ranker.specs.First.{counted}
-use Rattle.ranker.specs.Passed.{IsKnown, asked_of, ranges_of}
+use Rattle.ranker.specs.Passed.{IsKnown, asked_of, live_ranges, ranges_of}
 use Rattle.ranker.proofs.AheadLemmas.{IsAhead-read, IsKnown-masked, IsKnown-on, IsKnown-opened, bare}
 use Rattle.ranker.proofs.AskedLemmas.{asked-all, asked-opened, asks-same}
 use Rattle.ranker.proofs.PassedLemmas.{Advances-asks, Advances-bare}
@@ -26,8 +26,8 @@ returns-in_err-open-clause-within g c = λ sound known.
     let number = c.args.number in
     let id = c.args.id in
     let ahead = c.args.ahead in
-    within-asks kind priors filters network (unmarked (take id docs) marks) (unmarked docs marks) (asked_of id ahead) (asked_of id ahead) (ranges_of (length docs)) c.args.squares.now c.args.squares.now c.args.squares.now
-    (asks-same network (asked_of id ahead) (asked_of id ahead) c.args.squares.now (omega arith)) (asked-all (length docs) id ahead known.span)
+    within-asks kind priors filters network (unmarked (take id docs) marks) (unmarked docs marks) (asked_of marks id ahead) (asked_of marks id ahead) (live_ranges marks (ranges_of (length docs))) c.args.squares.now c.args.squares.now c.args.squares.now
+    (asks-same network (asked_of marks id ahead) (asked_of marks id ahead) c.args.squares.now (omega arith)) (asked-all marks (length docs) id ahead known.span)
     (within-same kind priors filters network (unmarked (take id docs) marks) (unmarked docs marks) c.args.squares.now (cost-take kind priors filters network docs marks id))
 
 -- ---- no bit is set
@@ -52,9 +52,9 @@ returns-then-is_clear-clause-first g c = λ sound known.
     let inside = c.pass_unseen.ensures.passed.inside in
     let within = c.pass_unseen.ensures.inside in
     let clear = sym c.is_clear.ensures ∙ c.if-is_clear.true in
-    let asked = asked-opened id to.id ahead opened to.ahead c.pass_unseen.ensures.back c.in_ok-open.ensures.end c.in_ok-open.ensures.bound c.pass_unseen.ensures.same in
-    Advances-asks kind priors filters network (unmarked (take id docs) marks) (unmarked (take to.id docs) marks) c.args.first.now c.args.first.now c.args.squares.now c.args.squares.now c.args.squares.now (asked_of id ahead) (asked_of id ahead) (asked_of to.id to.ahead)
-    (asks-same network (asked_of id ahead) (asked_of id ahead) c.args.squares.now (omega arith)) asked
+    let asked = asked-opened marks id to.id ahead opened to.ahead c.pass_unseen.ensures.back c.in_ok-open.ensures.end c.in_ok-open.ensures.bound c.pass_unseen.ensures.same in
+    Advances-asks kind priors filters network (unmarked (take id docs) marks) (unmarked (take to.id docs) marks) c.args.first.now c.args.first.now c.args.squares.now c.args.squares.now c.args.squares.now (asked_of marks id ahead) (asked_of marks id ahead) (asked_of marks to.id to.ahead)
+    (asks-same network (asked_of marks id ahead) (asked_of marks id ahead) c.args.squares.now (omega arith)) asked
     (Advances-bare kind priors filters network docs marks (counted c.args.first.now c.args.squares.now 0) id to.id c.pass_unseen.ensures.back (omega (arith, inside, c.requires.marks)) c.requires.marks
     (λ i low high. bare filters network.leaves docs id opened clear here.may i low (omega (arith, high, within))))
 
@@ -94,8 +94,8 @@ returns-then-is_clear-clause-within g c = λ sound known.
     let number = c.args.number in
     let id = c.args.id in
     let ahead = c.args.ahead in
-    within-asks kind priors filters network (unmarked (take id docs) marks) (unmarked docs marks) (asked_of id ahead) (asked_of id ahead) (ranges_of (length docs)) c.args.squares.now c.args.squares.now c.args.squares.now
-    (asks-same network (asked_of id ahead) (asked_of id ahead) c.args.squares.now (omega arith)) (asked-all (length docs) id ahead known.span)
+    within-asks kind priors filters network (unmarked (take id docs) marks) (unmarked docs marks) (asked_of marks id ahead) (asked_of marks id ahead) (live_ranges marks (ranges_of (length docs))) c.args.squares.now c.args.squares.now c.args.squares.now
+    (asks-same network (asked_of marks id ahead) (asked_of marks id ahead) c.args.squares.now (omega arith)) (asked-all marks (length docs) id ahead known.span)
     (within-same kind priors filters network (unmarked (take id docs) marks) (unmarked docs marks) c.args.squares.now (cost-take kind priors filters network docs marks id))
 
 -- ---- those with a bit are looked at
@@ -156,6 +156,6 @@ returns-clause-within g c = λ sound known.
     let keeps = c.masked.ensures.keeps in
     let opened = c.in_ok-open.open in
     let may = c.in_ok-open.ensures.ahead sound known.span c.requires.open known.may in
-    within-asks kind priors filters network (unmarked (take id docs) marks) (unmarked docs marks) (asked_of id ahead) (asked_of id ahead) (ranges_of (length docs)) c.args.squares.now c.args.squares.now c.pass_masked.new.squares
-    (asks-same network (asked_of id ahead) (asked_of id ahead) c.args.squares.now (omega arith)) (asked-all (length docs) id ahead known.span)
+    within-asks kind priors filters network (unmarked (take id docs) marks) (unmarked docs marks) (asked_of marks id ahead) (asked_of marks id ahead) (live_ranges marks (ranges_of (length docs))) c.args.squares.now c.args.squares.now c.pass_masked.new.squares
+    (asks-same network (asked_of marks id ahead) (asked_of marks id ahead) c.args.squares.now (omega arith)) (asked-all marks (length docs) id ahead known.span)
     (rw keeps.documents_stay at (c.pass_masked.ensures.within (keeps.sound_stays sound) (IsAhead-read filters network.leaves docs (g.P.Postings.documents c.masked.new.part) id opened (sym keeps.documents_stay) may)))

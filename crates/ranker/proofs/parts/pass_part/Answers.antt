@@ -6,7 +6,7 @@ use Rattle.disk_index.specs.Snapshots.{unmarked}
 use Rattle.extent_lists.proofs.KeepsLemmas.{Keeps-then}
 use Rattle.ranker.specs.Blocks.{opened_of}
 use Rattle.ranker.specs.First.{counted}
-use Rattle.ranker.specs.Passed.{IsKnown, asked_of, ranges_of}
+use Rattle.ranker.specs.Passed.{IsKnown, asked_of, live_ranges, ranges_of}
 use Rattle.ranker.specs.Windows.{KeepsWindows}
 use Rattle.ranker.proofs.AheadLemmas.{IsKnown-priors, IsKnown-read}
 use Rattle.ranker.proofs.AskedLemmas.{asked-all}
@@ -52,9 +52,9 @@ loop-at-preserved g c =
       keeps = Keeps-then _ _ _ _ g.met.P.OpensRanges.calm_then _ _ _ keeps c.pass_on.ensures.keeps;
       stay = c.pass_on.ensures.stay ∙ c.loop-at.invariant.stay;
       so_far = λ sound known.
-          Advances-then kind priors filters network (unmarked (take c.args.id docs) marks) (unmarked (take at docs) marks) (unmarked (take to.id docs) marks) (counted c.args.first.now c.args.squares.now (asked_of c.args.id c.args.ahead)) (counted c.loop-at.first c.loop-at.squares (asked_of at c.loop-at.known)) (counted c.pass_on.new.first c.pass_on.new.squares (asked_of to.id to.ahead))
+          Advances-then kind priors filters network (unmarked (take c.args.id docs) marks) (unmarked (take at docs) marks) (unmarked (take to.id docs) marks) (counted c.args.first.now c.args.squares.now (asked_of marks c.args.id c.args.ahead)) (counted c.loop-at.first c.loop-at.squares (asked_of marks at c.loop-at.known)) (counted c.pass_on.new.first c.pass_on.new.squares (asked_of marks to.id to.ahead))
           (c.loop-at.invariant.so_far sound known)
-          (Advances-read kind _ priors filters network read docs marks at to.id (counted c.loop-at.first c.loop-at.squares (asked_of at c.loop-at.known)) (counted c.pass_on.new.first c.pass_on.new.squares (asked_of to.id to.ahead)) c.loop-at.invariant.stay keeps.documents_stay (c.in_ok-to.ensures.first (keeps.sound_stays sound) (here sound known)));
+          (Advances-read kind _ priors filters network read docs marks at to.id (counted c.loop-at.first c.loop-at.squares (asked_of marks at c.loop-at.known)) (counted c.pass_on.new.first c.pass_on.new.squares (asked_of marks to.id to.ahead)) c.loop-at.invariant.stay keeps.documents_stay (c.in_ok-to.ensures.first (keeps.sound_stays sound) (here sound known)));
       ahead = λ sound known.
           IsKnown-priors kind here_priors priors filters network c.args.tables.now c.args.number docs to.id to.ahead c.loop-at.invariant.stay
           (IsKnown-read kind here_priors filters network c.args.tables.now c.args.number read docs to.id to.ahead keeps.documents_stay (c.in_ok-to.ensures.ahead (keeps.sound_stays sound) (here sound known)));
@@ -91,8 +91,8 @@ returns-after-loop-at-clause-within g c = λ sound known.
     let network = network_tree c.args.network.now in
     let docs = g.P.Postings.documents c.args.part.now in
     let marks = c.args.marks.now in
-    within-more kind priors filters network (unmarked (take c.args.id docs) marks) (unmarked (take c.loop-at.at docs) marks) (unmarked docs marks) (asked_of c.args.id c.args.ahead) (asked_of c.loop-at.at c.loop-at.known) (ranges_of (length docs)) c.args.squares.now c.loop-at.squares (c.loop-at.invariant.so_far sound known).cost
-    (cost-take kind priors filters network docs marks c.loop-at.at) (asked-all (length docs) c.loop-at.at c.loop-at.known (c.loop-at.invariant.ahead sound known).span)
+    within-more kind priors filters network (unmarked (take c.args.id docs) marks) (unmarked (take c.loop-at.at docs) marks) (unmarked docs marks) (asked_of marks c.args.id c.args.ahead) (asked_of marks c.loop-at.at c.loop-at.known) (live_ranges marks (ranges_of (length docs))) c.args.squares.now c.loop-at.squares (c.loop-at.invariant.so_far sound known).cost
+    (cost-take kind priors filters network docs marks c.loop-at.at) (asked-all marks (length docs) c.loop-at.at c.loop-at.known (c.loop-at.invariant.ahead sound known).span)
 
 pub returns-else-docs-most-clause-within : goal.returns-else-docs-most-clause-within
 returns-else-docs-most-clause-within g c = λ sound known.
@@ -102,8 +102,8 @@ returns-else-docs-most-clause-within g c = λ sound known.
     let network = network_tree c.args.network.now in
     let docs = g.P.Postings.documents c.args.part.now in
     let marks = c.args.marks.now in
-    within-more kind priors filters network (unmarked (take c.args.id docs) marks) (unmarked (take c.loop-at.at docs) marks) (unmarked docs marks) (asked_of c.args.id c.args.ahead) (asked_of c.loop-at.at c.loop-at.known) (ranges_of (length docs)) c.args.squares.now c.loop-at.squares (c.loop-at.invariant.so_far sound known).cost
-    (cost-take kind priors filters network docs marks c.loop-at.at) (asked-all (length docs) c.loop-at.at c.loop-at.known (c.loop-at.invariant.ahead sound known).span)
+    within-more kind priors filters network (unmarked (take c.args.id docs) marks) (unmarked (take c.loop-at.at docs) marks) (unmarked docs marks) (asked_of marks c.args.id c.args.ahead) (asked_of marks c.loop-at.at c.loop-at.known) (live_ranges marks (ranges_of (length docs))) c.args.squares.now c.loop-at.squares (c.loop-at.invariant.so_far sound known).cost
+    (cost-take kind priors filters network docs marks c.loop-at.at) (asked-all marks (length docs) c.loop-at.at c.loop-at.known (c.loop-at.invariant.ahead sound known).span)
 
 pub returns-in_err-to-clause-within : goal.returns-in_err-to-clause-within
 returns-in_err-to-clause-within g c = λ sound known.
@@ -119,8 +119,8 @@ returns-in_err-to-clause-within g c = λ sound known.
     let here_priors = map (λ b. (goal.BeliefNode-dyn g (b.vtable, b.value)).meaning b.value) c.loop-at.plugs in
     let here = IsKnown-priors kind priors here_priors filters network c.args.tables.now c.args.number read at c.loop-at.known (sym c.loop-at.invariant.stay)
     (IsKnown-read kind priors filters network c.args.tables.now c.args.number docs read at c.loop-at.known (sym keeps.documents_stay) (c.loop-at.invariant.ahead sound known)) in
-    let next = within-read kind _ priors filters network read docs marks at (asked_of at c.loop-at.known) c.loop-at.squares c.pass_on.new.squares c.loop-at.invariant.stay keeps.documents_stay (c.pass_on.ensures.within (keeps.sound_stays sound) here) in
-    within-then kind priors filters network (unmarked (take c.args.id docs) marks) (unmarked (take at docs) marks) (unmarked docs marks) (asked_of c.args.id c.args.ahead) (asked_of at c.loop-at.known) (ranges_of (length docs)) c.args.squares.now c.loop-at.squares c.pass_on.new.squares
+    let next = within-read kind _ priors filters network read docs marks at (asked_of marks at c.loop-at.known) c.loop-at.squares c.pass_on.new.squares c.loop-at.invariant.stay keeps.documents_stay (c.pass_on.ensures.within (keeps.sound_stays sound) here) in
+    within-then kind priors filters network (unmarked (take c.args.id docs) marks) (unmarked (take at docs) marks) (unmarked docs marks) (asked_of marks c.args.id c.args.ahead) (asked_of marks at c.loop-at.known) (live_ranges marks (ranges_of (length docs))) c.args.squares.now c.loop-at.squares c.pass_on.new.squares
     (c.loop-at.invariant.so_far sound known).cost next
 
 -- ---- blocks

@@ -10,7 +10,7 @@ use Rattle.disk_index.specs.Cache.{IsCacheBacked}
 use Rattle.range_masks.specs.Held.{AreAnswersOf}
 use Rattle.ranker.specs.Blocks.{AreReadBy}
 use Rattle.ranker.specs.First.{Advances, SpendsWithin, counted}
-use Rattle.ranker.specs.Passed.{IsKnown, asked_of, ranges_of}
+use Rattle.ranker.specs.Passed.{IsKnown, asked_of, live_ranges, ranges_of}
 use Rattle.ranker.specs.Windows.{KeepsWindows}
 use Rattle.ranker.specs.declared.place.Passed.{Passed}
 use Rattle.ranker.proofs.AheadLemmas.{IsKnown-read}
@@ -48,8 +48,8 @@ returns-clause-first g c = λ part cached known.
     let same_part : own ≡ m.source = ap source_of c.new-reader.ensures.part ∙ c.part.ensures.part in
     let docs : reads here own ≡ reads told m.source = ap (λ (t : Option Files). reads t own) same_told ∙ ap (reads told) same_part in
     let there = sound-by told here m.source own c.args.cache.now c.new-reader.result.cache.now c.args.held.now c.new-reader.result.held.now same_told same_part c.new-reader.ensures.cache c.new-reader.ensures.held part cached in
-    subst (λ (ds : List Document). IfOk c.pass_part.result (λ (to : Passed). Advances kind priors filters network (unmarked (take c.args.id ds) m.marks) (unmarked (take to.id ds) m.marks) (counted c.args.first.now c.args.squares.now (asked_of c.args.id c.args.ahead)) (counted c.pass_part.new.first c.pass_part.new.squares (asked_of to.id to.ahead)))) docs
-    (subst (λ (ms : List Bool). IfOk c.pass_part.result (λ (to : Passed). Advances kind priors filters network (unmarked (take c.args.id (reads here own)) ms) (unmarked (take to.id (reads here own)) ms) (counted c.args.first.now c.args.squares.now (asked_of c.args.id c.args.ahead)) (counted c.pass_part.new.first c.pass_part.new.squares (asked_of to.id to.ahead)))) c.marks.ensures.marks
+    subst (λ (ds : List Document). IfOk c.pass_part.result (λ (to : Passed). Advances kind priors filters network (unmarked (take c.args.id ds) m.marks) (unmarked (take to.id ds) m.marks) (counted c.args.first.now c.args.squares.now (asked_of m.marks c.args.id c.args.ahead)) (counted c.pass_part.new.first c.pass_part.new.squares (asked_of m.marks to.id to.ahead)))) docs
+    (subst (λ (ms : List Bool). IfOk c.pass_part.result (λ (to : Passed). Advances kind priors filters network (unmarked (take c.args.id (reads here own)) ms) (unmarked (take to.id (reads here own)) ms) (counted c.args.first.now c.args.squares.now (asked_of ms c.args.id c.args.ahead)) (counted c.pass_part.new.first c.pass_part.new.squares (asked_of ms to.id to.ahead)))) c.marks.ensures.marks
     (c.pass_part.ensures.first there (IsKnown-read kind priors filters network c.args.tables.now c.args.number (reads told m.source) (reads here own) c.args.id c.args.ahead (sym docs) known)))
 
 pub returns-clause-ahead : goal.returns-clause-ahead
@@ -96,8 +96,8 @@ returns-clause-within g c = λ part cached known.
     let same_part : own ≡ m.source = ap source_of c.new-reader.ensures.part ∙ c.part.ensures.part in
     let docs : reads here own ≡ reads told m.source = ap (λ (t : Option Files). reads t own) same_told ∙ ap (reads told) same_part in
     let there = sound-by told here m.source own c.args.cache.now c.new-reader.result.cache.now c.args.held.now c.new-reader.result.held.now same_told same_part c.new-reader.ensures.cache c.new-reader.ensures.held part cached in
-    subst (λ (ds : List Document). SpendsWithin kind priors filters network (unmarked (take c.args.id ds) m.marks) (unmarked ds m.marks) (asked_of c.args.id c.args.ahead) (ranges_of (length ds)) c.args.squares.now c.pass_part.new.squares) docs
-    (subst (λ (ms : List Bool). SpendsWithin kind priors filters network (unmarked (take c.args.id (reads here own)) ms) (unmarked (reads here own) ms) (asked_of c.args.id c.args.ahead) (ranges_of (length (reads here own))) c.args.squares.now c.pass_part.new.squares) c.marks.ensures.marks
+    subst (λ (ds : List Document). SpendsWithin kind priors filters network (unmarked (take c.args.id ds) m.marks) (unmarked ds m.marks) (asked_of m.marks c.args.id c.args.ahead) (live_ranges m.marks (ranges_of (length ds))) c.args.squares.now c.pass_part.new.squares) docs
+    (subst (λ (ms : List Bool). SpendsWithin kind priors filters network (unmarked (take c.args.id (reads here own)) ms) (unmarked (reads here own) ms) (asked_of ms c.args.id c.args.ahead) (live_ranges ms (ranges_of (length (reads here own)))) c.args.squares.now c.pass_part.new.squares) c.marks.ensures.marks
     (c.pass_part.ensures.within there (IsKnown-read kind priors filters network c.args.tables.now c.args.number (reads told m.source) (reads here own) c.args.id c.args.ahead (sym docs) known)))
 
 -- ---- blocks

@@ -1,4 +1,4 @@
-use Rattle.std.proofs.Common.{◌≡◌, length, map, take, ap, sym, subst, ◌∙◌, arith}
+use Rattle.std.proofs.Common.{◌≡◌, length, map, take, ap, sym, subst, ◌∙◌, arith, ◌≤◌, ◌+◌}
 use Rattle.std.proofs.lemmas.Result.{err_from_is_err_and}
 use Rattle.ri_base.specs.Query.{filter_tree}
 use Rattle.belief_nodes.specs.Network.{network_tree}
@@ -8,10 +8,10 @@ use Rattle.disk_index.proofs.AmongLemmas.{backed-at, blocks-among}
 use Rattle.disk_index.proofs.RebuiltLemmas.{reads-length}
 use Rattle.range_masks.specs.Held.{FitDocuments, Held}
 use Rattle.ranker.specs.Blocks.{AreReadAt, AreReadBy, OpensWithin, opened_at, opened_of}
-use Rattle.ranker.specs.First.{Advances, counted}
-use Rattle.ranker.specs.Passed.{IsAheadAt, IsKnown, IsPlace, asked_at, asked_of, behind, part_at, passed, ranges_in, ranges_of}
+use Rattle.ranker.specs.First.{Advances, SpendsWithin, counted}
+use Rattle.ranker.specs.Passed.{IsAheadAt, IsKnown, IsPlace, asked_at, asked_of, behind, layout, layout_in, live_ranges, part_at, passed, ranges_in, ranges_of}
 use Rattle.ranker.specs.declared.place.Place.{Place}
-use Rattle.ranker.proofs.AskedLemmas.{asked-all, asked-behind, ranges-front}
+use Rattle.ranker.proofs.AskedLemmas.{asked-all, asked-behind, layout-front, ranges-front}
 use Rattle.ranker.proofs.PassedLemmas.{Advances-further}
 use Rattle.ranker.proofs.PlaceLemmas.{Advances-place, IsAheadAt-behind, IsPlace-behind, credit-behind, credit-few, part-behind, part-is}
 use Rattle.ranker.proofs.DocumentLemmas.{live-among}
@@ -52,14 +52,17 @@ returns-clause-first g c = λ backed cached known.
     let network = network_tree c.args.network.now in
     let here = subst (λ (p : Marked). IsKnown kind priors filters network c.args.tables.now at.part (reads told p.source) at.id at.ahead) is known.here in
     let to_known : IsKnown kind priors filters network c.args.tables.now at.part (reads told m.source) to.id to.ahead = c.in_ok-to.ensures.ahead own (read-at told parts at m c.args.cache.now c.args.held.now is cached) here in
-    let all = asked-all (length (reads told m.source)) to.id to.ahead to_known.span in
-    let same : ranges_of (length (reads told m.source)) ≡ ranges_of (size (part_at parts at.part).source) = ap ranges_of (reads-length told m.source ∙ ap (λ (p : Marked). size p.source) (sym is)) in
-    let asked = asked-behind parts at to c.args.most c.requires.some (omega (arith, all, same)) in
+    let all = asked-all m.marks (length (reads told m.source)) to.id to.ahead to_known.span in
+    let same : live_ranges m.marks (ranges_of (length (reads told m.source))) ≡ layout_in m = ap (λ n. live_ranges m.marks (ranges_of n)) (reads-length told m.source) in
+    let below : asked_of m.marks to.id to.ahead ≤ layout_in m = omega (arith, all, same) in
+    let asked : layout (take at.part parts) + asked_of m.marks to.id to.ahead ≤ asked_at parts (behind at to c.args.most) =
+    subst (λ (p : Marked). asked_of p.marks to.id to.ahead ≤ layout_in p → layout (take at.part parts) + asked_of p.marks to.id to.ahead ≤ asked_at parts (behind at to c.args.most)) is (asked-behind parts at to c.args.most c.requires.some) below in
     subst (λ (p : Place). Advances kind priors filters network (passed told parts at) (passed told parts p) (counted c.args.first.now c.args.squares.now (asked_at parts at)) (counted c.pass_marked.new.first c.pass_marked.new.squares (asked_at parts p))) (sym c.place_behind.ensures)
-    (Advances-further kind priors filters network (passed told parts at) (passed told parts (behind at to c.args.most)) c.args.first.now c.pass_marked.new.first c.args.squares.now c.pass_marked.new.squares (asked_of at.id at.ahead) (asked_of to.id to.ahead)
-    (ranges_in (take at.part parts)) (asked_at parts (behind at to c.args.most)) asked
-    (Advances-place parts at to c.args.most kind priors filters network told (counted c.args.first.now c.args.squares.now (asked_of at.id at.ahead)) (counted c.pass_marked.new.first c.pass_marked.new.squares (asked_of to.id to.ahead)) m is c.requires.some c.in_ok-to.ensures.end
-    (c.in_ok-to.ensures.first own (read-at told parts at m c.args.cache.now c.args.held.now is cached) here)))
+    (subst (λ (p : Marked). Advances kind priors filters network (passed told parts at) (passed told parts (behind at to c.args.most)) (counted c.args.first.now c.args.squares.now (layout (take at.part parts) + asked_of p.marks at.id at.ahead)) (counted c.pass_marked.new.first c.pass_marked.new.squares (asked_at parts (behind at to c.args.most)))) (sym is)
+    (Advances-further kind priors filters network (passed told parts at) (passed told parts (behind at to c.args.most)) c.args.first.now c.pass_marked.new.first c.args.squares.now c.pass_marked.new.squares (asked_of m.marks at.id at.ahead) (asked_of m.marks to.id to.ahead)
+    (layout (take at.part parts)) (asked_at parts (behind at to c.args.most)) asked
+    (Advances-place parts at to c.args.most kind priors filters network told (counted c.args.first.now c.args.squares.now (asked_of m.marks at.id at.ahead)) (counted c.pass_marked.new.first c.pass_marked.new.squares (asked_of m.marks to.id to.ahead)) m is c.requires.some c.in_ok-to.ensures.end
+    (c.in_ok-to.ensures.first own (read-at told parts at m c.args.cache.now c.args.held.now is cached) here))))
 
 pub returns-clause-ahead : goal.returns-clause-ahead
 returns-clause-ahead g c = λ backed cached known.
@@ -131,10 +134,12 @@ returns-in_err-to-clause-within g c = λ backed cached known.
     let network = network_tree c.args.network.now in
     let is = part-is parts at.part m c.requires.some c.index-parts-at.is in
     let own : IsPartBacked told m.source = backed-at parts at.part m c.requires.some c.index-parts-at.is told backed in
-    let read : ranges_of (length (reads told m.source)) ≡ ranges_of (size (part_at parts at.part).source) = ap ranges_of (reads-length told m.source ∙ ap (λ (p : Marked). size p.source) (sym is)) in
-    let front = ranges-front parts at.part in
-    within-part kind priors filters network told parts at m (asked_of at.id at.ahead) (ranges_of (length (reads told m.source))) (ranges_in (take at.part parts)) (ranges_in parts) c.args.squares.now c.pass_marked.new.squares is c.requires.some (omega (arith, read, front))
-    (c.pass_marked.ensures.within own (read-at told parts at m c.args.cache.now c.args.held.now is cached) (subst (λ (p : Marked). IsKnown kind priors filters network c.args.tables.now at.part (reads told p.source) at.id at.ahead) is known.here))
+    let read : live_ranges m.marks (ranges_of (length (reads told m.source))) ≡ layout_in m = ap (λ n. live_ranges m.marks (ranges_of n)) (reads-length told m.source) in
+    let front : layout (take at.part parts) + layout_in m ≤ layout parts = subst (λ (p : Marked). layout (take at.part parts) + layout_in p ≤ layout parts) is (layout-front parts at.part) in
+    let asked = ap (λ (p : Marked). layout (take at.part parts) + asked_of p.marks at.id at.ahead) is in
+    subst (λ n. SpendsWithin kind priors filters network (passed told parts at) (live told parts) n (layout parts) c.args.squares.now c.pass_marked.new.squares) (sym asked)
+    (within-part kind priors filters network told parts at m (asked_of m.marks at.id at.ahead) (live_ranges m.marks (ranges_of (length (reads told m.source)))) (layout (take at.part parts)) (layout parts) c.args.squares.now c.pass_marked.new.squares is c.requires.some (omega (arith, read, front))
+    (c.pass_marked.ensures.within own (read-at told parts at m c.args.cache.now c.args.held.now is cached) (subst (λ (p : Marked). IsKnown kind priors filters network c.args.tables.now at.part (reads told p.source) at.id at.ahead) is known.here)))
 
 pub returns-clause-within : goal.returns-clause-within
 returns-clause-within g c = λ backed cached known.
@@ -148,10 +153,12 @@ returns-clause-within g c = λ backed cached known.
     let network = network_tree c.args.network.now in
     let is = part-is parts at.part m c.requires.some c.index-parts-at.is in
     let own : IsPartBacked told m.source = backed-at parts at.part m c.requires.some c.index-parts-at.is told backed in
-    let read : ranges_of (length (reads told m.source)) ≡ ranges_of (size (part_at parts at.part).source) = ap ranges_of (reads-length told m.source ∙ ap (λ (p : Marked). size p.source) (sym is)) in
-    let front = ranges-front parts at.part in
-    within-part kind priors filters network told parts at m (asked_of at.id at.ahead) (ranges_of (length (reads told m.source))) (ranges_in (take at.part parts)) (ranges_in parts) c.args.squares.now c.pass_marked.new.squares is c.requires.some (omega (arith, read, front))
-    (c.pass_marked.ensures.within own (read-at told parts at m c.args.cache.now c.args.held.now is cached) (subst (λ (p : Marked). IsKnown kind priors filters network c.args.tables.now at.part (reads told p.source) at.id at.ahead) is known.here))
+    let read : live_ranges m.marks (ranges_of (length (reads told m.source))) ≡ layout_in m = ap (λ n. live_ranges m.marks (ranges_of n)) (reads-length told m.source) in
+    let front : layout (take at.part parts) + layout_in m ≤ layout parts = subst (λ (p : Marked). layout (take at.part parts) + layout_in p ≤ layout parts) is (layout-front parts at.part) in
+    let asked = ap (λ (p : Marked). layout (take at.part parts) + asked_of p.marks at.id at.ahead) is in
+    subst (λ n. SpendsWithin kind priors filters network (passed told parts at) (live told parts) n (layout parts) c.args.squares.now c.pass_marked.new.squares) (sym asked)
+    (within-part kind priors filters network told parts at m (asked_of m.marks at.id at.ahead) (live_ranges m.marks (ranges_of (length (reads told m.source)))) (layout (take at.part parts)) (layout parts) c.args.squares.now c.pass_marked.new.squares is c.requires.some (omega (arith, read, front))
+    (c.pass_marked.ensures.within own (read-at told parts at m c.args.cache.now c.args.held.now is cached) (subst (λ (p : Marked). IsKnown kind priors filters network c.args.tables.now at.part (reads told p.source) at.id at.ahead) is known.here)))
 
 -- ---- blocks
 

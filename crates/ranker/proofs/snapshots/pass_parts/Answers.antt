@@ -7,7 +7,7 @@ use Rattle.disk_index.specs.QuietLaws.{CacheKeeps-after, CacheKeeps-same, IsQuie
 use Rattle.disk_index.specs.Snapshots.{AreBacked, IsFileAmong, live}
 use Rattle.ranker.specs.Blocks.{AreReadAt, opened_at}
 use Rattle.ranker.specs.First.{counted}
-use Rattle.ranker.specs.Passed.{asked_at, passed, ranges_in}
+use Rattle.ranker.specs.Passed.{asked_at, layout, passed, ranges_in}
 use Rattle.ranker.specs.Windows.{KeepsWindows}
 use Rattle.ranker.proofs.AskedLemmas.{asked-le}
 use Rattle.ranker.proofs.OpeningLemmas.{opened-all, opens-more, opens-same, opens-then, times-sum}
@@ -114,7 +114,7 @@ returns-after-loop-left-clause-within g c = λ backed cached known.
     let priors = map (λ b. (goal.BeliefNode-dyn g (b.vtable, b.value)).meaning b.value) c.args.plugs.now in
     let filters = map filter_tree c.args.filters.now in
     let network = network_tree c.args.network.now in
-    within-more kind priors filters network (passed told parts c.args.at.now) (passed told parts c.loop-left.at) (live told parts) (asked_at parts c.args.at.now) (asked_at parts c.loop-left.at) (ranges_in parts) c.args.squares.now c.loop-left.squares (c.loop-left.invariant.so_far backed cached known).cost
+    within-more kind priors filters network (passed told parts c.args.at.now) (passed told parts c.loop-left.at) (live told parts) (asked_at parts c.args.at.now) (asked_at parts c.loop-left.at) (layout parts) c.args.squares.now c.loop-left.squares (c.loop-left.invariant.so_far backed cached known).cost
     (cost-passed kind priors filters network told parts c.loop-left.at) (asked-le told parts c.loop-left.at (c.loop-left.invariant.ahead backed cached known).here.span)
 
 pub returns-in_err-passed-clause-within : goal.returns-in_err-passed-clause-within
@@ -131,9 +131,9 @@ returns-in_err-passed-clause-within g c = λ backed cached known.
     let there : AreBacked here parts = subst (λ (f : Option Files). AreBacked f parts) (sym same) backed in
     let blocks : AreReadAt here parts c.loop-left.at c.loop-left.cache c.loop-left.held =
     subst (λ (f : Option Files). AreReadAt f parts c.loop-left.at c.loop-left.cache c.loop-left.held) (sym same) (inv.read backed cached) in
-    let next = within-later kind _ priors filters network here told parts c.loop-left.at (asked_at parts c.loop-left.at) (ranges_in parts) c.loop-left.squares c.pass_next.new.squares inv.stay same
+    let next = within-later kind _ priors filters network here told parts c.loop-left.at (asked_at parts c.loop-left.at) (layout parts) c.loop-left.squares c.pass_next.new.squares inv.stay same
     (c.pass_next.ensures.within there blocks (IsAheadAt-later kind priors _ filters network c.args.tables.now told here parts c.loop-left.at (sym inv.stay) (sym same) (inv.ahead backed cached known))) in
-    within-then kind priors filters network (passed told parts c.args.at.now) (passed told parts c.loop-left.at) (live told parts) (asked_at parts c.args.at.now) (asked_at parts c.loop-left.at) (ranges_in parts) c.args.squares.now c.loop-left.squares c.pass_next.new.squares
+    within-then kind priors filters network (passed told parts c.args.at.now) (passed told parts c.loop-left.at) (live told parts) (asked_at parts c.args.at.now) (asked_at parts c.loop-left.at) (layout parts) c.args.squares.now c.loop-left.squares c.pass_next.new.squares
     (inv.so_far backed cached known).cost next
 
 -- ---- blocks

@@ -21,5 +21,7 @@ mod skipping;
 mod stats;
 #[cfg(test)]
 mod sums;
+#[cfg(test)]
+mod work;
 
 fn main() {}

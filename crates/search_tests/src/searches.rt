@@ -6,7 +6,7 @@ ghost use Rattle.smoothing.specs.Fractions.{dirichlet};
 ghost use Rattle.belief_nodes.specs.Leaves.{HasPrior};
 ghost use Rattle.belief_nodes.specs.Network.{network_tree};
 
-use crate::opened::{Opened, shared};
+use crate::opened::{Opened, cache_of, shared};
 use crate::queries::query;
 use crate::stats::all_stats;
 use query_check::LeafKind;
@@ -83,6 +83,32 @@ fn passes(alloc: Global, search: &mut Search, opened: &mut Opened, docs: u64) ->
         }
     }
     false
+}
+
+/// How many blocks of files a search opens, and how many there are at most: one of each of its terms in so many ranges.
+#[derive(Clone, Copy)]
+pub struct Blocks {
+    pub opened: usize,
+    pub most: usize,
+}
+
+/// The blocks that a query opens, by what its cache holds at the end; nothing where a call fails.
+pub fn blocks_of(
+    alloc: Global,
+    opened: &mut Opened,
+    text: &str,
+    wanted: Wanted,
+    ranges: usize,
+) -> Option<Blocks> {
+    let mut search = begin(alloc, opened, text, wanted)?;
+    opened.cache = cache_of(alloc, 1000)?;
+    if !passes(alloc, &mut search, opened, wanted.docs) {
+        return None;
+    }
+    Some(Blocks {
+        opened: opened.cache.len(),
+        most: search.terms().len().checked_mul(ranges)?,
+    })
 }
 
 fn results(alloc: Global, search: &Search) -> Option<Hits> {

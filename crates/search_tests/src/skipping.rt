@@ -7,7 +7,7 @@ use std::alloc::Global;
 /// More documents than any of these collections has.
 const ALL: u64 = 10_000;
 
-static QUERIES: [&str; 11] = [
+pub static QUERIES: [&str; 11] = [
     "a",
     "e",
     "a b c",
@@ -23,7 +23,7 @@ static QUERIES: [&str; 11] = [
 
 /// A collection of a thousand documents, by its number: two parts in files and one in memory, all with deleted documents. Numbers that
 /// differ by five have the same shape.
-fn collection(number: u8) -> Documents {
+pub fn collection(number: u8) -> Documents {
     let first = 1000 * u32::from(number);
     Documents {
         part: 400,
@@ -73,7 +73,7 @@ fn is_same(alloc: Global, opened: &mut Opened, text: &str, most: u32) -> Option<
 }
 
 /// What is opened of these documents, with room for all its blocks.
-fn opened_of(alloc: Global, documents: Documents) -> Option<Opened> {
+pub fn opened_of(alloc: Global, documents: Documents) -> Option<Opened> {
     let mut opened = open(alloc, documents, Vec::new(alloc))?;
     opened.cache = cache_of(alloc, 1000)?;
     Some(opened)

@@ -1,38 +1,38 @@
-use Rattle.std.proofs.Common.{◌≡◌, ap, map, subst, sym, List}
+use Rattle.std.proofs.Common.{◌≡◌, ap, map, subst, List}
 use Rattle.std.proofs.lemmas.Result.{err_from_is_err_and}
 use Rattle.query_check.specs.Leaves.{leaf_tree}
 use Rattle.query_check.specs.declared.leaf_kind.LeafKind.{LeafKind}
 use Rattle.belief_nodes.specs.Network.{NetworkTree}
 use Rattle.disk_index.specs.Parts.{reads}
-use Rattle.disk_index.specs.Snapshots.{AreBacked, Marked}
+use Rattle.disk_index.specs.Snapshots.{Marked}
 use Rattle.range_bounds.specs.Tables.{AreTablesOf}
-use Rattle.desk.proofs.TableLemmas.{are-told}
+use Rattle.desk.proofs.TableLemmas.{are-told, chosen-backed, chosen-kept}
 use Rattle.desk.proofs.search.new_search.Goals as goal
 
 pub returns-clause-taken : goal.returns-clause-taken
 returns-clause-taken g c = λ backed cached.
     let told = g.T.Store.files c.args.store.now in
     let parts = c.args.snapshot in
+    let chosen = c.passable.result.now in
     let leaves = map leaf_tree c.args.checked.leaves.items in
     let tables = c.in_ok-tables.tables.items in
     let made = c.in_ok-search.ensures in
-    let found = c.in_ok-tables.ensures.exact (subst (λ (ms : List Marked). AreBacked told ms) (sym c.parts.ensures.parts) backed) cached in
-    let all : AreTablesOf leaves (map (λ (m : Marked). reads told m.source) parts) tables =
-    subst (λ (ms : List Marked). AreTablesOf leaves (map (λ (m : Marked). reads told m.source) ms) tables) c.parts.ensures.parts
-    (subst (λ (ls : List LeafKind). AreTablesOf (map leaf_tree ls) (map (λ (m : Marked). reads told m.source) c.parts.result.now) tables) c.deref.ensures.value found) in
-    λ kind priors. made.taken kind priors told (are-told told leaves c.in_ok-search.search parts tables made.snapshot (ap (λ (n : NetworkTree). n.leaves) made.network) made.tables all)
+    let found = c.in_ok-tables.ensures.exact (chosen-backed told parts chosen c.passable.ensures.0 backed) cached in
+    let all : AreTablesOf leaves (map (λ (m : Marked). reads told m.source) chosen) tables =
+    subst (λ (ls : List LeafKind). AreTablesOf (map leaf_tree ls) (map (λ (m : Marked). reads told m.source) chosen) tables) c.deref.ensures.value found in
+    λ kind priors. made.taken kind priors told (are-told told leaves c.in_ok-search.search parts chosen tables c.passable.ensures.0 made.snapshot (ap (λ (n : NetworkTree). n.leaves) made.network) made.tables all)
 
 pub returns-clause-reads : goal.returns-clause-reads
-returns-clause-reads g c = record { quiet = c.tables.ensures.quiet; later = c.tables.ensures.later; cache = rw c.parts.ensures.parts at c.tables.ensures.cache }
+returns-clause-reads g c = record { quiet = c.tables.ensures.quiet; later = c.tables.ensures.later; cache = chosen-kept (g.T.Store.files c.args.store.now) c.args.snapshot c.passable.result.now c.args.cache.now c.tables.new.cache c.passable.ensures.0 c.tables.ensures.cache }
 
 pub returns-in_err-tables-clause-reads : goal.returns-in_err-tables-clause-reads
-returns-in_err-tables-clause-reads g c = record { quiet = c.tables.ensures.quiet; later = c.tables.ensures.later; cache = rw c.parts.ensures.parts at c.tables.ensures.cache }
+returns-in_err-tables-clause-reads g c = record { quiet = c.tables.ensures.quiet; later = c.tables.ensures.later; cache = chosen-kept (g.T.Store.files c.args.store.now) c.args.snapshot c.passable.result.now c.args.cache.now c.tables.new.cache c.passable.ensures.0 c.tables.ensures.cache }
 
 pub returns-in_err-search-clause-reads : goal.returns-in_err-search-clause-reads
-returns-in_err-search-clause-reads g c = record { quiet = c.tables.ensures.quiet; later = c.tables.ensures.later; cache = rw c.parts.ensures.parts at c.tables.ensures.cache }
+returns-in_err-search-clause-reads g c = record { quiet = c.tables.ensures.quiet; later = c.tables.ensures.later; cache = chosen-kept (g.T.Store.files c.args.store.now) c.args.snapshot c.passable.result.now c.args.cache.now c.tables.new.cache c.passable.ensures.0 c.tables.ensures.cache }
 
 pub returns-in_err-tables-clause-honest : goal.returns-in_err-tables-clause-honest
 returns-in_err-tables-clause-honest g c = λ backed cached.
     let told = g.T.Store.files c.args.store.now in
     let p = err_from_is_err_and c.from_residual.result c.from_residual.ensures.1 in
-    rw (p.1, p.2) (c.in_err-tables.ensures.honest (subst (λ (ms : List Marked). AreBacked told ms) (sym c.parts.ensures.parts) backed) cached)
+    rw (p.1, p.2) (c.in_err-tables.ensures.honest (chosen-backed told c.args.snapshot c.passable.result.now c.passable.ensures.0 backed) cached)

@@ -61,5 +61,5 @@ chosen-kept told parts chosen c d (inl none) keeps =
     of-none : {e : KeptBlock} → Contains c e ⊎ IsFileAmong [] e.0.number × ((files : Files) → told ≡ Some files → IsBlockIn files e.0 e.1)
         → Contains c e ⊎ IsFileAmong parts e.0.number × ((files : Files) → told ≡ Some files → IsBlockIn files e.0 e.1)
     of-none (inl old) = inl old
-    of-none (inr new) = absurd (Contains-none new.0.0 new.0.1.0)
+    of-none (inr new) = absurd (Contains-none new.0.0 new.0.1)
 chosen-kept told parts chosen c d (inr whole) keeps = subst (λ (ms : List Marked). CacheKeeps told (IsFileAmong ms) c d) whole keeps

@@ -36,6 +36,12 @@ returns-in-Ok-write-clause-finished g c = λ kept k ahead.
 pub returns-in-Ok-write-clause-stops : goal.returns-in-Ok-write-clause-stops
 returns-in-Ok-write-clause-stops g c = λ kept k ahead. flush-stops kept k (flushed_piece k) _ _ (ahead-stops _ g.T.Store.clock _ _ (λ d. d) _ c.args.store.now c.flush.new.store kept k c.flush.ensures.writes ahead)
 
+pub returns-in-Ok-write-clause-ahead : goal.returns-in-Ok-write-clause-ahead
+returns-in-Ok-write-clause-ahead g c = λ kept k ahead.
+    let real : AreReal c.flush.new.self.held.limits = subst AreReal (sym c.in-Ok.ensures.saved.limits) ahead.real in
+    let wrote = c.in-Ok.ensures.wrote in
+    record { backed = wrote.backed ahead.backed; real = real; stands = stands-for _ k _ real (wrote.stands k ahead.backed ahead.reads); reads = wrote.reads k ahead.backed ahead.reads }
+
 -- it isn't
 
 pub returns-clause-broken : goal.returns-clause-broken

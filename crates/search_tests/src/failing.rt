@@ -16,9 +16,9 @@ static ROW: Row = ("a b", "d998 d1000 d992 d997 d995");
 /// The calls before the search: they make a repository, open it, and flush its documents.
 const BEFORE: u64 = 6;
 
-/// The calls of the search: a block of each word for the sums, and then, since one block is kept, one for each look at a word behind
-/// one at another.
-const CALLS: u64 = 14;
+/// The calls of the search: a block of each word for the sums, and then, since one block is kept, both again where the search opens
+/// the range.
+const CALLS: u64 = 4;
 
 fn failing_at(alloc: Global, call: u64) -> Option<Vec<StoreFail>> {
     let left = Left::Old;

@@ -27,6 +27,8 @@ The inputs are made in a temporary folder, the same ones each time, and so are t
     steps         sixteen queries over 60,000 documents of 25 words in a session, by steps of 64 documents: one open at a time, and
                   all open at once and each stepped in turn, which is the same work; and a query that finds nothing by steps of one
                   document, against one step
+    again         three words over 6,000 documents of 25 words, asked twice in one session: what the second query reads of the
+                  folder, in bytes
     session       sessions of 2,500, 5,000 and 10,000 lines: three of four lines add a document of 25 words, the others delete, flush,
                   merge in turns, and ask queries of which some stay open; and the exponent of their cost
     prior         100,000 rows of a prior, and a query with it, against the same query without
@@ -683,6 +685,31 @@ def measure_steps(table):
     table.row("session, 60,000 steps of one document that find nothing", f"{taken:7.3f} s", shown, f"{whole:7.3f} s by one step")
 
 
+def file_bytes_of(process, lines, last):
+    """How many bytes a session reads beside these lines, until it writes a line that begins with `last`."""
+    def all_bytes():
+        counts = dict(line.split(": ") for line in Path(f"/proc/{process.pid}/io").read_text().splitlines())
+        return int(counts["rchar"])
+
+    before = all_bytes()
+    process.stdin.write(lines)
+    process.stdin.flush()
+    while (line := process.stdout.readline()) and not line.startswith(last):
+        pass
+    if not line:
+        sys.exit(f"the session ended with status {process.wait()}")
+    return all_bytes() - before - len(lines)
+
+
+def measure_again(table):
+    folder, documents = short_collection(table, table.sized(6_000))
+    lines = f"open q 10 the of rain\nstep q {documents}\nshow q\nclose q\n"
+    with subprocess.Popen(table.words(folder, "session"), stdin=subprocess.PIPE, stdout=subprocess.PIPE, text=True) as process:
+        first, second = (file_bytes_of(process, lines, "closed q") for _ in range(2))
+    table.row("session, three words over 6,000 documents", f"{first:7,} bytes read")
+    table.row("session, the same query asked again", table.at_most(f"{second:7,} bytes read", second, 0))
+
+
 def session_lines(count):
     """A script of so many lines. Each hundredth of it adds 75 documents, and asks, deletes, flushes and merges in turns."""
     pick = random.Random(7)
@@ -875,6 +902,7 @@ GROUPS = {
     "merge": measure_merge,
     "turns": measure_turns,
     "steps": measure_steps,
+    "again": measure_again,
     "session": measure_session,
     "prior": measure_prior,
     "windows": measure_windows,

@@ -27,6 +27,13 @@ session-damage why is first = (as-causes why).to_damage (of-both session_causes 
 pub open-over : (why : CommandFault) → IsOpenFault why → IsOverFault why
 open-over = of-more open_causes over_causes refl
 
+-- no source and no sink is to blame where a repository isn't opened
+pub open-read : (answer : Result Bool CommandFault) → IfErr answer IsOpenFault → answer ≡ Err fault.Read → ⊥
+open-read answer only e = subst (λ (r : Result Bool CommandFault). IfErr r IsOpenFault) e only
+
+pub open-write : (answer : Result Bool CommandFault) → IfErr answer IsOpenFault → answer ≡ Err fault.Write → ⊥
+open-write answer only e = subst (λ (r : Result Bool CommandFault). IfErr r IsOpenFault) e only
+
 pub want-late : (why : CommandFault) → IsWant why → IsFoundFirst why → ⊥
 want-late = of-both want_causes first_causes [] refl
 

@@ -19,7 +19,7 @@ use Rattle.collection_commands.specs.PriorSetting as setting
 use Rattle.indri_app.specs.Command.{AreBegun, AreBegunBy, ArePieces}
 use Rattle.indri_app.specs.LastLines.{IsClosed, read_line, store_line}
 use Rattle.indri_app.specs.Opened.{IsWant}
-use Rattle.indri_app.specs.Runs.{IsBegun, IsDone, IsEnded, RunsTo, StopsAlong}
+use Rattle.indri_app.specs.Runs.{HasDoneOver, IsBegun, IsDone, IsEnded, RunsTo, StopsAlong}
 use Rattle.indri_app.specs.declared.status.Status.{Status}
 use Rattle.indri_app.specs.declared.status.Status.TheVariants as status
 
@@ -163,3 +163,32 @@ stops-behind told asks c (Some bytes) past mid since no_more (pieces, are, leave
   Leaves-then past mid since (StandsAlong StandsFor c pieces) (StandsAlong StandsFor c pieces)
       (Leaves-none past past mid (StandsAlong StandsFor c pieces) (Leaves-same past (StandsAlong StandsFor c pieces)) no_more) leaves (λ f s. s),
 )
+
+-- ---- all of it
+
+-- what a command of these pieces has done
+pub over-by : (told : Option Files) (asks : Asks) (c : Collection) (pieces : List ℕ → List (Piece Collection)) (left start : Option (List ℕ)) (past : ℕ → Files → Type 0) (answer : Result Bool CommandFault) (now : Option (List ℕ)) (since : ℕ → Files → Type 0) (files : Option Files)
+    → ((bytes : List ℕ) → ArePieces told asks c bytes (pieces bytes)) → IfOk answer (λ refused. IfSome left (λ bytes. some_refused (pieces bytes) ≡ refused)) → OnOk answer (IfSome left (λ bytes. Finished StandsFor c (pieces bytes) start now files))
+    → IfErr answer (λ why. IfSome left (λ bytes. IsBrokenBy why StandsFor c (pieces bytes) start now files)) → IfSome left (λ bytes. Leaves past since (StandsAlong StandsFor c (pieces bytes)))
+    → HasDoneOver told asks c left start past answer now since files
+over-by told asks c pieces left start past answer now since files are some finished broken leaves = record {
+  done = done-by told asks c pieces left start now files answer are some finished;
+  broken = begun-by told asks c pieces left start now files answer are broken;
+  stops = stops-by told asks c pieces left past since are leaves;
+}
+
+-- the files were read before
+pub over-behind : (told mid : Option Files) (asks : Asks) (c : Collection) (left start : Option (List ℕ)) (past at : ℕ → Files → Type 0) (answer : Result Bool CommandFault) (now : Option (List ℕ)) (since : ℕ → Files → Type 0) (files : Option Files) → mid ≡ told → LeavesNoMore past at
+    → HasDoneOver mid asks c left start at answer now since files → HasDoneOver told asks c left start past answer now since files
+over-behind told mid asks c left start past at answer now since files same no_more over =
+    let done = subst (λ (t : Option Files). HasDoneOver t asks c left start at answer now since files) same over in
+    record { done = done.done; broken = done.broken; stops = stops-behind told asks c left past at since no_more done.stops }
+
+-- they were read alone, and memory is wanting or the store is to blame
+pub over-none : (told files : Option Files) (asks : Asks) (c : Collection) (left start : Option (List ℕ)) (past since : ℕ → Files → Type 0) (why : CommandFault) → IsWant why → files ≡ told → StandsFor c told → LeavesNoMore past since
+    → HasDoneOver told asks c left start past (Err why) start since files
+over-none told files asks c left start past since why want same stands no_more = record {
+  done = tt;
+  broken = want-begun-some why told asks c left start start files want refl (subst (λ (f : Option Files). StandsFor c f) (sym same) stands);
+  stops = stops-none told asks c left past since no_more;
+}

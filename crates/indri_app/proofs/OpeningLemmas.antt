@@ -1,5 +1,5 @@
 -- The opening of a repository, told of a command.
-use Rattle.std.proofs.Common.{◌≡◌, ℕ, true, false, List, Option, None, Some, sym, ◌∙◌, refl, ap}
+use Rattle.std.proofs.Common.{◌≡◌, ℕ, true, false, List, Option, None, Some, sym, ◌∙◌, refl, ap, subst}
 use Rattle.std.specs.Prelude.{is_some}
 use Rattle.ri_base.specs.Faults.{IsOutside}
 use Rattle.ri_base.specs.declared.seg_fault.SegFault.{SegFault}
@@ -38,6 +38,13 @@ store-of_files (files.Malformed f p place) e = absurd cc
 store-of_files (files.Missing f) e = absurd cc
 store-of_files files.Store e = refl
 store-of_files files.Memory e = absurd cc
+
+-- a call on files doesn't fail by the source or the sink
+pub files-read : (why : SegFault) → of_files why ≡ fault.Read → ⊥
+files-read why e = subst IsFileFault e (file-of why)
+
+pub files-write : (why : SegFault) → of_files why ≡ fault.Write → ⊥
+files-write why e = subst IsFileFault e (file-of why)
 
 pub not-absent : (why : SegFault) → of_files why ≡ fault.NoRepository → ⊥
 not-absent (files.Malformed f p place) e = absurd cc

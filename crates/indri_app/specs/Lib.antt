@@ -1,6 +1,7 @@
 pub mod Asked
 pub mod Changes
 pub mod Command
+pub mod Doing
 pub mod Explanations
 pub mod Faults
 pub mod Generated

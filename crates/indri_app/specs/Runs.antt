@@ -1,5 +1,5 @@
 -- What a run has done, by the status with which it ends.
-use Rattle.std.specs.Prelude.{ℕ, ◌≡◌, ◌⊎◌, Bool, true, false, List, Option, None, Some, Result, Ok, Err}
+use Rattle.std.specs.Prelude.{ℕ, ◌≡◌, ◌⊎◌, Bool, true, false, IfErr, IfOk, IfSome, List, Option, None, Some, Result, Ok, Err}
 use Rattle.ri_base.specs.Expression.{ExprTree}
 use Rattle.store_ends.specs.Files.{Files, Leaves}
 use Rattle.command_words.specs.Table.{Asks, add, create, delete, explain, gen, merge, prior, query, scan, session}
@@ -87,6 +87,13 @@ MakesAlong asks told past since = (pieces : List MakingPiece) × AreMakingPieces
 -- What a stop may leave of the files that stood for a collection.
 abbrev pub StopsAlong : Option Files → Asks → Collection → List ℕ → (ℕ → Files → Type 0) → (ℕ → Files → Type 0) → Type 0
 StopsAlong told asks c bytes past since = (pieces : List (Piece Collection)) × AreBegun told asks c bytes pieces × Leaves past since (StandsAlong StandsFor c pieces)
+
+-- What a command has done with the bytes that were left over files that stand for a collection, by what it answers, and what a stop may
+-- leave of them.
+pub record HasDoneOver (told : Option Files) (asks : Asks) (c : Collection) (left before : Option (List ℕ)) (past : ℕ → Files → Type 0) (answer : Result Bool CommandFault) (now : Option (List ℕ)) (since : ℕ → Files → Type 0) (files : Option Files) : Type 0 where
+  pub done : IfOk answer (λ refused. IfSome left (λ bytes. IsDone told asks c bytes refused before now files))
+  pub broken : IfErr answer (λ why. IfSome left (λ bytes. IsBegun why told asks c bytes before now files))
+  pub stops : IfSome left (λ bytes. StopsAlong told asks c bytes past since)
 
 -- A run that writes one line, which says why there is no command: it ends with this status and the line is written; or
 -- the sink failed and a front of it is written; or there was no memory and nothing is written.

@@ -1,7 +1,7 @@
 // The command `add` on a repository that is open.
-ghost use Rattle.std.specs.Prelude.{◌≡◌, ◌≤◌, true, IfErr, IfOk, IfSome, IsErrOf, OnOk};
-ghost use Rattle.ri_ends.specs.Causes.{Rose};
-ghost use Rattle.store_ends.specs.Files.{GoesOn, Leaves};
+ghost use Rattle.std.specs.Prelude.{◌≡◌, true, IfErr, IfOk, IfSome, IsErrOf, OnOk};
+ghost use Rattle.store_ends.specs.Files.{Leaves};
+ghost use Rattle.command_pieces.specs.Ends.{KeepsSink, KeepsSource, KeepsStore};
 ghost use Rattle.command_pieces.specs.CommandFaults.{IsBrokenBy, IsItemsFault};
 ghost use Rattle.command_pieces.specs.Pieces.{Finished, StandsAlong, some_refused};
 ghost use Rattle.repository.specs.RealLimits.{StandsFor};
@@ -35,15 +35,9 @@ pub fn add<S: Source, K: Sink, T: Store>(
     ensures stops { (c : Collection) → IsAhead (T.files store.old) repository c c
         → IfSome (S.left source.old) (λ bytes. Leaves (T.since store.old) (T.since store.new) (StandsAlong StandsFor c (add_pieces (T.files store.old) repository.held.limits c bytes))) }
     ensures only { IfErr result IsItemsFault }
-    ensures goes_on { GoesOn T.layers T.clock T.longest T.held store.old store.new }
-    ensures layers { S.layers source.new ≡ S.layers source.old }
-    ensures held { S.held source.new ≡ S.held source.old }
-    ensures read { IsErrOf result CommandFault.Read → Rose (S.faults source.old) (S.faults source.new) }
-    ensures write { IsErrOf result CommandFault.Write → Rose (K.faults sink.old) (K.faults sink.new) }
-    ensures store { IsErrOf result CommandFault.Store → Rose (T.faults store.old) (T.faults store.new) }
-    ensures read_later { S.faults source.old ≤ S.faults source.new }
-    ensures write_later { K.faults sink.old ≤ K.faults sink.new }
-    ensures store_later { T.faults store.old ≤ T.faults store.new }
+    ensures source { KeepsSource S.layers S.held S.faults (IsErrOf result CommandFault.Read) source.old source.new }
+    ensures sink { KeepsSink K.faults (IsErrOf result CommandFault.Write) sink.old sink.new }
+    ensures store { KeepsStore T.layers T.clock T.longest T.held T.faults (IsErrOf result CommandFault.Store) store.old store.new }
 {
     let mut adder = Adder::new(repository);
     let some_refused = match take_documents(alloc, &mut adder, source, sink) {

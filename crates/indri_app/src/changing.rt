@@ -1,7 +1,7 @@
 // The commands that change a repository.
-ghost use Rattle.std.specs.Prelude.{◌≡◌, ◌≤◌, None, Some, false, true, IfErr, IfOk, IfSome, IsErrOf, OnOk};
-ghost use Rattle.ri_ends.specs.Causes.{Rose};
-ghost use Rattle.store_ends.specs.Files.{Files, GoesOn, IsQuiet, Leaves};
+ghost use Rattle.std.specs.Prelude.{◌≡◌, None, Some, false, true, IfErr, IfOk, IsErrOf, OnOk};
+ghost use Rattle.store_ends.specs.Files.{Files, IsQuiet, Leaves};
+ghost use Rattle.command_pieces.specs.Ends.{KeepsSink, KeepsSource, KeepsStore};
 ghost use Rattle.command_pieces.specs.CommandFaults.{IsBrokenBy, IsDamage};
 ghost use Rattle.command_pieces.specs.Pieces.{Finished, StandsAlong};
 ghost use Rattle.repository.specs.Names.{manifest_name};
@@ -14,7 +14,7 @@ ghost use Rattle.indri_app.specs.Asked.{IsIntact};
 ghost use Rattle.indri_app.specs.Changes.{IsFoundFirst, IsOverFault, told_change};
 ghost use Rattle.indri_app.specs.Faults.{IsSessionFault};
 ghost use Rattle.indri_app.specs.Opened.{IsAbsentFault};
-ghost use Rattle.indri_app.specs.Runs.{IsBegun, IsDone, StopsAlong};
+ghost use Rattle.indri_app.specs.Runs.{HasDoneOver};
 
 use crate::addition::add;
 use crate::opening::open_repository;
@@ -57,11 +57,8 @@ fn merge_documents<K: Sink, T: Store>(
         → Leaves (T.since store.old) (T.since store.new) (StandsAlong StandsFor c (merge_pieces c)) }
     ensures only { IfErr result IsMergeFault }
     ensures damage { IfErr result (λ why. IsDamage why → IsQuiet T.files T.layers T.clock T.since T.longest T.held store.old store.new × (K.taken sink.new ≡ K.taken sink.old)) }
-    ensures goes_on { GoesOn T.layers T.clock T.longest T.held store.old store.new }
-    ensures write { IsErrOf result CommandFault.Write → Rose (K.faults sink.old) (K.faults sink.new) }
-    ensures store { IsErrOf result CommandFault.Store → Rose (T.faults store.old) (T.faults store.new) }
-    ensures write_later { K.faults sink.old ≤ K.faults sink.new }
-    ensures store_later { T.faults store.old ≤ T.faults store.new }
+    ensures sink { KeepsSink K.faults (IsErrOf result CommandFault.Write) sink.old sink.new }
+    ensures store { KeepsStore T.layers T.clock T.longest T.held T.faults (IsErrOf result CommandFault.Store) store.old store.new }
 {
     let mut repository = repository;
     match merge(alloc, &mut repository, sink, store) {
@@ -82,27 +79,17 @@ fn change_repository<S: Source, K: Sink, T: Store>(
     requires usable { repository.usable ≡ true }
     requires stored { AreStored repository }
     requires none { repository.merge ≡ None }
-    ensures done { (c : Collection) → IsAhead (T.files store.old) repository c c
-        → IfOk result (λ refused. IfSome (S.left source.old) (λ bytes. IsDone (T.files store.old) (told_change what) c bytes refused (K.taken sink.old) (K.taken sink.new) (T.files store.new))) }
-    ensures broken { (c : Collection) → IsAhead (T.files store.old) repository c c
-        → IfErr result (λ why. IfSome (S.left source.old) (λ bytes. IsBegun why (T.files store.old) (told_change what) c bytes (K.taken sink.old) (K.taken sink.new) (T.files store.new))) }
-    ensures stops { (c : Collection) → IsAhead (T.files store.old) repository c c
-        → IfSome (S.left source.old) (λ bytes. StopsAlong (T.files store.old) (told_change what) c bytes (T.since store.old) (T.since store.new)) }
+    ensures does { (c : Collection) → IsAhead (T.files store.old) repository c c
+        → HasDoneOver (T.files store.old) (told_change what) c (S.left source.old) (K.taken sink.old) (T.since store.old) result (K.taken sink.new) (T.since store.new) (T.files store.new) }
 
     // Damage is found before anything is done, and only in files that stand for nothing.
     ensures honest { (c : Collection) → IsAhead (T.files store.old) repository c c → IfErr result (λ why. IsDamage why → ⊥) }
     ensures damage { IfErr result (λ why. IsDamage why
         → IsQuiet T.files T.layers T.clock T.since T.longest T.held store.old store.new × (source.new ≡ source.old) × (K.taken sink.new ≡ K.taken sink.old)) }
     ensures only { IfErr result IsSessionFault }
-    ensures goes_on { GoesOn T.layers T.clock T.longest T.held store.old store.new }
-    ensures layers { S.layers source.new ≡ S.layers source.old }
-    ensures held { S.held source.new ≡ S.held source.old }
-    ensures read { IsErrOf result CommandFault.Read → Rose (S.faults source.old) (S.faults source.new) }
-    ensures write { IsErrOf result CommandFault.Write → Rose (K.faults sink.old) (K.faults sink.new) }
-    ensures store { IsErrOf result CommandFault.Store → Rose (T.faults store.old) (T.faults store.new) }
-    ensures read_later { S.faults source.old ≤ S.faults source.new }
-    ensures write_later { K.faults sink.old ≤ K.faults sink.new }
-    ensures store_later { T.faults store.old ≤ T.faults store.new }
+    ensures source { KeepsSource S.layers S.held S.faults (IsErrOf result CommandFault.Read) source.old source.new }
+    ensures sink { KeepsSink K.faults (IsErrOf result CommandFault.Write) sink.old sink.new }
+    ensures store { KeepsStore T.layers T.clock T.longest T.held T.faults (IsErrOf result CommandFault.Store) store.old store.new }
 {
     match what {
         Change::Add => add(alloc, repository, source, sink, store),
@@ -126,12 +113,8 @@ pub fn change_files<S: Source, K: Sink, T: Store>(
     sink: &mut K,
     store: &mut T,
 ) -> Result<bool, CommandFault>
-    ensures done { (c : Collection) → StandsFor c (T.files store.old)
-        → IfOk result (λ refused. IfSome (S.left source.old) (λ bytes. IsDone (T.files store.old) (told_change what) c bytes refused (K.taken sink.old) (K.taken sink.new) (T.files store.new))) }
-    ensures broken { (c : Collection) → StandsFor c (T.files store.old)
-        → IfErr result (λ why. IfSome (S.left source.old) (λ bytes. IsBegun why (T.files store.old) (told_change what) c bytes (K.taken sink.old) (K.taken sink.new) (T.files store.new))) }
-    ensures stops { (c : Collection) → StandsFor c (T.files store.old)
-        → IfSome (S.left source.old) (λ bytes. StopsAlong (T.files store.old) (told_change what) c bytes (T.since store.old) (T.since store.new)) }
+    ensures does { (c : Collection) → StandsFor c (T.files store.old)
+        → HasDoneOver (T.files store.old) (told_change what) c (S.left source.old) (K.taken sink.old) (T.since store.old) result (K.taken sink.new) (T.since store.new) (T.files store.new) }
 
     // What is found when the repository is opened is found before anything is done.
     ensures honest { (c : Collection) → StandsFor c (T.files store.old) → IfErr result (λ why. IsFoundFirst why → ⊥) }
@@ -141,15 +124,9 @@ pub fn change_files<S: Source, K: Sink, T: Store>(
     ensures without { (f : Files) → T.files store.old ≡ Some f → f manifest_name ≡ None → OnOk result ⊥ × IfErr result IsAbsentFault }
     ensures intact { (f : Files) → T.files store.old ≡ Some f → OnOk result (IsIntact (T.files store.old)) }
     ensures only { IfErr result IsOverFault }
-    ensures goes_on { GoesOn T.layers T.clock T.longest T.held store.old store.new }
-    ensures layers { S.layers source.new ≡ S.layers source.old }
-    ensures held { S.held source.new ≡ S.held source.old }
-    ensures read { IsErrOf result CommandFault.Read → Rose (S.faults source.old) (S.faults source.new) }
-    ensures write { IsErrOf result CommandFault.Write → Rose (K.faults sink.old) (K.faults sink.new) }
-    ensures store { IsErrOf result CommandFault.Store → Rose (T.faults store.old) (T.faults store.new) }
-    ensures read_later { S.faults source.old ≤ S.faults source.new }
-    ensures write_later { K.faults sink.old ≤ K.faults sink.new }
-    ensures store_later { T.faults store.old ≤ T.faults store.new }
+    ensures source { KeepsSource S.layers S.held S.faults (IsErrOf result CommandFault.Read) source.old source.new }
+    ensures sink { KeepsSink K.faults (IsErrOf result CommandFault.Write) sink.old sink.new }
+    ensures store { KeepsStore T.layers T.clock T.longest T.held T.faults (IsErrOf result CommandFault.Store) store.old store.new }
 {
     match open_repository(alloc, store) {
         Ok(repository) => change_repository(alloc, what, repository, source, sink, store),

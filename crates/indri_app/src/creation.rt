@@ -1,7 +1,8 @@
 // The repository that a generated collection is made in.
 ghost use Rattle.std.specs.Prelude.{◌≡◌, ◌≤◌, ◌∷◌, [], None, Some, is_some, true, IfErr, IfOk, IsErrOf, IsTrue, OnOk};
 ghost use Rattle.ri_ends.specs.Causes.{Rose};
-ghost use Rattle.store_ends.specs.Files.{Files, GoesOn, IsQuiet, Leaves};
+ghost use Rattle.store_ends.specs.Files.{Files, IsQuiet, Leaves};
+ghost use Rattle.command_pieces.specs.Ends.{KeepsStore};
 ghost use Rattle.command_pieces.specs.CommandFaults.{IsExistsFault};
 ghost use Rattle.command_pieces.specs.Pieces.{StandsAlong};
 ghost use Rattle.repository.specs.Names.{manifest_name};
@@ -33,9 +34,7 @@ fn make_files<T: Store>(alloc: Global, store: &mut T) -> Result<(), CommandFault
     ensures there { (f : Files) → T.files store.old ≡ Some f → IsErrOf result CommandFault.Exists → IsTrue (is_some (f manifest_name)) }
     ensures same { IsErrOf result CommandFault.Exists → IsQuiet T.files T.layers T.clock T.since T.longest T.held store.old store.new }
     ensures only { IfErr result IsExistsFault }
-    ensures goes_on { GoesOn T.layers T.clock T.longest T.held store.old store.new }
-    ensures store { IsErrOf result CommandFault.Store → Rose (T.faults store.old) (T.faults store.new) }
-    ensures store_later { T.faults store.old ≤ T.faults store.new }
+    ensures store { KeepsStore T.layers T.clock T.longest T.held T.faults (IsErrOf result CommandFault.Store) store.old store.new }
 {
     match create(alloc, store) {
         Ok(true) => Ok(()),
@@ -82,9 +81,7 @@ pub(crate) fn new_repository<T: Store>(
     ensures usable { IfOk result (λ r. r.usable ≡ true) }
     ensures unmerged { IfOk result (λ r. r.merge ≡ None) }
     ensures only { IfErr result IsSilentFault }
-    ensures goes_on { GoesOn T.layers T.clock T.longest T.held store.old store.new }
-    ensures store { IsErrOf result CommandFault.Store → Rose (T.faults store.old) (T.faults store.new) }
-    ensures store_later { T.faults store.old ≤ T.faults store.new }
+    ensures store { KeepsStore T.layers T.clock T.longest T.held T.faults (IsErrOf result CommandFault.Store) store.old store.new }
 {
     match make_files(alloc, store) {
         Ok(()) => open_made(alloc, store),

@@ -2,8 +2,9 @@
 ghost use Rattle.std.specs.Prelude.{◌≡◌, ◌≤◌, ◌++◌, Err, length, map, IfErr, IfOk, OnOk};
 ghost use Rattle.ri_base.specs.Faults.{IsOutside};
 ghost use Rattle.ri_base.specs.Keeps.{Rose};
-ghost use Rattle.store_ends.specs.Files.{GoesOn, IsQuiet, Leaves};
+ghost use Rattle.store_ends.specs.Files.{IsQuiet, Leaves};
 ghost use Rattle.smoothing.specs.Fractions.{Computes};
+ghost use Rattle.command_pieces.specs.Ends.{KeepsStore};
 ghost use Rattle.command_pieces.specs.Pieces.{StandsAlong, kept_behind};
 ghost use Rattle.repository.specs.RealLimits.{StandsFor};
 ghost use Rattle.repository.specs.Stands.{Collection};
@@ -60,9 +61,7 @@ fn do_events<F: Fn(u32, u32, u64, u64) -> Fraction, T: Store>(
     ensures stay { map (λ plug. meaning plug) plugs.new ≡ map (λ plug. meaning plug) plugs.old }
     ensures nine { length plugs.new ≡ 9 }
     ensures honest { (kept : Collection) → IsUnderWay (T.files store.old) desk.old.kept (map (λ plug. meaning plug) plugs.old) kept → IfErr result IsOutside }
-    ensures goes_on { GoesOn T.layers T.clock T.longest T.held store.old store.new }
-    ensures later { T.faults store.old ≤ T.faults store.new }
-    ensures store { result ≡ Err SegFault.Store → Rose (T.faults store.old) (T.faults store.new) }
+    ensures store { KeepsStore T.layers T.clock T.longest T.held T.faults (result ≡ Err SegFault.Store) store.old store.new }
 {
     let mut generator = Generator::new(count);
     'events: loop {
@@ -132,9 +131,7 @@ pub(crate) fn make_and_ask<F: Fn(u32, u32, u64, u64) -> Fraction, T: Store>(
 
     ensures stay { map (λ plug. meaning plug) plugs.new ≡ map (λ plug. meaning plug) plugs.old }
     ensures honest { (kept : Collection) → IsUnderWay (T.files store.old) desk.old.kept (map (λ plug. meaning plug) plugs.old) kept → IfErr result IsOutside }
-    ensures goes_on { GoesOn T.layers T.clock T.longest T.held store.old store.new }
-    ensures later { T.faults store.old ≤ T.faults store.new }
-    ensures store { result ≡ Err SegFault.Store → Rose (T.faults store.old) (T.faults store.new) }
+    ensures store { KeepsStore T.layers T.clock T.longest T.held T.faults (result ≡ Err SegFault.Store) store.old store.new }
 {
     match do_events(alloc, desk, count, store, plugs) {
         Ok(()) => {}

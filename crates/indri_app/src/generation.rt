@@ -2,11 +2,11 @@
 ghost use Rattle.std.specs.Prelude.{◌≡◌, ◌≤◌, None, Some, is_some, map, true, IfErr, IfOk, IsErrOf, IsTrue, OnOk};
 ghost use Rattle.ri_base.specs.Faults.{IsOutside};
 ghost use Rattle.ri_base.specs.Ratio.{ratio_of};
-ghost use Rattle.ri_ends.specs.Causes.{Rose};
-ghost use Rattle.store_ends.specs.Files.{Files, GoesOn, IsQuiet, Leaves};
+ghost use Rattle.store_ends.specs.Files.{Files, IsQuiet, Leaves};
 ghost use Rattle.smoothing.specs.Counts.{AreCounts};
 ghost use Rattle.smoothing.specs.Fractions.{IsMu, dirichlet};
 ghost use Rattle.smoothing.specs.declared.rule.RuleKind.TheVariants.{Dirichlet};
+ghost use Rattle.command_pieces.specs.Ends.{KeepsSink, KeepsStore};
 ghost use Rattle.command_pieces.specs.CommandFaults.{IsDamage, IsExistsFault};
 ghost use Rattle.command_pieces.specs.Pieces.{StandsAlong, kept_behind};
 ghost use Rattle.repository.specs.Names.{manifest_name};
@@ -68,9 +68,7 @@ fn fill<T: Store>(
         → Leaves (T.since store.old) (T.since store.new) (StandsAlong StandsFor empty_collection (pieces_of (begun repository.held.limits (Dirichlet mu) empty_collection) (gen_items count))) }
 
     ensures honest { IsAhead (T.files store.old) repository empty_collection empty_collection → IfErr result IsOutside }
-    ensures goes_on { GoesOn T.layers T.clock T.longest T.held store.old store.new }
-    ensures later { T.faults store.old ≤ T.faults store.new }
-    ensures store { IsErrOf result SegFault.Store → Rose (T.faults store.old) (T.faults store.new) }
+    ensures store { KeepsStore T.layers T.clock T.longest T.held T.faults (IsErrOf result SegFault.Store) store.old store.new }
 {
     let rule = Rule::new(
         RuleKind::Dirichlet { mu },
@@ -108,9 +106,7 @@ fn made_text<T: Store>(
     ensures there { (f : Files) → T.files store.old ≡ Some f → IsErrOf result CommandFault.Exists → IsTrue (is_some (f manifest_name)) }
     ensures same { IsErrOf result CommandFault.Exists → IsQuiet T.files T.layers T.clock T.since T.longest T.held store.old store.new }
     ensures only { IfErr result IsSilentFault }
-    ensures goes_on { GoesOn T.layers T.clock T.longest T.held store.old store.new }
-    ensures store { IsErrOf result CommandFault.Store → Rose (T.faults store.old) (T.faults store.new) }
-    ensures store_later { T.faults store.old ≤ T.faults store.new }
+    ensures store { KeepsStore T.layers T.clock T.longest T.held T.faults (IsErrOf result CommandFault.Store) store.old store.new }
 {
     let repository = match new_repository(alloc, store) {
         Ok(repository) => repository,
@@ -151,11 +147,8 @@ pub fn generate<K: Sink, T: Store>(
 
     // Damage is found before anything is written.
     ensures damage { IfErr result (λ fault. IsDamage fault → K.taken sink.new ≡ K.taken sink.old) }
-    ensures goes_on { GoesOn T.layers T.clock T.longest T.held store.old store.new }
-    ensures write { IsErrOf result CommandFault.Write → Rose (K.faults sink.old) (K.faults sink.new) }
-    ensures store { IsErrOf result CommandFault.Store → Rose (T.faults store.old) (T.faults store.new) }
-    ensures write_later { K.faults sink.old ≤ K.faults sink.new }
-    ensures store_later { T.faults store.old ≤ T.faults store.new }
+    ensures sink { KeepsSink K.faults (IsErrOf result CommandFault.Write) sink.old sink.new }
+    ensures store { KeepsStore T.layers T.clock T.longest T.held T.faults (IsErrOf result CommandFault.Store) store.old store.new }
 {
     let text = match made_text(alloc, count, store, plugs) {
         Ok(text) => text,

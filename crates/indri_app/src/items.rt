@@ -1,18 +1,11 @@
 // All items of a script.
-ghost use Rattle.std.specs.Prelude.{◌≡◌, ◌≤◌, length, map, IfErr, IfOk, IfSome, IsErrOf, OnOk};
-ghost use Rattle.ri_ends.specs.Causes.{Rose};
-ghost use Rattle.store_ends.specs.Files.{GoesOn, Leaves};
+ghost use Rattle.std.specs.Prelude.{◌≡◌, length, map, IfErr, IsErrOf};
 ghost use Rattle.smoothing.specs.Fractions.{Computes};
-ghost use Rattle.command_pieces.specs.CommandFaults.{IsBrokenBy, IsDamage};
-ghost use Rattle.command_pieces.specs.Pieces.{Finished, StandsAlong, some_refused};
-ghost use Rattle.repository.specs.RealLimits.{StandsFor};
+ghost use Rattle.command_pieces.specs.Ends.{KeepsSink, KeepsSource, KeepsStore};
 ghost use Rattle.repository.specs.Stands.{Collection};
-ghost use Rattle.script_reader.specs.Items.{items};
 ghost use Rattle.desk.specs.Backed.{IsUsable, state_of};
-ghost use Rattle.desk.specs.State.{collection_of};
+ghost use Rattle.indri_app.specs.Doing.{AreItemsTaken};
 ghost use Rattle.indri_app.specs.Faults.{IsSessionFault};
-ghost use Rattle.indri_app.specs.Items.{pieces_of, state_behind_all};
-ghost use Rattle.indri_app.specs.Orders.{AreTrue};
 ghost use Rattle.indri_app.specs.Sessions.{Grows, IsUnderWay};
 
 use crate::turn::take_item;
@@ -40,33 +33,16 @@ pub fn take_items<F: Fn(u32, u32, u64, u64) -> Fraction, S: Source, K: Sink, T: 
     requires nine { length plugs.old ≡ 9 }
 
     // Over files that stand for a collection: what is written, and what the files stand for, are those of the items one behind the other.
-    ensures refused { (kept : Collection) → IsUnderWay (T.files store.old) desk.old.kept (map (λ plug. meaning plug) plugs.old) kept
-        → IfOk result (λ refused. IfSome (S.left source.old) (λ bytes. some_refused (pieces_of (state_of (T.files store.old) desk.old.kept) (items bytes)) ≡ refused)) }
-    ensures finished { (kept : Collection) → IsUnderWay (T.files store.old) desk.old.kept (map (λ plug. meaning plug) plugs.old) kept
-        → OnOk result (IfSome (S.left source.old) (λ bytes. Finished StandsFor kept (pieces_of (state_of (T.files store.old) desk.old.kept) (items bytes)) (K.taken sink.old) (K.taken sink.new) (T.files store.new))) }
-    ensures stands { (kept : Collection) → IsUnderWay (T.files store.old) desk.old.kept (map (λ plug. meaning plug) plugs.old) kept
-        → OnOk result (IfSome (S.left source.old) (λ bytes. StandsFor (collection_of (state_behind_all (state_of (T.files store.old) desk.old.kept) (items bytes))) (T.files store.new))) }
-    ensures order { (kept : Collection) → IsUnderWay (T.files store.old) desk.old.kept (map (λ plug. meaning plug) plugs.old) kept
-        → OnOk result (IfSome (S.left source.old) (λ bytes. AreTrue (state_of (T.files store.old) desk.old.kept) (items bytes))) }
-    ensures broken { (kept : Collection) → IsUnderWay (T.files store.old) desk.old.kept (map (λ plug. meaning plug) plugs.old) kept
-        → IfErr result (λ why. IfSome (S.left source.old) (λ bytes. IsBrokenBy why StandsFor kept (pieces_of (state_of (T.files store.old) desk.old.kept) (items bytes)) (K.taken sink.old) (K.taken sink.new) (T.files store.new))) }
-    ensures honest { (kept : Collection) → IsUnderWay (T.files store.old) desk.old.kept (map (λ plug. meaning plug) plugs.old) kept → IfErr result (λ why. IsDamage why → ⊥) }
-    ensures stops { (kept : Collection) → IsUnderWay (T.files store.old) desk.old.kept (map (λ plug. meaning plug) plugs.old) kept
-        → IfSome (S.left source.old) (λ bytes. Leaves (T.since store.old) (T.since store.new) (StandsAlong StandsFor kept (pieces_of (state_of (T.files store.old) desk.old.kept) (items bytes)))) }
+    ensures taken { (kept : Collection) → IsUnderWay (T.files store.old) desk.old.kept (map (λ plug. meaning plug) plugs.old) kept
+        → AreItemsTaken (state_of (T.files store.old) desk.old.kept) kept (S.left source.old) (K.taken sink.old) (T.since store.old) result (K.taken sink.new) (T.since store.new) (T.files store.new) }
 
     // Whatever the files are.
     ensures grows { Grows (K.taken sink.old) (K.taken sink.new) }
     ensures stay { map (λ plug. meaning plug) plugs.new ≡ map (λ plug. meaning plug) plugs.old }
     ensures only { IfErr result IsSessionFault }
-    ensures goes_on { GoesOn T.layers T.clock T.longest T.held store.old store.new }
-    ensures layers { S.layers source.new ≡ S.layers source.old }
-    ensures held { S.held source.new ≡ S.held source.old }
-    ensures read { IsErrOf result CommandFault.Read → Rose (S.faults source.old) (S.faults source.new) }
-    ensures write { IsErrOf result CommandFault.Write → Rose (K.faults sink.old) (K.faults sink.new) }
-    ensures store { IsErrOf result CommandFault.Store → Rose (T.faults store.old) (T.faults store.new) }
-    ensures read_later { S.faults source.old ≤ S.faults source.new }
-    ensures write_later { K.faults sink.old ≤ K.faults sink.new }
-    ensures store_later { T.faults store.old ≤ T.faults store.new }
+    ensures source { KeepsSource S.layers S.held S.faults (IsErrOf result CommandFault.Read) source.old source.new }
+    ensures sink { KeepsSink K.faults (IsErrOf result CommandFault.Write) sink.old sink.new }
+    ensures store { KeepsStore T.layers T.clock T.longest T.held T.faults (IsErrOf result CommandFault.Store) store.old store.new }
 {
     let Ok(mut reader) = ItemReader::new(alloc) else {
         return Err(CommandFault::Memory);

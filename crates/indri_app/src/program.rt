@@ -9,6 +9,7 @@ ghost use Rattle.query_refusals.specs.Lines.{line_of};
 ghost use Rattle.smoothing.specs.Fractions.{IsMu};
 ghost use Rattle.smoothing.specs.declared.rule.RuleKind.TheVariants.{Dirichlet};
 ghost use Rattle.store_ends.specs.Files.{GoesOn, IsQuiet};
+ghost use Rattle.command_pieces.specs.Ends.{KeepsSink, KeepsSource, KeepsStore};
 ghost use Rattle.desk.specs.Answer.{IsRule};
 ghost use Rattle.desk.specs.Priors.{run_priors};
 ghost use Rattle.desk.specs.Searching.{IsShowable};
@@ -58,12 +59,8 @@ fn run_scan<S: Source, K: Sink>(alloc: Global, text: &str, source: &mut S, sink:
     ensures scans { IfSome (S.left source.old) (λ bytes. ScansTo result text.now bytes (K.taken sink.old) (K.taken sink.new) (K.faults sink.old) (K.faults sink.new)) }
     ensures only { IsPlainStatus result }
     ensures untouched { result ≡ Status.QueryRefused → source.new ≡ source.old }
-    ensures layers { S.layers source.new ≡ S.layers source.old }
-    ensures held { S.held source.new ≡ S.held source.old }
-    ensures read { result ≡ Status.ReadFault → Rose (S.faults source.old) (S.faults source.new) }
-    ensures read_later { S.faults source.old ≤ S.faults source.new }
-    ensures write { result ≡ Status.WriteFault → Rose (K.faults sink.old) (K.faults sink.new) }
-    ensures write_later { K.faults sink.old ≤ K.faults sink.new }
+    ensures source { KeepsSource S.layers S.held S.faults (result ≡ Status.ReadFault) source.old source.new }
+    ensures sink { KeepsSink K.faults (result ≡ Status.WriteFault) sink.old sink.new }
 {
     let expr = match read_expression(alloc, text) {
         Ok(expr) => expr,
@@ -78,12 +75,9 @@ fn run_scan<S: Source, K: Sink>(alloc: Global, text: &str, source: &mut S, sink:
 fn run_create<K: Sink, T: Store>(alloc: Global, sink: &mut K, store: &mut T) -> Status
     ensures has_run { (left : Option (List ℕ)) → HasRun create result left (T.files store.old) (T.files store.new) (T.since store.old) (T.since store.new) (K.taken sink.old) (K.taken sink.new) (K.faults sink.old) (K.faults sink.new) }
     ensures untouched { IsUntouched result → IsQuiet T.files T.layers T.clock T.since T.longest T.held store.old store.new }
-    ensures goes_on { GoesOn T.layers T.clock T.longest T.held store.old store.new }
     ensures no_read { result ≢ Status.ReadFault }
-    ensures write { result ≡ Status.WriteFault → Rose (K.faults sink.old) (K.faults sink.new) }
-    ensures write_later { K.faults sink.old ≤ K.faults sink.new }
-    ensures store { result ≡ Status.StoreFault → Rose (T.faults store.old) (T.faults store.new) }
-    ensures store_later { T.faults store.old ≤ T.faults store.new }
+    ensures sink { KeepsSink K.faults (result ≡ Status.WriteFault) sink.old sink.new }
+    ensures store { KeepsStore T.layers T.clock T.longest T.held T.faults (result ≡ Status.StoreFault) store.old store.new }
 {
     match create_repository(alloc, sink, store) {
         Ok(()) => Status::Done,
@@ -101,15 +95,9 @@ fn run_change<S: Source, K: Sink, T: Store>(
 ) -> Status
     ensures has_run { HasRun (told_change what) result (S.left source.old) (T.files store.old) (T.files store.new) (T.since store.old) (T.since store.new) (K.taken sink.old) (K.taken sink.new) (K.faults sink.old) (K.faults sink.new) }
     ensures untouched { IsUntouched result → IsQuiet T.files T.layers T.clock T.since T.longest T.held store.old store.new × (source.new ≡ source.old) }
-    ensures goes_on { GoesOn T.layers T.clock T.longest T.held store.old store.new }
-    ensures layers { S.layers source.new ≡ S.layers source.old }
-    ensures held { S.held source.new ≡ S.held source.old }
-    ensures read { result ≡ Status.ReadFault → Rose (S.faults source.old) (S.faults source.new) }
-    ensures read_later { S.faults source.old ≤ S.faults source.new }
-    ensures write { result ≡ Status.WriteFault → Rose (K.faults sink.old) (K.faults sink.new) }
-    ensures write_later { K.faults sink.old ≤ K.faults sink.new }
-    ensures store { result ≡ Status.StoreFault → Rose (T.faults store.old) (T.faults store.new) }
-    ensures store_later { T.faults store.old ≤ T.faults store.new }
+    ensures source { KeepsSource S.layers S.held S.faults (result ≡ Status.ReadFault) source.old source.new }
+    ensures sink { KeepsSink K.faults (result ≡ Status.WriteFault) sink.old sink.new }
+    ensures store { KeepsStore T.layers T.clock T.longest T.held T.faults (result ≡ Status.StoreFault) store.old store.new }
 {
     let answer = change_files(alloc, what, source, sink, store);
     finish(alloc, answer, sink)
@@ -131,8 +119,7 @@ fn run_question<K: Sink, T: Store>(
     ensures has_run { (asks : Asks) (left : Option (List ℕ)) → IsAskedBy asks text.now mu (told_shown shown.now) → HasRun asks result left (T.files store.old) (T.files store.new) (T.since store.old) (T.since store.new) (K.taken sink.old) (K.taken sink.new) (K.faults sink.old) (K.faults sink.new) }
     ensures quiet { IsQuiet T.files T.layers T.clock T.since T.longest T.held store.old store.new }
     ensures no_read { result ≢ Status.ReadFault }
-    ensures write { result ≡ Status.WriteFault → Rose (K.faults sink.old) (K.faults sink.new) }
-    ensures write_later { K.faults sink.old ≤ K.faults sink.new }
+    ensures sink { KeepsSink K.faults (result ≡ Status.WriteFault) sink.old sink.new }
     ensures store { result ≡ Status.StoreFault → Rose (T.faults store.old) (T.faults store.new) }
     ensures store_later { T.faults store.old ≤ T.faults store.new }
 {
@@ -156,15 +143,9 @@ fn run_session<S: Source, K: Sink, T: Store>(
     requires plugs { map (λ plug. meaning plug) plugs.old ≡ run_priors }
     ensures has_run { HasRun (asks.session mu) result (S.left source.old) (T.files store.old) (T.files store.new) (T.since store.old) (T.since store.new) (K.taken sink.old) (K.taken sink.new) (K.faults sink.old) (K.faults sink.new) }
     ensures untouched { IsUntouched result → IsQuiet T.files T.layers T.clock T.since T.longest T.held store.old store.new × (source.new ≡ source.old) }
-    ensures goes_on { GoesOn T.layers T.clock T.longest T.held store.old store.new }
-    ensures layers { S.layers source.new ≡ S.layers source.old }
-    ensures held { S.held source.new ≡ S.held source.old }
-    ensures read { result ≡ Status.ReadFault → Rose (S.faults source.old) (S.faults source.new) }
-    ensures read_later { S.faults source.old ≤ S.faults source.new }
-    ensures write { result ≡ Status.WriteFault → Rose (K.faults sink.old) (K.faults sink.new) }
-    ensures write_later { K.faults sink.old ≤ K.faults sink.new }
-    ensures store { result ≡ Status.StoreFault → Rose (T.faults store.old) (T.faults store.new) }
-    ensures store_later { T.faults store.old ≤ T.faults store.new }
+    ensures source { KeepsSource S.layers S.held S.faults (result ≡ Status.ReadFault) source.old source.new }
+    ensures sink { KeepsSink K.faults (result ≡ Status.WriteFault) sink.old sink.new }
+    ensures store { KeepsStore T.layers T.clock T.longest T.held T.faults (result ≡ Status.StoreFault) store.old store.new }
 {
     let answer = session_files(alloc, mu, source, sink, store, plugs);
     finish(alloc, answer, sink)
@@ -183,12 +164,9 @@ fn run_gen<K: Sink, T: Store>(
     requires plugs { map (λ plug. meaning plug) plugs.old ≡ run_priors }
     ensures has_run { (left : Option (List ℕ)) → HasRun (asks.gen count) result left (T.files store.old) (T.files store.new) (T.since store.old) (T.since store.new) (K.taken sink.old) (K.taken sink.new) (K.faults sink.old) (K.faults sink.new) }
     ensures untouched { IsUntouched result → IsQuiet T.files T.layers T.clock T.since T.longest T.held store.old store.new }
-    ensures goes_on { GoesOn T.layers T.clock T.longest T.held store.old store.new }
     ensures no_read { result ≢ Status.ReadFault }
-    ensures write { result ≡ Status.WriteFault → Rose (K.faults sink.old) (K.faults sink.new) }
-    ensures write_later { K.faults sink.old ≤ K.faults sink.new }
-    ensures store { result ≡ Status.StoreFault → Rose (T.faults store.old) (T.faults store.new) }
-    ensures store_later { T.faults store.old ≤ T.faults store.new }
+    ensures sink { KeepsSink K.faults (result ≡ Status.WriteFault) sink.old sink.new }
+    ensures store { KeepsStore T.layers T.clock T.longest T.held T.faults (result ≡ Status.StoreFault) store.old store.new }
 {
     match generate(alloc, count, sink, store, plugs) {
         Ok(()) => Status::Done,
@@ -209,15 +187,9 @@ fn run_words<S: Source, K: Sink, T: Store>(
     requires plugs { map (λ plug. meaning plug) plugs.old ≡ run_priors }
     ensures has_run { HasRun (told_words words) result (S.left source.old) (T.files store.old) (T.files store.new) (T.since store.old) (T.since store.new) (K.taken sink.old) (K.taken sink.new) (K.faults sink.old) (K.faults sink.new) }
     ensures untouched { IsUntouched result → IsQuiet T.files T.layers T.clock T.since T.longest T.held store.old store.new × (source.new ≡ source.old) }
-    ensures goes_on { GoesOn T.layers T.clock T.longest T.held store.old store.new }
-    ensures layers { S.layers source.new ≡ S.layers source.old }
-    ensures held { S.held source.new ≡ S.held source.old }
-    ensures read { result ≡ Status.ReadFault → Rose (S.faults source.old) (S.faults source.new) }
-    ensures read_later { S.faults source.old ≤ S.faults source.new }
-    ensures write { result ≡ Status.WriteFault → Rose (K.faults sink.old) (K.faults sink.new) }
-    ensures write_later { K.faults sink.old ≤ K.faults sink.new }
-    ensures store { result ≡ Status.StoreFault → Rose (T.faults store.old) (T.faults store.new) }
-    ensures store_later { T.faults store.old ≤ T.faults store.new }
+    ensures source { KeepsSource S.layers S.held S.faults (result ≡ Status.ReadFault) source.old source.new }
+    ensures sink { KeepsSink K.faults (result ≡ Status.WriteFault) sink.old sink.new }
+    ensures store { KeepsStore T.layers T.clock T.longest T.held T.faults (result ≡ Status.StoreFault) store.old store.new }
 {
     match words {
         Words::Scan(text) => run_scan(alloc, &text, source, sink),

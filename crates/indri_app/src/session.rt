@@ -1,19 +1,19 @@
 // The command `session`.
-ghost use Rattle.std.specs.Prelude.{◌≡◌, ◌≤◌, None, Some, map, IfErr, IfOk, IfSome, IsErrOf, OnOk};
-ghost use Rattle.ri_ends.specs.Causes.{Rose};
+ghost use Rattle.std.specs.Prelude.{◌≡◌, None, Some, map, IfErr, IsErrOf, OnOk};
 ghost use Rattle.smoothing.specs.Fractions.{IsMu};
-ghost use Rattle.store_ends.specs.Files.{Files, GoesOn, IsQuiet};
+ghost use Rattle.store_ends.specs.Files.{Files, IsQuiet};
 ghost use Rattle.command_words.specs.Table as asks;
 ghost use Rattle.repository.specs.Names.{manifest_name};
 ghost use Rattle.repository.specs.RealLimits.{StandsFor};
 ghost use Rattle.repository.specs.Stands.{Collection};
+ghost use Rattle.command_pieces.specs.Ends.{KeepsSink, KeepsSource, KeepsStore};
 ghost use Rattle.desk.specs.Priors.{run_priors};
 ghost use Rattle.indri_app.specs.Sessions.{Grows};
 ghost use Rattle.indri_app.specs.Asked.{IsIntactWithPriors};
 ghost use Rattle.indri_app.specs.Changes.{IsFoundFirst, IsOverFault};
 ghost use Rattle.indri_app.specs.Command.{ShowsInOrder};
 ghost use Rattle.indri_app.specs.Opened.{IsAbsentFault};
-ghost use Rattle.indri_app.specs.Runs.{IsBegun, IsDone, StopsAlong};
+ghost use Rattle.indri_app.specs.Runs.{HasDoneOver};
 
 use crate::opening::open_repository;
 use crate::script::session;
@@ -34,12 +34,8 @@ pub fn session_files<S: Source, K: Sink, T: Store>(
 ) -> Result<bool, CommandFault>
     requires mu { IsMu mu }
     requires plugs { map (λ plug. meaning plug) plugs.old ≡ run_priors }
-    ensures done { (c : Collection) → StandsFor c (T.files store.old)
-        → IfOk result (λ refused. IfSome (S.left source.old) (λ bytes. IsDone (T.files store.old) (asks.session mu) c bytes refused (K.taken sink.old) (K.taken sink.new) (T.files store.new))) }
-    ensures broken { (c : Collection) → StandsFor c (T.files store.old)
-        → IfErr result (λ why. IfSome (S.left source.old) (λ bytes. IsBegun why (T.files store.old) (asks.session mu) c bytes (K.taken sink.old) (K.taken sink.new) (T.files store.new))) }
-    ensures stops { (c : Collection) → StandsFor c (T.files store.old)
-        → IfSome (S.left source.old) (λ bytes. StopsAlong (T.files store.old) (asks.session mu) c bytes (T.since store.old) (T.since store.new)) }
+    ensures does { (c : Collection) → StandsFor c (T.files store.old)
+        → HasDoneOver (T.files store.old) (asks.session mu) c (S.left source.old) (K.taken sink.old) (T.since store.old) result (K.taken sink.new) (T.since store.new) (T.files store.new) }
     ensures order { (c : Collection) → StandsFor c (T.files store.old) → OnOk result (ShowsInOrder (asks.session mu) c (S.left source.old)) }
 
     // Damage, or that there is no repository, is found only in files that stand for nothing.
@@ -51,15 +47,9 @@ pub fn session_files<S: Source, K: Sink, T: Store>(
     ensures intact { (f : Files) → T.files store.old ≡ Some f → OnOk result (IsIntactWithPriors (T.files store.old)) }
     ensures grows { Grows (K.taken sink.old) (K.taken sink.new) }
     ensures only { IfErr result IsOverFault }
-    ensures goes_on { GoesOn T.layers T.clock T.longest T.held store.old store.new }
-    ensures layers { S.layers source.new ≡ S.layers source.old }
-    ensures held { S.held source.new ≡ S.held source.old }
-    ensures read { IsErrOf result CommandFault.Read → Rose (S.faults source.old) (S.faults source.new) }
-    ensures write { IsErrOf result CommandFault.Write → Rose (K.faults sink.old) (K.faults sink.new) }
-    ensures store { IsErrOf result CommandFault.Store → Rose (T.faults store.old) (T.faults store.new) }
-    ensures read_later { S.faults source.old ≤ S.faults source.new }
-    ensures write_later { K.faults sink.old ≤ K.faults sink.new }
-    ensures store_later { T.faults store.old ≤ T.faults store.new }
+    ensures source { KeepsSource S.layers S.held S.faults (IsErrOf result CommandFault.Read) source.old source.new }
+    ensures sink { KeepsSink K.faults (IsErrOf result CommandFault.Write) sink.old sink.new }
+    ensures store { KeepsStore T.layers T.clock T.longest T.held T.faults (IsErrOf result CommandFault.Store) store.old store.new }
 {
     match open_repository(alloc, store) {
         Ok(repository) => session(alloc, repository, mu, source, sink, store, plugs),

@@ -1,9 +1,8 @@
 // One item of a session.
-ghost use Rattle.std.specs.Prelude.{◌≡◌, ◌≤◌, ◌⊎◌, ◌∷◌, [], Err, Some, false, length, map, IfErr, IfOk, IsErrOf, OnOk};
-ghost use Rattle.ri_base.specs.Faults.{IsOutside};
-ghost use Rattle.ri_ends.specs.Causes.{Rose};
-ghost use Rattle.store_ends.specs.Files.{GoesOn, Leaves};
+ghost use Rattle.std.specs.Prelude.{◌≡◌, ◌∷◌, [], Err, Some, false, length, map, IfErr, IfOk, IsErrOf, OnOk};
+ghost use Rattle.store_ends.specs.Files.{Leaves};
 ghost use Rattle.smoothing.specs.Fractions.{Computes};
+ghost use Rattle.command_pieces.specs.Ends.{KeepsSink, KeepsStore};
 ghost use Rattle.command_pieces.specs.CommandFaults.{IsBrokenBy};
 ghost use Rattle.command_pieces.specs.Pieces.{Finished, StandsAlong};
 ghost use Rattle.refusals.specs.Lines.{refusal_piece};
@@ -15,6 +14,7 @@ ghost use Rattle.script_reader.specs.Held.{IsItem};
 ghost use Rattle.script_reader.specs.State.{is_end};
 ghost use Rattle.desk.specs.Backed.{IsUsable, state_of};
 ghost use Rattle.desk.specs.State.{State};
+ghost use Rattle.indri_app.specs.Doing.{IsItemDone};
 ghost use Rattle.indri_app.specs.Faults.{IsItemFault};
 ghost use Rattle.indri_app.specs.Items.{IsNoEvent, item_piece, item_reply, kept_by, state_behind, unread_name, unread_reply};
 ghost use Rattle.indri_app.specs.Orders.{IsTrueItem};
@@ -102,26 +102,13 @@ pub(crate) fn do_event<F: Fn(u32, u32, u64, u64) -> Fraction, T: Store>(
     requires rule { Computes F.pre F.post desk.old.rule.kind desk.old.rule.f }
     requires form { IsSessionEvent event }
     requires nine { length plugs.old ≡ 9 }
-    ensures reply { (kept : Collection) → IsUnderWay (T.files store.old) desk.old.kept (map (λ plug. meaning plug) plugs.old) kept
-        → IfOk result (λ piece. piece ≡ item_reply (state_of (T.files store.old) desk.old.kept) (Item.Event event)) }
-    ensures state { (kept : Collection) → IsUnderWay (T.files store.old) desk.old.kept (map (λ plug. meaning plug) plugs.old) kept
-        → OnOk result (state_of (T.files store.new) desk.new.kept ≡ state_behind (state_of (T.files store.old) desk.old.kept) (Item.Event event)) }
-    ensures way { (kept : Collection) → IsUnderWay (T.files store.old) desk.old.kept (map (λ plug. meaning plug) plugs.old) kept
-        → OnOk result (IsUnderWay (T.files store.new) desk.new.kept (map (λ plug. meaning plug) plugs.new) (kept_by kept (state_of (T.files store.old) desk.old.kept) (Item.Event event))) }
-    ensures order { (kept : Collection) → IsUnderWay (T.files store.old) desk.old.kept (map (λ plug. meaning plug) plugs.old) kept
-        → OnOk result (IsTrueItem (state_of (T.files store.old) desk.old.kept) (Item.Event event)) }
-    ensures now { (kept : Collection) → IsUnderWay (T.files store.old) desk.old.kept (map (λ plug. meaning plug) plugs.old) kept
-        → StandsFor kept (T.files store.new) ⊎ StandsFor (kept_by kept (state_of (T.files store.old) desk.old.kept) (Item.Event event)) (T.files store.new) }
-    ensures stops { (kept : Collection) → IsUnderWay (T.files store.old) desk.old.kept (map (λ plug. meaning plug) plugs.old) kept
-        → Leaves (T.since store.old) (T.since store.new) (λ f. StandsFor kept f ⊎ StandsFor (kept_by kept (state_of (T.files store.old) desk.old.kept) (Item.Event event)) f) }
-    ensures honest { (kept : Collection) → IsUnderWay (T.files store.old) desk.old.kept (map (λ plug. meaning plug) plugs.old) kept → IfErr result IsOutside }
+    ensures does { (kept : Collection) → IsUnderWay (T.files store.old) desk.old.kept (map (λ plug. meaning plug) plugs.old) kept
+        → IsItemDone (Item.Event event) kept (T.files store.old) (T.since store.old) desk.old.kept result (T.files store.new) (T.since store.new) desk.new.kept (map (λ plug. meaning plug) plugs.new) }
     ensures usable { OnOk result (is_end (Some (Item.Event event)) ≡ false → IsUsable desk.new.kept) }
     ensures rule { desk.new.rule ≡ desk.old.rule }
     ensures stay { map (λ plug. meaning plug) plugs.new ≡ map (λ plug. meaning plug) plugs.old }
     ensures nine { length plugs.new ≡ 9 }
-    ensures goes_on { GoesOn T.layers T.clock T.longest T.held store.old store.new }
-    ensures later { T.faults store.old ≤ T.faults store.new }
-    ensures store { result ≡ Err SegFault.Store → Rose (T.faults store.old) (T.faults store.new) }
+    ensures store { KeepsStore T.layers T.clock T.longest T.held T.faults (result ≡ Err SegFault.Store) store.old store.new }
 {
     match desk.event(alloc, event, store, plugs) {
         Ok(reply) => tell_reply(alloc, &reply),
@@ -141,26 +128,13 @@ fn do_item<F: Fn(u32, u32, u64, u64) -> Fraction, T: Store>(
     requires rule { Computes F.pre F.post desk.old.rule.kind desk.old.rule.f }
     requires form { IsItem item }
     requires nine { length plugs.old ≡ 9 }
-    ensures reply { (kept : Collection) → IsUnderWay (T.files store.old) desk.old.kept (map (λ plug. meaning plug) plugs.old) kept
-        → IfOk result (λ piece. piece ≡ item_reply (state_of (T.files store.old) desk.old.kept) item) }
-    ensures state { (kept : Collection) → IsUnderWay (T.files store.old) desk.old.kept (map (λ plug. meaning plug) plugs.old) kept
-        → OnOk result (state_of (T.files store.new) desk.new.kept ≡ state_behind (state_of (T.files store.old) desk.old.kept) item) }
-    ensures way { (kept : Collection) → IsUnderWay (T.files store.old) desk.old.kept (map (λ plug. meaning plug) plugs.old) kept
-        → OnOk result (IsUnderWay (T.files store.new) desk.new.kept (map (λ plug. meaning plug) plugs.new) (kept_by kept (state_of (T.files store.old) desk.old.kept) item)) }
-    ensures order { (kept : Collection) → IsUnderWay (T.files store.old) desk.old.kept (map (λ plug. meaning plug) plugs.old) kept
-        → OnOk result (IsTrueItem (state_of (T.files store.old) desk.old.kept) item) }
-    ensures now { (kept : Collection) → IsUnderWay (T.files store.old) desk.old.kept (map (λ plug. meaning plug) plugs.old) kept
-        → StandsFor kept (T.files store.new) ⊎ StandsFor (kept_by kept (state_of (T.files store.old) desk.old.kept) item) (T.files store.new) }
-    ensures stops { (kept : Collection) → IsUnderWay (T.files store.old) desk.old.kept (map (λ plug. meaning plug) plugs.old) kept
-        → Leaves (T.since store.old) (T.since store.new) (λ f. StandsFor kept f ⊎ StandsFor (kept_by kept (state_of (T.files store.old) desk.old.kept) item) f) }
-    ensures honest { (kept : Collection) → IsUnderWay (T.files store.old) desk.old.kept (map (λ plug. meaning plug) plugs.old) kept → IfErr result IsOutside }
+    ensures does { (kept : Collection) → IsUnderWay (T.files store.old) desk.old.kept (map (λ plug. meaning plug) plugs.old) kept
+        → IsItemDone item kept (T.files store.old) (T.since store.old) desk.old.kept result (T.files store.new) (T.since store.new) desk.new.kept (map (λ plug. meaning plug) plugs.new) }
     ensures usable { OnOk result (is_end (Some item) ≡ false → IsUsable desk.new.kept) }
     ensures rule { desk.new.rule ≡ desk.old.rule }
     ensures stay { map (λ plug. meaning plug) plugs.new ≡ map (λ plug. meaning plug) plugs.old }
     ensures nine { length plugs.new ≡ 9 }
-    ensures goes_on { GoesOn T.layers T.clock T.longest T.held store.old store.new }
-    ensures later { T.faults store.old ≤ T.faults store.new }
-    ensures store { result ≡ Err SegFault.Store → Rose (T.faults store.old) (T.faults store.new) }
+    ensures store { KeepsStore T.layers T.clock T.longest T.held T.faults (result ≡ Err SegFault.Store) store.old store.new }
 {
     match item {
         Item::Event(event) => do_event(alloc, desk, event, store, plugs),
@@ -205,11 +179,8 @@ pub(crate) fn take_item<F: Fn(u32, u32, u64, u64) -> Fraction, K: Sink, T: Store
     ensures stay { map (λ plug. meaning plug) plugs.new ≡ map (λ plug. meaning plug) plugs.old }
     ensures nine { length plugs.new ≡ 9 }
     ensures only { IfErr result IsItemFault }
-    ensures goes_on { GoesOn T.layers T.clock T.longest T.held store.old store.new }
-    ensures write { IsErrOf result CommandFault.Write → Rose (K.faults sink.old) (K.faults sink.new) }
-    ensures store { IsErrOf result CommandFault.Store → Rose (T.faults store.old) (T.faults store.new) }
-    ensures write_later { K.faults sink.old ≤ K.faults sink.new }
-    ensures store_later { T.faults store.old ≤ T.faults store.new }
+    ensures sink { KeepsSink K.faults (IsErrOf result CommandFault.Write) sink.old sink.new }
+    ensures store { KeepsStore T.layers T.clock T.longest T.held T.faults (IsErrOf result CommandFault.Store) store.old store.new }
 {
     let piece = match do_item(alloc, desk, item, store, plugs) {
         Ok(piece) => piece,

@@ -1,6 +1,7 @@
 use Rattle.std.proofs.Common.{◌≡◌, ap, Err}
 use Rattle.trec_reader.specs.Read.{read}
 use Rattle.command_pieces.specs.declared.command_fault.CommandFault.TheVariants as command
+use Rattle.command_pieces.proofs.Ends.{store-still}
 use Rattle.document_handlers.specs.Work.{adding, behind_all, input_pieces}
 use Rattle.collection_commands.proofs.ChangeLemmas.{changed-refused, flushed-broken, flushed-finished, flushed-stops, unchanged-broken, unchanged-stops}
 use Rattle.collection_commands.proofs.FaultLemmas.{change_items, items_any, items_read, items_store, items_write}
@@ -26,14 +27,22 @@ returns-in-Err-clause-stops g c = λ k ahead.
 pub returns-in-Err-clause-only : goal.returns-in-Err-clause-only
 returns-in-Err-clause-only g c = items_any c.in-Err.fault _ c.of_items.ensures
 
-pub returns-in-Err-clause-read : goal.returns-in-Err-clause-read
-returns-in-Err-clause-read g c = λ e. let one : c.of_items.result ≡ command.Read = cc in c.in-Err.ensures.read (ap Err (items_read c.in-Err.fault _ c.of_items.ensures one))
+pub returns-in-Err-clause-source : goal.returns-in-Err-clause-source
+returns-in-Err-clause-source g c = record {
+  same_layers = c.in-Err.ensures.layers;
+  same_held = c.in-Err.ensures.held;
+  later = c.in-Err.ensures.read_later;
+  cause = λ e. (let one : c.of_items.result ≡ command.Read = cc in c.in-Err.ensures.read (ap Err (items_read c.in-Err.fault _ c.of_items.ensures one)));
+}
 
-pub returns-in-Err-clause-write : goal.returns-in-Err-clause-write
-returns-in-Err-clause-write g c = λ e. let one : c.of_items.result ≡ command.Write = cc in c.in-Err.ensures.write (ap Err (items_write c.in-Err.fault _ c.of_items.ensures one))
+pub returns-in-Err-clause-sink : goal.returns-in-Err-clause-sink
+returns-in-Err-clause-sink g c = record {
+  later = c.in-Err.ensures.write_later;
+  cause = λ e. (let one : c.of_items.result ≡ command.Write = cc in c.in-Err.ensures.write (ap Err (items_write c.in-Err.fault _ c.of_items.ensures one)));
+}
 
 pub returns-in-Err-clause-store : goal.returns-in-Err-clause-store
-returns-in-Err-clause-store g c = λ e. let one : c.of_items.result ≡ command.Store = cc in absurd (items_store c.in-Err.fault _ c.of_items.ensures one)
+returns-in-Err-clause-store g c = store-still _ _ _ _ _ _ _ (λ e. (let one : c.of_items.result ≡ command.Store = cc in items_store c.in-Err.fault _ c.of_items.ensures one))
 
 -- they are done
 

@@ -1,34 +1,19 @@
-use Rattle.std.proofs.Common.{◌≡◌, refl, sym, subst}
+use Rattle.std.proofs.Common.{◌≡◌, Err, ap, refl, sym, subst}
 use Rattle.disk_index.specs.QuietLaws.{IsQuiet-then}
 use Rattle.command_pieces.specs.declared.command_fault.CommandFault.TheVariants as fault
-use Rattle.repository.specs.RealLimits.{StandsFor}
+use Rattle.command_pieces.proofs.Ends.{sink-still, source-still, store-behind, store-quiet}
 use Rattle.collection_commands.specs.Ahead.{IsAhead}
-use Rattle.indri_app.specs.Opened.{IsOpenFault}
 use Rattle.indri_app.specs.Changes.{told_change}
-use Rattle.desk.proofs.EventExits.{quiet-on}
-use Rattle.indri_app.proofs.Beginning.{behind-on}
-use Rattle.indri_app.proofs.ChangingLemmas.{on-any, open-over, session-first, session-not_absent, session-over, undamaged-late, want-late}
-use Rattle.indri_app.proofs.Closing.{stops-behind, stops-none, want-begun-some}
-use Rattle.indri_app.proofs.Ended.{rose-earlier}
+use Rattle.indri_app.proofs.ChangingLemmas.{on-any, open-over, open-read, open-write, session-first, session-not_absent, session-over, undamaged-late, want-late}
+use Rattle.indri_app.proofs.Closing.{over-behind, over-none}
 use Rattle.indri_app.proofs.changing.change_files.Goals as goal
 
 -- the repository is open
 
-pub returns-in-Ok-clause-done : goal.returns-in-Ok-clause-done
-returns-in-Ok-clause-done g c = λ k stands.
-    let same = c.open_repository.ensures.quiet.same_files in
-    rw same at (c.change_repository.ensures.done k (subst (λ f. IsAhead f c.in-Ok.repository k k) (sym same) (c.in-Ok.ensures.opened k stands)))
-
-pub returns-in-Ok-clause-broken : goal.returns-in-Ok-clause-broken
-returns-in-Ok-clause-broken g c = λ k stands.
-    let same = c.open_repository.ensures.quiet.same_files in
-    rw same at (c.change_repository.ensures.broken k (subst (λ f. IsAhead f c.in-Ok.repository k k) (sym same) (c.in-Ok.ensures.opened k stands)))
-
-pub returns-in-Ok-clause-stops : goal.returns-in-Ok-clause-stops
-returns-in-Ok-clause-stops g c = λ k stands.
-    let same = c.open_repository.ensures.quiet.same_files in
-    stops-behind (g.T.Store.files c.args.store.now) (told_change c.args.what) k _ _ _ _ c.open_repository.ensures.quiet.no_more
-    (rw same at (c.change_repository.ensures.stops k (subst (λ f. IsAhead f c.in-Ok.repository k k) (sym same) (c.in-Ok.ensures.opened k stands))))
+pub returns-in-Ok-clause-does : goal.returns-in-Ok-clause-does
+returns-in-Ok-clause-does g c = λ k stands.
+    let quiet = c.open_repository.ensures.quiet in
+    over-behind _ _ (told_change c.args.what) k _ _ _ _ _ _ _ _ quiet.same_files quiet.no_more (c.change_repository.ensures.does k (subst (λ f. IsAhead f c.in-Ok.repository k k) (sym quiet.same_files) (c.in-Ok.ensures.opened k stands)))
 
 pub returns-in-Ok-clause-honest : goal.returns-in-Ok-clause-honest
 returns-in-Ok-clause-honest g c = λ k stands.
@@ -54,21 +39,15 @@ returns-in-Ok-clause-intact g c = λ f told. on-any _ c.change_repository.result
 pub returns-in-Ok-clause-only : goal.returns-in-Ok-clause-only
 returns-in-Ok-clause-only g c = session-over c.change_repository.result c.change_repository.ensures.only
 
-pub returns-in-Ok-clause-goes_on : goal.returns-in-Ok-clause-goes_on
-returns-in-Ok-clause-goes_on g c = behind-on _ _ _ _ _ _ _ _ _ c.open_repository.ensures.quiet c.change_repository.ensures.goes_on
-
 pub returns-in-Ok-clause-store : goal.returns-in-Ok-clause-store
-returns-in-Ok-clause-store g c = λ e. rose-earlier _ _ _ c.open_repository.ensures.later (c.change_repository.ensures.store e)
+returns-in-Ok-clause-store g c = store-behind _ _ _ _ _ _ _ _ _ _ _ c.open_repository.ensures.quiet c.open_repository.ensures.later c.change_repository.ensures.store
 
 -- it isn't opened
 
-pub returns-in-Err-clause-broken : goal.returns-in-Err-clause-broken
-returns-in-Err-clause-broken g c = λ k stands.
-    let same = c.open_repository.ensures.quiet.same_files in
-    want-begun-some c.in-Err.fault _ (told_change c.args.what) k _ _ _ _ (c.in-Err.ensures.honest k stands) refl (subst (λ f. StandsFor k f) (sym same) stands)
-
-pub returns-in-Err-clause-stops : goal.returns-in-Err-clause-stops
-returns-in-Err-clause-stops g c = λ k stands. stops-none _ (told_change c.args.what) k _ _ _ c.open_repository.ensures.quiet.no_more
+pub returns-in-Err-clause-does : goal.returns-in-Err-clause-does
+returns-in-Err-clause-does g c = λ k stands.
+    let quiet = c.open_repository.ensures.quiet in
+    over-none _ _ (told_change c.args.what) k _ _ _ _ c.in-Err.fault (c.in-Err.ensures.honest k stands) quiet.same_files stands quiet.no_more
 
 pub returns-in-Err-clause-honest : goal.returns-in-Err-clause-honest
 returns-in-Err-clause-honest g c = λ k stands. want-late c.in-Err.fault (c.in-Err.ensures.honest k stands)
@@ -82,11 +61,11 @@ returns-in-Err-clause-without g c = λ f told none. (tt, (c.in-Err.ensures.witho
 pub returns-in-Err-clause-only : goal.returns-in-Err-clause-only
 returns-in-Err-clause-only g c = open-over c.in-Err.fault c.in-Err.ensures.only
 
-pub returns-in-Err-clause-goes_on : goal.returns-in-Err-clause-goes_on
-returns-in-Err-clause-goes_on g c = quiet-on _ _ _ _ _ _ _ _ c.open_repository.ensures.quiet
+pub returns-in-Err-clause-source : goal.returns-in-Err-clause-source
+returns-in-Err-clause-source g c = source-still _ _ _ _ _ (open-read (Err c.in-Err.fault) c.in-Err.ensures.only)
 
-pub returns-in-Err-clause-read : goal.returns-in-Err-clause-read
-returns-in-Err-clause-read g c = λ e. let one : c.in-Err.fault ≡ fault.Read = cc in absurd (subst IsOpenFault one c.in-Err.ensures.only)
+pub returns-in-Err-clause-sink : goal.returns-in-Err-clause-sink
+returns-in-Err-clause-sink g c = sink-still _ _ _ (open-write (Err c.in-Err.fault) c.in-Err.ensures.only)
 
-pub returns-in-Err-clause-write : goal.returns-in-Err-clause-write
-returns-in-Err-clause-write g c = λ e. let one : c.in-Err.fault ≡ fault.Write = cc in absurd (subst IsOpenFault one c.in-Err.ensures.only)
+pub returns-in-Err-clause-store : goal.returns-in-Err-clause-store
+returns-in-Err-clause-store g c = store-quiet _ _ _ _ _ _ _ _ _ _ c.open_repository.ensures.quiet c.open_repository.ensures.later (λ e. (let one : c.in-Err.fault ≡ fault.Store = cc in c.in-Err.ensures.store (ap Err one)))

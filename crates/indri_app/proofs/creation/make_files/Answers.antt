@@ -1,6 +1,6 @@
-use Rattle.std.proofs.Common.{sym, ◌∙◌}
+use Rattle.std.proofs.Common.{Err, ap, sym, ◌∙◌}
 use Rattle.indri_app.proofs.NewRepository.{along-step, along-stops, exists-of, found-there, there-found}
-use Rattle.indri_app.proofs.OpeningLemmas.{want-of}
+use Rattle.indri_app.proofs.OpeningLemmas.{store-of_files, want-of}
 use Rattle.indri_app.proofs.creation.make_files.Goals as goal
 
 -- it is made
@@ -41,3 +41,10 @@ returns-in-Err-clause-honest g c = λ f told none. rw c.of_files.ensures (want-o
 
 pub returns-in-Err-clause-only : goal.returns-in-Err-clause-only
 returns-in-Err-clause-only g c = rw c.of_files.ensures (exists-of c.in-Err.fault c.in-Err.ensures.outside)
+
+pub returns-in-Err-clause-store : goal.returns-in-Err-clause-store
+returns-in-Err-clause-store g c = record {
+  goes_on = c.in-Err.ensures.goes_on;
+  later = c.in-Err.ensures.later;
+  cause = λ e. (let one = store-of_files c.in-Err.fault cc in c.in-Err.ensures.store (ap Err one));
+}

@@ -1,5 +1,7 @@
-use Rattle.std.proofs.Common.{◌∷◌, [], None, Some, IfOk, subst, sym}
+use Rattle.std.proofs.Common.{◌≡◌, ◌∷◌, [], None, Some, Err, IfOk, ap, subst, sym}
 use Rattle.store_ends.proofs.Files.{Leaves-none}
+use Rattle.command_pieces.proofs.Ends.{store-by, store-quiet, store-then}
+use Rattle.command_pieces.specs.declared.command_fault.CommandFault.TheVariants as fault
 use Rattle.command_pieces.specs.Pieces.{StandsAlong}
 use Rattle.repository.specs.Stands.{empty_collection}
 use Rattle.collection_commands.specs.Ahead.{IsAhead}
@@ -35,7 +37,13 @@ returns-in-Ok-clause-same g c = λ is. absurd (file-err c.open_made.result c.ope
 pub returns-in-Ok-clause-only : goal.returns-in-Ok-clause-only
 returns-in-Ok-clause-only g c = silent-err c.open_made.result c.open_made.ensures.only
 
+pub returns-in-Ok-clause-store : goal.returns-in-Ok-clause-store
+returns-in-Ok-clause-store g c = store-then _ _ _ _ _ _ _ _ _ _ c.in-Ok.ensures.store (store-quiet _ _ _ _ _ _ _ _ _ _ c.open_made.ensures.quiet c.open_made.ensures.store_later c.open_made.ensures.store)
+
 -- they aren't
 
 pub returns-in-Err-clause-only : goal.returns-in-Err-clause-only
 returns-in-Err-clause-only g c = silent-of_exists c.in-Err.fault c.in-Err.ensures.only
+
+pub returns-in-Err-clause-store : goal.returns-in-Err-clause-store
+returns-in-Err-clause-store g c = store-by _ _ _ _ _ _ _ _ _ (λ e. (let one : c.in-Err.fault ≡ fault.Store = cc in ap Err one)) c.in-Err.ensures.store

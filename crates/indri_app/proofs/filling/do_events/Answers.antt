@@ -1,10 +1,11 @@
-use Rattle.std.proofs.Common.{rules, ◌≡◌, ◌++◌, ◌∷◌, [], ◌∙◌, List, ap, arith, length, map, refl, sym, subst, append-nil, append_assoc}
+use Rattle.std.proofs.Common.{◌≡◌, ◌++◌, ◌∷◌, [], ◌∙◌, Err, List, ap, arith, length, map, refl, sym, subst, append-nil, append_assoc}
 use Rattle.store_ends.proofs.Files.{Leaves-same}
 use Rattle.command_pieces.specs.Pieces.{kept_behind}
-use Rattle.repository.proofs.GoingLemmas.{going-same, going-then}
+use Rattle.command_pieces.proofs.Ends.{store-by, store-still, store-then}
 use Rattle.generated_events.specs.Left.{events_left}
 use Rattle.script_reader.specs.declared.item.Item.{Item}
 use Rattle.script_reader.specs.declared.item.Item.TheVariants.{Event}
+use Rattle.ri_base.specs.declared.seg_fault.SegFault.TheVariants as fault
 use Rattle.desk.specs.Backed.{state_of}
 use Rattle.indri_app.specs.Generated.{gen_items}
 use Rattle.indri_app.specs.Items.{pieces_of, state_behind_all}
@@ -27,8 +28,7 @@ events-init g c =
         rule = refl;
         stay = refl;
         nine = c.requires.nine;
-        goes_on = going-same g.T.Store.layers g.T.Store.clock g.T.Store.longest g.T.Store.held c.args.store.now;
-        later = search rules;
+        store = store-still _ _ _ _ _ _ _ (λ none. none);
       },
     )
 
@@ -46,16 +46,15 @@ events-preserved-in-Ok g c =
       inv.0 ++ i ∷ [],
       record {
         followed = append_assoc inv.0 (i ∷ []) left ∙ followed;
-        state = λ kept way. state-next start here inv.0 i (inv.1.state kept way) _ (done.state _ (inv.1.way kept way));
-        way = λ kept way. subst (IsUnderWay _ _ _) (kept-next start here inv.0 i (inv.1.state kept way) kept) (done.way _ (inv.1.way kept way));
+        state = λ kept way. state-next start here inv.0 i (inv.1.state kept way) _ (done.does _ (inv.1.way kept way)).state;
+        way = λ kept way. subst (IsUnderWay _ _ _) (kept-next start here inv.0 i (inv.1.state kept way) kept) (done.does _ (inv.1.way kept way)).way;
         stops = λ kept way. Along-next start here inv.0 i (inv.1.state kept way) _ _ _ kept (inv.1.stops kept way)
-            (piece-stops (kept_behind kept (pieces_of start inv.0)) here i _ _ (c.do_event.ensures.stops _ (inv.1.way kept way)));
+            (piece-stops (kept_behind kept (pieces_of start inv.0)) here i _ _ (done.does _ (inv.1.way kept way)).stops);
         usable = done.usable (goes-next c.args.count inv.0 left i followed);
         rule = c.do_event.ensures.rule ∙ inv.1.rule;
         stay = c.do_event.ensures.stay ∙ inv.1.stay;
         nine = c.do_event.ensures.nine;
-        goes_on = going-then g.T.Store.layers g.T.Store.clock g.T.Store.longest g.T.Store.held c.args.store.now c.events.store c.do_event.new.store inv.1.goes_on c.do_event.ensures.goes_on;
-        later = (let a = inv.1.later in let b = c.do_event.ensures.later in omega (arith, a, b));
+        store = store-then _ _ _ _ _ _ _ _ _ _ inv.1.store (store-by _ _ _ _ _ _ _ _ _ (λ none. absurd none) done.store);
       },
     )
 
@@ -93,6 +92,9 @@ returns-in-Ok-None-clause-stops g c = λ kept way.
     let inv = c.events.invariant in
     leaves-of kept (state_of (g.T.Store.files c.args.store.now) c.args.desk.now.kept) inv.0 _ _ inv.1.followed _ _ (inv.1.stops kept way)
 
+pub returns-in-Ok-None-clause-store : goal.returns-in-Ok-None-clause-store
+returns-in-Ok-None-clause-store g c = store-by _ _ _ _ _ _ _ _ _ (λ e. absurd cc) c.events.invariant.1.store
+
 -- there is no memory for the next one
 
 pub returns-in-Err-clause-along : goal.returns-in-Err-clause-along
@@ -106,6 +108,9 @@ returns-in-Err-clause-stops g c = λ kept way.
     let inv = c.events.invariant in
     leaves-of kept (state_of (g.T.Store.files c.args.store.now) c.args.desk.now.kept) inv.0 _ _ inv.1.followed _ _ (inv.1.stops kept way)
 
+pub returns-in-Err-clause-store : goal.returns-in-Err-clause-store
+returns-in-Err-clause-store g c = store-by _ _ _ _ _ _ _ _ _ (λ e. absurd cc) c.events.invariant.1.store
+
 -- one isn't done
 
 pub returns-in-Err-do_event-clause-along : goal.returns-in-Err-do_event-clause-along
@@ -114,7 +119,7 @@ returns-in-Err-do_event-clause-along g c = λ kept way.
     let gives = rw c.in-Ok-Some.field-0-is at c.in-Ok-Some.ensures.gives in
     let start = state_of (g.T.Store.files c.args.store.now) c.args.desk.now.kept in
     let here = state_of (g.T.Store.files c.events.store) c.events.desk.kept in
-    stands-of kept start (inv.0 ++ Event c.in-Ok-Some.event ∷ []) _ _ (events-next inv.0 _ c.in-Ok-Some.event _ _ gives inv.1.followed) _ (along-next start here inv.0 (Event c.in-Ok-Some.event) (inv.1.state kept way) kept _ (c.do_event.ensures.now _ (inv.1.way kept way)))
+    stands-of kept start (inv.0 ++ Event c.in-Ok-Some.event ∷ []) _ _ (events-next inv.0 _ c.in-Ok-Some.event _ _ gives inv.1.followed) _ (along-next start here inv.0 (Event c.in-Ok-Some.event) (inv.1.state kept way) kept _ (c.in-Err-do_event.ensures.does _ (inv.1.way kept way)).now)
 
 pub returns-in-Err-do_event-clause-stops : goal.returns-in-Err-do_event-clause-stops
 returns-in-Err-do_event-clause-stops g c = λ kept way.
@@ -123,7 +128,10 @@ returns-in-Err-do_event-clause-stops g c = λ kept way.
     let start = state_of (g.T.Store.files c.args.store.now) c.args.desk.now.kept in
     let here = state_of (g.T.Store.files c.events.store) c.events.desk.kept in
     leaves-of kept start (inv.0 ++ Event c.in-Ok-Some.event ∷ []) _ _ (events-next inv.0 _ c.in-Ok-Some.event _ _ gives inv.1.followed) _ _
-    (Along-next start here inv.0 (Event c.in-Ok-Some.event) (inv.1.state kept way) _ _ _ kept (inv.1.stops kept way) (piece-stops (kept_behind kept (pieces_of start inv.0)) here (Event c.in-Ok-Some.event) _ _ (c.do_event.ensures.stops _ (inv.1.way kept way))))
+    (Along-next start here inv.0 (Event c.in-Ok-Some.event) (inv.1.state kept way) _ _ _ kept (inv.1.stops kept way) (piece-stops (kept_behind kept (pieces_of start inv.0)) here (Event c.in-Ok-Some.event) _ _ (c.in-Err-do_event.ensures.does _ (inv.1.way kept way)).stops))
 
 pub returns-in-Err-do_event-clause-honest : goal.returns-in-Err-do_event-clause-honest
-returns-in-Err-do_event-clause-honest g c = λ kept way. c.in-Err-do_event.ensures.honest _ (c.events.invariant.1.way kept way)
+returns-in-Err-do_event-clause-honest g c = λ kept way. (c.in-Err-do_event.ensures.does _ (c.events.invariant.1.way kept way)).honest
+
+pub returns-in-Err-do_event-clause-store : goal.returns-in-Err-do_event-clause-store
+returns-in-Err-do_event-clause-store g c = store-then _ _ _ _ _ _ _ _ _ _ c.events.invariant.1.store (store-by _ _ _ _ _ _ _ _ _ (λ e. (let one : c.in-Err-do_event.fault ≡ fault.Store = cc in ap Err one)) c.in-Err-do_event.ensures.store)

@@ -1,5 +1,6 @@
-use Rattle.std.proofs.Common.{◌≡◌, ◌≤◌, ◌++◌, List, length, map}
-use Rattle.store_ends.specs.Files.{GoesOn, Leaves}
+use Rattle.std.proofs.Common.{◌≡◌, ◌++◌, List, length, map}
+use Rattle.store_ends.specs.Files.{Leaves}
+use Rattle.command_pieces.specs.Ends.{KeepsStore}
 use Rattle.command_pieces.specs.Pieces.{StandsAlong, kept_behind}
 use Rattle.repository.specs.RealLimits.{StandsFor}
 use Rattle.repository.specs.Stands.{Collection}
@@ -27,8 +28,7 @@ invariant-events g l =
       rule : l.desk.rule ≡ l.fn.desk.rule;
       stay : now ≡ told;
       nine : length l.plugs ≡ 9;
-      goes_on : GoesOn g.T.Store.layers g.T.Store.clock g.T.Store.longest g.T.Store.held l.fn.store l.store;
-      later : g.T.Store.faults l.fn.store ≤ g.T.Store.faults l.store;
+      store : KeepsStore g.T.Store.layers g.T.Store.clock g.T.Store.longest g.T.Store.held g.T.Store.faults ⊥ l.fn.store l.store;
     }
 
 abbrev pub decreases-events : goal.decreases-events

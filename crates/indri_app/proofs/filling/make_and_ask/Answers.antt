@@ -1,5 +1,7 @@
-use Rattle.std.proofs.Common.{subst, sym}
+use Rattle.std.proofs.Common.{◌≡◌, Err, ap, subst, sym}
 use Rattle.store_ends.proofs.Files.{Leaves-none}
+use Rattle.command_pieces.proofs.Ends.{store-quiet, store-then}
+use Rattle.ri_base.specs.declared.seg_fault.SegFault.TheVariants as fault
 use Rattle.command_pieces.specs.Pieces.{StandsAlong, kept_behind}
 use Rattle.repository.specs.RealLimits.{StandsFor}
 use Rattle.generated_events.specs.Events.{last_event}
@@ -25,6 +27,9 @@ returns-in-Err-show-clause-stops g c = λ kept way. Leaves-none _ _ _ _ (c.do_ev
 
 pub returns-in-Err-show-clause-honest : goal.returns-in-Err-show-clause-honest
 returns-in-Err-show-clause-honest g c = λ kept way. c.in-Err-show.ensures.honest _ (c.in-Ok.ensures.way kept way)
+
+pub returns-in-Err-show-clause-store : goal.returns-in-Err-show-clause-store
+returns-in-Err-show-clause-store g c = store-then _ _ _ _ _ _ _ _ _ _ c.in-Ok.ensures.store (store-quiet _ _ _ _ _ _ _ _ _ _ c.in-Err-show.ensures.quiet c.in-Err-show.ensures.later (λ e. (let one : c.in-Err-show.fault ≡ fault.Store = cc in c.in-Err-show.ensures.store (ap Err one))))
 
 -- it is shown, and made into a text
 
@@ -52,6 +57,9 @@ returns-in-Ok-gen_text-clause-along g c = λ kept way.
 pub returns-in-Ok-gen_text-clause-stops : goal.returns-in-Ok-gen_text-clause-stops
 returns-in-Ok-gen_text-clause-stops g c = λ kept way. Leaves-none _ _ _ _ (c.do_events.ensures.stops kept way) c.show.ensures.quiet.no_more
 
+pub returns-in-Ok-gen_text-clause-store : goal.returns-in-Ok-gen_text-clause-store
+returns-in-Ok-gen_text-clause-store g c = store-then _ _ _ _ _ _ _ _ _ _ c.in-Ok.ensures.store (store-quiet _ _ _ _ _ _ _ _ _ _ c.in-Ok-show.ensures.quiet c.in-Ok-show.ensures.later (λ e. absurd cc))
+
 -- there is no memory for it
 
 pub returns-in-Err-gen_text-clause-along : goal.returns-in-Err-gen_text-clause-along
@@ -61,3 +69,6 @@ returns-in-Err-gen_text-clause-along g c = λ kept way.
 
 pub returns-in-Err-gen_text-clause-stops : goal.returns-in-Err-gen_text-clause-stops
 returns-in-Err-gen_text-clause-stops g c = λ kept way. Leaves-none _ _ _ _ (c.do_events.ensures.stops kept way) c.show.ensures.quiet.no_more
+
+pub returns-in-Err-gen_text-clause-store : goal.returns-in-Err-gen_text-clause-store
+returns-in-Err-gen_text-clause-store g c = store-then _ _ _ _ _ _ _ _ _ _ c.in-Ok.ensures.store (store-quiet _ _ _ _ _ _ _ _ _ _ c.in-Ok-show.ensures.quiet c.in-Ok-show.ensures.later (λ e. absurd cc))

@@ -1,5 +1,7 @@
-use Rattle.std.proofs.Common.{ap, Err, refl, subst}
+use Rattle.std.proofs.Common.{◌≡◌, ap, Err, subst}
 use Rattle.command_pieces.specs.CommandFaults.{IsDamage}
+use Rattle.command_pieces.specs.declared.command_fault.CommandFault.TheVariants as fault
+use Rattle.command_pieces.proofs.Ends.{sink-still, store-by}
 use Rattle.indri_app.proofs.Generating.{either-undamaged, gen-broken, gen-finished, gen-of_items, gen-of_silent, items-not_exists, items-not_store, items-undamaged, made-broken, silent-not_write, write-of_items}
 use Rattle.indri_app.proofs.generation.generate.Goals as goal
 
@@ -14,8 +16,11 @@ returns-in-Err-clause-honest g c = λ f told. either-undamaged (f _) c.in-Err.fa
 pub returns-in-Err-clause-only : goal.returns-in-Err-clause-only
 returns-in-Err-clause-only g c = gen-of_silent c.in-Err.fault c.in-Err.ensures.only
 
-pub returns-in-Err-clause-write : goal.returns-in-Err-clause-write
-returns-in-Err-clause-write g c = λ is. absurd (silent-not_write c.in-Err.fault c.in-Err.ensures.only cc)
+pub returns-in-Err-clause-sink : goal.returns-in-Err-clause-sink
+returns-in-Err-clause-sink g c = sink-still _ _ _ (λ is. silent-not_write c.in-Err.fault c.in-Err.ensures.only cc)
+
+pub returns-in-Err-clause-store : goal.returns-in-Err-clause-store
+returns-in-Err-clause-store g c = store-by _ _ _ _ _ _ _ _ _ (λ e. (let one : c.in-Err.fault ≡ fault.Store = cc in ap Err one)) c.in-Err.ensures.store
 
 -- the text is written
 
@@ -27,6 +32,9 @@ returns-in-Ok-write-clause-order g c = λ f told none. let made = c.in-Ok.ensure
 
 pub returns-in-Ok-write-clause-exists : goal.returns-in-Ok-write-clause-exists
 returns-in-Ok-write-clause-exists g c = λ f told there. let no = c.in-Ok.ensures.exists f told there in absurd no.1
+
+pub returns-in-Ok-write-clause-store : goal.returns-in-Ok-write-clause-store
+returns-in-Ok-write-clause-store g c = store-by _ _ _ _ _ _ _ _ _ (λ e. absurd cc) c.in-Ok.ensures.store
 
 -- it isn't
 
@@ -53,8 +61,11 @@ returns-clause-there g c = λ f told is. absurd (items-not_exists c.in-Err-write
 pub returns-clause-same : goal.returns-clause-same
 returns-clause-same g c = λ is. absurd (items-not_exists c.in-Err-write.fault cc)
 
-pub returns-clause-store : goal.returns-clause-store
-returns-clause-store g c = λ is. absurd (items-not_store c.in-Err-write.fault cc)
+pub returns-clause-sink : goal.returns-clause-sink
+returns-clause-sink g c = record {
+  later = c.in-Err-write.ensures.later;
+  cause = λ is. (let one = write-of_items c.in-Err-write.fault cc in c.in-Err-write.ensures.cause (ap Err one));
+}
 
-pub returns-clause-write : goal.returns-clause-write
-returns-clause-write g c = λ is. let one = write-of_items c.in-Err-write.fault cc in c.in-Err-write.ensures.cause (rw one refl)
+pub returns-clause-store : goal.returns-clause-store
+returns-clause-store g c = store-by _ _ _ _ _ _ _ _ _ (λ is. absurd (items-not_store c.in-Err-write.fault cc)) c.in-Ok.ensures.store

@@ -1,7 +1,8 @@
-use Rattle.std.proofs.Common.{refl}
+use Rattle.std.proofs.Common.{◌≡◌, Err, ap}
+use Rattle.command_pieces.specs.declared.command_fault.CommandFault.TheVariants as fault
+use Rattle.command_pieces.proofs.Ends.{store-by, store-then}
 use Rattle.indri_app.specs.Generated.{gen_items, new_state}
 use Rattle.indri_app.specs.Items.{pieces_of}
-use Rattle.indri_app.proofs.Ended.{rose-earlier}
 use Rattle.indri_app.proofs.Generating.{stands-created, stands-filled, stops-created, stops-filled}
 use Rattle.indri_app.proofs.NewRepository.{not-exists, silent-of_file}
 use Rattle.indri_app.proofs.OpeningLemmas.{file-of}
@@ -16,6 +17,9 @@ returns-in-Err-clause-along g c = λ f told none. stands-created c.args.count f 
 
 pub returns-in-Err-clause-stops : goal.returns-in-Err-clause-stops
 returns-in-Err-clause-stops g c = λ f told none. stops-created c.args.count f _ _ (c.new_repository.ensures.stops f told none)
+
+pub returns-in-Err-clause-store : goal.returns-in-Err-clause-store
+returns-in-Err-clause-store g c = store-by _ _ _ _ _ _ _ _ _ (λ e. (let one : c.in-Err.fault ≡ fault.Store = cc in ap Err one)) c.in-Err.ensures.store
 
 -- it is filled and asked
 
@@ -41,6 +45,9 @@ returns-in-Ok-fill-clause-stops g c = λ f told none.
 
 pub returns-in-Ok-fill-clause-exists : goal.returns-in-Ok-fill-clause-exists
 returns-in-Ok-fill-clause-exists g c = λ f told there. let no = c.in-Ok.ensures.exists f told there in absurd no.1
+
+pub returns-in-Ok-fill-clause-store : goal.returns-in-Ok-fill-clause-store
+returns-in-Ok-fill-clause-store g c = store-then _ _ _ _ _ _ _ _ _ _ c.in-Ok.ensures.store (store-by _ _ _ _ _ _ _ _ _ (λ e. absurd cc) c.in-Ok-fill.ensures.store)
 
 -- it isn't
 
@@ -68,4 +75,4 @@ pub returns-in-Err-fill-clause-same : goal.returns-in-Err-fill-clause-same
 returns-in-Err-fill-clause-same g c = λ is. absurd (not-exists c.in-Err-fill.fault cc)
 
 pub returns-in-Err-fill-clause-store : goal.returns-in-Err-fill-clause-store
-returns-in-Err-fill-clause-store g c = λ is. let one = store-of_files c.in-Err-fill.fault cc in rose-earlier _ _ _ c.new_repository.ensures.store_later (c.in-Err-fill.ensures.store (rw one refl))
+returns-in-Err-fill-clause-store g c = store-then _ _ _ _ _ _ _ _ _ _ c.in-Ok.ensures.store (store-by _ _ _ _ _ _ _ _ _ (λ e. (let one = store-of_files c.in-Err-fill.fault cc in ap Err one)) c.in-Err-fill.ensures.store)

@@ -81,100 +81,96 @@ items-preserved g c =
 
 -- there is no memory for a reader
 
-pub returns-in_default-clause-broken : goal.returns-in_default-clause-broken
-returns-in_default-clause-broken g c = λ kept way.
+pub returns-in_default-clause-taken : goal.returns-in_default-clause-taken
+returns-in_default-clause-taken g c = λ kept way.
     let start = state_of (g.T.Store.files c.args.store.now) c.args.desk.now.kept in
-    if-all (g.S.Source.left c.args.source.now) (λ bytes. IsBrokenBy fault.Memory StandsFor kept (pieces_of start (items bytes)) (g.K.Sink.taken c.args.sink.now) (g.K.Sink.taken c.args.sink.now) (g.T.Store.files c.args.store.now))
-    (λ bytes. StoppedBetween-none StandsFor kept (pieces_of start (items bytes)) _ _ _ refl way.stands)
-
-pub returns-in_default-clause-stops : goal.returns-in_default-clause-stops
-returns-in_default-clause-stops g c = λ kept way.
-    let start = state_of (g.T.Store.files c.args.store.now) c.args.desk.now.kept in
-    if-all (g.S.Source.left c.args.source.now) (λ bytes. Leaves (g.T.Store.since c.args.store.now) (g.T.Store.since c.args.store.now) (StandsAlong StandsFor kept (pieces_of start (items bytes)))) (λ bytes. Leaves-same _ _)
+    let left = g.S.Source.left c.args.source.now in
+    record {
+      refused = tt;
+      finished = tt;
+      stands = tt;
+      order = tt;
+      broken = if-all left (λ bytes. IsBrokenBy fault.Memory StandsFor kept (pieces_of start (items bytes)) (g.K.Sink.taken c.args.sink.now) (g.K.Sink.taken c.args.sink.now) (g.T.Store.files c.args.store.now))
+          (λ bytes. StoppedBetween-none StandsFor kept (pieces_of start (items bytes)) _ _ _ refl way.stands);
+      honest = λ damage. damage;
+      stops = if-all left (λ bytes. Leaves (g.T.Store.since c.args.store.now) (g.T.Store.since c.args.store.now) (StandsAlong StandsFor kept (pieces_of start (items bytes)))) (λ bytes. Leaves-same _ _);
+    }
 
 pub returns-in_default-clause-grows : goal.returns-in_default-clause-grows
 returns-in_default-clause-grows g c = grows-none _ _ refl
 
 -- the script is read to its end
 
-pub returns-in-Ok-None-clause-refused : goal.returns-in-Ok-None-clause-refused
-returns-in-Ok-None-clause-refused g c = λ kept way.
-    let inv = c.items.invariant in
-    let gives = rw c.in-Ok-None.field-0-is at c.in-Ok-None.ensures.items in
-    let start = state_of (g.T.Store.files c.args.store.now) c.args.desk.now.kept in
-    all-done (λ (is : List Item). some_refused (pieces_of start is) ≡ c.items.some_refused) inv.0 c.items.reader _ _ _ inv.1.followed gives (sym (inv.1.refused kept way))
-
-pub returns-in-Ok-None-clause-finished : goal.returns-in-Ok-None-clause-finished
-returns-in-Ok-None-clause-finished g c = λ kept way.
-    let inv = c.items.invariant in
-    let gives = rw c.in-Ok-None.field-0-is at c.in-Ok-None.ensures.items in
-    let start = state_of (g.T.Store.files c.args.store.now) c.args.desk.now.kept in
-    all-done (λ (is : List Item). Finished StandsFor kept (pieces_of start is) (g.K.Sink.taken c.args.sink.now) (g.K.Sink.taken c.items.sink) (g.T.Store.files c.items.store)) inv.0 c.items.reader _ _ _ inv.1.followed gives (inv.1.finished kept way)
-
-pub returns-in-Ok-None-clause-stands : goal.returns-in-Ok-None-clause-stands
-returns-in-Ok-None-clause-stands g c = λ kept way.
+pub returns-in-Ok-None-clause-taken : goal.returns-in-Ok-None-clause-taken
+returns-in-Ok-None-clause-taken g c = λ kept way.
     let inv = c.items.invariant in
     let gives = rw c.in-Ok-None.field-0-is at c.in-Ok-None.ensures.items in
     let ended = inv.1.ended kept way (sym (rw c.in-Ok-None.field-0-is at c.in-Ok-None.ensures.none)) in
     let start = state_of (g.T.Store.files c.args.store.now) c.args.desk.now.kept in
-    all-done (λ (is : List Item). StandsFor (collection_of (state_behind_all start is)) (g.T.Store.files c.items.store)) inv.0 c.items.reader _ _ _ inv.1.followed gives
-    (subst (λ (k : Collection). StandsFor k (g.T.Store.files c.items.store)) ended (inv.1.finished kept way).files_stand)
-
-pub returns-in-Ok-None-clause-order : goal.returns-in-Ok-None-clause-order
-returns-in-Ok-None-clause-order g c = λ kept way.
-    let inv = c.items.invariant in
-    let gives = rw c.in-Ok-None.field-0-is at c.in-Ok-None.ensures.items in
-    let start = state_of (g.T.Store.files c.args.store.now) c.args.desk.now.kept in
-    all-done (λ (is : List Item). AreTrue start is) inv.0 c.items.reader _ _ _ inv.1.followed gives (inv.1.order kept way)
-
-pub returns-in-Ok-None-clause-stops : goal.returns-in-Ok-None-clause-stops
-returns-in-Ok-None-clause-stops g c = λ kept way.
-    some-along kept (state_of (g.T.Store.files c.args.store.now) c.args.desk.now.kept) c.items.invariant.0 c.items.reader _ _ c.items.invariant.1.followed _ _ (c.items.invariant.1.stops kept way)
+    record {
+      refused = all-done (λ (is : List Item). some_refused (pieces_of start is) ≡ c.items.some_refused) inv.0 c.items.reader _ _ _ inv.1.followed gives (sym (inv.1.refused kept way));
+      finished = all-done (λ (is : List Item). Finished StandsFor kept (pieces_of start is) (g.K.Sink.taken c.args.sink.now) (g.K.Sink.taken c.items.sink) (g.T.Store.files c.items.store)) inv.0 c.items.reader _ _ _ inv.1.followed gives (inv.1.finished kept way);
+      stands = all-done (λ (is : List Item). StandsFor (collection_of (state_behind_all start is)) (g.T.Store.files c.items.store)) inv.0 c.items.reader _ _ _ inv.1.followed gives
+          (subst (λ (k : Collection). StandsFor k (g.T.Store.files c.items.store)) ended (inv.1.finished kept way).files_stand);
+      order = all-done (λ (is : List Item). AreTrue start is) inv.0 c.items.reader _ _ _ inv.1.followed gives (inv.1.order kept way);
+      broken = tt;
+      honest = tt;
+      stops = some-along kept start inv.0 c.items.reader _ _ inv.1.followed _ _ (inv.1.stops kept way);
+    }
 
 -- the source fails, or there is no memory for an item
 
-pub returns-in-Err-Read-clause-broken : goal.returns-in-Err-Read-clause-broken
-returns-in-Err-Read-clause-broken g c = λ kept way.
-    some-stopped kept (state_of (g.T.Store.files c.args.store.now) c.args.desk.now.kept) c.items.invariant.0 c.items.reader _ _ c.items.invariant.1.followed _ _ _ (c.items.invariant.1.finished kept way)
+pub returns-in-Err-Read-clause-taken : goal.returns-in-Err-Read-clause-taken
+returns-in-Err-Read-clause-taken g c = λ kept way.
+    let inv = c.items.invariant in
+    let start = state_of (g.T.Store.files c.args.store.now) c.args.desk.now.kept in
+    record {
+      refused = tt;
+      finished = tt;
+      stands = tt;
+      order = tt;
+      broken = some-stopped kept start inv.0 c.items.reader _ _ inv.1.followed _ _ _ (inv.1.finished kept way);
+      honest = λ damage. damage;
+      stops = some-along kept start inv.0 c.items.reader _ _ inv.1.followed _ _ (inv.1.stops kept way);
+    }
 
-pub returns-in-Err-Read-clause-stops : goal.returns-in-Err-Read-clause-stops
-returns-in-Err-Read-clause-stops g c = λ kept way.
-    some-along kept (state_of (g.T.Store.files c.args.store.now) c.args.desk.now.kept) c.items.invariant.0 c.items.reader _ _ c.items.invariant.1.followed _ _ (c.items.invariant.1.stops kept way)
-
-pub returns-in-Err-Memory-clause-broken : goal.returns-in-Err-Memory-clause-broken
-returns-in-Err-Memory-clause-broken g c = λ kept way.
-    some-stopped kept (state_of (g.T.Store.files c.args.store.now) c.args.desk.now.kept) c.items.invariant.0 c.items.reader _ _ c.items.invariant.1.followed _ _ _ (c.items.invariant.1.finished kept way)
-
-pub returns-in-Err-Memory-clause-stops : goal.returns-in-Err-Memory-clause-stops
-returns-in-Err-Memory-clause-stops g c = λ kept way.
-    some-along kept (state_of (g.T.Store.files c.args.store.now) c.args.desk.now.kept) c.items.invariant.0 c.items.reader _ _ c.items.invariant.1.followed _ _ (c.items.invariant.1.stops kept way)
+pub returns-in-Err-Memory-clause-taken : goal.returns-in-Err-Memory-clause-taken
+returns-in-Err-Memory-clause-taken g c = λ kept way.
+    let inv = c.items.invariant in
+    let start = state_of (g.T.Store.files c.args.store.now) c.args.desk.now.kept in
+    record {
+      refused = tt;
+      finished = tt;
+      stands = tt;
+      order = tt;
+      broken = some-stopped kept start inv.0 c.items.reader _ _ inv.1.followed _ _ _ (inv.1.finished kept way);
+      honest = λ damage. damage;
+      stops = some-along kept start inv.0 c.items.reader _ _ inv.1.followed _ _ (inv.1.stops kept way);
+    }
 
 -- an item is broken off
 
-pub returns-in-Err-clause-broken : goal.returns-in-Err-clause-broken
-returns-in-Err-clause-broken g c = λ kept way.
+pub returns-in-Err-clause-taken : goal.returns-in-Err-clause-taken
+returns-in-Err-clause-taken g c = λ kept way.
     let inv = c.items.invariant in
     let i = c.in-Ok-Some.item in
     let gives = rw c.in-Ok-Some.field-0-is at c.in-Ok-Some.ensures.items in
     let start = state_of (g.T.Store.files c.args.store.now) c.args.desk.now.kept in
     let here = state_of (g.T.Store.files c.items.store) c.items.desk.kept in
-    some-done (λ (is : List Item). IsBrokenBy c.in-Err.fault StandsFor kept (pieces_of start is) (g.K.Sink.taken c.args.sink.now) (g.K.Sink.taken c.take_item.new.sink) (g.T.Store.files c.take_item.new.store)) (inv.0 ++ i ∷ []) c.next_item.new.self _ _
-    (followed-more inv.0 i c.items.reader c.next_item.new.self _ _ _ inv.1.followed gives)
-    (λ rest. broken-next start here inv.0 i (inv.1.state kept way) _ kept rest _ _ _ _ _ (inv.1.finished kept way) (c.in-Err.ensures.broken _ (inv.1.way kept way)))
-
-pub returns-in-Err-clause-honest : goal.returns-in-Err-clause-honest
-returns-in-Err-clause-honest g c = λ kept way.
-    broken-honest c.in-Err.fault _ _ _ _ _ (c.in-Err.ensures.broken _ (c.items.invariant.1.way kept way))
-
-pub returns-in-Err-clause-stops : goal.returns-in-Err-clause-stops
-returns-in-Err-clause-stops g c = λ kept way.
-    let inv = c.items.invariant in
-    let i = c.in-Ok-Some.item in
-    let gives = rw c.in-Ok-Some.field-0-is at c.in-Ok-Some.ensures.items in
-    let start = state_of (g.T.Store.files c.args.store.now) c.args.desk.now.kept in
-    let here = state_of (g.T.Store.files c.items.store) c.items.desk.kept in
-    some-along kept start (inv.0 ++ i ∷ []) c.next_item.new.self _ _ (followed-more inv.0 i c.items.reader c.next_item.new.self _ _ _ inv.1.followed gives) _ _
-    (Along-next start here inv.0 i (inv.1.state kept way) _ _ _ kept (inv.1.stops kept way) (c.take_item.ensures.stops _ (inv.1.way kept way)))
+    let state = inv.1.state kept way in
+    let followed = followed-more inv.0 i c.items.reader c.next_item.new.self _ _ _ inv.1.followed gives in
+    let broken = c.in-Err.ensures.broken _ (inv.1.way kept way) in
+    record {
+      refused = tt;
+      finished = tt;
+      stands = tt;
+      order = tt;
+      broken = some-done (λ (is : List Item). IsBrokenBy c.in-Err.fault StandsFor kept (pieces_of start is) (g.K.Sink.taken c.args.sink.now) (g.K.Sink.taken c.take_item.new.sink) (g.T.Store.files c.take_item.new.store)) (inv.0 ++ i ∷ []) c.next_item.new.self _ _ followed
+          (λ rest. broken-next start here inv.0 i state _ kept rest _ _ _ _ _ (inv.1.finished kept way) broken);
+      honest = broken-honest c.in-Err.fault _ _ _ _ _ broken;
+      stops = some-along kept start (inv.0 ++ i ∷ []) c.next_item.new.self _ _ followed _ _
+          (Along-next start here inv.0 i state _ _ _ kept (inv.1.stops kept way) (c.take_item.ensures.stops _ (inv.1.way kept way)));
+    }
 
 pub returns-in-Err-clause-grows : goal.returns-in-Err-clause-grows
 returns-in-Err-clause-grows g c = grows-then _ _ _ c.items.invariant.1.grows c.take_item.ensures.grows

@@ -1,4 +1,4 @@
-use Rattle.std.proofs.Common.{Err, ap, refl, subst}
+use Rattle.std.proofs.Common.{Err, ap, arith, refl, subst}
 use Rattle.command_words.specs.Table.{create}
 use Rattle.command_pieces.specs.CommandFaults.{IsCreateFault}
 use Rattle.collection_commands.specs.Creation.{create_pieces}
@@ -35,8 +35,15 @@ returns-in-Err-clause-untouched g c = λ un.
 pub returns-in-Err-clause-no_read : goal.returns-in-Err-clause-no_read
 returns-in-Err-clause-no_read g c = λ is. subst IsCreateFault (read-closed c.in-Err.fault _ _ _ _ _ c.close.ensures.closed is) c.in-Err.ensures.only
 
-pub returns-in-Err-clause-write : goal.returns-in-Err-clause-write
-returns-in-Err-clause-write g c = λ is. rose-later _ _ _ (c.in-Err.ensures.write (ap Err (write-closed c.in-Err.fault _ _ _ _ _ c.close.ensures.closed is))) c.close.ensures.later
+pub returns-in-Err-clause-sink : goal.returns-in-Err-clause-sink
+returns-in-Err-clause-sink g c = record {
+  later = (let a = c.in-Err.ensures.write_later in let b = c.close.ensures.later in omega (arith, a, b));
+  cause = λ is. rose-later _ _ _ (c.in-Err.ensures.write (ap Err (write-closed c.in-Err.fault _ _ _ _ _ c.close.ensures.closed is))) c.close.ensures.later;
+}
 
 pub returns-in-Err-clause-store : goal.returns-in-Err-clause-store
-returns-in-Err-clause-store g c = λ is. c.in-Err.ensures.store (ap Err (store-closed c.in-Err.fault _ _ _ _ _ c.close.ensures.closed is))
+returns-in-Err-clause-store g c = record {
+  goes_on = c.in-Err.ensures.goes_on;
+  later = c.in-Err.ensures.store_later;
+  cause = λ is. c.in-Err.ensures.store (ap Err (store-closed c.in-Err.fault _ _ _ _ _ c.close.ensures.closed is));
+}

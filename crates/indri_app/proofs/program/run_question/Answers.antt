@@ -124,10 +124,11 @@ returns-in-Err-Broken-clause-no_read g c = λ is.
     let did = rw c.in-Err-Broken.field-0-is at c.in-Err-Broken.ensures in
     subst IsOpenFault (read-closed c.in-Err-Broken.fault _ _ _ _ _ c.close.ensures.closed is) did.only
 
-pub returns-in-Err-Broken-clause-write : goal.returns-in-Err-Broken-clause-write
-returns-in-Err-Broken-clause-write g c = λ is.
-    let did = rw c.in-Err-Broken.field-0-is at c.in-Err-Broken.ensures in
-    absurd (subst IsOpenFault (write-closed c.in-Err-Broken.fault _ _ _ _ _ c.close.ensures.closed is) did.only)
+pub returns-in-Err-Broken-clause-sink : goal.returns-in-Err-Broken-clause-sink
+returns-in-Err-Broken-clause-sink g c = record {
+  later = c.close.ensures.later;
+  cause = λ is. (let did = rw c.in-Err-Broken.field-0-is at c.in-Err-Broken.ensures in absurd (subst IsOpenFault (write-closed c.in-Err-Broken.fault _ _ _ _ _ c.close.ensures.closed is) did.only));
+}
 
 pub returns-in-Err-Broken-clause-store : goal.returns-in-Err-Broken-clause-store
 returns-in-Err-Broken-clause-store g c = λ is.

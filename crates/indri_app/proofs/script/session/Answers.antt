@@ -1,33 +1,33 @@
-use Rattle.std.proofs.Common.{◌≡◌, ◌∙◌, Bool, ap, refl, subst}
+use Rattle.std.proofs.Common.{◌∙◌, Err, ap, refl, subst}
 use Rattle.std.proofs.lemmas.List.{length-map}
-use Rattle.std.specs.Prelude.{IfErr, IfOk, IfSome, OnOk}
-use Rattle.store_ends.specs.Files.{Leaves}
 use Rattle.smoothing.specs.declared.rule.RuleKind.TheVariants.{Dirichlet}
-use Rattle.command_pieces.specs.CommandFaults.{IsBrokenBy}
-use Rattle.command_pieces.specs.Pieces.{Finished, StandsAlong, some_refused}
-use Rattle.command_pieces.specs.declared.command_fault.CommandFault.{CommandFault}
+use Rattle.command_pieces.proofs.Ends.{sink-still, source-still, store-behind, store-quiet}
 use Rattle.ri_base.specs.declared.seg_fault.SegFault.TheVariants as files
-use Rattle.repository.specs.RealLimits.{StandsFor}
-use Rattle.script_reader.specs.Items.{items}
-use Rattle.desk.specs.State.{State, collection_of}
-use Rattle.indri_app.specs.Items.{pieces_of, state_behind_all}
-use Rattle.indri_app.specs.Orders.{AreTrue}
+use Rattle.desk.specs.State.{State}
+use Rattle.indri_app.specs.Doing.{AreItemsTaken}
 use Rattle.indri_app.specs.Sessions.{session_pieces}
-use Rattle.desk.proofs.EventExits.{quiet-on}
-use Rattle.indri_app.proofs.Beginning.{ahead-read, begun-all, behind-on, files-fault, merge-none, none-begun, rose-earlier, stops-quiet, stops-read}
+use Rattle.indri_app.proofs.Beginning.{ahead-read, begun-all, files-fault, merge-none, none-begun, stops-quiet, stops-read}
+use Rattle.indri_app.proofs.OpeningLemmas.{files-read, files-write, store-of_files}
 use Rattle.indri_app.proofs.Standing.{grows-none, outside-honest}
 use Rattle.indri_app.proofs.script.session.Goals as goal
 
 -- the files of the priors aren't read
 
-pub returns-in-Err-clause-broken : goal.returns-in-Err-clause-broken
-returns-in-Err-clause-broken g c = λ k ahead.
+pub returns-in-Err-clause-taken : goal.returns-in-Err-clause-taken
+returns-in-Err-clause-taken g c = λ k ahead.
     let stands = (ahead-read _ _ c.args.repository k c.take_priors.ensures.quiet.same_files ahead).stands in
-    rw c.of_files.ensures (none-begun c.in-Err.fault (g.S.Source.left c.args.source.now) k (session_pieces c.args.repository.held.limits (Dirichlet c.args.mu) k) _ _ _ (c.in-Err.ensures.honest ahead.backed) refl stands)
-
-pub returns-in-Err-clause-stops : goal.returns-in-Err-clause-stops
-returns-in-Err-clause-stops g c = λ k ahead.
-    stops-quiet _ _ (g.S.Source.left c.args.source.now) k (session_pieces c.args.repository.held.limits (Dirichlet c.args.mu) k) c.take_priors.ensures.quiet.no_more
+    let left = g.S.Source.left c.args.source.now in
+    let pieces = session_pieces c.args.repository.held.limits (Dirichlet c.args.mu) k in
+    let outside = c.in-Err.ensures.honest ahead.backed in
+    record {
+      refused = tt;
+      finished = tt;
+      stands = tt;
+      order = tt;
+      broken = rw c.of_files.ensures (none-begun c.in-Err.fault left k pieces _ _ _ outside refl stands);
+      honest = rw c.of_files.ensures (outside-honest c.in-Err.fault outside);
+      stops = stops-quiet _ _ left k pieces c.take_priors.ensures.quiet.no_more;
+    }
 
 pub returns-in-Err-clause-grows : goal.returns-in-Err-clause-grows
 returns-in-Err-clause-grows g c = grows-none _ _ refl
@@ -35,97 +35,60 @@ returns-in-Err-clause-grows g c = grows-none _ _ refl
 pub returns-in-Err-clause-only : goal.returns-in-Err-clause-only
 returns-in-Err-clause-only g c = rw c.of_files.ensures (files-fault c.in-Err.fault)
 
-pub returns-in-Err-clause-goes_on : goal.returns-in-Err-clause-goes_on
-returns-in-Err-clause-goes_on g c = quiet-on g.T.Store.files g.T.Store.layers g.T.Store.clock g.T.Store.since g.T.Store.longest g.T.Store.held _ _ c.take_priors.ensures.quiet
+pub returns-in-Err-clause-source : goal.returns-in-Err-clause-source
+returns-in-Err-clause-source g c = source-still _ _ _ _ _ (λ e. files-read c.in-Err.fault cc)
 
-pub returns-in-Err-clause-honest : goal.returns-in-Err-clause-honest
-returns-in-Err-clause-honest g c = λ k ahead. rw c.of_files.ensures (outside-honest c.in-Err.fault (c.in-Err.ensures.honest ahead.backed))
+pub returns-in-Err-clause-sink : goal.returns-in-Err-clause-sink
+returns-in-Err-clause-sink g c = sink-still _ _ _ (λ e. files-write c.in-Err.fault cc)
+
+pub returns-in-Err-clause-store : goal.returns-in-Err-clause-store
+returns-in-Err-clause-store g c =
+    store-quiet _ _ _ _ _ _ _ _ _ _ c.take_priors.ensures.quiet c.take_priors.ensures.later (λ e. (let one = store-of_files c.in-Err.fault cc in c.in-Err.ensures.store (ap Err one)))
 
 -- there is no memory for a desk
 
-pub returns-in_default-clause-broken : goal.returns-in_default-clause-broken
-returns-in_default-clause-broken g c = λ k ahead.
+pub returns-in_default-clause-taken : goal.returns-in_default-clause-taken
+returns-in_default-clause-taken g c = λ k ahead.
     let stands = (ahead-read _ _ c.args.repository k c.take_priors.ensures.quiet.same_files ahead).stands in
-    none-begun files.Memory (g.S.Source.left c.args.source.now) k (session_pieces c.args.repository.held.limits (Dirichlet c.args.mu) k) _ _ _ tt refl stands
-
-pub returns-in_default-clause-stops : goal.returns-in_default-clause-stops
-returns-in_default-clause-stops g c = λ k ahead.
-    stops-quiet _ _ (g.S.Source.left c.args.source.now) k (session_pieces c.args.repository.held.limits (Dirichlet c.args.mu) k) c.take_priors.ensures.quiet.no_more
+    let left = g.S.Source.left c.args.source.now in
+    let pieces = session_pieces c.args.repository.held.limits (Dirichlet c.args.mu) k in
+    record {
+      refused = tt;
+      finished = tt;
+      stands = tt;
+      order = tt;
+      broken = none-begun files.Memory left k pieces _ _ _ tt refl stands;
+      honest = λ damage. damage;
+      stops = stops-quiet _ _ left k pieces c.take_priors.ensures.quiet.no_more;
+    }
 
 pub returns-in_default-clause-grows : goal.returns-in_default-clause-grows
 returns-in_default-clause-grows g c = grows-none _ _ refl
 
-pub returns-in_default-clause-goes_on : goal.returns-in_default-clause-goes_on
-returns-in_default-clause-goes_on g c = quiet-on g.T.Store.files g.T.Store.layers g.T.Store.clock g.T.Store.since g.T.Store.longest g.T.Store.held _ _ c.take_priors.ensures.quiet
+pub returns-in_default-clause-store : goal.returns-in_default-clause-store
+returns-in_default-clause-store g c = store-quiet _ _ _ _ _ _ _ _ _ _ c.take_priors.ensures.quiet c.take_priors.ensures.later (λ e. absurd cc)
 
 -- all items are taken
 
-pub returns-clause-refused : goal.returns-clause-refused
-returns-clause-refused g c = λ k ahead.
+pub returns-clause-taken : goal.returns-clause-taken
+returns-clause-taken g c = λ k ahead.
     let now = ahead-read _ _ c.args.repository k c.take_priors.ensures.quiet.same_files ahead in
     let made = c.in-Ok-new.ensures in
     let kind = c.in-Ok-new.desk.same_kind ∙ ap (λ r. r.kind) (made.rule ∙ c.new-rule.ensures) in
     let all = begun-all _ c.args.repository c.in-Ok-new.desk.kept _ k (Dirichlet c.args.mu) made.repository made.queries c.requires.none kind now (made.backed _ now.backed (merge-none _ _ c.requires.none))
     (c.in-Ok.ensures.priors k ahead.reads) (length-map c.take_priors.new.plugs _ ∙ c.take_priors.ensures.nine) in
-    subst (λ (s : State). IfOk c.take_items.result (λ (refused : Bool). IfSome (g.S.Source.left c.args.source.now) (λ bytes. some_refused (pieces_of s (items bytes)) ≡ refused))) all.1 (c.take_items.ensures.refused k all.0)
-
-pub returns-clause-finished : goal.returns-clause-finished
-returns-clause-finished g c = λ k ahead.
-    let now = ahead-read _ _ c.args.repository k c.take_priors.ensures.quiet.same_files ahead in
-    let made = c.in-Ok-new.ensures in
-    let kind = c.in-Ok-new.desk.same_kind ∙ ap (λ r. r.kind) (made.rule ∙ c.new-rule.ensures) in
-    let all = begun-all _ c.args.repository c.in-Ok-new.desk.kept _ k (Dirichlet c.args.mu) made.repository made.queries c.requires.none kind now (made.backed _ now.backed (merge-none _ _ c.requires.none))
-    (c.in-Ok.ensures.priors k ahead.reads) (length-map c.take_priors.new.plugs _ ∙ c.take_priors.ensures.nine) in
-    subst (λ (s : State). OnOk c.take_items.result (IfSome (g.S.Source.left c.args.source.now) (λ bytes. Finished StandsFor k (pieces_of s (items bytes)) (g.K.Sink.taken c.args.sink.now) (g.K.Sink.taken c.take_items.new.sink) (g.T.Store.files c.take_items.new.store)))) all.1 (c.take_items.ensures.finished k all.0)
-
-pub returns-clause-stands : goal.returns-clause-stands
-returns-clause-stands g c = λ k ahead.
-    let now = ahead-read _ _ c.args.repository k c.take_priors.ensures.quiet.same_files ahead in
-    let made = c.in-Ok-new.ensures in
-    let kind = c.in-Ok-new.desk.same_kind ∙ ap (λ r. r.kind) (made.rule ∙ c.new-rule.ensures) in
-    let all = begun-all _ c.args.repository c.in-Ok-new.desk.kept _ k (Dirichlet c.args.mu) made.repository made.queries c.requires.none kind now (made.backed _ now.backed (merge-none _ _ c.requires.none))
-    (c.in-Ok.ensures.priors k ahead.reads) (length-map c.take_priors.new.plugs _ ∙ c.take_priors.ensures.nine) in
-    subst (λ (s : State). OnOk c.take_items.result (IfSome (g.S.Source.left c.args.source.now) (λ bytes. StandsFor (collection_of (state_behind_all s (items bytes))) (g.T.Store.files c.take_items.new.store)))) all.1 (c.take_items.ensures.stands k all.0)
-
-pub returns-clause-order : goal.returns-clause-order
-returns-clause-order g c = λ k ahead.
-    let now = ahead-read _ _ c.args.repository k c.take_priors.ensures.quiet.same_files ahead in
-    let made = c.in-Ok-new.ensures in
-    let kind = c.in-Ok-new.desk.same_kind ∙ ap (λ r. r.kind) (made.rule ∙ c.new-rule.ensures) in
-    let all = begun-all _ c.args.repository c.in-Ok-new.desk.kept _ k (Dirichlet c.args.mu) made.repository made.queries c.requires.none kind now (made.backed _ now.backed (merge-none _ _ c.requires.none))
-    (c.in-Ok.ensures.priors k ahead.reads) (length-map c.take_priors.new.plugs _ ∙ c.take_priors.ensures.nine) in
-    subst (λ (s : State). OnOk c.take_items.result (IfSome (g.S.Source.left c.args.source.now) (λ bytes. AreTrue s (items bytes)))) all.1 (c.take_items.ensures.order k all.0)
-
-pub returns-clause-broken : goal.returns-clause-broken
-returns-clause-broken g c = λ k ahead.
-    let now = ahead-read _ _ c.args.repository k c.take_priors.ensures.quiet.same_files ahead in
-    let made = c.in-Ok-new.ensures in
-    let kind = c.in-Ok-new.desk.same_kind ∙ ap (λ r. r.kind) (made.rule ∙ c.new-rule.ensures) in
-    let all = begun-all _ c.args.repository c.in-Ok-new.desk.kept _ k (Dirichlet c.args.mu) made.repository made.queries c.requires.none kind now (made.backed _ now.backed (merge-none _ _ c.requires.none))
-    (c.in-Ok.ensures.priors k ahead.reads) (length-map c.take_priors.new.plugs _ ∙ c.take_priors.ensures.nine) in
-    subst (λ (s : State). IfErr c.take_items.result (λ (why : CommandFault). IfSome (g.S.Source.left c.args.source.now) (λ bytes. IsBrokenBy why StandsFor k (pieces_of s (items bytes)) (g.K.Sink.taken c.args.sink.now) (g.K.Sink.taken c.take_items.new.sink) (g.T.Store.files c.take_items.new.store)))) all.1 (c.take_items.ensures.broken k all.0)
-
-pub returns-clause-honest : goal.returns-clause-honest
-returns-clause-honest g c = λ k ahead.
-    let now = ahead-read _ _ c.args.repository k c.take_priors.ensures.quiet.same_files ahead in
-    let made = c.in-Ok-new.ensures in
-    let kind = c.in-Ok-new.desk.same_kind ∙ ap (λ r. r.kind) (made.rule ∙ c.new-rule.ensures) in
-    let all = begun-all _ c.args.repository c.in-Ok-new.desk.kept _ k (Dirichlet c.args.mu) made.repository made.queries c.requires.none kind now (made.backed _ now.backed (merge-none _ _ c.requires.none))
-    (c.in-Ok.ensures.priors k ahead.reads) (length-map c.take_priors.new.plugs _ ∙ c.take_priors.ensures.nine) in
-    c.take_items.ensures.honest k all.0
-
-pub returns-clause-stops : goal.returns-clause-stops
-returns-clause-stops g c = λ k ahead.
-    let now = ahead-read _ _ c.args.repository k c.take_priors.ensures.quiet.same_files ahead in
-    let made = c.in-Ok-new.ensures in
-    let kind = c.in-Ok-new.desk.same_kind ∙ ap (λ r. r.kind) (made.rule ∙ c.new-rule.ensures) in
-    let all = begun-all _ c.args.repository c.in-Ok-new.desk.kept _ k (Dirichlet c.args.mu) made.repository made.queries c.requires.none kind now (made.backed _ now.backed (merge-none _ _ c.requires.none))
-    (c.in-Ok.ensures.priors k ahead.reads) (length-map c.take_priors.new.plugs _ ∙ c.take_priors.ensures.nine) in
-    stops-read _ _ _ (g.S.Source.left c.args.source.now) k (session_pieces c.args.repository.held.limits (Dirichlet c.args.mu) k) c.take_priors.ensures.quiet.no_more
-    (subst (λ (s : State). IfSome (g.S.Source.left c.args.source.now) (λ bytes. Leaves (g.T.Store.since c.take_priors.new.store) (g.T.Store.since c.take_items.new.store) (StandsAlong StandsFor k (pieces_of s (items bytes))))) all.1 (c.take_items.ensures.stops k all.0))
-
-pub returns-clause-goes_on : goal.returns-clause-goes_on
-returns-clause-goes_on g c = behind-on g.T.Store.files g.T.Store.layers g.T.Store.clock g.T.Store.since g.T.Store.longest g.T.Store.held _ _ _ c.take_priors.ensures.quiet c.take_items.ensures.goes_on
+    let left = g.S.Source.left c.args.source.now in
+    let taken = subst (λ (s : State). AreItemsTaken s k left (g.K.Sink.taken c.args.sink.now) (g.T.Store.since c.take_priors.new.store) c.take_items.result (g.K.Sink.taken c.take_items.new.sink) (g.T.Store.since c.take_items.new.store) (g.T.Store.files c.take_items.new.store))
+    all.1 (c.take_items.ensures.taken k all.0) in
+    record {
+      refused = taken.refused;
+      finished = taken.finished;
+      stands = taken.stands;
+      order = taken.order;
+      broken = taken.broken;
+      honest = taken.honest;
+      stops = stops-read _ _ _ left k (session_pieces c.args.repository.held.limits (Dirichlet c.args.mu) k) c.take_priors.ensures.quiet.no_more taken.stops;
+    }
 
 pub returns-clause-store : goal.returns-clause-store
-returns-clause-store g c = λ e. rose-earlier _ _ _ c.take_priors.ensures.later (c.take_items.ensures.store e)
+returns-clause-store g c = store-behind _ _ _ _ _ _ _ _ _ _ _ c.take_priors.ensures.quiet c.take_priors.ensures.later c.take_items.ensures.store

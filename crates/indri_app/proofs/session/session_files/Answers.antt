@@ -1,61 +1,39 @@
-use Rattle.std.proofs.Common.{◌≡◌, refl, sym, subst}
+use Rattle.std.proofs.Common.{◌≡◌, Err, ap, refl, sym, subst}
 use Rattle.command_words.specs.Table as asks
 use Rattle.command_pieces.specs.declared.command_fault.CommandFault.TheVariants as fault
-use Rattle.repository.specs.RealLimits.{StandsFor}
+use Rattle.command_pieces.proofs.Ends.{sink-still, source-still, store-behind, store-quiet}
 use Rattle.smoothing.specs.declared.rule.RuleKind.TheVariants.{Dirichlet}
 use Rattle.collection_commands.specs.Ahead.{IsAhead}
 use Rattle.indri_app.specs.Sessions.{session_pieces}
-use Rattle.indri_app.specs.Opened.{IsOpenFault}
-use Rattle.desk.proofs.EventExits.{quiet-on}
-use Rattle.indri_app.proofs.Beginning.{behind-on}
-use Rattle.indri_app.proofs.ChangingLemmas.{open-over, session-not_absent, session-over, undamaged-late, want-late}
-use Rattle.indri_app.proofs.Closing.{begun-by, done-by, stops-behind, stops-by, stops-none, want-begun-some}
-use Rattle.indri_app.proofs.Ended.{rose-earlier}
+use Rattle.indri_app.proofs.ChangingLemmas.{open-over, open-read, open-write, session-not_absent, session-over, undamaged-late, want-late}
+use Rattle.indri_app.proofs.Closing.{over-behind, over-by, over-none}
 use Rattle.indri_app.proofs.SessionLemmas.{in-order, with-priors}
 use Rattle.indri_app.proofs.session.session_files.Goals as goal
 
 -- the repository is open
 
-pub returns-in-Ok-clause-done : goal.returns-in-Ok-clause-done
-returns-in-Ok-clause-done g c = λ k stands.
+pub returns-in-Ok-clause-does : goal.returns-in-Ok-clause-does
+returns-in-Ok-clause-does g c = λ k stands.
     let told = g.T.Store.files c.args.store.now in
-    let same = c.open_repository.ensures.quiet.same_files in
+    let quiet = c.open_repository.ensures.quiet in
     let limits = c.in-Ok.repository.held.limits in
     let here = c.in-Ok.ensures.opened k stands in
-    let ahead = subst (λ f. IsAhead f c.in-Ok.repository k k) (sym same) here in
-    done-by told (asks.session c.args.mu) k (λ bytes. session_pieces limits (Dirichlet c.args.mu) k bytes) _ _ _ _ c.session.result (λ bytes. (limits, here.real, refl)) (c.session.ensures.refused k ahead) (c.session.ensures.finished k ahead)
-
-pub returns-in-Ok-clause-broken : goal.returns-in-Ok-clause-broken
-returns-in-Ok-clause-broken g c = λ k stands.
-    let told = g.T.Store.files c.args.store.now in
-    let same = c.open_repository.ensures.quiet.same_files in
-    let limits = c.in-Ok.repository.held.limits in
-    let here = c.in-Ok.ensures.opened k stands in
-    let ahead = subst (λ f. IsAhead f c.in-Ok.repository k k) (sym same) here in
-    begun-by told (asks.session c.args.mu) k (λ bytes. session_pieces limits (Dirichlet c.args.mu) k bytes) _ _ _ _ c.session.result (λ bytes. (limits, here.real, refl)) (c.session.ensures.broken k ahead)
-
-pub returns-in-Ok-clause-stops : goal.returns-in-Ok-clause-stops
-returns-in-Ok-clause-stops g c = λ k stands.
-    let told = g.T.Store.files c.args.store.now in
-    let same = c.open_repository.ensures.quiet.same_files in
-    let limits = c.in-Ok.repository.held.limits in
-    let here = c.in-Ok.ensures.opened k stands in
-    let ahead = subst (λ f. IsAhead f c.in-Ok.repository k k) (sym same) here in
-    stops-behind told (asks.session c.args.mu) k _ _ _ _ c.open_repository.ensures.quiet.no_more
-    (stops-by told (asks.session c.args.mu) k (λ bytes. session_pieces limits (Dirichlet c.args.mu) k bytes) _ _ _ (λ bytes. (limits, here.real, refl)) (c.session.ensures.stops k ahead))
+    let taken = c.session.ensures.taken k (subst (λ f. IsAhead f c.in-Ok.repository k k) (sym quiet.same_files) here) in
+    over-behind told told (asks.session c.args.mu) k _ _ _ _ _ _ _ _ refl quiet.no_more
+    (over-by told (asks.session c.args.mu) k (λ bytes. session_pieces limits (Dirichlet c.args.mu) k bytes) _ _ _ c.session.result _ _ _ (λ bytes. (limits, here.real, refl)) taken.refused taken.finished taken.broken taken.stops)
 
 pub returns-in-Ok-clause-order : goal.returns-in-Ok-clause-order
 returns-in-Ok-clause-order g c = λ k stands.
     let same = c.open_repository.ensures.quiet.same_files in
     let here = c.in-Ok.ensures.opened k stands in
     let ahead = subst (λ f. IsAhead f c.in-Ok.repository k k) (sym same) here in
-    in-order c.args.mu k c.in-Ok.repository.held.limits _ c.session.result here.real (c.session.ensures.order k ahead)
+    in-order c.args.mu k c.in-Ok.repository.held.limits _ c.session.result here.real (c.session.ensures.taken k ahead).order
 
 pub returns-in-Ok-clause-honest : goal.returns-in-Ok-clause-honest
 returns-in-Ok-clause-honest g c = λ k stands.
     let same = c.open_repository.ensures.quiet.same_files in
     let ahead = subst (λ f. IsAhead f c.in-Ok.repository k k) (sym same) (c.in-Ok.ensures.opened k stands) in
-    undamaged-late c.session.result c.session.ensures.only (c.session.ensures.honest k ahead)
+    undamaged-late c.session.result c.session.ensures.only (c.session.ensures.taken k ahead).honest
 
 pub returns-in-Ok-clause-untouched : goal.returns-in-Ok-clause-untouched
 returns-in-Ok-clause-untouched g c = λ e. absurd (session-not_absent c.session.result c.session.ensures.only e)
@@ -74,21 +52,15 @@ returns-in-Ok-clause-intact g c = λ f told.
 pub returns-in-Ok-clause-only : goal.returns-in-Ok-clause-only
 returns-in-Ok-clause-only g c = session-over c.session.result c.session.ensures.only
 
-pub returns-in-Ok-clause-goes_on : goal.returns-in-Ok-clause-goes_on
-returns-in-Ok-clause-goes_on g c = behind-on _ _ _ _ _ _ _ _ _ c.open_repository.ensures.quiet c.session.ensures.goes_on
-
 pub returns-in-Ok-clause-store : goal.returns-in-Ok-clause-store
-returns-in-Ok-clause-store g c = λ e. rose-earlier _ _ _ c.open_repository.ensures.later (c.session.ensures.store e)
+returns-in-Ok-clause-store g c = store-behind _ _ _ _ _ _ _ _ _ _ _ c.open_repository.ensures.quiet c.open_repository.ensures.later c.session.ensures.store
 
 -- it isn't opened
 
-pub returns-in-Err-clause-broken : goal.returns-in-Err-clause-broken
-returns-in-Err-clause-broken g c = λ k stands.
-    let same = c.open_repository.ensures.quiet.same_files in
-    want-begun-some c.in-Err.fault _ (asks.session c.args.mu) k _ _ _ _ (c.in-Err.ensures.honest k stands) refl (subst (λ f. StandsFor k f) (sym same) stands)
-
-pub returns-in-Err-clause-stops : goal.returns-in-Err-clause-stops
-returns-in-Err-clause-stops g c = λ k stands. stops-none (g.T.Store.files c.args.store.now) (asks.session c.args.mu) k _ _ _ c.open_repository.ensures.quiet.no_more
+pub returns-in-Err-clause-does : goal.returns-in-Err-clause-does
+returns-in-Err-clause-does g c = λ k stands.
+    let quiet = c.open_repository.ensures.quiet in
+    over-none _ _ (asks.session c.args.mu) k _ _ _ _ c.in-Err.fault (c.in-Err.ensures.honest k stands) quiet.same_files stands quiet.no_more
 
 pub returns-in-Err-clause-honest : goal.returns-in-Err-clause-honest
 returns-in-Err-clause-honest g c = λ k stands. want-late c.in-Err.fault (c.in-Err.ensures.honest k stands)
@@ -102,11 +74,11 @@ returns-in-Err-clause-without g c = λ f told none. (tt, (c.in-Err.ensures.witho
 pub returns-in-Err-clause-only : goal.returns-in-Err-clause-only
 returns-in-Err-clause-only g c = open-over c.in-Err.fault c.in-Err.ensures.only
 
-pub returns-in-Err-clause-goes_on : goal.returns-in-Err-clause-goes_on
-returns-in-Err-clause-goes_on g c = quiet-on _ _ _ _ _ _ _ _ c.open_repository.ensures.quiet
+pub returns-in-Err-clause-source : goal.returns-in-Err-clause-source
+returns-in-Err-clause-source g c = source-still _ _ _ _ _ (open-read (Err c.in-Err.fault) c.in-Err.ensures.only)
 
-pub returns-in-Err-clause-read : goal.returns-in-Err-clause-read
-returns-in-Err-clause-read g c = λ e. let one : c.in-Err.fault ≡ fault.Read = cc in absurd (subst IsOpenFault one c.in-Err.ensures.only)
+pub returns-in-Err-clause-sink : goal.returns-in-Err-clause-sink
+returns-in-Err-clause-sink g c = sink-still _ _ _ (open-write (Err c.in-Err.fault) c.in-Err.ensures.only)
 
-pub returns-in-Err-clause-write : goal.returns-in-Err-clause-write
-returns-in-Err-clause-write g c = λ e. let one : c.in-Err.fault ≡ fault.Write = cc in absurd (subst IsOpenFault one c.in-Err.ensures.only)
+pub returns-in-Err-clause-store : goal.returns-in-Err-clause-store
+returns-in-Err-clause-store g c = store-quiet _ _ _ _ _ _ _ _ _ _ c.open_repository.ensures.quiet c.open_repository.ensures.later (λ e. (let one : c.in-Err.fault ≡ fault.Store = cc in c.in-Err.ensures.store (ap Err one)))

@@ -14,51 +14,27 @@ use Rattle.indri_app.proofs.turn.do_item.Goals as goal
 
 -- an event
 
-pub returns-in-Event-clause-reply : goal.returns-in-Event-clause-reply
-returns-in-Event-clause-reply g c = rw c.in-Event.is c.do_event.ensures.reply
-
-pub returns-in-Event-clause-state : goal.returns-in-Event-clause-state
-returns-in-Event-clause-state g c = rw c.in-Event.is c.do_event.ensures.state
-
-pub returns-in-Event-clause-way : goal.returns-in-Event-clause-way
-returns-in-Event-clause-way g c = rw c.in-Event.is c.do_event.ensures.way
-
-pub returns-in-Event-clause-order : goal.returns-in-Event-clause-order
-returns-in-Event-clause-order g c = rw c.in-Event.is c.do_event.ensures.order
-
-pub returns-in-Event-clause-now : goal.returns-in-Event-clause-now
-returns-in-Event-clause-now g c = rw c.in-Event.is c.do_event.ensures.now
-
-pub returns-in-Event-clause-stops : goal.returns-in-Event-clause-stops
-returns-in-Event-clause-stops g c = rw c.in-Event.is c.do_event.ensures.stops
+pub returns-in-Event-clause-does : goal.returns-in-Event-clause-does
+returns-in-Event-clause-does g c = rw c.in-Event.is c.do_event.ensures.does
 
 -- what is no event
 
 pub tell_other-requires : goal.tell_other-requires
 tell_other-requires g c = no-event c.args.item c.in_default.not-Event
 
-pub returns-in_default-clause-reply : goal.returns-in_default-clause-reply
-returns-in_default-clause-reply g c = λ kept way.
+pub returns-in_default-clause-does : goal.returns-in_default-clause-does
+returns-in_default-clause-does g c = λ kept way.
     let s = state_of (g.T.Store.files c.args.store.now) c.args.desk.now.kept in
-    IfOk-weaker c.tell_other.result (λ (p : Plain). (s : State) → p ≡ item_reply s c.args.item) (λ p. p ≡ item_reply s c.args.item) (λ p is. is s) c.tell_other.ensures.piece
-
-pub returns-in_default-clause-state : goal.returns-in_default-clause-state
-returns-in_default-clause-state g c = λ kept way. on-ok c.tell_other.result _ (none-state _ c.args.item (no-event c.args.item c.in_default.not-Event))
-
-pub returns-in_default-clause-way : goal.returns-in_default-clause-way
-returns-in_default-clause-way g c = λ kept way. on-ok c.tell_other.result _ (none-way (g.T.Store.files c.args.store.now) c.args.desk.now.kept _ kept c.args.item (no-event c.args.item c.in_default.not-Event) way)
-
-pub returns-in_default-clause-order : goal.returns-in_default-clause-order
-returns-in_default-clause-order g c = λ kept way. on-ok c.tell_other.result _ (none-true _ c.args.item (no-event c.args.item c.in_default.not-Event))
-
-pub returns-in_default-clause-now : goal.returns-in_default-clause-now
-returns-in_default-clause-now g c = λ kept way. inl way.stands
-
-pub returns-in_default-clause-stops : goal.returns-in_default-clause-stops
-returns-in_default-clause-stops g c = λ kept way. Leaves-same _ _
-
-pub returns-in_default-clause-honest : goal.returns-in_default-clause-honest
-returns-in_default-clause-honest g c = λ kept way. IfErr-weaker c.tell_other.result (λ (e : SegFault). e ≡ fault.Memory) IsOutside (λ e is. subst IsOutside (sym is) tt) c.tell_other.ensures.only
+    let none = no-event c.args.item c.in_default.not-Event in
+    record {
+      reply = IfOk-weaker c.tell_other.result (λ (p : Plain). (s : State) → p ≡ item_reply s c.args.item) (λ p. p ≡ item_reply s c.args.item) (λ p is. is s) c.tell_other.ensures.piece;
+      state = on-ok c.tell_other.result _ (none-state _ c.args.item none);
+      way = on-ok c.tell_other.result _ (none-way (g.T.Store.files c.args.store.now) c.args.desk.now.kept _ kept c.args.item none way);
+      order = on-ok c.tell_other.result _ (none-true _ c.args.item none);
+      now = inl way.stands;
+      stops = Leaves-same _ _;
+      honest = IfErr-weaker c.tell_other.result (λ (e : SegFault). e ≡ fault.Memory) IsOutside (λ e is. subst IsOutside (sym is) tt) c.tell_other.ensures.only;
+    }
 
 pub returns-in_default-clause-usable : goal.returns-in_default-clause-usable
 returns-in_default-clause-usable g c = on-ok c.tell_other.result _ (λ on. c.requires.usable)

@@ -1,6 +1,9 @@
 use Rattle.std.proofs.Common.{◌∙◌, Err, ap, refl}
 use Rattle.desk.specs.Backed.{state_of}
 use Rattle.command_pieces.specs.Written.{Plain}
+use Rattle.command_pieces.proofs.Ends.{sink-still, store-by}
+use Rattle.indri_app.proofs.Generating.{items-not_store, write-of_items}
+use Rattle.indri_app.proofs.OpeningLemmas.{files-write, store-of_files}
 use Rattle.indri_app.proofs.Standing.{files-only, grows-all, grows-none, grows-unwritten, items-only, piece-done, piece-refused, piece-stops, piece-unwritten}
 use Rattle.indri_app.proofs.turn.take_item.Goals as goal
 
@@ -8,10 +11,10 @@ use Rattle.indri_app.proofs.turn.take_item.Goals as goal
 
 pub returns-in-Err-clause-broken : goal.returns-in-Err-clause-broken
 returns-in-Err-clause-broken g c = λ kept way.
-    rw c.of_files.ensures (piece-refused kept (state_of (g.T.Store.files c.args.store.now) c.args.desk.now.kept) c.args.item c.in-Err.fault _ _ _ (c.in-Err.ensures.honest kept way) refl (c.do_item.ensures.now kept way))
+    rw c.of_files.ensures (piece-refused kept (state_of (g.T.Store.files c.args.store.now) c.args.desk.now.kept) c.args.item c.in-Err.fault _ _ _ (c.in-Err.ensures.does kept way).honest refl (c.in-Err.ensures.does kept way).now)
 
 pub returns-in-Err-clause-stops : goal.returns-in-Err-clause-stops
-returns-in-Err-clause-stops g c = λ kept way. piece-stops kept (state_of (g.T.Store.files c.args.store.now) c.args.desk.now.kept) c.args.item _ _ (c.do_item.ensures.stops kept way)
+returns-in-Err-clause-stops g c = λ kept way. piece-stops kept (state_of (g.T.Store.files c.args.store.now) c.args.desk.now.kept) c.args.item _ _ (c.in-Err.ensures.does kept way).stops
 
 pub returns-in-Err-clause-grows : goal.returns-in-Err-clause-grows
 returns-in-Err-clause-grows g c = grows-none _ _ refl
@@ -19,31 +22,40 @@ returns-in-Err-clause-grows g c = grows-none _ _ refl
 pub returns-in-Err-clause-only : goal.returns-in-Err-clause-only
 returns-in-Err-clause-only g c = rw c.of_files.ensures (files-only c.in-Err.fault)
 
+pub returns-in-Err-clause-sink : goal.returns-in-Err-clause-sink
+returns-in-Err-clause-sink g c = sink-still _ _ _ (λ e. files-write c.in-Err.fault cc)
+
+pub returns-in-Err-clause-store : goal.returns-in-Err-clause-store
+returns-in-Err-clause-store g c = store-by _ _ _ _ _ _ _ _ _ (λ e. (let one = store-of_files c.in-Err.fault cc in ap Err one)) c.in-Err.ensures.store
+
 -- its piece is written
 
 pub returns-in-Ok-write-clause-refused : goal.returns-in-Ok-write-clause-refused
-returns-in-Ok-write-clause-refused g c = λ kept way. c.is_refusal.ensures ∙ ap (λ (p : Plain). p.is_refusal) (c.in-Ok.ensures.reply kept way)
+returns-in-Ok-write-clause-refused g c = λ kept way. c.is_refusal.ensures ∙ ap (λ (p : Plain). p.is_refusal) (c.in-Ok.ensures.does kept way).reply
 
 pub returns-in-Ok-write-clause-finished : goal.returns-in-Ok-write-clause-finished
 returns-in-Ok-write-clause-finished g c = λ kept way.
-    piece-done kept (state_of (g.T.Store.files c.args.store.now) c.args.desk.now.kept) c.args.item c.in-Ok.piece _ _ _ (c.in-Ok.ensures.reply kept way) c.in-Ok-write.ensures.finished (c.in-Ok.ensures.way kept way).stands
+    piece-done kept (state_of (g.T.Store.files c.args.store.now) c.args.desk.now.kept) c.args.item c.in-Ok.piece _ _ _ (c.in-Ok.ensures.does kept way).reply c.in-Ok-write.ensures.finished (c.in-Ok.ensures.does kept way).way.stands
 
 pub returns-in-Ok-write-clause-stops : goal.returns-in-Ok-write-clause-stops
-returns-in-Ok-write-clause-stops g c = λ kept way. piece-stops kept (state_of (g.T.Store.files c.args.store.now) c.args.desk.now.kept) c.args.item _ _ (c.do_item.ensures.stops kept way)
+returns-in-Ok-write-clause-stops g c = λ kept way. piece-stops kept (state_of (g.T.Store.files c.args.store.now) c.args.desk.now.kept) c.args.item _ _ (c.in-Ok.ensures.does kept way).stops
 
 pub returns-in-Ok-write-clause-grows : goal.returns-in-Ok-write-clause-grows
 returns-in-Ok-write-clause-grows g c = grows-all c.in-Ok.piece _ _ c.in-Ok-write.ensures.finished
+
+pub returns-in-Ok-write-clause-store : goal.returns-in-Ok-write-clause-store
+returns-in-Ok-write-clause-store g c = store-by _ _ _ _ _ _ _ _ _ (λ e. absurd cc) c.in-Ok.ensures.store
 
 -- it isn't written
 
 pub returns-clause-broken : goal.returns-clause-broken
 returns-clause-broken g c = λ kept way.
     let write = c.in-Err-write.ensures in
-    rw c.of_items.ensures (piece-unwritten kept (state_of (g.T.Store.files c.args.store.now) c.args.desk.now.kept) c.args.item c.in-Err-write.fault c.in-Ok.piece _ _ _ (c.in-Ok.ensures.reply kept way)
-    (λ e. write.no_read (ap Err e)) (λ e. write.front (ap Err e)) (λ e. write.none (ap Err e)) (c.in-Ok.ensures.way kept way).stands)
+    rw c.of_items.ensures (piece-unwritten kept (state_of (g.T.Store.files c.args.store.now) c.args.desk.now.kept) c.args.item c.in-Err-write.fault c.in-Ok.piece _ _ _ (c.in-Ok.ensures.does kept way).reply
+    (λ e. write.no_read (ap Err e)) (λ e. write.front (ap Err e)) (λ e. write.none (ap Err e)) (c.in-Ok.ensures.does kept way).way.stands)
 
 pub returns-clause-stops : goal.returns-clause-stops
-returns-clause-stops g c = λ kept way. piece-stops kept (state_of (g.T.Store.files c.args.store.now) c.args.desk.now.kept) c.args.item _ _ (c.do_item.ensures.stops kept way)
+returns-clause-stops g c = λ kept way. piece-stops kept (state_of (g.T.Store.files c.args.store.now) c.args.desk.now.kept) c.args.item _ _ (c.in-Ok.ensures.does kept way).stops
 
 pub returns-clause-grows : goal.returns-clause-grows
 returns-clause-grows g c =
@@ -52,3 +64,12 @@ returns-clause-grows g c =
 
 pub returns-clause-only : goal.returns-clause-only
 returns-clause-only g c = rw c.of_items.ensures (items-only c.in-Err-write.fault (λ e. c.in-Err-write.ensures.no_read (ap Err e)))
+
+pub returns-clause-sink : goal.returns-clause-sink
+returns-clause-sink g c = record {
+  later = c.in-Err-write.ensures.later;
+  cause = λ e. (let one = write-of_items c.in-Err-write.fault cc in c.in-Err-write.ensures.cause (ap Err one));
+}
+
+pub returns-clause-store : goal.returns-clause-store
+returns-clause-store g c = store-by _ _ _ _ _ _ _ _ _ (λ e. absurd (items-not_store c.in-Err-write.fault cc)) c.in-Ok.ensures.store

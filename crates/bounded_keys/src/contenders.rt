@@ -1,5 +1,5 @@
 // The first items by numbers that lead their keys, and those that may still be among the first by their keys.
-ghost use Rattle.std.specs.Prelude.{◌≡◌, ◌<◌, ◌≤◌, ◌∷◌, ◌++◌, [], ℕ, true, false, List, length, slice_index_or, IfOk, OnOk};
+ghost use Rattle.std.specs.Prelude.{◌≡◌, ◌<◌, ◌≤◌, ◌∷◌, ◌++◌, [], ℕ, true, false, nat_le, List, length, slice_index_or, IfOk, OnOk};
 ghost use Rattle.std.specs.BinaryHeap.{IsHeap, IsUpperBound, heap_items, heap_len};
 ghost use Rattle.std.specs.List.{All};
 ghost use Rattle.std.specs.List.Sorted.{IsPermutation};
@@ -119,6 +119,14 @@ impl<T: Leading + Drop> Contenders<T> {
         ensures { result ≡ self.now.most }
     {
         self.most
+    }
+
+    /// Whether some number is beaten: no more can be held without one that goes.
+    pub fn beats_some(&self) -> bool
+        ensures full { result ≡ nat_le self.now.most (length self.now.held) }
+        ensures nothing { result ≡ false → (all : List T) → IsKept T.cmp T.number T.before all self.now → (number : ℕ) → is_beaten_by T.number self.now.scale self.now.most all number ≡ false }
+    {
+        self.heap.len() >= self.most
     }
 
     /// Whether a key that this number leads is surely above those of the first: at least so many may be held whose keys are surely

@@ -19,6 +19,7 @@ use Rattle.belief_nodes.specs.Priors.{Prior}
 use Rattle.range_bounds.specs.Ranges.{range_documents}
 use Rattle.range_bounds.specs.declared.table.RangeTable.{RangeTable}
 use Rattle.ranker.specs.Least.{AreFrom}
+use Rattle.ranker.specs.RangeKeys.{range_key}
 use Rattle.ranker.specs.Passed.{IsAhead, IsKnown, IsSpan, IsTold, bit_of, is_clear, nothing_known}
 use Rattle.ranker.specs.declared.place.Ahead.{Ahead}
 use Rattle.ranker.specs.declared.place.Passed.{Passed}
@@ -111,6 +112,7 @@ module _ (kind : RuleKind) (priors : List Prior) (filters : List FilterTree) (ne
   IsKnown-nothing docs told = record {
     may = IsAhead-nothing filters network.leaves docs 0;
     least = λ n i is low high. absurd (omega (arith, high));
+    key = λ n i is low high. absurd (omega (arith, high));
     told = told;
     span = IsSpan-nothing (length docs);
   }
@@ -125,6 +127,7 @@ module _ (kind : RuleKind) (priors : List Prior) (filters : List FilterTree) (ne
       let later : Known docs next ahead = record {
         may = IsAhead-on filters network.leaves docs id next ahead ahead up refl h.may;
         least = λ n i is low high. h.least n i is (omega (arith, up, low)) high;
+        key = λ n i is low high. h.key n i is (omega (arith, up, low)) high;
         told = h.told;
         span = IsSpan-on (length docs) id next ahead ahead up within refl h.span;
       } in
@@ -142,6 +145,7 @@ module _ (kind : RuleKind) (priors : List Prior) (filters : List FilterTree) (ne
   IsKnown-found docs id was now (inr new) may span h = record {
     may = may;
     least = λ n i is low high. absurd (false≢true (ap is_some (sym new.1 ∙ is)));
+    key = λ n i is low high. absurd (false≢true (ap is_some (sym new.1 ∙ is)));
     told = h.told;
     span = span;
   }
@@ -151,6 +155,7 @@ module _ (kind : RuleKind) (priors : List Prior) (filters : List FilterTree) (ne
   IsKnown-opened docs id ahead now end bound read may h = record {
     may = may;
     least = λ n i is low high. h.least n i (sym bound ∙ is) low (omega (arith, high, end));
+    key = λ n i is low high. h.key n i (sym bound ∙ is) low (omega (arith, high, end));
     told = h.told;
     span = IsSpan-opened (length docs) id ahead now end read h.span;
   }
@@ -166,9 +171,9 @@ module _ (kind : RuleKind) (priors : List Prior) (filters : List FilterTree) (ne
 
   -- with a bound of the range
   pub IsKnown-bounded : (docs : List Document) (id : ℕ) (ahead : Ahead) (bound : Option ℕ) → is_clear ahead.mask ≡ false
-      → ((d : Document) → Contains (range_documents docs (id / 64)) d → IfSome bound (λ n. AreFrom kind priors network n d)) → Known docs id ahead
+      → ((d : Document) → Contains (range_documents docs (id / 64)) d → IfSome bound (λ n. AreFrom kind priors network n d)) → IfSome bound (λ n. n ≡ range_key kind priors network docs (id / 64)) → Known docs id ahead
       → Known docs id (record { end = ahead.end; mask = ahead.mask; bound = bound })
-  IsKnown-bounded docs id ahead bound read least h =
+  IsKnown-bounded docs id ahead bound read least key h =
       let short = h.span.short read in
       let inside = h.span.inside in
       record {
@@ -176,6 +181,9 @@ module _ (kind : RuleKind) (priors : List Prior) (filters : List FilterTree) (ne
         least = λ n i is low high.
             subst (λ (b : Option ℕ). IfSome b (λ n. AreFrom kind priors network n (document_at docs i))) is
             (least (document_at docs i) (in_range docs i (id / 64) (omega (arith, low)) (omega (arith, high, short)) (omega (arith, high, inside))));
+        key = λ n i is low high.
+            let same : i / 64 ≡ id / 64 = omega (arith, low, high, short) in
+            subst (λ (b : Option ℕ). IfSome b (λ n. n ≡ range_key kind priors network docs (id / 64))) is key ∙ ap (range_key kind priors network docs) (sym same);
         told = h.told;
         span = IsSpan-opened (length docs) id ahead (record { end = ahead.end; mask = ahead.mask; bound = bound }) refl read h.span;
       }

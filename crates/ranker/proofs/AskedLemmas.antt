@@ -18,7 +18,7 @@ use Rattle.ranker.proofs.PassedLemmas.{cost-more, cost-sum}
 
 -- ---- ranges with live ids
 
-last-or : (m n : ℕ) → m ≤ suc n → (m ≤ n) ⊎ (m ≡ suc n)
+pub last-or : (m n : ℕ) → m ≤ suc n → (m ≤ n) ⊎ (m ≡ suc n)
 last-or m n le = by (nat_lt n m) refl
   where
     by : (b : Bool) → nat_lt n m ≡ b → (m ≤ n) ⊎ (m ≡ suc n)

@@ -1,5 +1,5 @@
 -- What a search holds: while it goes on, and at its end.
-use Rattle.std.proofs.Common.{◌≡◌, ◌≤◌, ℕ, nat_lt, false, List, [], map, length, sym, ap, subst, ◌∙◌, arith}
+use Rattle.std.proofs.Common.{◌≡◌, ◌≤◌, ℕ, nat_lt, false, List, map, length, sym, ap, subst, ◌∙◌, arith}
 use Rattle.std.specs.List.{All}
 use Rattle.std.proofs.lemmas.Bool.{false≢true}
 use Rattle.std.proofs.lemmas.Bool.Decides.{nat_tests}
@@ -13,7 +13,7 @@ use Rattle.first_few.specs.First.{IsFront}
 use Rattle.bounded_keys.specs.Entries.{IsEarly, by_key, settled}
 use Rattle.bounded_keys.specs.declared.entry.Entry.{Entry}
 use Rattle.bounded_keys.specs.declared.entry.Settled.{Settled}
-use Rattle.ranker.specs.First.{Advances, AreEntries, HoldsFirst, KeptEntries, WereOffered, counted, key_by, settled_candidate, window_order}
+use Rattle.ranker.specs.First.{AreEntries, HoldsFirst, KeptEntries, WereOffered, key_by, settled_candidate, window_order}
 use Rattle.ranker.specs.Held.{HoldsEntries, IsHeld, is_open}
 use Rattle.ranker.specs.Ranking.{IsAnswerBy, candidate_of}
 use Rattle.ranker.specs.Windows.{KeepsWindows}
@@ -33,9 +33,13 @@ module _ (kind : RuleKind) (priors : List Prior) (filters : List FilterTree) (ne
       IsAnswerBy-front kind priors filters network docs most kept front hits told keys open_held shown
 
   -- documents behind those that were passed
-  pub IsHeld-on : (old new : List Document) (most : ℕ) (was : Held) (kept next : KeptEntries) (a b p q : ℕ) → was ≡ Open kept → Advances kind priors filters network old new (counted kept a p) (counted next b q)
+  pub IsHeld-on : (old new : List Document) (most : ℕ) (was : Held) (kept next : KeptEntries) → was ≡ Open kept → (HoldsFirst kind priors filters network old most kept → HoldsFirst kind priors filters network new most next)
       → IsHeld kind priors filters network old most was → IsHeld kind priors filters network new most (Open next)
-  IsHeld-on old new most was kept next a b p q is on h = on.step [] most (subst (λ (x : Held). IsHeld kind priors filters network old most x) is h)
+  IsHeld-on old new most was kept next is on h = on (subst (λ (x : Held). IsHeld kind priors filters network old most x) is h)
+
+  -- what is held while it goes on
+  pub IsHeld-first : (docs : List Document) (most : ℕ) (was : Held) (kept : KeptEntries) → was ≡ Open kept → IsHeld kind priors filters network docs most was → HoldsFirst kind priors filters network docs most kept
+  IsHeld-first docs most was kept is h = subst (λ (x : Held). IsHeld kind priors filters network docs most x) is h
 
   -- where all documents are passed, what is held are the results
   pub IsHeld-answer : (docs all : List Document) (most : ℕ) (held : Held) (hits : List Hit) → held ≡ Ended hits → docs ≡ all → IsHeld kind priors filters network docs most held → IsAnswerBy kind priors filters network all most hits

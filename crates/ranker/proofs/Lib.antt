@@ -10,11 +10,14 @@ pub mod OpenedLemmas
 pub mod OpeningLemmas
 pub mod PassedLemmas
 pub mod PlaceLemmas
+pub mod RangeKeyLemmas
 pub mod RankingLemmas
 pub mod ReadLemmas
 pub mod SkippedLemmas
 pub mod SkippingLemmas
 pub mod SquaresLemmas
 pub mod TermLemmas
+pub mod UnbeatenLemmas
 pub mod WindowLemmas
 pub mod WithinLemmas
+pub mod WorkLemmas

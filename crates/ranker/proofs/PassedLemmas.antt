@@ -59,7 +59,7 @@ more (d ∷ docs) (false ∷ marks) zero lt h = refl
 more (d ∷ docs) (true ∷ marks) (suc i) lt h = more docs marks i (omega (arith, lt)) (omega (arith, h))
 more (d ∷ docs) (false ∷ marks) (suc i) lt h = ap (λ (ds : List Document). d ∷ ds) (more docs marks i (omega (arith, lt)) (omega (arith, h)))
 
-unmarked-more : (docs : List Document) (marks : List Bool) (i : ℕ) → i < length docs → length marks ≡ length docs
+pub unmarked-more : (docs : List Document) (marks : List Bool) (i : ℕ) → i < length docs → length marks ≡ length docs
     → unmarked (take (i + 1) docs) marks ≡ unmarked (take i docs) marks ++ cond (get_or marks i false) [] (document_at docs i ∷ [])
 unmarked-more docs marks i lt h =
     let next : i + 1 ≡ suc i = omega arith in
@@ -139,7 +139,7 @@ module _ (kind : RuleKind) (priors : List Prior) (filters : List FilterTree) (ne
       → AreFrom kind priors network least d → PassesBy few d
   passes_beaten few d least summed skip from = λ before most h.
       let rows = document_rows kind priors filters network least summed d from in
-      HoldsFirst-more kind priors filters network before d most few.kept few.kept rows.rows (record { more = rows.rows; behind = refl; candidates = rows.all }) rows.each refl
+      HoldsFirst-more kind priors filters network before d most few.kept few.kept rows.rows (record { more = rows.rows; behind = refl; candidates = rows.all }) rows.each refl refl
       (λ all offered. skip all (map (early_of network) rows.rows) offered rows.leads) h
 
   module _ (docs : List Document) (marks : List Bool) (i : ℕ) (few : Counted) where

@@ -74,7 +74,7 @@ live-next told parts part lt =
     ∙ ap (λ (ds : List Document). live told (take part parts) ++ ds) (append-nil (live_in told m))
 
 -- behind the last document of a part the next one begins
-before-next : (told : Option Files) (parts : List Marked) (part id : ℕ) → part < length parts → id ≡ size (part_at parts part).source → before told parts (part + 1) 0 ≡ before told parts part id
+pub before-next : (told : Option Files) (parts : List Marked) (part id : ℕ) → part < length parts → id ≡ size (part_at parts part).source → before told parts (part + 1) 0 ≡ before told parts part id
 before-next told parts part id lt end =
     let m : Marked = part_at parts part in
     let all : live_before told m id ≡ live_in told m = ap (λ (ds : List Document). unmarked ds m.marks) (take_all id (reads told m.source) (omega (arith, end, reads-length told m.source))) in

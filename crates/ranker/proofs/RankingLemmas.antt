@@ -30,7 +30,7 @@ use Rattle.bounded_keys.specs.declared.entry.Entry.{Entry}
 use Rattle.bounded_keys.specs.declared.entry.Settled.{Settled}
 use Rattle.bounded_keys.proofs.Kepts.{Keeps-same}
 use Rattle.bounded_keys.proofs.Levels.{early_beliefs, early_length, early_level, leading_total}
-use Rattle.ranker.specs.First.{HoldsFirst, KeptEntries, WereOffered, early_of, key_by, late_of, settled_candidate, window_of, window_order}
+use Rattle.ranker.specs.First.{HoldsFirst, KeptEntries, WereOffered, early_of, key_by, late_of, scale_of, settled_candidate, window_of, window_order}
 use Rattle.ranker.specs.Ranking.{IsAnswerBy, IsRankingBy, candidate_of, hit_order}
 use Rattle.ranker.specs.declared.window.Window.{Window}
 use Rattle.ranker.proofs.Fractions.{fractions_same}
@@ -149,15 +149,15 @@ module _ (kind : RuleKind) (priors : List Prior) (filters : List FilterTree) (ne
   -- ---- the first of the candidates
 
   -- of no documents
-  pub HoldsFirst-none : (most : ℕ) (kept : KeptEntries) → kept.most ≡ most → WereOffered [] kept → HoldsFirst kind priors filters network [] most kept
-  HoldsFirst-none most kept room offered = record { rows = []; all = refl; each = All-nil (λ row. length row.fractions ≡ length network.leaves); room = room; offered = offered }
+  pub HoldsFirst-none : (most : ℕ) (kept : KeptEntries) → kept.most ≡ most → kept.scale ≡ scale_of network → WereOffered [] kept → HoldsFirst kind priors filters network [] most kept
+  HoldsFirst-none most kept room scaled offered = record { rows = []; all = refl; each = All-nil (λ row. length row.fractions ≡ length network.leaves); room = room; scaled = scaled; offered = offered }
 
   -- with the rows of one more document
   pub HoldsFirst-more : (docs : List Document) (d : Document) (most : ℕ) (kept next : KeptEntries) (rows : List Row)
-      → Adds kind priors filters network d [] rows → All (λ row. length row.fractions ≡ length network.leaves) rows → next.most ≡ kept.most
+      → Adds kind priors filters network d [] rows → All (λ row. length row.fractions ≡ length network.leaves) rows → next.most ≡ kept.most → next.scale ≡ kept.scale
       → ((all : List (Entry Window)) → WereOffered all kept → WereOffered (map (early_of network) rows ++ all) next)
       → HoldsFirst kind priors filters network docs most kept → HoldsFirst kind priors filters network (docs ++ d ∷ []) most next
-  HoldsFirst-more docs d most kept next rows adds long room step h =
+  HoldsFirst-more docs d most kept next rows adds long room scaled step h =
       let found : List Document → List Candidate = candidates kind priors filters network in
       let here : map row_candidate rows ≡ found (d ∷ []) = ap (map row_candidate) adds.behind ∙ adds.candidates in
       let old : List (Entry Window) = map (early_of network) h.rows in
@@ -170,6 +170,7 @@ module _ (kind : RuleKind) (priors : List Prior) (filters : List FilterTree) (ne
             ∙ sym (candidates-append docs (d ∷ []));
         each = All-append (λ row. length row.fractions ≡ length network.leaves) h.rows rows h.each long;
         room = room ∙ h.room;
+        scaled = scaled ∙ h.scaled;
         offered = subst (λ (xs : List (Entry Window)). WereOffered xs next) (sym (map-append (early_of network) h.rows rows))
             (Keeps-same by_leading leading_total (λ (x : Entry Window). x.leading) (λ a b. refl) next.most next.scale (new ++ old) (old ++ new) next.held next.near (IsPermutation-append_comm new old) (step old h.offered));
       }

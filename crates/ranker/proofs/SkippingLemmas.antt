@@ -98,4 +98,4 @@ module _ (kind : RuleKind) (priors : List Prior) (filters : List FilterTree) (ne
   -- one more document that has nothing to show
   pub HoldsFirst-skipped : (docs : List Document) (d : Document) (most : ℕ) (few : KeptEntries) → query_may filters network.leaves d ≡ false
       → HoldsFirst kind priors filters network docs most few → HoldsFirst kind priors filters network (docs ++ d ∷ []) most few
-  HoldsFirst-skipped docs d most few none h = HoldsFirst-more kind priors filters network docs d most few few [] (Adds-none d none) (All-nil (λ row. length row.fractions ≡ length network.leaves)) refl (λ all first. first) h
+  HoldsFirst-skipped docs d most few none h = HoldsFirst-more kind priors filters network docs d most few few [] (Adds-none d none) (All-nil (λ row. length row.fractions ≡ length network.leaves)) refl refl (λ all first. first) h

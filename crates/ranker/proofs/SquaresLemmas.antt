@@ -16,7 +16,7 @@ use Rattle.bounded_keys.specs.Digits.{early}
 use Rattle.bounded_keys.specs.Entries.{in_question}
 use Rattle.bounded_keys.specs.declared.entry.Entry.{Entry}
 use Rattle.bounded_keys.proofs.Levels.{early_digits}
-use Rattle.ranker.specs.First.{AreEntries, HoldsFirst, KeptEntries, WereOffered, early_cost, early_of, key_by, window_of}
+use Rattle.ranker.specs.First.{AreEntries, AsksWithin, HoldsFirst, KeptEntries, WereOffered, early_cost, early_of, key_by, window_of}
 use Rattle.ranker.specs.Held.{IsHeld}
 use Rattle.ranker.specs.Squares.{entry_by, late_cost, spent}
 use Rattle.ranker.specs.declared.held.Held.{Held}
@@ -40,7 +40,7 @@ module _ (network : NetworkTree) where
       let leaves = early_ratios r.fractions in
       λ i. record { leading = leading i; window = window_of r; leaves = leaves i }
 
-  rows_by : (rows : List Row) → map (early_of network) rows ≡ map (entry_by network) (map row_candidate rows)
+  pub rows_by : (rows : List Row) → map (early_of network) rows ≡ map (entry_by network) (map row_candidate rows)
   rows_by [] = refl
   rows_by (r ∷ rows) = λ i. early_by r i ∷ rows_by rows i
 
@@ -62,40 +62,36 @@ module _ (network : NetworkTree) where
   -- ---- steps
 
   module _ (most : ℕ) where
-    spent_open : (more : Bool) (asked : ℕ) (cs : List Candidate) → more ≡ true → spent network most more asked cs ≡ early_cost network (asked + length cs)
-    spent_open more asked cs is =
-        let e : spent network most more asked cs ≡ early_cost network (asked + length cs) + 0 = ap (λ (b : Bool). early_cost network (asked + length cs) + (if b then 0 else late_cost network most cs)) is in
+    spent_open : (more : Bool) (p : ℕ) (cs : List Candidate) → more ≡ true → spent network most more p cs ≡ early_cost network p
+    spent_open more p cs is =
+        let e : spent network most more p cs ≡ early_cost network p + 0 = ap (λ (b : Bool). early_cost network p + (if b then 0 else late_cost network most cs)) is in
         omega (arith, e)
 
-    spent_ended : (more : Bool) (asked : ℕ) (cs : List Candidate) → more ≡ false → spent network most more asked cs ≡ early_cost network (asked + length cs) + late_cost network most cs
-    spent_ended more asked cs is = ap (λ (b : Bool). early_cost network (asked + length cs) + (if b then 0 else late_cost network most cs)) is
+    spent_ended : (more : Bool) (p : ℕ) (cs : List Candidate) → more ≡ false → spent network most more p cs ≡ early_cost network p + late_cost network most cs
+    spent_ended more p cs is = ap (λ (b : Bool). early_cost network p + (if b then 0 else late_cost network most cs)) is
 
     -- as long as some documents are left
-    pub squares_on : (was now : Bool) (p q : ℕ) (old new : List Candidate) (a b : ℕ) → was ≡ true → now ≡ true → b + early_cost network (p + length old) ≤ a + early_cost network (q + length new)
-        → b + spent network most was p old ≤ a + spent network most now q new
+    pub squares_on : (was now : Bool) (p q : ℕ) (old new : List Candidate) (a b : ℕ) → was ≡ true → now ≡ true → AsksWithin network p q a b → b + spent network most was p old ≤ a + spent network most now q new
     squares_on was now p q old new a b more still le = let x = spent_open was p old more in let y = spent_open now q new still in omega (arith, x, y, le)
 
     -- where none is left
-    pub squares_end : (was now : Bool) (p q : ℕ) (old new : List Candidate) (a b d : ℕ) → was ≡ true → now ≡ false → b + early_cost network (p + length old) ≤ a + early_cost network (q + length new) → d ≤ b + late_cost network most new
+    pub squares_end : (was now : Bool) (p q : ℕ) (old new : List Candidate) (a b d : ℕ) → was ≡ true → now ≡ false → AsksWithin network p q a b → d ≤ b + late_cost network most new
         → d + spent network most was p old ≤ a + spent network most now q new
     squares_end was now p q old new a b d more ended le late = let x = spent_open was p old more in let y = spent_ended now q new ended in omega (arith, x, y, le, late)
 
-    -- by all candidates, of which those before a place are a front, and by all ranges
-    pub squares_whole : (was : Bool) (p q r : ℕ) (old front all : List Candidate) (a b : ℕ) → was ≡ true → q ≤ r → b + early_cost network (p + length old) ≤ a + early_cost network (q + length front) → early_cost network (length front) ≤ early_cost network (length all)
-        → b + spent network most was p old ≤ a + spent network most false r all
-    squares_whole was p q r old front all a b more asked le less =
+    -- by all that comes
+    pub squares_whole : (was : Bool) (p q : ℕ) (old all : List Candidate) (a b : ℕ) → was ≡ true → AsksWithin network p q a b → b + spent network most was p old ≤ a + spent network most false q all
+    squares_whole was p q old all a b more le =
         let x = spent_open was p old more in
-        let y = spent_ended false r all refl in
-        let z = cost-more network q r asked in
-        omega (arith, x, y, z, le, less)
+        let y = spent_ended false q all refl in
+        omega (arith, x, y, le)
 
-    -- by all candidates, which have all been met, and by all ranges
-    pub squares_met : (was : Bool) (p q r : ℕ) (old met all : List Candidate) (a b d : ℕ) → was ≡ true → q ≤ r → met ≡ all → b + early_cost network (p + length old) ≤ a + early_cost network (q + length met) → d ≤ b + late_cost network most met
-        → d + spent network most was p old ≤ a + spent network most false r all
-    squares_met was p q r old met all a b d more asked same le late =
-        let z = cost-more network q r asked in
-        let whole = squares_end was false p r old met a b d more refl (omega (arith, le, z)) late in
-        subst (λ (cs : List Candidate). d + spent network most was p old ≤ a + spent network most false r cs) same whole
+    -- where all candidates were met
+    pub squares_met : (was : Bool) (p q : ℕ) (old met all : List Candidate) (a b d : ℕ) → was ≡ true → met ≡ all → AsksWithin network p q a b → d ≤ b + late_cost network most met
+        → d + spent network most was p old ≤ a + spent network most false q all
+    squares_met was p q old met all a b d more same le late =
+        let whole = squares_end was false p q old met a b d more refl le late in
+        subst (λ (cs : List Candidate). d + spent network most was p old ≤ a + spent network most false q cs) same whole
 
     -- where it has ended before
     pub squares_ended : (was : Bool) (p r : ℕ) (old all : List Candidate) (a : ℕ) → was ≡ false → p ≤ r → old ≡ all → a + spent network most was p old ≤ a + spent network most false r all

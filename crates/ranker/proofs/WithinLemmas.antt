@@ -1,5 +1,5 @@
 -- No more squarings than those of all candidates, and of the bounds of all ranges.
-use Rattle.std.proofs.Common.{◌≡◌, ◌<◌, ◌≤◌, ℕ, ◌+◌, Bool, List, ◌++◌, Option, length, take, ap, subst, arith}
+use Rattle.std.proofs.Common.{◌≡◌, ◌<◌, ◌≤◌, ℕ, zero, suc, ◌+◌, Bool, List, [], ◌∷◌, ◌++◌, refl, Option, length, take, ap, subst, arith}
 use Rattle.ri_base.specs.Documents.{Document}
 use Rattle.ri_base.specs.Query.{FilterTree}
 use Rattle.store_ends.specs.Files.{Files}
@@ -12,6 +12,13 @@ use Rattle.ranker.specs.Passed.{live_before, live_ranges, part_at, passed, range
 use Rattle.ranker.specs.declared.place.Place.{Place}
 use Rattle.ranker.proofs.PassedLemmas.{cost-append, cost-front, cost-more, spent_on}
 use Rattle.ranker.proofs.PlaceLemmas.{live-front, live-next, unmarked-front}
+
+-- the first of the first
+pub take-take : {A : Type 0} (xs : List A) (i j : ℕ) → i ≤ j → take i (take j xs) ≡ take i xs
+take-take xs zero j le = refl
+take-take xs (suc i) zero le = absurd (omega (arith, le))
+take-take [] (suc i) (suc j) le = refl
+take-take {A} (x ∷ xs) (suc i) (suc j) le = ap (λ (ys : List A). x ∷ ys) (take-take xs i j (omega (arith, le)))
 
 module _ (kind : RuleKind) (priors : List Prior) (filters : List FilterTree) (network : NetworkTree) where
   abbrev cost : List Document → ℕ
@@ -40,6 +47,10 @@ module _ (kind : RuleKind) (priors : List Prior) (filters : List FilterTree) (ne
   -- the documents before an id of a part
   pub cost-take : (docs : List Document) (marks : List Bool) (i : ℕ) → cost (unmarked (take i docs) marks) ≤ cost (unmarked docs marks)
   cost-take docs marks i = let h = unmarked-front docs marks i in cost-front kind priors filters network (unmarked (take i docs) marks) h.0 (unmarked docs marks) h.1
+
+  -- and before a later one
+  pub cost-to : (docs : List Document) (marks : List Bool) (i j : ℕ) → i ≤ j → cost (unmarked (take i docs) marks) ≤ cost (unmarked (take j docs) marks)
+  cost-to docs marks i j le = subst (λ (ds : List Document). cost (unmarked ds marks) ≤ cost (unmarked (take j docs) marks)) (take-take docs i j le) (cost-take (take j docs) marks i)
 
   -- those before a place
   pub cost-passed : (told : Option Files) (parts : List Marked) (at : Place) → cost (passed told parts at) ≤ cost (live told parts)

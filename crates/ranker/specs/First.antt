@@ -70,6 +70,7 @@ pub record HoldsFirst (kind : RuleKind) (priors : List Prior) (filters : List Fi
   pub all : map row_candidate rows ≡ candidates kind priors filters network docs
   pub each : All (λ row. length row.fractions ≡ length network.leaves) rows
   pub room : kept.most ≡ most
+  pub scaled : kept.scale ≡ scale_of network
   pub offered : WereOffered (map (early_of network) rows) kept
 
 -- what is held and kept, a count of squarings, and one of the bounds of ranges that were asked for

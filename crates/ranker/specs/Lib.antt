@@ -3,7 +3,9 @@ pub mod First
 pub mod Held
 pub mod Least
 pub mod Passed
+pub mod RangeKeys
 pub mod Ranking
 pub mod Searches
 pub mod Squares
+pub mod Unbeaten
 pub mod Windows

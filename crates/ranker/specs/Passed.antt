@@ -16,6 +16,7 @@ use Rattle.range_masks.specs.May.{query_may}
 use Rattle.range_bounds.specs.Tables.{IsTableOf}
 use Rattle.range_bounds.specs.declared.table.RangeTable.{RangeTable}
 use Rattle.ranker.specs.Least.{AreFrom}
+use Rattle.ranker.specs.RangeKeys.{range_key}
 use Rattle.ranker.specs.declared.place.Ahead.{Ahead}
 use Rattle.ranker.specs.declared.place.Passed.{Passed}
 use Rattle.ranker.specs.declared.place.Place.{Place}
@@ -90,6 +91,7 @@ pub record IsSpan (size id : ℕ) (ahead : Ahead) : Type 0 where
 pub record IsKnown (kind : RuleKind) (priors : List Prior) (filters : List FilterTree) (network : NetworkTree) (tables : List RangeTable) (number : ℕ) (docs : List Document) (id : ℕ) (ahead : Ahead) : Type 0 where
   pub may : IsAhead filters network.leaves docs id ahead
   pub least : (n i : ℕ) → ahead.bound ≡ Some n → id ≤ i → i < ahead.end → AreFrom kind priors network n (document_at docs i)
+  pub key : (n i : ℕ) → ahead.bound ≡ Some n → id ≤ i → i < ahead.end → n ≡ range_key kind priors network docs (i / 64)
   pub told : IsTold network tables number docs
   pub span : IsSpan (length docs) id ahead
 

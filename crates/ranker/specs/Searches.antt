@@ -1,5 +1,5 @@
 -- What a search keeps between its steps.
-use Rattle.std.specs.Prelude.{◌≡◌, ℕ, false, List, Option, map}
+use Rattle.std.specs.Prelude.{◌≡◌, ℕ, false, List, Option, length, map}
 use Rattle.ri_base.specs.Documents.{Document}
 use Rattle.ri_base.specs.Query.{FilterTree, filter_tree}
 use Rattle.ri_base.specs.declared.hit.Hit.{Hit}
@@ -14,9 +14,10 @@ use Rattle.document_scoring.specs.Candidates.{candidates}
 use Rattle.ranker.specs.Held.{IsHeld, is_open}
 use Rattle.range_masks.specs.Held.{AreAnswersOf}
 use Rattle.ranker.specs.Blocks.{opened_at}
-use Rattle.ranker.specs.Passed.{IsAheadAt, IsTold, asked_at, layout, part_at, passed}
+use Rattle.ranker.specs.Passed.{IsAheadAt, IsTold, part_at, passed}
 use Rattle.ranker.specs.Ranking.{IsAnswerBy}
 use Rattle.ranker.specs.Squares.{spent}
+use Rattle.ranker.specs.Unbeaten.{Sought, early_at, early_in, met_at, sought, unbeaten_in}
 use Rattle.ranker.specs.declared.search.Search.{Search}
 
 -- the documents of its snapshot, as they read by these files
@@ -52,13 +53,26 @@ pub record IsSameSearch (old new : Search) : Type 0 where
   pub network : network_tree new.network ≡ network_tree old.network
   pub most : new.most ≡ old.most
 
--- what the search has spent on squarings at most, by the documents that it has passed and the ranges that it has come to
-abbrev pub spent_by : RuleKind → List Prior → Option Files → Search → ℕ
-spent_by kind priors told s = spent (network_tree s.network) s.most (is_open s.held) (asked_at s.snapshot s.at) (candidates kind priors (filters_of s) (network_tree s.network) (passed told s.snapshot s.at))
+-- what it looks for by these priors
+abbrev pub sought_by : RuleKind → List Prior → Search → Sought
+sought_by kind priors s = sought kind priors (filters_of s) (network_tree s.network) s.tables.items s.most
 
--- what it spends on squarings in the whole, by all its documents and ranges
+-- what the search has spent on squarings at most, by the ranges that it has come to and the candidates of those that it couldn't pass
+abbrev pub spent_by : RuleKind → List Prior → Option Files → Search → ℕ
+spent_by kind priors told s = spent (network_tree s.network) s.most (is_open s.held) (early_at (sought_by kind priors s) told s.snapshot s.at) (candidates kind priors (filters_of s) (network_tree s.network) (passed told s.snapshot s.at))
+
+-- what it spends on squarings in the whole: of bounds of ranges that have a live document, of candidates of ranges that it can't pass, and
+-- of those that may be among the first
 abbrev pub whole_cost : RuleKind → List Prior → Option Files → Search → ℕ
-whole_cost kind priors told s = spent (network_tree s.network) s.most false (layout s.snapshot) (candidates kind priors (filters_of s) (network_tree s.network) (searched told s))
+whole_cost kind priors told s = spent (network_tree s.network) s.most false (early_in (sought_by kind priors s) told s.snapshot) (candidates kind priors (filters_of s) (network_tree s.network) (searched told s))
+
+-- of how many ranges that it couldn't pass it has opened the blocks, at most
+abbrev pub met_by : RuleKind → List Prior → Option Files → Search → ℕ
+met_by kind priors told s = met_at (sought_by kind priors s) told s.snapshot s.at s.blocks.range
+
+-- how many ranges it can't pass in the whole
+abbrev pub unbeaten_by : RuleKind → List Prior → Option Files → Search → ℕ
+unbeaten_by kind priors told s = unbeaten_in (sought_by kind priors s) told s.snapshot (length s.snapshot)
 
 -- of how many ranges of its parts it has opened the blocks, at most
 abbrev pub opened_by : Search → ℕ

@@ -21,6 +21,6 @@ entry_by network c = record {
 abbrev pub late_cost : NetworkTree → ℕ → List Candidate → ℕ
 late_cost network most cs = (LAST - FIRST) * length network.leaves * length (in_question (scale_of network) most (map (entry_by network) cs))
 
--- the squarings of so many bounds and of candidates up to the first level, and, once none is to come, those of candidates up to the last
+-- the squarings of so many bounds and candidates up to the first level, and, once none is to come, those of these candidates up to the last
 abbrev pub spent : NetworkTree → ℕ → Bool → ℕ → List Candidate → ℕ
-spent network most more asked cs = early_cost network (asked + length cs) + (if more then 0 else late_cost network most cs)
+spent network most more early cs = early_cost network early + (if more then 0 else late_cost network most cs)

@@ -18,8 +18,9 @@ ghost use Rattle.range_masks.specs.Held.{FitDocuments};
 ghost use Rattle.ranker.specs.Blocks.{AreReadAt, OpensWithin, opened_at};
 ghost use Rattle.ranker.specs.First.{scale_of};
 ghost use Rattle.ranker.specs.Held.{HoldsEntries, IsHeld, is_open};
-ghost use Rattle.ranker.specs.Passed.{IsAheadAt, IsPlace, asked_at, layout, part_at, passed, ranges_in};
+ghost use Rattle.ranker.specs.Passed.{IsAheadAt, IsPlace, part_at, passed, ranges_in};
 ghost use Rattle.ranker.specs.Squares.{spent};
+ghost use Rattle.ranker.specs.Unbeaten.{early_at, early_in, met_at, sought, unbeaten_in};
 ghost use Rattle.ranker.specs.Windows.{HasWindows};
 
 use crate::held::Held;
@@ -76,12 +77,18 @@ pub fn advance<T: Store, F: Fn(u32, u32, u64, u64) -> Fraction, L: Ledger, B: Le
         → IsHeld rule.now.kind (map (λ plug. meaning plug) plugs.old) (map filter_tree filters.now) (network_tree network.now) (passed (T.files store.old) parts.now at.new) most held.new) }
     ensures squares { AreBacked (T.files store.old) parts.now → AreReadAt (T.files store.old) parts.now at.old cache.old read.old → IsAheadAt rule.now.kind (map (λ plug. meaning plug) plugs.old) (map filter_tree filters.now) (network_tree network.now) tables.now (T.files store.old) parts.now at.old → OnOk result ((most : ℕ)
         → IsHeld rule.now.kind (map (λ plug. meaning plug) plugs.old) (map filter_tree filters.now) (network_tree network.now) (passed (T.files store.old) parts.now at.old) most held.old
-        → squares.new + spent (network_tree network.now) most (is_open held.old) (asked_at parts.now at.old) (candidates rule.now.kind (map (λ plug. meaning plug) plugs.old) (map filter_tree filters.now) (network_tree network.now) (passed (T.files store.old) parts.now at.old))
-        ≤ squares.old + spent (network_tree network.now) most (is_open held.new) (asked_at parts.now at.new) (candidates rule.now.kind (map (λ plug. meaning plug) plugs.old) (map filter_tree filters.now) (network_tree network.now) (passed (T.files store.old) parts.now at.new))) }
+        → squares.new + spent (network_tree network.now) most (is_open held.old) (early_at (sought rule.now.kind (map (λ plug. meaning plug) plugs.old) (map filter_tree filters.now) (network_tree network.now) tables.now most) (T.files store.old) parts.now at.old) (candidates rule.now.kind (map (λ plug. meaning plug) plugs.old) (map filter_tree filters.now) (network_tree network.now) (passed (T.files store.old) parts.now at.old))
+        ≤ squares.old + spent (network_tree network.now) most (is_open held.new) (early_at (sought rule.now.kind (map (λ plug. meaning plug) plugs.old) (map filter_tree filters.now) (network_tree network.now) tables.now most) (T.files store.old) parts.now at.new) (candidates rule.now.kind (map (λ plug. meaning plug) plugs.old) (map filter_tree filters.now) (network_tree network.now) (passed (T.files store.old) parts.now at.new))) }
     ensures within { AreBacked (T.files store.old) parts.now → AreReadAt (T.files store.old) parts.now at.old cache.old read.old → IsAheadAt rule.now.kind (map (λ plug. meaning plug) plugs.old) (map filter_tree filters.now) (network_tree network.now) tables.now (T.files store.old) parts.now at.old → (most : ℕ)
         → IsHeld rule.now.kind (map (λ plug. meaning plug) plugs.old) (map filter_tree filters.now) (network_tree network.now) (passed (T.files store.old) parts.now at.old) most held.old
-        → squares.new + spent (network_tree network.now) most (is_open held.old) (asked_at parts.now at.old) (candidates rule.now.kind (map (λ plug. meaning plug) plugs.old) (map filter_tree filters.now) (network_tree network.now) (passed (T.files store.old) parts.now at.old))
-        ≤ squares.old + spent (network_tree network.now) most false (layout parts.now) (candidates rule.now.kind (map (λ plug. meaning plug) plugs.old) (map filter_tree filters.now) (network_tree network.now) (live (T.files store.old) parts.now)) }
+        → squares.new + spent (network_tree network.now) most (is_open held.old) (early_at (sought rule.now.kind (map (λ plug. meaning plug) plugs.old) (map filter_tree filters.now) (network_tree network.now) tables.now most) (T.files store.old) parts.now at.old) (candidates rule.now.kind (map (λ plug. meaning plug) plugs.old) (map filter_tree filters.now) (network_tree network.now) (passed (T.files store.old) parts.now at.old))
+        ≤ squares.old + spent (network_tree network.now) most false (early_in (sought rule.now.kind (map (λ plug. meaning plug) plugs.old) (map filter_tree filters.now) (network_tree network.now) tables.now most) (T.files store.old) parts.now) (candidates rule.now.kind (map (λ plug. meaning plug) plugs.old) (map filter_tree filters.now) (network_tree network.now) (live (T.files store.old) parts.now)) }
+    ensures met { AreBacked (T.files store.old) parts.now → AreReadAt (T.files store.old) parts.now at.old cache.old read.old → IsAheadAt rule.now.kind (map (λ plug. meaning plug) plugs.old) (map filter_tree filters.now) (network_tree network.now) tables.now (T.files store.old) parts.now at.old → OnOk result ((most : ℕ)
+        → IsHeld rule.now.kind (map (λ plug. meaning plug) plugs.old) (map filter_tree filters.now) (network_tree network.now) (passed (T.files store.old) parts.now at.old) most held.old
+        → OpensWithin (length terms.now) (met_at (sought rule.now.kind (map (λ plug. meaning plug) plugs.old) (map filter_tree filters.now) (network_tree network.now) tables.now most) (T.files store.old) parts.now at.old read.old.range) (met_at (sought rule.now.kind (map (λ plug. meaning plug) plugs.old) (map filter_tree filters.now) (network_tree network.now) tables.now most) (T.files store.old) parts.now at.new read.new.range) blocks.old blocks.new) }
+    ensures meets { AreBacked (T.files store.old) parts.now → AreReadAt (T.files store.old) parts.now at.old cache.old read.old → IsAheadAt rule.now.kind (map (λ plug. meaning plug) plugs.old) (map filter_tree filters.now) (network_tree network.now) tables.now (T.files store.old) parts.now at.old → (most : ℕ)
+        → IsHeld rule.now.kind (map (λ plug. meaning plug) plugs.old) (map filter_tree filters.now) (network_tree network.now) (passed (T.files store.old) parts.now at.old) most held.old
+        → OpensWithin (length terms.now) (met_at (sought rule.now.kind (map (λ plug. meaning plug) plugs.old) (map filter_tree filters.now) (network_tree network.now) tables.now most) (T.files store.old) parts.now at.old read.old.range) (unbeaten_in (sought rule.now.kind (map (λ plug. meaning plug) plugs.old) (map filter_tree filters.now) (network_tree network.now) tables.now most) (T.files store.old) parts.now (length parts.now)) blocks.old blocks.new }
     ensures windows { OnOk result ((told : Option Files) (most : ℕ)
         → HasWindows (live told parts.now) (length (network_tree network.now).leaves) most held.old → HasWindows (live told parts.now) (length (network_tree network.now).leaves) most held.new) }
     ensures entries { OnOk result (HoldsEntries (network_tree network.now) held.new) }
@@ -117,7 +124,7 @@ pub fn first_held(alloc: Global, most: usize, scale: u64, count: u32) -> Held
     ensures open { is_open result ≡ nat_lt 0 count }
     ensures windows { (docs : List Document) (leaves : ℕ) → HasWindows docs leaves most result }
     ensures entries { (network : NetworkTree) → scale ≡ scale_of network → HoldsEntries network result }
-    ensures held { (kind : RuleKind) (priors : List Prior) (filters : List FilterTree) (network : NetworkTree) → IsHeld kind priors filters network [] most result }
+    ensures held { (kind : RuleKind) (priors : List Prior) (filters : List FilterTree) (network : NetworkTree) → scale ≡ scale_of network → IsHeld kind priors filters network [] most result }
 {
     if count == 0 {
         return Held::Ended(Hits::of(Vec::new(alloc)));

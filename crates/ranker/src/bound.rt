@@ -1,15 +1,17 @@
 // Ranges whose candidates can't be among the first.
-ghost use Rattle.std.specs.Prelude.{ℕ, ◌≡◌, ◌≤◌, ◌<◌, ◌+◌, ◌++◌, ◌⊎◌, true, false, is_some, List, None, Some, All, Contains, length, map, IfErr, IfOk, IfSome};
+ghost use Rattle.std.specs.Prelude.{ℕ, ◌≡◌, ◌≤◌, ◌<◌, ◌+◌, ◌/◌, ◌++◌, ◌⊎◌, true, false, is_some, List, None, Some, All, Contains, length, map, IfErr, IfOk, IfSome};
 ghost use Rattle.ri_base.specs.Documents.{Document};
 ghost use Rattle.ri_base.specs.Query.{FilterTree};
 ghost use Rattle.smoothing.specs.Fractions.{Computes};
 ghost use Rattle.belief_nodes.specs.Leaves.{HasPrior};
 ghost use Rattle.belief_nodes.specs.Network.{network_tree};
+ghost use Rattle.bounded_keys.specs.Kept.{is_beaten_by};
 ghost use Rattle.range_bounds.specs.Ranges.{range_documents};
 ghost use Rattle.range_bounds.specs.Tables.{IsTableOf, has_counts};
 ghost use Rattle.ranker.specs.First.{WereOffered, early_cost};
 ghost use Rattle.ranker.specs.Least.{AreFrom};
 ghost use Rattle.ranker.specs.Passed.{IsKnown, IsTold, is_clear};
+ghost use Rattle.ranker.specs.RangeKeys.{is_told, range_key};
 
 use crate::keys::NetworkKeys;
 use crate::place::Ahead;
@@ -37,6 +39,7 @@ fn least_key<F: Fn(u32, u32, u64, u64) -> Fraction, L: Ledger>(
     requires range { has_counts table.now range ≡ true }
     ensures least { (docs : List Document) (d : Document) → IsTableOf (network_tree network.now).leaves docs table.now → Contains (range_documents docs range) d
         → IfOk result (λ least. AreFrom rule.now.kind (map (λ plug. meaning plug) plugs.now) (network_tree network.now) least d) }
+    ensures key { (docs : List Document) → IsTableOf (network_tree network.now).leaves docs table.now → IfOk result (λ least. least ≡ range_key rule.now.kind (map (λ plug. meaning plug) plugs.now) (network_tree network.now) docs range) }
     ensures cost { squares.new ≤ squares.old + early_cost (network_tree network.now) 1 }
 {
     let bounds = table.bound_fractions(alloc, network, rule, range, plugs)?;
@@ -58,6 +61,9 @@ fn bound_of<F: Fn(u32, u32, u64, u64) -> Fraction, L: Ledger>(
     requires plugs { All (HasPrior (length plugs.now)) (network_tree network.now).leaves }
     ensures bound { (docs : List Document) (d : Document) → IsTold (network_tree network.now) tables.now number docs → Contains (range_documents docs range) d
         → IfOk result (λ bound. IfSome bound (λ least. AreFrom rule.now.kind (map (λ plug. meaning plug) plugs.now) (network_tree network.now) least d)) }
+    ensures key { (docs : List Document) → IsTold (network_tree network.now) tables.now number docs
+        → IfOk result (λ bound. IfSome bound (λ least. least ≡ range_key rule.now.kind (map (λ plug. meaning plug) plugs.now) (network_tree network.now) docs range)) }
+    ensures told { IfOk result (λ bound. bound ≡ None → is_told tables.now number range ≡ false) }
     ensures none { IfOk result (λ bound. bound ≡ None → squares.new ≡ squares.old) }
     ensures cost { squares.new ≤ squares.old + early_cost (network_tree network.now) 1 }
 {
@@ -96,10 +102,11 @@ pub fn bounded<P: Postings, F: Fn(u32, u32, u64, u64) -> Fraction, L: Ledger>(
     ensures end { IfOk result (λ to. to.end ≡ ahead.end) }
     ensures mask { IfOk result (λ to. to.mask ≡ ahead.mask) }
     ensures asked { IfOk result (λ to. ((to.bound ≡ ahead.bound) × (squares.new ≡ squares.old)) ⊎ ((ahead.bound ≡ None) × (is_some to.bound ≡ true))) }
+    ensures unbound { IfOk result (λ to. to.bound ≡ None → (is_told tables.now number (id / 64) ≡ false) ⊎ ((all : List (Entry Window)) → WereOffered all first.now → (n : ℕ) → is_beaten_by (λ x. x.leading) first.now.scale first.now.most all n ≡ false)) }
     ensures unasked { IfErr result (λ e. ahead.bound ≡ None) }
     ensures cost { squares.new ≤ squares.old + early_cost (network_tree network.now) 1 }
 {
-    if ahead.bound.is_some() || !first.is_beaten(u128::MAX) {
+    if ahead.bound.is_some() || !first.beats_some() {
         return Ok(ahead);
     }
     let range = id / 64;
@@ -109,8 +116,9 @@ pub fn bounded<P: Postings, F: Fn(u32, u32, u64, u64) -> Fraction, L: Ledger>(
 
 /// Whether candidates whose keys at the first level aren't below a number can't be among the first.
 pub fn is_beaten(first: &Contenders<Entry<Window>>, bound: Option<u128>) -> bool
-    ensures { result ≡ true → (least : ℕ) × (bound ≡ Some least)
+    ensures beaten { result ≡ true → (least : ℕ) × (bound ≡ Some least)
         × ((all more : List (Entry Window)) → WereOffered all first.now → All (λ x. least ≤ x.leading) more → WereOffered (more ++ all) first.now) }
+    ensures unbeaten { result ≡ false → IfSome bound (λ least. (all : List (Entry Window)) → WereOffered all first.now → is_beaten_by (λ x. x.leading) first.now.scale first.now.most all least ≡ false) }
 {
     match bound {
         Some(least) => first.is_beaten(least),

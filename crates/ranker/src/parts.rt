@@ -1,5 +1,6 @@
 // Parts with their marks, one stretch of documents behind the other.
-ghost use Rattle.std.specs.Prelude.{◌≡◌, ◌<◌, ◌≤◌, ◌+◌, ◌*◌, ◌/◌, true, false, length, map, take, All, Err, IfErr, IfOk, OnOk};
+ghost use Rattle.std.specs.Prelude.{◌≡◌, ◌<◌, ◌≤◌, ◌+◌, ◌*◌, ◌/◌, ℕ, true, false, List, length, map, take, All, Err, IfErr, IfOk, OnOk};
+ghost use Rattle.ri_base.specs.Documents.{Document};
 ghost use Rattle.ri_base.specs.Faults.{IsOutside};
 ghost use Rattle.ri_base.specs.Keeps.{Keeps, Rose};
 ghost use Rattle.ri_base.specs.Query.{filter_tree, is_range};
@@ -10,6 +11,7 @@ ghost use Rattle.disk_index.specs.Snapshots.{unmarked};
 ghost use Rattle.ranker.specs.Blocks.{OpensWithin, opened_of};
 ghost use Rattle.ranker.specs.First.{Advances, SpendsWithin, counted};
 ghost use Rattle.ranker.specs.Passed.{IsAhead, IsKnown, IsPassed, asked_of, is_clear, live_ranges, ranges_of};
+ghost use Rattle.ranker.specs.Unbeaten.{Holds, Passes, Spends, live_to, sought, stretch, work_of, work_to};
 ghost use Rattle.ranker.specs.Windows.{KeepsWindows};
 
 use crate::ahead::{ahead_of, masked};
@@ -54,7 +56,7 @@ fn pass_masked<P: TermMasks, F: Fn(u32, u32, u64, u64) -> Fraction, L: Ledger>(
     ensures first { P.sound part.old → IsAhead (map filter_tree filters.now) (network_tree network.now).leaves (P.documents part.old) id ahead → IfOk result (λ to.
         Advances rule.now.kind (map (λ plug. meaning plug) plugs.old) (map filter_tree filters.now) (network_tree network.now) (unmarked (take id (P.documents part.old)) marks.now) (unmarked (take to.id (P.documents part.old)) marks.now) (counted first.old squares.old 0) (counted first.new squares.new 0)) }
     ensures within { P.sound part.old → IsAhead (map filter_tree filters.now) (network_tree network.now).leaves (P.documents part.old) id ahead
-        → SpendsWithin rule.now.kind (map (λ plug. meaning plug) plugs.old) (map filter_tree filters.now) (network_tree network.now) (unmarked (take id (P.documents part.old)) marks.now) (unmarked (P.documents part.old) marks.now) 0 0 squares.old squares.new }
+        → SpendsWithin rule.now.kind (map (λ plug. meaning plug) plugs.old) (map filter_tree filters.now) (network_tree network.now) (unmarked (take id (P.documents part.old)) marks.now) (unmarked (take ahead.end (P.documents part.old)) marks.now) 0 0 squares.old squares.new }
     ensures windows { OnOk result (KeepsWindows (network_tree network.now) (unmarked (P.documents part.old) marks.now) first.old first.new) }
     ensures ahead { P.sound part.old → IsAhead (map filter_tree filters.now) (network_tree network.now).leaves (P.documents part.old) id ahead → IfOk result (λ to.
         IsAhead (map filter_tree filters.now) (network_tree network.now).leaves (P.documents part.old) to.id to.ahead) }
@@ -122,12 +124,13 @@ fn pass_open<P: TermMasks, F: Fn(u32, u32, u64, u64) -> Fraction, L: Ledger>(
     ensures first { P.sound part.old → IsKnown rule.now.kind (map (λ plug. meaning plug) plugs.old) (map filter_tree filters.now) (network_tree network.now) tables.now number (P.documents part.old) id ahead → IfOk result (λ to.
         Advances rule.now.kind (map (λ plug. meaning plug) plugs.old) (map filter_tree filters.now) (network_tree network.now) (unmarked (take id (P.documents part.old)) marks.now) (unmarked (take to.id (P.documents part.old)) marks.now) (counted first.old squares.old (asked_of marks.now id ahead)) (counted first.new squares.new (asked_of marks.now to.id to.ahead))) }
     ensures within { P.sound part.old → IsKnown rule.now.kind (map (λ plug. meaning plug) plugs.old) (map filter_tree filters.now) (network_tree network.now) tables.now number (P.documents part.old) id ahead
-        → SpendsWithin rule.now.kind (map (λ plug. meaning plug) plugs.old) (map filter_tree filters.now) (network_tree network.now) (unmarked (take id (P.documents part.old)) marks.now) (unmarked (P.documents part.old) marks.now) (asked_of marks.now id ahead) (live_ranges marks.now (ranges_of (length (P.documents part.old)))) squares.old squares.new }
+        → SpendsWithin rule.now.kind (map (λ plug. meaning plug) plugs.old) (map filter_tree filters.now) (network_tree network.now) (unmarked (take id (P.documents part.old)) marks.now) (unmarked (take ahead.end (P.documents part.old)) marks.now) (asked_of marks.now id ahead) (live_ranges marks.now (ranges_of (length (P.documents part.old)))) squares.old squares.new }
     ensures windows { OnOk result (KeepsWindows (network_tree network.now) (unmarked (P.documents part.old) marks.now) first.old first.new) }
     ensures ahead { P.sound part.old → IsKnown rule.now.kind (map (λ plug. meaning plug) plugs.old) (map filter_tree filters.now) (network_tree network.now) tables.now number (P.documents part.old) id ahead → IfOk result (λ to.
         IsKnown rule.now.kind (map (λ plug. meaning plug) plugs.old) (map filter_tree filters.now) (network_tree network.now) tables.now number (P.documents part.old) to.id to.ahead) }
     ensures passed { IfOk result (IsPassed marks.now id most) }
     ensures forward { IfOk result (λ to. 0 < most → id < to.id) }
+    ensures inside { IfOk result (λ to. to.id ≤ ahead.end) }
     ensures stay { map (λ plug. meaning plug) plugs.new ≡ map (λ plug. meaning plug) plugs.old }
     ensures honest { P.sound part.old → IfErr result IsOutside }
     ensures store { result ≡ Err SegFault.Store → Rose (P.faults part.old) (P.faults part.new) }
@@ -171,12 +174,13 @@ fn pass_opened<P: OpensRanges, F: Fn(u32, u32, u64, u64) -> Fraction, L: Ledger,
     ensures first { P.sound part.old → IsKnown rule.now.kind (map (λ plug. meaning plug) plugs.old) (map filter_tree filters.now) (network_tree network.now) tables.now number (P.documents part.old) id ahead → IfOk result (λ to.
         Advances rule.now.kind (map (λ plug. meaning plug) plugs.old) (map filter_tree filters.now) (network_tree network.now) (unmarked (take id (P.documents part.old)) marks.now) (unmarked (take to.id (P.documents part.old)) marks.now) (counted first.old squares.old (asked_of marks.now id ahead)) (counted first.new squares.new (asked_of marks.now to.id to.ahead))) }
     ensures within { P.sound part.old → IsKnown rule.now.kind (map (λ plug. meaning plug) plugs.old) (map filter_tree filters.now) (network_tree network.now) tables.now number (P.documents part.old) id ahead
-        → SpendsWithin rule.now.kind (map (λ plug. meaning plug) plugs.old) (map filter_tree filters.now) (network_tree network.now) (unmarked (take id (P.documents part.old)) marks.now) (unmarked (P.documents part.old) marks.now) (asked_of marks.now id ahead) (live_ranges marks.now (ranges_of (length (P.documents part.old)))) squares.old squares.new }
+        → SpendsWithin rule.now.kind (map (λ plug. meaning plug) plugs.old) (map filter_tree filters.now) (network_tree network.now) (unmarked (take id (P.documents part.old)) marks.now) (unmarked (take ahead.end (P.documents part.old)) marks.now) (asked_of marks.now id ahead) (live_ranges marks.now (ranges_of (length (P.documents part.old)))) squares.old squares.new }
     ensures windows { OnOk result (KeepsWindows (network_tree network.now) (unmarked (P.documents part.old) marks.now) first.old first.new) }
     ensures ahead { P.sound part.old → IsKnown rule.now.kind (map (λ plug. meaning plug) plugs.old) (map filter_tree filters.now) (network_tree network.now) tables.now number (P.documents part.old) id ahead → IfOk result (λ to.
         IsKnown rule.now.kind (map (λ plug. meaning plug) plugs.old) (map filter_tree filters.now) (network_tree network.now) tables.now number (P.documents part.old) to.id to.ahead) }
     ensures passed { IfOk result (IsPassed marks.now id most) }
     ensures forward { IfOk result (λ to. 0 < most → id < to.id) }
+    ensures inside { IfOk result (λ to. to.id ≤ ahead.end) }
     ensures stay { map (λ plug. meaning plug) plugs.new ≡ map (λ plug. meaning plug) plugs.old }
     ensures honest { P.sound part.old → IfErr result IsOutside }
     ensures store { result ≡ Err SegFault.Store → Rose (P.faults part.old) (P.faults part.new) }
@@ -218,10 +222,12 @@ fn pass_on<P: OpensRanges, F: Fn(u32, u32, u64, u64) -> Fraction, L: Ledger, B: 
     requires shown { is_range (network_tree network.now).range ≡ true }
     requires plugs { All (HasPrior (length plugs.old)) (network_tree network.now).leaves }
     ensures keeps { Keeps P.documents P.faults P.sound P.calm part.old part.new }
-    ensures first { P.sound part.old → IsKnown rule.now.kind (map (λ plug. meaning plug) plugs.old) (map filter_tree filters.now) (network_tree network.now) tables.now number (P.documents part.old) id ahead → IfOk result (λ to.
-        Advances rule.now.kind (map (λ plug. meaning plug) plugs.old) (map filter_tree filters.now) (network_tree network.now) (unmarked (take id (P.documents part.old)) marks.now) (unmarked (take to.id (P.documents part.old)) marks.now) (counted first.old squares.old (asked_of marks.now id ahead)) (counted first.new squares.new (asked_of marks.now to.id to.ahead))) }
-    ensures within { P.sound part.old → IsKnown rule.now.kind (map (λ plug. meaning plug) plugs.old) (map filter_tree filters.now) (network_tree network.now) tables.now number (P.documents part.old) id ahead
-        → SpendsWithin rule.now.kind (map (λ plug. meaning plug) plugs.old) (map filter_tree filters.now) (network_tree network.now) (unmarked (take id (P.documents part.old)) marks.now) (unmarked (P.documents part.old) marks.now) (asked_of marks.now id ahead) (live_ranges marks.now (ranges_of (length (P.documents part.old)))) squares.old squares.new }
+    ensures first { P.sound part.old → IsKnown rule.now.kind (map (λ plug. meaning plug) plugs.old) (map filter_tree filters.now) (network_tree network.now) tables.now number (P.documents part.old) id ahead → (before : List Document) (count : ℕ) → IfOk result (λ to. 0 < most →
+        let s = sought rule.now.kind (map (λ plug. meaning plug) plugs.old) (map filter_tree filters.now) (network_tree network.now) tables.now count in let m = stretch number before (P.documents part.old) marks.now in
+        Passes s (length terms.now) (live_to m id) (live_to m to.id) first.old first.new (work_to s m id ahead (P.present part.old) squares.old blocks.old) (work_to s m to.id to.ahead (P.present part.new) squares.new blocks.new)) }
+    ensures within { P.sound part.old → IsKnown rule.now.kind (map (λ plug. meaning plug) plugs.old) (map filter_tree filters.now) (network_tree network.now) tables.now number (P.documents part.old) id ahead → (before : List Document) (count : ℕ) →
+        let s = sought rule.now.kind (map (λ plug. meaning plug) plugs.old) (map filter_tree filters.now) (network_tree network.now) tables.now count in let m = stretch number before (P.documents part.old) marks.now in
+        Holds s (live_to m id) first.old → Spends s.network (length terms.now) (work_to s m id ahead (P.present part.old) squares.old blocks.old) (work_of s m squares.new blocks.new) }
     ensures windows { OnOk result (KeepsWindows (network_tree network.now) (unmarked (P.documents part.old) marks.now) first.old first.new) }
     ensures ahead { P.sound part.old → IsKnown rule.now.kind (map (λ plug. meaning plug) plugs.old) (map filter_tree filters.now) (network_tree network.now) tables.now number (P.documents part.old) id ahead → IfOk result (λ to.
         IsKnown rule.now.kind (map (λ plug. meaning plug) plugs.old) (map filter_tree filters.now) (network_tree network.now) tables.now number (P.documents part.old) to.id to.ahead) }
@@ -279,10 +285,12 @@ pub fn pass_part<P: OpensRanges, F: Fn(u32, u32, u64, u64) -> Fraction, L: Ledge
     requires shown { is_range (network_tree network.now).range ≡ true }
     requires plugs { All (HasPrior (length plugs.old)) (network_tree network.now).leaves }
     ensures keeps { Keeps P.documents P.faults P.sound P.calm part.old part.new }
-    ensures first { P.sound part.old → IsKnown rule.now.kind (map (λ plug. meaning plug) plugs.old) (map filter_tree filters.now) (network_tree network.now) tables.now number (P.documents part.old) id ahead → IfOk result (λ to.
-        Advances rule.now.kind (map (λ plug. meaning plug) plugs.old) (map filter_tree filters.now) (network_tree network.now) (unmarked (take id (P.documents part.old)) marks.now) (unmarked (take to.id (P.documents part.old)) marks.now) (counted first.old squares.old (asked_of marks.now id ahead)) (counted first.new squares.new (asked_of marks.now to.id to.ahead))) }
-    ensures within { P.sound part.old → IsKnown rule.now.kind (map (λ plug. meaning plug) plugs.old) (map filter_tree filters.now) (network_tree network.now) tables.now number (P.documents part.old) id ahead
-        → SpendsWithin rule.now.kind (map (λ plug. meaning plug) plugs.old) (map filter_tree filters.now) (network_tree network.now) (unmarked (take id (P.documents part.old)) marks.now) (unmarked (P.documents part.old) marks.now) (asked_of marks.now id ahead) (live_ranges marks.now (ranges_of (length (P.documents part.old)))) squares.old squares.new }
+    ensures first { P.sound part.old → IsKnown rule.now.kind (map (λ plug. meaning plug) plugs.old) (map filter_tree filters.now) (network_tree network.now) tables.now number (P.documents part.old) id ahead → (before : List Document) (count : ℕ) → IfOk result (λ to.
+        let s = sought rule.now.kind (map (λ plug. meaning plug) plugs.old) (map filter_tree filters.now) (network_tree network.now) tables.now count in let m = stretch number before (P.documents part.old) marks.now in
+        Passes s (length terms.now) (live_to m id) (live_to m to.id) first.old first.new (work_to s m id ahead (P.present part.old) squares.old blocks.old) (work_to s m to.id to.ahead (P.present part.new) squares.new blocks.new)) }
+    ensures within { P.sound part.old → IsKnown rule.now.kind (map (λ plug. meaning plug) plugs.old) (map filter_tree filters.now) (network_tree network.now) tables.now number (P.documents part.old) id ahead → (before : List Document) (count : ℕ) →
+        let s = sought rule.now.kind (map (λ plug. meaning plug) plugs.old) (map filter_tree filters.now) (network_tree network.now) tables.now count in let m = stretch number before (P.documents part.old) marks.now in
+        Holds s (live_to m id) first.old → Spends s.network (length terms.now) (work_to s m id ahead (P.present part.old) squares.old blocks.old) (work_of s m squares.new blocks.new) }
     ensures windows { OnOk result (KeepsWindows (network_tree network.now) (unmarked (P.documents part.old) marks.now) first.old first.new) }
     ensures ahead { P.sound part.old → IsKnown rule.now.kind (map (λ plug. meaning plug) plugs.old) (map filter_tree filters.now) (network_tree network.now) tables.now number (P.documents part.old) id ahead → IfOk result (λ to.
         IsKnown rule.now.kind (map (λ plug. meaning plug) plugs.old) (map filter_tree filters.now) (network_tree network.now) tables.now number (P.documents part.old) to.id to.ahead) }

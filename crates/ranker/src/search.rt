@@ -73,7 +73,7 @@ impl Search {
     ghost use Rattle.range_masks.specs.Held.{AreAnswersOf};
     ghost use Rattle.ranker.specs.Blocks.{OpensWithin, query_words};
     ghost use Rattle.ranker.specs.Passed.{ranges_in};
-    ghost use Rattle.ranker.specs.Searches.{AreTold, IsAnswerOf, IsSameSearch, IsTaken, filters_of, opened_by, searched, spent_by, told_by, whole_cost};
+    ghost use Rattle.ranker.specs.Searches.{AreTold, IsAnswerOf, IsSameSearch, IsTaken, filters_of, met_by, opened_by, searched, spent_by, told_by, unbeaten_by, whole_cost};
     ghost use Rattle.ranker.specs.Windows.{AreWindows};
 
     /// A search over the documents of a snapshot that has passed none yet, for at most so many results. The statistics are those of
@@ -174,6 +174,13 @@ impl Search {
         ensures within { AreBacked (T.files store.old) self.old.snapshot → IsCacheBacked (T.files store.old) cache.old → IsTaken rule.now.kind (map (λ plug. meaning plug) plugs.old) (T.files store.old) self.old
             → squares.new + spent_by rule.now.kind (map (λ plug. meaning plug) plugs.old) (T.files store.old) self.old ≤ squares.old + whole_cost rule.now.kind (map (λ plug. meaning plug) plugs.old) (T.files store.old) self.old }
         ensures terms { self.new.terms ≡ self.old.terms }
+        ensures met { AreBacked (T.files store.old) self.old.snapshot → IsCacheBacked (T.files store.old) cache.old → OnOk result
+            (IsTaken rule.now.kind (map (λ plug. meaning plug) plugs.old) (T.files store.old) self.old
+            → OpensWithin (length self.old.terms) (met_by rule.now.kind (map (λ plug. meaning plug) plugs.old) (T.files store.old) self.old) (met_by rule.now.kind (map (λ plug. meaning plug) plugs.old) (T.files store.old) self.new) blocks.old blocks.new) }
+
+        // Also where it answers an error.
+        ensures meets { AreBacked (T.files store.old) self.old.snapshot → IsCacheBacked (T.files store.old) cache.old → IsTaken rule.now.kind (map (λ plug. meaning plug) plugs.old) (T.files store.old) self.old
+            → OpensWithin (length self.old.terms) (met_by rule.now.kind (map (λ plug. meaning plug) plugs.old) (T.files store.old) self.old) (unbeaten_by rule.now.kind (map (λ plug. meaning plug) plugs.old) (T.files store.old) self.old) blocks.old blocks.new }
         ensures opened { OnOk result (OpensWithin (length self.old.terms) (opened_by self.old) (opened_by self.new) blocks.old blocks.new) }
 
         // Also where it answers an error.

@@ -1,5 +1,5 @@
 // The parts of a snapshot, one behind the other.
-ghost use Rattle.std.specs.Prelude.{◌≡◌, ◌<◌, ◌≤◌, ◌+◌, ◌*◌, ◌^◌, List, Option, if◌then◌else◌, nat_lt, length, map, min, true, All, Err, IfErr, IfOk, OnErr, OnOk};
+ghost use Rattle.std.specs.Prelude.{◌≡◌, ◌<◌, ◌≤◌, ◌+◌, ◌*◌, ◌^◌, ℕ, List, Option, if◌then◌else◌, nat_lt, length, map, min, true, All, Err, IfErr, IfOk, OnErr, OnOk};
 ghost use Rattle.ri_base.specs.Documents.{Document};
 ghost use Rattle.ri_base.specs.Faults.{IsOutside};
 ghost use Rattle.ri_base.specs.Keeps.{Rose};
@@ -13,8 +13,8 @@ ghost use Rattle.disk_index.specs.Parts.{IsFileOf, IsPartBacked, Source, outline
 ghost use Rattle.disk_index.specs.Snapshots.{AreBacked, IsFileAmong, IsSnapshot, live, live_in};
 ghost use Rattle.range_masks.specs.Held.{AreAnswersOf, FitDocuments};
 ghost use Rattle.ranker.specs.Blocks.{AreReadAt, AreReadBy, OpensWithin, opened_at, opened_of};
-ghost use Rattle.ranker.specs.First.{Advances, SpendsWithin, counted};
-ghost use Rattle.ranker.specs.Passed.{IsAheadAt, IsKnown, IsPassed, IsPlace, asked_at, asked_of, behind, layout, live_before, live_ranges, part_at, passed, ranges_in, ranges_of};
+ghost use Rattle.ranker.specs.Passed.{IsAheadAt, IsKnown, IsPassed, IsPlace, behind, part_at, passed, ranges_in, ranges_of};
+ghost use Rattle.ranker.specs.Unbeaten.{Holds, Passes, Spends, live_to, sought, stretch, work_at, work_in, work_of, work_to};
 ghost use Rattle.ranker.specs.Windows.{KeepsWindows};
 
 use crate::parts::pass_part;
@@ -61,11 +61,13 @@ fn pass_marked<T: Store, F: Fn(u32, u32, u64, u64) -> Fraction, L: Ledger, B: Le
     ensures read { IsPartBacked (T.files store.old) marked.now.source → AreReadBy (T.files store.old) (reads (T.files store.old) marked.now.source) cache.old held.old
         → AreReadBy (T.files store.old) (reads (T.files store.old) marked.now.source) cache.new held.new }
     ensures first { IsPartBacked (T.files store.old) marked.now.source → AreReadBy (T.files store.old) (reads (T.files store.old) marked.now.source) cache.old held.old
-        → IsKnown rule.now.kind (map (λ plug. meaning plug) plugs.old) (map filter_tree filters.now) (network_tree network.now) tables.now number (reads (T.files store.old) marked.now.source) id ahead → IfOk result (λ to.
-        Advances rule.now.kind (map (λ plug. meaning plug) plugs.old) (map filter_tree filters.now) (network_tree network.now) (live_before (T.files store.old) marked.now id) (live_before (T.files store.old) marked.now to.id) (counted first.old squares.old (asked_of marked.now.marks id ahead)) (counted first.new squares.new (asked_of marked.now.marks to.id to.ahead))) }
+        → IsKnown rule.now.kind (map (λ plug. meaning plug) plugs.old) (map filter_tree filters.now) (network_tree network.now) tables.now number (reads (T.files store.old) marked.now.source) id ahead → (before : List Document) (count : ℕ) → IfOk result (λ to.
+        let s = sought rule.now.kind (map (λ plug. meaning plug) plugs.old) (map filter_tree filters.now) (network_tree network.now) tables.now count in let m = stretch number before (reads (T.files store.old) marked.now.source) marked.now.marks in
+        Passes s (length terms.now) (live_to m id) (live_to m to.id) first.old first.new (work_to s m id ahead held.old.range squares.old blocks.old) (work_to s m to.id to.ahead held.new.range squares.new blocks.new)) }
     ensures within { IsPartBacked (T.files store.old) marked.now.source → AreReadBy (T.files store.old) (reads (T.files store.old) marked.now.source) cache.old held.old
-        → IsKnown rule.now.kind (map (λ plug. meaning plug) plugs.old) (map filter_tree filters.now) (network_tree network.now) tables.now number (reads (T.files store.old) marked.now.source) id ahead
-        → SpendsWithin rule.now.kind (map (λ plug. meaning plug) plugs.old) (map filter_tree filters.now) (network_tree network.now) (live_before (T.files store.old) marked.now id) (live_in (T.files store.old) marked.now) (asked_of marked.now.marks id ahead) (live_ranges marked.now.marks (ranges_of (length (reads (T.files store.old) marked.now.source)))) squares.old squares.new }
+        → IsKnown rule.now.kind (map (λ plug. meaning plug) plugs.old) (map filter_tree filters.now) (network_tree network.now) tables.now number (reads (T.files store.old) marked.now.source) id ahead → (before : List Document) (count : ℕ) →
+        let s = sought rule.now.kind (map (λ plug. meaning plug) plugs.old) (map filter_tree filters.now) (network_tree network.now) tables.now count in let m = stretch number before (reads (T.files store.old) marked.now.source) marked.now.marks in
+        Holds s (live_to m id) first.old → Spends s.network (length terms.now) (work_to s m id ahead held.old.range squares.old blocks.old) (work_of s m squares.new blocks.new) }
     ensures windows { OnOk result (KeepsWindows (network_tree network.now) (live_in (T.files store.old) marked.now) first.old first.new) }
     ensures ahead { IsPartBacked (T.files store.old) marked.now.source → AreReadBy (T.files store.old) (reads (T.files store.old) marked.now.source) cache.old held.old
         → IsKnown rule.now.kind (map (λ plug. meaning plug) plugs.old) (map filter_tree filters.now) (network_tree network.now) tables.now number (reads (T.files store.old) marked.now.source) id ahead → IfOk result (λ to.
@@ -168,10 +170,12 @@ fn pass_next<T: Store, F: Fn(u32, u32, u64, u64) -> Fraction, L: Ledger, B: Ledg
     requires fits { FitDocuments (outlines_of (part_at parts.now at.old.part).source) held.old }
     ensures fits { FitDocuments (outlines_of (part_at parts.now at.new.part).source) held.new }
     ensures read { AreBacked (T.files store.old) parts.now → AreReadAt (T.files store.old) parts.now at.old cache.old held.old → AreReadAt (T.files store.old) parts.now at.new cache.new held.new }
-    ensures first { AreBacked (T.files store.old) parts.now → AreReadAt (T.files store.old) parts.now at.old cache.old held.old → IsAheadAt rule.now.kind (map (λ plug. meaning plug) plugs.old) (map filter_tree filters.now) (network_tree network.now) tables.now (T.files store.old) parts.now at.old → OnOk result
-        (Advances rule.now.kind (map (λ plug. meaning plug) plugs.old) (map filter_tree filters.now) (network_tree network.now) (passed (T.files store.old) parts.now at.old) (passed (T.files store.old) parts.now at.new) (counted first.old squares.old (asked_at parts.now at.old)) (counted first.new squares.new (asked_at parts.now at.new))) }
-    ensures within { AreBacked (T.files store.old) parts.now → AreReadAt (T.files store.old) parts.now at.old cache.old held.old → IsAheadAt rule.now.kind (map (λ plug. meaning plug) plugs.old) (map filter_tree filters.now) (network_tree network.now) tables.now (T.files store.old) parts.now at.old
-        → SpendsWithin rule.now.kind (map (λ plug. meaning plug) plugs.old) (map filter_tree filters.now) (network_tree network.now) (passed (T.files store.old) parts.now at.old) (live (T.files store.old) parts.now) (asked_at parts.now at.old) (layout parts.now) squares.old squares.new }
+    ensures first { AreBacked (T.files store.old) parts.now → AreReadAt (T.files store.old) parts.now at.old cache.old held.old → IsAheadAt rule.now.kind (map (λ plug. meaning plug) plugs.old) (map filter_tree filters.now) (network_tree network.now) tables.now (T.files store.old) parts.now at.old → (count : ℕ) → OnOk result
+        (let s = sought rule.now.kind (map (λ plug. meaning plug) plugs.old) (map filter_tree filters.now) (network_tree network.now) tables.now count in
+        Passes s (length terms.now) (passed (T.files store.old) parts.now at.old) (passed (T.files store.old) parts.now at.new) first.old first.new (work_at s (T.files store.old) parts.now at.old held.old.range squares.old blocks.old) (work_at s (T.files store.old) parts.now at.new held.new.range squares.new blocks.new)) }
+    ensures within { AreBacked (T.files store.old) parts.now → AreReadAt (T.files store.old) parts.now at.old cache.old held.old → IsAheadAt rule.now.kind (map (λ plug. meaning plug) plugs.old) (map filter_tree filters.now) (network_tree network.now) tables.now (T.files store.old) parts.now at.old → (count : ℕ) →
+        let s = sought rule.now.kind (map (λ plug. meaning plug) plugs.old) (map filter_tree filters.now) (network_tree network.now) tables.now count in
+        Holds s (passed (T.files store.old) parts.now at.old) first.old → Spends s.network (length terms.now) (work_at s (T.files store.old) parts.now at.old held.old.range squares.old blocks.old) (work_in s (T.files store.old) parts.now squares.new blocks.new) }
     ensures windows { OnOk result (KeepsWindows (network_tree network.now) (live (T.files store.old) parts.now) first.old first.new) }
     ensures ahead { AreBacked (T.files store.old) parts.now → AreReadAt (T.files store.old) parts.now at.old cache.old held.old → IsAheadAt rule.now.kind (map (λ plug. meaning plug) plugs.old) (map filter_tree filters.now) (network_tree network.now) tables.now (T.files store.old) parts.now at.old → OnOk result
         (IsAheadAt rule.now.kind (map (λ plug. meaning plug) plugs.old) (map filter_tree filters.now) (network_tree network.now) tables.now (T.files store.old) parts.now at.new) }
@@ -226,10 +230,12 @@ pub fn pass_parts<T: Store, F: Fn(u32, u32, u64, u64) -> Fraction, L: Ledger, B:
     requires fits { FitDocuments (outlines_of (part_at parts.now at.old.part).source) held.old }
     ensures fits { FitDocuments (outlines_of (part_at parts.now at.new.part).source) held.new }
     ensures read { AreBacked (T.files store.old) parts.now → AreReadAt (T.files store.old) parts.now at.old cache.old held.old → AreReadAt (T.files store.old) parts.now at.new cache.new held.new }
-    ensures first { AreBacked (T.files store.old) parts.now → AreReadAt (T.files store.old) parts.now at.old cache.old held.old → IsAheadAt rule.now.kind (map (λ plug. meaning plug) plugs.old) (map filter_tree filters.now) (network_tree network.now) tables.now (T.files store.old) parts.now at.old → OnOk result
-        (Advances rule.now.kind (map (λ plug. meaning plug) plugs.old) (map filter_tree filters.now) (network_tree network.now) (passed (T.files store.old) parts.now at.old) (passed (T.files store.old) parts.now at.new) (counted first.old squares.old (asked_at parts.now at.old)) (counted first.new squares.new (asked_at parts.now at.new))) }
-    ensures within { AreBacked (T.files store.old) parts.now → AreReadAt (T.files store.old) parts.now at.old cache.old held.old → IsAheadAt rule.now.kind (map (λ plug. meaning plug) plugs.old) (map filter_tree filters.now) (network_tree network.now) tables.now (T.files store.old) parts.now at.old
-        → SpendsWithin rule.now.kind (map (λ plug. meaning plug) plugs.old) (map filter_tree filters.now) (network_tree network.now) (passed (T.files store.old) parts.now at.old) (live (T.files store.old) parts.now) (asked_at parts.now at.old) (layout parts.now) squares.old squares.new }
+    ensures first { AreBacked (T.files store.old) parts.now → AreReadAt (T.files store.old) parts.now at.old cache.old held.old → IsAheadAt rule.now.kind (map (λ plug. meaning plug) plugs.old) (map filter_tree filters.now) (network_tree network.now) tables.now (T.files store.old) parts.now at.old → (count : ℕ) → OnOk result
+        (let s = sought rule.now.kind (map (λ plug. meaning plug) plugs.old) (map filter_tree filters.now) (network_tree network.now) tables.now count in
+        Passes s (length terms.now) (passed (T.files store.old) parts.now at.old) (passed (T.files store.old) parts.now at.new) first.old first.new (work_at s (T.files store.old) parts.now at.old held.old.range squares.old blocks.old) (work_at s (T.files store.old) parts.now at.new held.new.range squares.new blocks.new)) }
+    ensures within { AreBacked (T.files store.old) parts.now → AreReadAt (T.files store.old) parts.now at.old cache.old held.old → IsAheadAt rule.now.kind (map (λ plug. meaning plug) plugs.old) (map filter_tree filters.now) (network_tree network.now) tables.now (T.files store.old) parts.now at.old → (count : ℕ) →
+        let s = sought rule.now.kind (map (λ plug. meaning plug) plugs.old) (map filter_tree filters.now) (network_tree network.now) tables.now count in
+        Holds s (passed (T.files store.old) parts.now at.old) first.old → Spends s.network (length terms.now) (work_at s (T.files store.old) parts.now at.old held.old.range squares.old blocks.old) (work_in s (T.files store.old) parts.now squares.new blocks.new) }
     ensures windows { OnOk result (KeepsWindows (network_tree network.now) (live (T.files store.old) parts.now) first.old first.new) }
     ensures ahead { AreBacked (T.files store.old) parts.now → AreReadAt (T.files store.old) parts.now at.old cache.old held.old → IsAheadAt rule.now.kind (map (λ plug. meaning plug) plugs.old) (map filter_tree filters.now) (network_tree network.now) tables.now (T.files store.old) parts.now at.old → OnOk result
         (IsAheadAt rule.now.kind (map (λ plug. meaning plug) plugs.old) (map filter_tree filters.now) (network_tree network.now) tables.now (T.files store.old) parts.now at.new) }

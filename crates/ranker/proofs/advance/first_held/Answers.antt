@@ -17,4 +17,4 @@ pub returns-clause-entries : goal.returns-clause-entries
 returns-clause-entries c = λ network scaled. HoldsEntries-open network _ (AreEntries-none network _ (c.new-2.ensures.scale ∙ scaled) c.new-2.ensures.kept)
 
 pub returns-clause-held : goal.returns-clause-held
-returns-clause-held c = λ kind priors filters network. HoldsFirst-none kind priors filters network c.args.most _ c.new-2.ensures.most c.new-2.ensures.kept
+returns-clause-held c = λ kind priors filters network scaled. HoldsFirst-none kind priors filters network c.args.most _ c.new-2.ensures.most (c.new-2.ensures.scale ∙ scaled) c.new-2.ensures.kept

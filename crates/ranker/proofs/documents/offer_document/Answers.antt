@@ -28,7 +28,7 @@ returns-clause-first g c = λ sound docs most h.
     subst (λ (rs : List Row). Adds kind priors filters network d rs c.score_document.new.rows.items) c.new-rows.ensures.items (c.in_ok-score_document.ensures.exact sound) in
     let rows : AddsRows d (length network.leaves) [] c.score_document.new.rows.items =
     subst (λ (rs : List Row). AddsRows d (length network.leaves) rs c.score_document.new.rows.items) c.new-rows.ensures.items c.in_ok-score_document.ensures.shape in
-    HoldsFirst-more kind priors filters network docs d most c.args.first.now _ _ adds (rows_each d (length network.leaves) c.score_document.new.rows.items rows) c.offer_rows.ensures.most c.in_ok-offer_rows.ensures.offered h
+    HoldsFirst-more kind priors filters network docs d most c.args.first.now _ _ adds (rows_each d (length network.leaves) c.score_document.new.rows.items rows) c.offer_rows.ensures.most c.offer_rows.ensures.scale c.in_ok-offer_rows.ensures.offered h
 
 pub returns-clause-windows : goal.returns-clause-windows
 returns-clause-windows g c =

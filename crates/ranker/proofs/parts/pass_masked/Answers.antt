@@ -12,7 +12,7 @@ use Rattle.ranker.specs.Windows.{KeepsWindows}
 use Rattle.ranker.proofs.AheadLemmas.{IsAhead-on}
 use Rattle.ranker.proofs.PassedLemmas.{Advances-read, Advances-same, Advances-then}
 use Rattle.ranker.proofs.WindowLemmas.{KeepsWindows-same, KeepsWindows-then}
-use Rattle.ranker.proofs.WithinLemmas.{cost-take, within-more, within-then, within-to}
+use Rattle.ranker.proofs.WithinLemmas.{cost-to, within-more, within-then, within-to}
 use Rattle.ranker.proofs.parts.pass_masked.Goals as goal
 
 pub loop-at-init : goal.loop-at-init
@@ -94,8 +94,8 @@ returns-after-loop-at-clause-within g c = λ sound known.
     let network = network_tree c.args.network.now in
     let docs = g.P.Postings.documents c.args.part.now in
     let marks = c.args.marks.now in
-    within-more kind priors filters network (unmarked (take c.args.id docs) marks) (unmarked (take c.loop-at.at docs) marks) (unmarked docs marks) 0 0 0 c.args.squares.now c.loop-at.squares (c.loop-at.invariant.so_far sound known).cost
-    (cost-take kind priors filters network docs marks c.loop-at.at) (omega arith)
+    within-more kind priors filters network (unmarked (take c.args.id docs) marks) (unmarked (take c.loop-at.at docs) marks) (unmarked (take c.args.ahead.end docs) marks) 0 0 0 c.args.squares.now c.loop-at.squares (c.loop-at.invariant.so_far sound known).cost
+    (cost-to kind priors filters network docs marks c.loop-at.at c.args.ahead.end (omega (arith, c.loop-at.invariant.inside))) (omega arith)
 
 pub returns-else-docs-most-clause-within : goal.returns-else-docs-most-clause-within
 returns-else-docs-most-clause-within g c = λ sound known.
@@ -105,8 +105,8 @@ returns-else-docs-most-clause-within g c = λ sound known.
     let network = network_tree c.args.network.now in
     let docs = g.P.Postings.documents c.args.part.now in
     let marks = c.args.marks.now in
-    within-more kind priors filters network (unmarked (take c.args.id docs) marks) (unmarked (take c.loop-at.at docs) marks) (unmarked docs marks) 0 0 0 c.args.squares.now c.loop-at.squares (c.loop-at.invariant.so_far sound known).cost
-    (cost-take kind priors filters network docs marks c.loop-at.at) (omega arith)
+    within-more kind priors filters network (unmarked (take c.args.id docs) marks) (unmarked (take c.loop-at.at docs) marks) (unmarked (take c.args.ahead.end docs) marks) 0 0 0 c.args.squares.now c.loop-at.squares (c.loop-at.invariant.so_far sound known).cost
+    (cost-to kind priors filters network docs marks c.loop-at.at c.args.ahead.end (omega (arith, c.loop-at.invariant.inside))) (omega arith)
 
 pub returns-in_err-passed-clause-within : goal.returns-in_err-passed-clause-within
 returns-in_err-passed-clause-within g c = λ sound known.
@@ -127,7 +127,7 @@ returns-in_err-passed-clause-within g c = λ sound known.
     let bit : bit_of c.args.ahead.mask at ≡ 0 = sym c.may_have.ensures ∙ ap (λ b. cond b 1 0) clear in
     subst (λ (ds : List Document). query_may filters network.leaves (document_at ds at) ≡ false) (sym keeps.documents_stay) (known.none at low (omega (arith, test)) bit) in
     let next = within-to kind _ priors filters network read docs marks at (at + 1) c.loop-at.squares c.pass_document.new.squares c.loop-at.invariant.stay keeps.documents_stay (c.pass_document.ensures.within (keeps.sound_stays sound) none) in
-    within-more kind priors filters network (unmarked (take c.args.id docs) marks) (unmarked (take (at + 1) docs) marks) (unmarked docs marks) 0 0 0 c.args.squares.now c.pass_document.new.squares
+    within-more kind priors filters network (unmarked (take c.args.id docs) marks) (unmarked (take (at + 1) docs) marks) (unmarked (take c.args.ahead.end docs) marks) 0 0 0 c.args.squares.now c.pass_document.new.squares
     (within-then kind priors filters network (unmarked (take c.args.id docs) marks) (unmarked (take at docs) marks) (unmarked (take (at + 1) docs) marks) 0 0 0 c.args.squares.now c.loop-at.squares c.pass_document.new.squares
     (c.loop-at.invariant.so_far sound known).cost next)
-    (cost-take kind priors filters network docs marks (at + 1)) (omega arith)
+    (cost-to kind priors filters network docs marks (at + 1) c.args.ahead.end (omega (arith, test))) (omega arith)

@@ -1,23 +1,24 @@
-use Rattle.std.proofs.Common.{◌≤◌, ◌+◌, ◌/◌, length, map, take, sym, subst, ◌∙◌, arith}
+use Rattle.std.proofs.Common.{◌≡◌, ◌<◌, ◌≤◌, ◌+◌, ◌/◌, false, length, map, take, ap, sym, subst, ◌∙◌, arith}
 use Rattle.ri_base.specs.Query.{filter_tree}
 use Rattle.belief_nodes.specs.Network.{network_tree}
 use Rattle.disk_index.specs.Snapshots.{unmarked}
 use Rattle.ranker.specs.Blocks.{opened_of}
 use Rattle.ranker.specs.First.{Advances, counted}
-use Rattle.ranker.specs.Passed.{IsKnown, asked_of, live_ranges, ranges_of}
+use Rattle.ranker.specs.Passed.{IsKnown, asked_of, is_clear, live_ranges, ranges_of}
+use Rattle.ranker.specs.Unbeaten.{Holds, live_to, sought, stretch}
 use Rattle.ranker.proofs.AheadLemmas.{IsKnown-found, IsKnown-on, bare}
 use Rattle.ranker.proofs.AskedLemmas.{asked-all, asked-found, asked-on, asks-all, asks-bounded, asks-same, asks-then, live-here}
-use Rattle.ranker.proofs.OpenedLemmas.{Advances-bounded}
 use Rattle.ranker.proofs.OpeningLemmas.{each-passed, opened-le, opened-on, opens-one, opens-passed, opens-same}
-use Rattle.ranker.proofs.PassedLemmas.{Advances-asks, Advances-bare, Advances-beaten, Advances-dead}
+use Rattle.ranker.proofs.PassedLemmas.{Advances-bare, Advances-beaten, Advances-dead}
+use Rattle.ranker.proofs.UnbeatenLemmas.{is-unbeaten}
 use Rattle.ranker.proofs.WindowLemmas.{KeepsWindows-same}
-use Rattle.ranker.proofs.WithinLemmas.{cost-take, within-asks, within-bounded, within-same}
+use Rattle.ranker.proofs.WorkLemmas.{Passes-by, Passes-over, Spends-none, Spends-over, asks-up}
 use Rattle.ranker.proofs.parts.pass_on.Goals as goal
 
 -- ---- no document may have candidates
 
 pub returns-then-is_clear-clause-first : goal.returns-then-is_clear-clause-first
-returns-then-is_clear-clause-first g c = λ sound known.
+returns-then-is_clear-clause-first g c = λ sound known before count some.
     let kind = c.args.rule.now.kind in
     let priors = map (λ b. (goal.BeliefNode-dyn g (b.vtable, b.value)).meaning b.value) c.args.plugs.now in
     let filters = map filter_tree c.args.filters.now in
@@ -31,15 +32,17 @@ returns-then-is_clear-clause-first g c = λ sound known.
     let found = c.ahead_of-found.result in
     let foundly : IsKnown kind priors filters network tables number docs id found = IsKnown-found kind priors filters network tables number docs id ahead found c.ahead_of-found.ensures.found (c.ahead_of-found.ensures.ahead sound known.may) (c.ahead_of-found.ensures.span known.span) known in
     let asked = asked-found marks (length docs) id ahead found c.ahead_of-found.ensures.found known.span c.requires.id in
+    let s = sought kind priors filters network tables count in
+    let m = stretch number before docs marks in
     let to = c.pass_unseen.result in
     let inside = c.pass_unseen.ensures.passed.inside in
     let within = c.pass_unseen.ensures.inside in
     let clear = sym c.is_clear.ensures ∙ c.if-is_clear.true in
     let on = asked-on marks id to.id found to.ahead c.pass_unseen.ensures.back c.pass_unseen.ensures.same in
-    Advances-asks kind priors filters network (unmarked (take id docs) marks) (unmarked (take to.id docs) marks) c.args.first.now c.args.first.now c.args.squares.now c.args.squares.now c.args.squares.now (asked_of marks id ahead) (asked_of marks id found) (asked_of marks to.id to.ahead)
-    (asks-same network (asked_of marks id ahead) (asked_of marks id found) c.args.squares.now asked) on
+    Passes-by s m (length c.args.terms.now) id to.id ahead to.ahead (g.P.OpensRanges.present c.args.part.now) c.args.first.now c.args.squares.now c.args.squares.now c.args.blocks.now c.pass_unseen.ensures.back
     (Advances-bare kind priors filters network docs marks (counted c.args.first.now c.args.squares.now 0) id to.id c.pass_unseen.ensures.back (omega (arith, inside, c.requires.marks)) c.requires.marks
-    (λ i low high. bare filters network.leaves docs id found clear foundly.may i low (omega (arith, high, within))))
+    (λ i low high. bare filters network.leaves docs id found clear foundly.may i low (omega (arith, high, within)))).step
+    (asks-same network (asked_of marks id ahead) (asked_of marks to.id to.ahead) c.args.squares.now (omega (arith, asked, on)))
 
 pub returns-then-is_clear-clause-ahead : goal.returns-then-is_clear-clause-ahead
 returns-then-is_clear-clause-ahead g c = λ sound known.
@@ -64,7 +67,7 @@ pub returns-then-is_clear-clause-windows : goal.returns-then-is_clear-clause-win
 returns-then-is_clear-clause-windows g c = KeepsWindows-same _ _ _
 
 pub returns-then-is_clear-clause-within : goal.returns-then-is_clear-clause-within
-returns-then-is_clear-clause-within g c = λ sound known.
+returns-then-is_clear-clause-within g c = λ sound known before count held.
     let kind = c.args.rule.now.kind in
     let priors = map (λ b. (goal.BeliefNode-dyn g (b.vtable, b.value)).meaning b.value) c.args.plugs.now in
     let filters = map filter_tree c.args.filters.now in
@@ -78,14 +81,14 @@ returns-then-is_clear-clause-within g c = λ sound known.
     let found = c.ahead_of-found.result in
     let foundly : IsKnown kind priors filters network tables number docs id found = IsKnown-found kind priors filters network tables number docs id ahead found c.ahead_of-found.ensures.found (c.ahead_of-found.ensures.ahead sound known.may) (c.ahead_of-found.ensures.span known.span) known in
     let asked = asked-found marks (length docs) id ahead found c.ahead_of-found.ensures.found known.span c.requires.id in
-    within-asks kind priors filters network (unmarked (take id docs) marks) (unmarked docs marks) (asked_of marks id ahead) (asked_of marks id found) (live_ranges marks (ranges_of (length docs))) c.args.squares.now c.args.squares.now c.args.squares.now
-    (asks-same network (asked_of marks id ahead) (asked_of marks id found) c.args.squares.now asked) (asked-all marks (length docs) id found foundly.span)
-    (within-same kind priors filters network (unmarked (take id docs) marks) (unmarked docs marks) c.args.squares.now (cost-take kind priors filters network docs marks id))
+    let s = sought kind priors filters network tables count in
+    let m = stretch number before docs marks in
+    Spends-none s m (length c.args.terms.now) id ahead (g.P.OpensRanges.present c.args.part.now) c.args.squares.now c.args.squares.now c.args.blocks.now (omega (arith, c.requires.id)) (asks-up network (asked_of marks id ahead) (asked_of marks id found) (live_ranges marks (ranges_of (length docs))) c.args.squares.now c.args.squares.now (asks-same network (asked_of marks id ahead) (asked_of marks id found) c.args.squares.now asked) (asked-all marks (length docs) id found foundly.span))
 
 -- ---- the document is dead
 
 pub returns-then-is_marked-clause-first : goal.returns-then-is_marked-clause-first
-returns-then-is_marked-clause-first g c = λ sound known.
+returns-then-is_marked-clause-first g c = λ sound known before count some.
     let kind = c.args.rule.now.kind in
     let priors = map (λ b. (goal.BeliefNode-dyn g (b.vtable, b.value)).meaning b.value) c.args.plugs.now in
     let filters = map filter_tree c.args.filters.now in
@@ -99,13 +102,15 @@ returns-then-is_marked-clause-first g c = λ sound known.
     let found = c.ahead_of-found.result in
     let foundly : IsKnown kind priors filters network tables number docs id found = IsKnown-found kind priors filters network tables number docs id ahead found c.ahead_of-found.ensures.found (c.ahead_of-found.ensures.ahead sound known.may) (c.ahead_of-found.ensures.span known.span) known in
     let asked = asked-found marks (length docs) id ahead found c.ahead_of-found.ensures.found known.span c.requires.id in
+    let s = sought kind priors filters network tables count in
+    let m = stretch number before docs marks in
     let to = c.pass_dead.result in
     let next = c.pass_dead.ensures.next in
     let on = asked-on marks id to.id found to.ahead (omega (arith, next)) c.pass_dead.ensures.same in
-    Advances-asks kind priors filters network (unmarked (take id docs) marks) (unmarked (take to.id docs) marks) c.args.first.now c.args.first.now c.args.squares.now c.args.squares.now c.args.squares.now (asked_of marks id ahead) (asked_of marks id found) (asked_of marks to.id to.ahead)
-    (asks-same network (asked_of marks id ahead) (asked_of marks id found) c.args.squares.now asked) on
+    Passes-by s m (length c.args.terms.now) id to.id ahead to.ahead (g.P.OpensRanges.present c.args.part.now) c.args.first.now c.args.squares.now c.args.squares.now c.args.blocks.now (omega (arith, next))
     (subst (λ n. Advances kind priors filters network (unmarked (take id docs) marks) (unmarked (take n docs) marks) (counted c.args.first.now c.args.squares.now 0) (counted c.args.first.now c.args.squares.now 0)) (sym next)
-    (Advances-dead kind priors filters network docs marks id (counted c.args.first.now c.args.squares.now 0) c.requires.id c.requires.marks (sym c.is_marked.ensures ∙ c.if-is_marked.true)))
+    (Advances-dead kind priors filters network docs marks id (counted c.args.first.now c.args.squares.now 0) c.requires.id c.requires.marks (sym c.is_marked.ensures ∙ c.if-is_marked.true))).step
+    (asks-same network (asked_of marks id ahead) (asked_of marks to.id to.ahead) c.args.squares.now (omega (arith, asked, on)))
 
 pub returns-then-is_marked-clause-ahead : goal.returns-then-is_marked-clause-ahead
 returns-then-is_marked-clause-ahead g c = λ sound known.
@@ -132,7 +137,7 @@ pub returns-then-is_marked-clause-windows : goal.returns-then-is_marked-clause-w
 returns-then-is_marked-clause-windows g c = KeepsWindows-same _ _ _
 
 pub returns-then-is_marked-clause-within : goal.returns-then-is_marked-clause-within
-returns-then-is_marked-clause-within g c = λ sound known.
+returns-then-is_marked-clause-within g c = λ sound known before count held.
     let kind = c.args.rule.now.kind in
     let priors = map (λ b. (goal.BeliefNode-dyn g (b.vtable, b.value)).meaning b.value) c.args.plugs.now in
     let filters = map filter_tree c.args.filters.now in
@@ -146,14 +151,14 @@ returns-then-is_marked-clause-within g c = λ sound known.
     let found = c.ahead_of-found.result in
     let foundly : IsKnown kind priors filters network tables number docs id found = IsKnown-found kind priors filters network tables number docs id ahead found c.ahead_of-found.ensures.found (c.ahead_of-found.ensures.ahead sound known.may) (c.ahead_of-found.ensures.span known.span) known in
     let asked = asked-found marks (length docs) id ahead found c.ahead_of-found.ensures.found known.span c.requires.id in
-    within-asks kind priors filters network (unmarked (take id docs) marks) (unmarked docs marks) (asked_of marks id ahead) (asked_of marks id found) (live_ranges marks (ranges_of (length docs))) c.args.squares.now c.args.squares.now c.args.squares.now
-    (asks-same network (asked_of marks id ahead) (asked_of marks id found) c.args.squares.now asked) (asked-all marks (length docs) id found foundly.span)
-    (within-same kind priors filters network (unmarked (take id docs) marks) (unmarked docs marks) c.args.squares.now (cost-take kind priors filters network docs marks id))
+    let s = sought kind priors filters network tables count in
+    let m = stretch number before docs marks in
+    Spends-none s m (length c.args.terms.now) id ahead (g.P.OpensRanges.present c.args.part.now) c.args.squares.now c.args.squares.now c.args.blocks.now (omega (arith, c.requires.id)) (asks-up network (asked_of marks id ahead) (asked_of marks id found) (live_ranges marks (ranges_of (length docs))) c.args.squares.now c.args.squares.now (asks-same network (asked_of marks id ahead) (asked_of marks id found) c.args.squares.now asked) (asked-all marks (length docs) id found foundly.span))
 
 -- ---- no bound is told
 
 pub returns-in_err-known-clause-within : goal.returns-in_err-known-clause-within
-returns-in_err-known-clause-within g c = λ sound known.
+returns-in_err-known-clause-within g c = λ sound known before count held.
     let kind = c.args.rule.now.kind in
     let priors = map (λ b. (goal.BeliefNode-dyn g (b.vtable, b.value)).meaning b.value) c.args.plugs.now in
     let filters = map filter_tree c.args.filters.now in
@@ -167,14 +172,17 @@ returns-in_err-known-clause-within g c = λ sound known.
     let found = c.ahead_of-found.result in
     let foundly : IsKnown kind priors filters network tables number docs id found = IsKnown-found kind priors filters network tables number docs id ahead found c.ahead_of-found.ensures.found (c.ahead_of-found.ensures.ahead sound known.may) (c.ahead_of-found.ensures.span known.span) known in
     let asked = asked-found marks (length docs) id ahead found c.ahead_of-found.ensures.found known.span c.requires.id in
-    let asks = asks-then network (asked_of marks id ahead) (asked_of marks id found) (live_ranges marks (ranges_of (length docs))) c.args.squares.now c.args.squares.now c.bounded.new.squares (asks-same network (asked_of marks id ahead) (asked_of marks id found) c.args.squares.now asked) (asks-all network marks (length docs) id found c.args.squares.now c.bounded.new.squares c.in_err-known.ensures.unasked c.requires.id (live-here marks id (omega (arith, c.requires.id, c.requires.marks)) (sym c.is_marked.ensures ∙ c.if-is_marked.false)) c.bounded.ensures.cost) in
-    within-asks kind priors filters network (unmarked (take id docs) marks) (unmarked docs marks) (asked_of marks id ahead) (live_ranges marks (ranges_of (length docs))) (live_ranges marks (ranges_of (length docs))) c.args.squares.now c.bounded.new.squares c.bounded.new.squares asks (omega arith)
-    (within-same kind priors filters network (unmarked (take id docs) marks) (unmarked docs marks) c.bounded.new.squares (cost-take kind priors filters network docs marks id))
+    let s = sought kind priors filters network tables count in
+    let m = stretch number before docs marks in
+    let live = live-here marks id (omega (arith, c.requires.id, c.requires.marks)) (sym c.is_marked.ensures ∙ c.if-is_marked.false) in
+    let asks = asks-then network (asked_of marks id ahead) (asked_of marks id found) (live_ranges marks (ranges_of (length docs))) c.args.squares.now c.args.squares.now c.bounded.new.squares (asks-same network (asked_of marks id ahead) (asked_of marks id found) c.args.squares.now asked)
+    (asks-all network marks (length docs) id found c.args.squares.now c.bounded.new.squares c.in_err-known.ensures.unasked c.requires.id live c.bounded.ensures.cost) in
+    Spends-none s m (length c.args.terms.now) id ahead (g.P.OpensRanges.present c.args.part.now) c.args.squares.now c.bounded.new.squares c.args.blocks.now (omega (arith, c.requires.id)) asks
 
 -- ---- no candidate of the range can be among the first
 
 pub returns-then-is_beaten-clause-first : goal.returns-then-is_beaten-clause-first
-returns-then-is_beaten-clause-first g c = λ sound known.
+returns-then-is_beaten-clause-first g c = λ sound known before count some.
     let kind = c.args.rule.now.kind in
     let priors = map (λ b. (goal.BeliefNode-dyn g (b.vtable, b.value)).meaning b.value) c.args.plugs.now in
     let filters = map filter_tree c.args.filters.now in
@@ -188,19 +196,24 @@ returns-then-is_beaten-clause-first g c = λ sound known.
     let found = c.ahead_of-found.result in
     let foundly : IsKnown kind priors filters network tables number docs id found = IsKnown-found kind priors filters network tables number docs id ahead found c.ahead_of-found.ensures.found (c.ahead_of-found.ensures.ahead sound known.may) (c.ahead_of-found.ensures.span known.span) known in
     let asked = asked-found marks (length docs) id ahead found c.ahead_of-found.ensures.found known.span c.requires.id in
+    let s = sought kind priors filters network tables count in
+    let m = stretch number before docs marks in
     let now = c.in_ok-known.known in
     let bounded : IsKnown kind priors filters network tables number docs id now = c.in_ok-known.ensures.known filters foundly in
-    let asks = asks-then network (asked_of marks id ahead) (asked_of marks id found) (asked_of marks id now) c.args.squares.now c.args.squares.now c.bounded.new.squares (asks-same network (asked_of marks id ahead) (asked_of marks id found) c.args.squares.now asked) (asks-bounded network marks (length docs) id found now c.args.squares.now c.bounded.new.squares c.in_ok-known.ensures.asked c.in_ok-known.ensures.end c.ahead_of-found.ensures.some (sym c.is_clear.ensures ∙ c.if-is_clear.false) (live-here marks id (omega (arith, c.requires.id, c.requires.marks)) (sym c.is_marked.ensures ∙ c.if-is_marked.false)) c.bounded.ensures.cost foundly.span) in
+    let live = live-here marks id (omega (arith, c.requires.id, c.requires.marks)) (sym c.is_marked.ensures ∙ c.if-is_marked.false) in
+    let asks = asks-then network (asked_of marks id ahead) (asked_of marks id found) (asked_of marks id now) c.args.squares.now c.args.squares.now c.bounded.new.squares (asks-same network (asked_of marks id ahead) (asked_of marks id found) c.args.squares.now asked)
+    (asks-bounded network marks (length docs) id found now c.args.squares.now c.bounded.new.squares c.in_ok-known.ensures.asked c.in_ok-known.ensures.end c.ahead_of-found.ensures.some (sym c.is_clear.ensures ∙ c.if-is_clear.false) live c.bounded.ensures.cost foundly.span) in
     let to = c.pass_unseen-then-is_beaten.result in
     let inside = c.pass_unseen-then-is_beaten.ensures.passed.inside in
     let within = c.pass_unseen-then-is_beaten.ensures.inside in
     let on = asked-on marks id to.id now to.ahead c.pass_unseen-then-is_beaten.ensures.back c.pass_unseen-then-is_beaten.ensures.same in
-    let beaten = c.is_beaten.ensures c.if-is_beaten.true in
+    let beaten = c.is_beaten.ensures.beaten c.if-is_beaten.true in
     let stats = c.args.network.now.kept.each in
     let leaves : length network.leaves ≤ length network.stats = omega (arith, stats) in
-    Advances-asks kind priors filters network (unmarked (take id docs) marks) (unmarked (take to.id docs) marks) c.args.first.now c.args.first.now c.args.squares.now c.bounded.new.squares c.bounded.new.squares (asked_of marks id ahead) (asked_of marks id now) (asked_of marks to.id to.ahead) asks on
+    Passes-by s m (length c.args.terms.now) id to.id ahead to.ahead (g.P.OpensRanges.present c.args.part.now) c.args.first.now c.args.squares.now c.bounded.new.squares c.args.blocks.now c.pass_unseen-then-is_beaten.ensures.back
     (Advances-beaten kind priors filters network docs marks (counted c.args.first.now c.bounded.new.squares 0) id to.id beaten.0 c.pass_unseen-then-is_beaten.ensures.back (omega (arith, inside, c.requires.marks)) c.requires.marks leaves beaten.2
-    (λ i low high. bounded.least beaten.0 i beaten.1 low (omega (arith, high, within))))
+    (λ i low high. bounded.least beaten.0 i beaten.1 low (omega (arith, high, within)))).step
+    (asks-up network (asked_of marks id ahead) (asked_of marks id now) (asked_of marks to.id to.ahead) c.args.squares.now c.bounded.new.squares asks on)
 
 pub returns-then-is_beaten-clause-ahead : goal.returns-then-is_beaten-clause-ahead
 returns-then-is_beaten-clause-ahead g c = λ sound known.
@@ -229,7 +242,7 @@ pub returns-then-is_beaten-clause-windows : goal.returns-then-is_beaten-clause-w
 returns-then-is_beaten-clause-windows g c = KeepsWindows-same _ _ _
 
 pub returns-then-is_beaten-clause-within : goal.returns-then-is_beaten-clause-within
-returns-then-is_beaten-clause-within g c = λ sound known.
+returns-then-is_beaten-clause-within g c = λ sound known before count held.
     let kind = c.args.rule.now.kind in
     let priors = map (λ b. (goal.BeliefNode-dyn g (b.vtable, b.value)).meaning b.value) c.args.plugs.now in
     let filters = map filter_tree c.args.filters.now in
@@ -243,16 +256,19 @@ returns-then-is_beaten-clause-within g c = λ sound known.
     let found = c.ahead_of-found.result in
     let foundly : IsKnown kind priors filters network tables number docs id found = IsKnown-found kind priors filters network tables number docs id ahead found c.ahead_of-found.ensures.found (c.ahead_of-found.ensures.ahead sound known.may) (c.ahead_of-found.ensures.span known.span) known in
     let asked = asked-found marks (length docs) id ahead found c.ahead_of-found.ensures.found known.span c.requires.id in
+    let s = sought kind priors filters network tables count in
+    let m = stretch number before docs marks in
     let now = c.in_ok-known.known in
     let bounded : IsKnown kind priors filters network tables number docs id now = c.in_ok-known.ensures.known filters foundly in
-    let asks = asks-then network (asked_of marks id ahead) (asked_of marks id found) (asked_of marks id now) c.args.squares.now c.args.squares.now c.bounded.new.squares (asks-same network (asked_of marks id ahead) (asked_of marks id found) c.args.squares.now asked) (asks-bounded network marks (length docs) id found now c.args.squares.now c.bounded.new.squares c.in_ok-known.ensures.asked c.in_ok-known.ensures.end c.ahead_of-found.ensures.some (sym c.is_clear.ensures ∙ c.if-is_clear.false) (live-here marks id (omega (arith, c.requires.id, c.requires.marks)) (sym c.is_marked.ensures ∙ c.if-is_marked.false)) c.bounded.ensures.cost foundly.span) in
-    within-asks kind priors filters network (unmarked (take id docs) marks) (unmarked docs marks) (asked_of marks id ahead) (asked_of marks id now) (live_ranges marks (ranges_of (length docs))) c.args.squares.now c.bounded.new.squares c.bounded.new.squares asks (asked-all marks (length docs) id now bounded.span)
-    (within-same kind priors filters network (unmarked (take id docs) marks) (unmarked docs marks) c.bounded.new.squares (cost-take kind priors filters network docs marks id))
+    let live = live-here marks id (omega (arith, c.requires.id, c.requires.marks)) (sym c.is_marked.ensures ∙ c.if-is_marked.false) in
+    let asks = asks-then network (asked_of marks id ahead) (asked_of marks id found) (asked_of marks id now) c.args.squares.now c.args.squares.now c.bounded.new.squares (asks-same network (asked_of marks id ahead) (asked_of marks id found) c.args.squares.now asked)
+    (asks-bounded network marks (length docs) id found now c.args.squares.now c.bounded.new.squares c.in_ok-known.ensures.asked c.in_ok-known.ensures.end c.ahead_of-found.ensures.some (sym c.is_clear.ensures ∙ c.if-is_clear.false) live c.bounded.ensures.cost foundly.span) in
+    Spends-none s m (length c.args.terms.now) id ahead (g.P.OpensRanges.present c.args.part.now) c.args.squares.now c.bounded.new.squares c.args.blocks.now (omega (arith, c.requires.id)) (asks-up network (asked_of marks id ahead) (asked_of marks id now) (live_ranges marks (ranges_of (length docs))) c.args.squares.now c.bounded.new.squares asks (asked-all marks (length docs) id now bounded.span))
 
 -- ---- the range is gone over
 
 pub returns-clause-first : goal.returns-clause-first
-returns-clause-first g c = λ sound known.
+returns-clause-first g c = λ sound known before count.
     let kind = c.args.rule.now.kind in
     let priors = map (λ b. (goal.BeliefNode-dyn g (b.vtable, b.value)).meaning b.value) c.args.plugs.now in
     let filters = map filter_tree c.args.filters.now in
@@ -266,11 +282,19 @@ returns-clause-first g c = λ sound known.
     let found = c.ahead_of-found.result in
     let foundly : IsKnown kind priors filters network tables number docs id found = IsKnown-found kind priors filters network tables number docs id ahead found c.ahead_of-found.ensures.found (c.ahead_of-found.ensures.ahead sound known.may) (c.ahead_of-found.ensures.span known.span) known in
     let asked = asked-found marks (length docs) id ahead found c.ahead_of-found.ensures.found known.span c.requires.id in
+    let s = sought kind priors filters network tables count in
+    let m = stretch number before docs marks in
     let now = c.in_ok-known.known in
     let bounded : IsKnown kind priors filters network tables number docs id now = c.in_ok-known.ensures.known filters foundly in
-    let asks = asks-then network (asked_of marks id ahead) (asked_of marks id found) (asked_of marks id now) c.args.squares.now c.args.squares.now c.bounded.new.squares (asks-same network (asked_of marks id ahead) (asked_of marks id found) c.args.squares.now asked) (asks-bounded network marks (length docs) id found now c.args.squares.now c.bounded.new.squares c.in_ok-known.ensures.asked c.in_ok-known.ensures.end c.ahead_of-found.ensures.some (sym c.is_clear.ensures ∙ c.if-is_clear.false) (live-here marks id (omega (arith, c.requires.id, c.requires.marks)) (sym c.is_marked.ensures ∙ c.if-is_marked.false)) c.bounded.ensures.cost foundly.span) in
-    Advances-bounded kind priors filters network docs marks id c.pass_opened.result c.args.first.now c.pass_opened.new.first c.args.squares.now c.bounded.new.squares c.pass_opened.new.squares (asked_of marks id ahead) (asked_of marks id now) asks
-    (c.pass_opened.ensures.first sound bounded)
+    let live = live-here marks id (omega (arith, c.requires.id, c.requires.marks)) (sym c.is_marked.ensures ∙ c.if-is_marked.false) in
+    let asks = asks-then network (asked_of marks id ahead) (asked_of marks id found) (asked_of marks id now) c.args.squares.now c.args.squares.now c.bounded.new.squares (asks-same network (asked_of marks id ahead) (asked_of marks id found) c.args.squares.now asked)
+    (asks-bounded network marks (length docs) id found now c.args.squares.now c.bounded.new.squares c.in_ok-known.ensures.asked c.in_ok-known.ensures.end c.ahead_of-found.ensures.some (sym c.is_clear.ensures ∙ c.if-is_clear.false) live c.bounded.ensures.cost foundly.span) in
+    let some_ahead : id < now.end = omega (arith, c.ahead_of-found.ensures.some, c.in_ok-known.ensures.end) in
+    let found_unbeaten = λ (held : Holds s (live_to m id) c.args.first.now).
+    is-unbeaten s m id c.args.first.now now.bound held (λ n is. bounded.key n id is (omega arith) some_ahead) (c.is_beaten.ensures.unbeaten c.if-is_beaten.false) c.in_ok-known.ensures.unbound in
+    let read : is_clear now.mask ≡ false = ap is_clear c.in_ok-known.ensures.mask ∙ sym c.is_clear.ensures ∙ c.if-is_clear.false in
+    Passes-over s m id ahead now (g.P.OpensRanges.present c.args.part.now) (g.P.OpensRanges.present c.pass_opened.new.part) c.args.first.now c.pass_opened.new.first c.args.squares.now c.bounded.new.squares c.pass_opened.new.squares c.args.blocks.now c.pass_opened.new.blocks (length c.args.terms.now) c.requires.marks c.requires.id bounded.span.inside (bounded.span.short read) asks live found_unbeaten c.pass_opened.ensures.none c.pass_opened.ensures.cost
+    c.pass_opened.result c.args.most c.pass_opened.ensures.forward c.pass_opened.ensures.inside c.pass_opened.ensures.present (c.pass_opened.ensures.first sound bounded)
 
 pub returns-clause-ahead : goal.returns-clause-ahead
 returns-clause-ahead g c = λ sound known.
@@ -291,7 +315,7 @@ returns-clause-ahead g c = λ sound known.
     c.pass_opened.ensures.ahead sound bounded
 
 pub returns-clause-within : goal.returns-clause-within
-returns-clause-within g c = λ sound known.
+returns-clause-within g c = λ sound known before count.
     let kind = c.args.rule.now.kind in
     let priors = map (λ b. (goal.BeliefNode-dyn g (b.vtable, b.value)).meaning b.value) c.args.plugs.now in
     let filters = map filter_tree c.args.filters.now in
@@ -305,10 +329,19 @@ returns-clause-within g c = λ sound known.
     let found = c.ahead_of-found.result in
     let foundly : IsKnown kind priors filters network tables number docs id found = IsKnown-found kind priors filters network tables number docs id ahead found c.ahead_of-found.ensures.found (c.ahead_of-found.ensures.ahead sound known.may) (c.ahead_of-found.ensures.span known.span) known in
     let asked = asked-found marks (length docs) id ahead found c.ahead_of-found.ensures.found known.span c.requires.id in
+    let s = sought kind priors filters network tables count in
+    let m = stretch number before docs marks in
     let now = c.in_ok-known.known in
     let bounded : IsKnown kind priors filters network tables number docs id now = c.in_ok-known.ensures.known filters foundly in
-    let asks = asks-then network (asked_of marks id ahead) (asked_of marks id found) (asked_of marks id now) c.args.squares.now c.args.squares.now c.bounded.new.squares (asks-same network (asked_of marks id ahead) (asked_of marks id found) c.args.squares.now asked) (asks-bounded network marks (length docs) id found now c.args.squares.now c.bounded.new.squares c.in_ok-known.ensures.asked c.in_ok-known.ensures.end c.ahead_of-found.ensures.some (sym c.is_clear.ensures ∙ c.if-is_clear.false) (live-here marks id (omega (arith, c.requires.id, c.requires.marks)) (sym c.is_marked.ensures ∙ c.if-is_marked.false)) c.bounded.ensures.cost foundly.span) in
-    within-bounded kind priors filters network (unmarked (take id docs) marks) (unmarked docs marks) (asked_of marks id ahead) (asked_of marks id now) (live_ranges marks (ranges_of (length docs))) c.args.squares.now c.bounded.new.squares c.pass_opened.new.squares asks (c.pass_opened.ensures.within sound bounded)
+    let live = live-here marks id (omega (arith, c.requires.id, c.requires.marks)) (sym c.is_marked.ensures ∙ c.if-is_marked.false) in
+    let asks = asks-then network (asked_of marks id ahead) (asked_of marks id found) (asked_of marks id now) c.args.squares.now c.args.squares.now c.bounded.new.squares (asks-same network (asked_of marks id ahead) (asked_of marks id found) c.args.squares.now asked)
+    (asks-bounded network marks (length docs) id found now c.args.squares.now c.bounded.new.squares c.in_ok-known.ensures.asked c.in_ok-known.ensures.end c.ahead_of-found.ensures.some (sym c.is_clear.ensures ∙ c.if-is_clear.false) live c.bounded.ensures.cost foundly.span) in
+    let some_ahead : id < now.end = omega (arith, c.ahead_of-found.ensures.some, c.in_ok-known.ensures.end) in
+    let found_unbeaten = λ (held : Holds s (live_to m id) c.args.first.now).
+    is-unbeaten s m id c.args.first.now now.bound held (λ n is. bounded.key n id is (omega arith) some_ahead) (c.is_beaten.ensures.unbeaten c.if-is_beaten.false) c.in_ok-known.ensures.unbound in
+    let read : is_clear now.mask ≡ false = ap is_clear c.in_ok-known.ensures.mask ∙ sym c.is_clear.ensures ∙ c.if-is_clear.false in
+    Spends-over s m id ahead now (g.P.OpensRanges.present c.args.part.now) (g.P.OpensRanges.present c.pass_opened.new.part) c.args.first.now c.pass_opened.new.first c.args.squares.now c.bounded.new.squares c.pass_opened.new.squares c.args.blocks.now c.pass_opened.new.blocks (length c.args.terms.now) c.requires.marks c.requires.id bounded.span.inside (bounded.span.short read) asks live found_unbeaten c.pass_opened.ensures.none c.pass_opened.ensures.cost
+    (omega (arith, some_ahead)) (c.pass_opened.ensures.within sound bounded)
 
 -- ---- blocks
 

@@ -1,15 +1,16 @@
-use Rattle.std.proofs.Common.{length, map, take, sym, ◌∙◌, arith}
+use Rattle.std.proofs.Common.{◌≤◌, IfOk, length, map, take, sym, subst, ◌∙◌, arith}
 use Rattle.ri_base.specs.Query.{filter_tree}
 use Rattle.belief_nodes.specs.Network.{network_tree}
 use Rattle.disk_index.specs.Snapshots.{unmarked}
-use Rattle.ranker.specs.First.{counted}
+use Rattle.ranker.specs.First.{SpendsWithin, counted}
 use Rattle.ranker.specs.Passed.{IsKnown, asked_of, live_ranges, ranges_of}
+use Rattle.ranker.specs.declared.place.Passed.{Passed}
 use Rattle.ranker.proofs.AheadLemmas.{IsAhead-read, IsKnown-masked, IsKnown-on, IsKnown-opened, bare}
 use Rattle.ranker.proofs.AskedLemmas.{asked-all, asked-opened, asks-same}
 use Rattle.ranker.proofs.PassedLemmas.{Advances-asks, Advances-bare}
 use Rattle.ranker.proofs.OpenedLemmas.{Advances-opened}
 use Rattle.ranker.proofs.WindowLemmas.{KeepsWindows-same}
-use Rattle.ranker.proofs.WithinLemmas.{cost-take, within-asks, within-same}
+use Rattle.ranker.proofs.WithinLemmas.{cost-to, within-asks, within-same}
 use Rattle.ranker.proofs.parts.pass_open.Goals as goal
 
 -- ---- the mask isn't read
@@ -26,9 +27,9 @@ returns-in_err-open-clause-within g c = λ sound known.
     let number = c.args.number in
     let id = c.args.id in
     let ahead = c.args.ahead in
-    within-asks kind priors filters network (unmarked (take id docs) marks) (unmarked docs marks) (asked_of marks id ahead) (asked_of marks id ahead) (live_ranges marks (ranges_of (length docs))) c.args.squares.now c.args.squares.now c.args.squares.now
+    within-asks kind priors filters network (unmarked (take id docs) marks) (unmarked (take ahead.end docs) marks) (asked_of marks id ahead) (asked_of marks id ahead) (live_ranges marks (ranges_of (length docs))) c.args.squares.now c.args.squares.now c.args.squares.now
     (asks-same network (asked_of marks id ahead) (asked_of marks id ahead) c.args.squares.now (omega arith)) (asked-all marks (length docs) id ahead known.span)
-    (within-same kind priors filters network (unmarked (take id docs) marks) (unmarked docs marks) c.args.squares.now (cost-take kind priors filters network docs marks id))
+    (within-same kind priors filters network (unmarked (take id docs) marks) (unmarked (take ahead.end docs) marks) c.args.squares.now (cost-to kind priors filters network docs marks id ahead.end (omega (arith, c.requires.some))))
 
 -- ---- no bit is set
 
@@ -94,9 +95,9 @@ returns-then-is_clear-clause-within g c = λ sound known.
     let number = c.args.number in
     let id = c.args.id in
     let ahead = c.args.ahead in
-    within-asks kind priors filters network (unmarked (take id docs) marks) (unmarked docs marks) (asked_of marks id ahead) (asked_of marks id ahead) (live_ranges marks (ranges_of (length docs))) c.args.squares.now c.args.squares.now c.args.squares.now
+    within-asks kind priors filters network (unmarked (take id docs) marks) (unmarked (take ahead.end docs) marks) (asked_of marks id ahead) (asked_of marks id ahead) (live_ranges marks (ranges_of (length docs))) c.args.squares.now c.args.squares.now c.args.squares.now
     (asks-same network (asked_of marks id ahead) (asked_of marks id ahead) c.args.squares.now (omega arith)) (asked-all marks (length docs) id ahead known.span)
-    (within-same kind priors filters network (unmarked (take id docs) marks) (unmarked docs marks) c.args.squares.now (cost-take kind priors filters network docs marks id))
+    (within-same kind priors filters network (unmarked (take id docs) marks) (unmarked (take ahead.end docs) marks) c.args.squares.now (cost-to kind priors filters network docs marks id ahead.end (omega (arith, c.requires.some))))
 
 -- ---- those with a bit are looked at
 
@@ -156,6 +157,15 @@ returns-clause-within g c = λ sound known.
     let keeps = c.masked.ensures.keeps in
     let opened = c.in_ok-open.open in
     let may = c.in_ok-open.ensures.ahead sound known.span c.requires.open known.may in
-    within-asks kind priors filters network (unmarked (take id docs) marks) (unmarked docs marks) (asked_of marks id ahead) (asked_of marks id ahead) (live_ranges marks (ranges_of (length docs))) c.args.squares.now c.args.squares.now c.pass_masked.new.squares
+    within-asks kind priors filters network (unmarked (take id docs) marks) (unmarked (take ahead.end docs) marks) (asked_of marks id ahead) (asked_of marks id ahead) (live_ranges marks (ranges_of (length docs))) c.args.squares.now c.args.squares.now c.pass_masked.new.squares
     (asks-same network (asked_of marks id ahead) (asked_of marks id ahead) c.args.squares.now (omega arith)) (asked-all marks (length docs) id ahead known.span)
-    (rw keeps.documents_stay at (c.pass_masked.ensures.within (keeps.sound_stays sound) (IsAhead-read filters network.leaves docs (g.P.Postings.documents c.masked.new.part) id opened (sym keeps.documents_stay) may)))
+    (subst (λ e. SpendsWithin kind priors filters network (unmarked (take id docs) marks) (unmarked (take e docs) marks) 0 0 c.args.squares.now c.pass_masked.new.squares) c.in_ok-open.ensures.end
+    (rw keeps.documents_stay at (c.pass_masked.ensures.within (keeps.sound_stays sound) (IsAhead-read filters network.leaves docs (g.P.Postings.documents c.masked.new.part) id opened (sym keeps.documents_stay) may))))
+
+-- ---- up to the end of what is known
+
+pub returns-then-is_clear-clause-inside : goal.returns-then-is_clear-clause-inside
+returns-then-is_clear-clause-inside g c = omega (arith, c.pass_unseen.ensures.inside, c.in_ok-open.ensures.end)
+
+pub returns-clause-inside : goal.returns-clause-inside
+returns-clause-inside g c = subst (λ e. IfOk c.pass_masked.result (λ (to : Passed). to.id ≤ e)) c.in_ok-open.ensures.end c.pass_masked.ensures.inside

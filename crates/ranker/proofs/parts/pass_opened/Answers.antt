@@ -6,7 +6,7 @@ use Rattle.disk_index.specs.Snapshots.{unmarked}
 use Rattle.extent_lists.proofs.KeepsLemmas.{Keeps-then}
 use Rattle.ranker.proofs.AheadLemmas.{IsKnown-read}
 use Rattle.ranker.proofs.OpeningLemmas.{on-ok}
-use Rattle.ranker.proofs.WithinLemmas.{cost-take, within-asks, within-same}
+use Rattle.ranker.proofs.WithinLemmas.{cost-to, within-asks, within-same}
 use Rattle.ranker.proofs.AskedLemmas.{asked-all, asks-same}
 use Rattle.ranker.specs.Passed.{asked_of, live_ranges, ranges_of}
 use Rattle.ranker.proofs.parts.pass_opened.Goals as goal
@@ -77,6 +77,6 @@ returns-in_err-open_range-clause-within g c = λ sound known.
     let marks = c.args.marks.now in
     let id = c.args.id in
     let ahead = c.args.ahead in
-    within-asks kind priors filters network (unmarked (take id docs) marks) (unmarked docs marks) (asked_of marks id ahead) (asked_of marks id ahead) (live_ranges marks (ranges_of (length docs))) c.args.squares.now c.args.squares.now c.args.squares.now
+    within-asks kind priors filters network (unmarked (take id docs) marks) (unmarked (take ahead.end docs) marks) (asked_of marks id ahead) (asked_of marks id ahead) (live_ranges marks (ranges_of (length docs))) c.args.squares.now c.args.squares.now c.args.squares.now
     (asks-same network (asked_of marks id ahead) (asked_of marks id ahead) c.args.squares.now (omega arith)) (asked-all marks (length docs) id ahead known.span)
-    (within-same kind priors filters network (unmarked (take id docs) marks) (unmarked docs marks) c.args.squares.now (cost-take kind priors filters network docs marks id))
+    (within-same kind priors filters network (unmarked (take id docs) marks) (unmarked (take ahead.end docs) marks) c.args.squares.now (cost-to kind priors filters network docs marks id ahead.end (omega (arith, c.requires.some))))

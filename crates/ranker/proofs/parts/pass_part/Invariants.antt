@@ -1,11 +1,12 @@
-use Rattle.std.proofs.Common.{◌≡◌, ◌≤◌, ◌+◌, ◌-◌, ◌*◌, length, map, take}
+use Rattle.std.proofs.Common.{◌≡◌, ◌≤◌, ◌+◌, ◌-◌, ◌*◌, ℕ, List, length, map}
+use Rattle.ri_base.specs.Documents.{Document}
 use Rattle.ri_base.specs.Keeps.{Keeps}
 use Rattle.ri_base.specs.Query.{filter_tree}
 use Rattle.belief_nodes.specs.Network.{network_tree}
 use Rattle.disk_index.specs.Snapshots.{unmarked}
 use Rattle.ranker.specs.Blocks.{OpensWithin, opened_of}
-use Rattle.ranker.specs.First.{Advances, counted}
-use Rattle.ranker.specs.Passed.{IsKnown, asked_of, live_ids}
+use Rattle.ranker.specs.Passed.{IsKnown, live_ids}
+use Rattle.ranker.specs.Unbeaten.{Passes, live_to, sought, stretch, work_to}
 use Rattle.ranker.specs.Windows.{KeepsWindows}
 use Rattle.ranker.proofs.parts.pass_part.Given as goal
 
@@ -14,7 +15,8 @@ invariant-loop-at g l = record {
   keeps : Keeps g.P.Postings.documents g.P.Postings.faults g.P.Postings.sound g.P.OpensRanges.calm l.fn.part l.part;
   stay : map (λ b. (goal.BeliefNode-dyn g (b.vtable, b.value)).meaning b.value) l.plugs ≡ map (λ b. (goal.BeliefNode-dyn g (b.vtable, b.value)).meaning b.value) l.fn.plugs;
   so_far : g.P.Postings.sound l.fn.part → IsKnown l.rule.kind (map (λ b. (goal.BeliefNode-dyn g (b.vtable, b.value)).meaning b.value) l.fn.plugs) (map filter_tree l.filters) (network_tree l.network) l.tables l.number (g.P.Postings.documents l.fn.part) l.id l.fn.ahead
-      → Advances l.rule.kind (map (λ b. (goal.BeliefNode-dyn g (b.vtable, b.value)).meaning b.value) l.fn.plugs) (map filter_tree l.filters) (network_tree l.network) (unmarked (take l.id (g.P.Postings.documents l.fn.part)) l.marks) (unmarked (take l.at (g.P.Postings.documents l.fn.part)) l.marks) (counted l.fn.first l.fn.squares (asked_of l.marks l.id l.fn.ahead)) (counted l.first l.squares (asked_of l.marks l.at l.known));
+      → (before : List Document) (count : ℕ) → Passes (sought l.rule.kind (map (λ b. (goal.BeliefNode-dyn g (b.vtable, b.value)).meaning b.value) l.fn.plugs) (map filter_tree l.filters) (network_tree l.network) l.tables count) (length l.terms) (live_to (stretch l.number before (g.P.Postings.documents l.fn.part) l.marks) l.id) (live_to (stretch l.number before (g.P.Postings.documents l.fn.part) l.marks) l.at) l.fn.first l.first
+      (work_to (sought l.rule.kind (map (λ b. (goal.BeliefNode-dyn g (b.vtable, b.value)).meaning b.value) l.fn.plugs) (map filter_tree l.filters) (network_tree l.network) l.tables count) (stretch l.number before (g.P.Postings.documents l.fn.part) l.marks) l.id l.fn.ahead (g.P.OpensRanges.present l.fn.part) l.fn.squares l.fn.blocks) (work_to (sought l.rule.kind (map (λ b. (goal.BeliefNode-dyn g (b.vtable, b.value)).meaning b.value) l.fn.plugs) (map filter_tree l.filters) (network_tree l.network) l.tables count) (stretch l.number before (g.P.Postings.documents l.fn.part) l.marks) l.at l.known (g.P.OpensRanges.present l.part) l.squares l.blocks);
   ahead : g.P.Postings.sound l.fn.part → IsKnown l.rule.kind (map (λ b. (goal.BeliefNode-dyn g (b.vtable, b.value)).meaning b.value) l.fn.plugs) (map filter_tree l.filters) (network_tree l.network) l.tables l.number (g.P.Postings.documents l.fn.part) l.id l.fn.ahead
       → IsKnown l.rule.kind (map (λ b. (goal.BeliefNode-dyn g (b.vtable, b.value)).meaning b.value) l.fn.plugs) (map filter_tree l.filters) (network_tree l.network) l.tables l.number (g.P.Postings.documents l.fn.part) l.at l.known;
   windows : KeepsWindows (network_tree l.network) (unmarked (g.P.Postings.documents l.fn.part) l.marks) l.fn.first l.first;

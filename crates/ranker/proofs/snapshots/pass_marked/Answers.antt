@@ -1,4 +1,4 @@
-use Rattle.std.proofs.Common.{◌≡◌, Bool, IfOk, OnOk, List, Option, rules, length, map, take, ap, subst, sym, ◌∙◌, arith}
+use Rattle.std.proofs.Common.{◌≡◌, Bool, IfOk, OnOk, List, Option, rules, length, map, ap, subst, sym, ◌∙◌, arith}
 use Rattle.ri_base.specs.Documents.{Document}
 use Rattle.ri_base.specs.Query.{filter_tree}
 use Rattle.store_ends.specs.Files.{Files}
@@ -7,10 +7,10 @@ use Rattle.disk_index.specs.Parts.{reads, size, source_of}
 use Rattle.disk_index.specs.Snapshots.{unmarked}
 use Rattle.disk_index.proofs.RebuiltLemmas.{reads-length}
 use Rattle.disk_index.specs.Cache.{IsCacheBacked}
-use Rattle.range_masks.specs.Held.{AreAnswersOf}
+use Rattle.range_masks.specs.Held.{AreAnswersOf, Held}
 use Rattle.ranker.specs.Blocks.{AreReadBy}
-use Rattle.ranker.specs.First.{Advances, SpendsWithin, counted}
-use Rattle.ranker.specs.Passed.{IsKnown, asked_of, live_ranges, ranges_of}
+use Rattle.ranker.specs.Passed.{IsKnown}
+use Rattle.ranker.specs.Unbeaten.{Holds, Passes, Spends, live_to, sought, stretch, work_of, work_to}
 use Rattle.ranker.specs.Windows.{KeepsWindows}
 use Rattle.ranker.specs.declared.place.Passed.{Passed}
 use Rattle.ranker.proofs.AheadLemmas.{IsKnown-read}
@@ -35,7 +35,7 @@ returns-clause-honest g c = λ part cached.
     c.args.held.now c.new-reader.result.held.now (ap g.T.Store.files c.new-reader.ensures.store) (ap source_of c.new-reader.ensures.part ∙ c.part.ensures.part) c.new-reader.ensures.cache c.new-reader.ensures.held part cached)
 
 pub returns-clause-first : goal.returns-clause-first
-returns-clause-first g c = λ part cached known.
+returns-clause-first g c = λ part cached known before count.
     let told = g.T.Store.files c.args.store.now in
     let here = g.T.Store.files c.new-reader.result.store.now in
     let m = c.args.marked.now in
@@ -44,13 +44,21 @@ returns-clause-first g c = λ part cached known.
     let priors = map (λ b. (goal.BeliefNode-dyn g (b.vtable, b.value)).meaning b.value) c.args.plugs.now in
     let filters = map filter_tree c.args.filters.now in
     let network = network_tree c.args.network.now in
+    let tables = c.args.tables.now in
+    let number = c.args.number in
+    let terms = length c.args.terms.now in
     let same_told : here ≡ told = ap g.T.Store.files c.new-reader.ensures.store in
     let same_part : own ≡ m.source = ap source_of c.new-reader.ensures.part ∙ c.part.ensures.part in
     let docs : reads here own ≡ reads told m.source = ap (λ (t : Option Files). reads t own) same_told ∙ ap (reads told) same_part in
     let there = sound-by told here m.source own c.args.cache.now c.new-reader.result.cache.now c.args.held.now c.new-reader.result.held.now same_told same_part c.new-reader.ensures.cache c.new-reader.ensures.held part cached in
-    subst (λ (ds : List Document). IfOk c.pass_part.result (λ (to : Passed). Advances kind priors filters network (unmarked (take c.args.id ds) m.marks) (unmarked (take to.id ds) m.marks) (counted c.args.first.now c.args.squares.now (asked_of m.marks c.args.id c.args.ahead)) (counted c.pass_part.new.first c.pass_part.new.squares (asked_of m.marks to.id to.ahead)))) docs
-    (subst (λ (ms : List Bool). IfOk c.pass_part.result (λ (to : Passed). Advances kind priors filters network (unmarked (take c.args.id (reads here own)) ms) (unmarked (take to.id (reads here own)) ms) (counted c.args.first.now c.args.squares.now (asked_of ms c.args.id c.args.ahead)) (counted c.pass_part.new.first c.pass_part.new.squares (asked_of ms to.id to.ahead)))) c.marks.ensures.marks
-    (c.pass_part.ensures.first there (IsKnown-read kind priors filters network c.args.tables.now c.args.number (reads told m.source) (reads here own) c.args.id c.args.ahead (sym docs) known)))
+    let s = sought kind priors filters network tables count in
+    let name = c.pass_part.ensures.keeps.stays_quiet.1 in
+    let whole =
+    subst (λ (h : Held). IfOk c.pass_part.result (λ (to : Passed). Passes s terms (live_to (stretch number before (reads told m.source) m.marks) c.args.id) (live_to (stretch number before (reads told m.source) m.marks) to.id) c.args.first.now c.pass_part.new.first (work_to s (stretch number before (reads told m.source) m.marks) c.args.id c.args.ahead h.range c.args.squares.now c.args.blocks.now) (work_to s (stretch number before (reads told m.source) m.marks) to.id to.ahead c.pass_part.new.part.held.now.range c.pass_part.new.squares c.pass_part.new.blocks))) c.new-reader.ensures.held
+    (subst (λ (ds : List Document). IfOk c.pass_part.result (λ (to : Passed). Passes s terms (live_to (stretch number before ds m.marks) c.args.id) (live_to (stretch number before ds m.marks) to.id) c.args.first.now c.pass_part.new.first (work_to s (stretch number before ds m.marks) c.args.id c.args.ahead c.new-reader.result.held.now.range c.args.squares.now c.args.blocks.now) (work_to s (stretch number before ds m.marks) to.id to.ahead c.pass_part.new.part.held.now.range c.pass_part.new.squares c.pass_part.new.blocks))) docs
+    (subst (λ (ms : List Bool). IfOk c.pass_part.result (λ (to : Passed). Passes s terms (live_to (stretch number before (reads here own) ms) c.args.id) (live_to (stretch number before (reads here own) ms) to.id) c.args.first.now c.pass_part.new.first (work_to s (stretch number before (reads here own) ms) c.args.id c.args.ahead c.new-reader.result.held.now.range c.args.squares.now c.args.blocks.now) (work_to s (stretch number before (reads here own) ms) to.id to.ahead c.pass_part.new.part.held.now.range c.pass_part.new.squares c.pass_part.new.blocks))) c.marks.ensures.marks
+    (c.pass_part.ensures.first there (IsKnown-read kind priors filters network tables number (reads told m.source) (reads here own) c.args.id c.args.ahead (sym docs) known) before count))) in
+    search rules
 
 pub returns-clause-ahead : goal.returns-clause-ahead
 returns-clause-ahead g c = λ part cached known.
@@ -83,7 +91,7 @@ returns-clause-windows g c =
     (subst (λ (ms : List Bool). OnOk c.pass_part.result (KeepsWindows network (unmarked (reads here own) ms) c.args.first.now c.pass_part.new.first)) c.marks.ensures.marks c.pass_part.ensures.windows)
 
 pub returns-clause-within : goal.returns-clause-within
-returns-clause-within g c = λ part cached known.
+returns-clause-within g c = λ part cached known before count.
     let told = g.T.Store.files c.args.store.now in
     let here = g.T.Store.files c.new-reader.result.store.now in
     let m = c.args.marked.now in
@@ -92,13 +100,18 @@ returns-clause-within g c = λ part cached known.
     let priors = map (λ b. (goal.BeliefNode-dyn g (b.vtable, b.value)).meaning b.value) c.args.plugs.now in
     let filters = map filter_tree c.args.filters.now in
     let network = network_tree c.args.network.now in
+    let tables = c.args.tables.now in
+    let number = c.args.number in
+    let terms = length c.args.terms.now in
     let same_told : here ≡ told = ap g.T.Store.files c.new-reader.ensures.store in
     let same_part : own ≡ m.source = ap source_of c.new-reader.ensures.part ∙ c.part.ensures.part in
     let docs : reads here own ≡ reads told m.source = ap (λ (t : Option Files). reads t own) same_told ∙ ap (reads told) same_part in
     let there = sound-by told here m.source own c.args.cache.now c.new-reader.result.cache.now c.args.held.now c.new-reader.result.held.now same_told same_part c.new-reader.ensures.cache c.new-reader.ensures.held part cached in
-    subst (λ (ds : List Document). SpendsWithin kind priors filters network (unmarked (take c.args.id ds) m.marks) (unmarked ds m.marks) (asked_of m.marks c.args.id c.args.ahead) (live_ranges m.marks (ranges_of (length ds))) c.args.squares.now c.pass_part.new.squares) docs
-    (subst (λ (ms : List Bool). SpendsWithin kind priors filters network (unmarked (take c.args.id (reads here own)) ms) (unmarked (reads here own) ms) (asked_of ms c.args.id c.args.ahead) (live_ranges ms (ranges_of (length (reads here own)))) c.args.squares.now c.pass_part.new.squares) c.marks.ensures.marks
-    (c.pass_part.ensures.within there (IsKnown-read kind priors filters network c.args.tables.now c.args.number (reads told m.source) (reads here own) c.args.id c.args.ahead (sym docs) known)))
+    let s = sought kind priors filters network tables count in
+    subst (λ (h : Held). Holds s (live_to (stretch number before (reads told m.source) m.marks) c.args.id) c.args.first.now → Spends network terms (work_to s (stretch number before (reads told m.source) m.marks) c.args.id c.args.ahead h.range c.args.squares.now c.args.blocks.now) (work_of s (stretch number before (reads told m.source) m.marks) c.pass_part.new.squares c.pass_part.new.blocks)) c.new-reader.ensures.held
+    (subst (λ (ds : List Document). Holds s (live_to (stretch number before ds m.marks) c.args.id) c.args.first.now → Spends network terms (work_to s (stretch number before ds m.marks) c.args.id c.args.ahead c.new-reader.result.held.now.range c.args.squares.now c.args.blocks.now) (work_of s (stretch number before ds m.marks) c.pass_part.new.squares c.pass_part.new.blocks)) docs
+    (subst (λ (ms : List Bool). Holds s (live_to (stretch number before (reads here own) ms) c.args.id) c.args.first.now → Spends network terms (work_to s (stretch number before (reads here own) ms) c.args.id c.args.ahead c.new-reader.result.held.now.range c.args.squares.now c.args.blocks.now) (work_of s (stretch number before (reads here own) ms) c.pass_part.new.squares c.pass_part.new.blocks)) c.marks.ensures.marks
+    (c.pass_part.ensures.within there (IsKnown-read kind priors filters network tables number (reads told m.source) (reads here own) c.args.id c.args.ahead (sym docs) known) before count)))
 
 -- ---- blocks
 

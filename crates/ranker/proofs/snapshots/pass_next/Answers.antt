@@ -1,5 +1,6 @@
-use Rattle.std.proofs.Common.{◌≡◌, length, map, take, ap, sym, subst, ◌∙◌, arith, ◌≤◌, ◌+◌}
+use Rattle.std.proofs.Common.{◌≡◌, ◌<◌, ◌≤◌, ◌+◌, List, length, map, take, ap, sym, subst, ◌∙◌, arith}
 use Rattle.std.proofs.lemmas.Result.{err_from_is_err_and}
+use Rattle.ri_base.specs.Documents.{Document}
 use Rattle.ri_base.specs.Query.{filter_tree}
 use Rattle.belief_nodes.specs.Network.{network_tree}
 use Rattle.disk_index.specs.Parts.{IsPartBacked, outlines_of, reads, size}
@@ -8,17 +9,16 @@ use Rattle.disk_index.proofs.AmongLemmas.{backed-at, blocks-among}
 use Rattle.disk_index.proofs.RebuiltLemmas.{reads-length}
 use Rattle.range_masks.specs.Held.{FitDocuments, Held}
 use Rattle.ranker.specs.Blocks.{AreReadAt, AreReadBy, OpensWithin, opened_at, opened_of}
-use Rattle.ranker.specs.First.{Advances, SpendsWithin, counted}
-use Rattle.ranker.specs.Passed.{IsAheadAt, IsKnown, IsPlace, asked_at, asked_of, behind, layout, layout_in, live_ranges, part_at, passed, ranges_in, ranges_of}
+use Rattle.ranker.specs.Passed.{IsAheadAt, IsKnown, IsPlace, asked_of, behind, layout_in, live_ranges, part_at, passed, ranges_in, ranges_of}
+use Rattle.ranker.specs.Unbeaten.{Holds, Passes, Spends, live_to, sought, stretch, work_at, work_of, work_to}
 use Rattle.ranker.specs.declared.place.Place.{Place}
-use Rattle.ranker.proofs.AskedLemmas.{asked-all, asked-behind, layout-front, ranges-front}
-use Rattle.ranker.proofs.PassedLemmas.{Advances-further}
-use Rattle.ranker.proofs.PlaceLemmas.{Advances-place, IsAheadAt-behind, IsPlace-behind, credit-behind, credit-few, part-behind, part-is}
+use Rattle.ranker.proofs.AskedLemmas.{asked-all, asked-behind, ranges-front}
+use Rattle.ranker.proofs.PlaceLemmas.{IsAheadAt-behind, IsPlace-behind, credit-behind, credit-few, part-behind, part-is}
 use Rattle.ranker.proofs.DocumentLemmas.{live-among}
 use Rattle.ranker.proofs.OpeningLemmas.{opened-behind, opens-further}
 use Rattle.ranker.proofs.ReadLemmas.{fits-behind, read-at, read-behind}
 use Rattle.ranker.proofs.WindowLemmas.{KeepsWindows-among}
-use Rattle.ranker.proofs.WithinLemmas.{within-part}
+use Rattle.ranker.proofs.WorkLemmas.{Passes-behind, Spends-part}
 use Rattle.ranker.proofs.snapshots.pass_next.Goals as goal
 
 pub pass_marked-requires-clause-id : goal.pass_marked-requires-clause-id
@@ -38,11 +38,10 @@ place_behind-requires-clause-credit g c =
     omega (arith, few, credit-behind at to c.args.most)
 
 pub returns-clause-first : goal.returns-clause-first
-returns-clause-first g c = λ backed cached known.
+returns-clause-first g c = λ backed cached known count.
     let told = g.T.Store.files c.args.store.now in
     let parts = c.args.parts.now in
     let at = c.args.at.now in
-    let to = c.in_ok-to.to in
     let m = c.index-parts-at.result in
     let priors = map (λ b. (goal.BeliefNode-dyn g (b.vtable, b.value)).meaning b.value) c.args.plugs.now in
     let is = part-is parts at.part m c.requires.some c.index-parts-at.is in
@@ -50,19 +49,26 @@ returns-clause-first g c = λ backed cached known.
     let kind = c.args.rule.now.kind in
     let filters = map filter_tree c.args.filters.now in
     let network = network_tree c.args.network.now in
-    let here = subst (λ (p : Marked). IsKnown kind priors filters network c.args.tables.now at.part (reads told p.source) at.id at.ahead) is known.here in
-    let to_known : IsKnown kind priors filters network c.args.tables.now at.part (reads told m.source) to.id to.ahead = c.in_ok-to.ensures.ahead own (read-at told parts at m c.args.cache.now c.args.held.now is cached) here in
+    let tables = c.args.tables.now in
+    let terms = length c.args.terms.now in
+    let s = sought kind priors filters network tables count in
+    let first : List Document = live told (take at.part parts) in
+    let here = subst (λ (p : Marked). IsKnown kind priors filters network tables at.part (reads told p.source) at.id at.ahead) is known.here in
+    let blocks = read-at told parts at m c.args.cache.now c.args.held.now is cached in
+    let to = c.in_ok-to.to in
+    let to_known : IsKnown kind priors filters network tables at.part (reads told m.source) to.id to.ahead = c.in_ok-to.ensures.ahead own blocks here in
     let all = asked-all m.marks (length (reads told m.source)) to.id to.ahead to_known.span in
     let same : live_ranges m.marks (ranges_of (length (reads told m.source))) ≡ layout_in m = ap (λ n. live_ranges m.marks (ranges_of n)) (reads-length told m.source) in
     let below : asked_of m.marks to.id to.ahead ≤ layout_in m = omega (arith, all, same) in
-    let asked : layout (take at.part parts) + asked_of m.marks to.id to.ahead ≤ asked_at parts (behind at to c.args.most) =
-    subst (λ (p : Marked). asked_of p.marks to.id to.ahead ≤ layout_in p → layout (take at.part parts) + asked_of p.marks to.id to.ahead ≤ asked_at parts (behind at to c.args.most)) is (asked-behind parts at to c.args.most c.requires.some) below in
-    subst (λ (p : Place). Advances kind priors filters network (passed told parts at) (passed told parts p) (counted c.args.first.now c.args.squares.now (asked_at parts at)) (counted c.pass_marked.new.first c.pass_marked.new.squares (asked_at parts p))) (sym c.place_behind.ensures)
-    (subst (λ (p : Marked). Advances kind priors filters network (passed told parts at) (passed told parts (behind at to c.args.most)) (counted c.args.first.now c.args.squares.now (layout (take at.part parts) + asked_of p.marks at.id at.ahead)) (counted c.pass_marked.new.first c.pass_marked.new.squares (asked_at parts (behind at to c.args.most)))) (sym is)
-    (Advances-further kind priors filters network (passed told parts at) (passed told parts (behind at to c.args.most)) c.args.first.now c.pass_marked.new.first c.args.squares.now c.pass_marked.new.squares (asked_of m.marks at.id at.ahead) (asked_of m.marks to.id to.ahead)
-    (layout (take at.part parts)) (asked_at parts (behind at to c.args.most)) asked
-    (Advances-place parts at to c.args.most kind priors filters network told (counted c.args.first.now c.args.squares.now (asked_of m.marks at.id at.ahead)) (counted c.pass_marked.new.first c.pass_marked.new.squares (asked_of m.marks to.id to.ahead)) m is c.requires.some c.in_ok-to.ensures.end
-    (c.in_ok-to.ensures.first own (read-at told parts at m c.args.cache.now c.args.held.now is cached) here))))
+    let asked = asked-behind parts at to c.args.most c.requires.some (subst (λ (p : Marked). asked_of p.marks to.id to.ahead ≤ layout_in p) (sym is) below) in
+    let inside = c.in_ok-to.ensures.passed.inside in
+    let size_is : size (part_at parts at.part).source ≡ size m.source = ap (λ (p : Marked). size p.source) is in
+    let end = subst (λ (p : Marked). to.docs < c.args.most → to.id ≡ size p.source) (sym is) c.in_ok-to.ensures.end in
+    subst (λ (p : Place). Passes s terms (passed told parts at) (passed told parts p) c.args.first.now c.pass_marked.new.first (work_at s told parts at c.args.held.now.range c.args.squares.now c.args.blocks.now) (work_at s told parts p c.keep_blocks.new.held.range c.pass_marked.new.squares c.pass_marked.new.blocks)) (sym c.place_behind.ensures)
+    (Passes-behind s told parts at to c.args.most c.requires.some (omega (arith, inside, size_is, c.pass_marked.ensures.whole)) terms c.args.held.now.range c.pass_marked.new.held.range c.keep_blocks.new.held.range c.args.first.now c.pass_marked.new.first
+    c.args.squares.now c.pass_marked.new.squares c.args.blocks.now c.pass_marked.new.blocks end (λ le. ap (λ (h : Held). h.range) (c.keep_blocks.ensures.same le)) asked
+    (subst (λ (p : Marked). Passes s terms (live_to (stretch at.part first (reads told p.source) p.marks) at.id) (live_to (stretch at.part first (reads told p.source) p.marks) to.id) c.args.first.now c.pass_marked.new.first (work_to s (stretch at.part first (reads told p.source) p.marks) at.id at.ahead c.args.held.now.range c.args.squares.now c.args.blocks.now) (work_to s (stretch at.part first (reads told p.source) p.marks) to.id to.ahead c.pass_marked.new.held.range c.pass_marked.new.squares c.pass_marked.new.blocks)) (sym is)
+    (c.in_ok-to.ensures.first own blocks here first count)))
 
 pub returns-clause-ahead : goal.returns-clause-ahead
 returns-clause-ahead g c = λ backed cached known.
@@ -123,42 +129,48 @@ returns-in_err-to-clause-honest g c = λ backed cached.
 -- ---- squarings
 
 pub returns-in_err-to-clause-within : goal.returns-in_err-to-clause-within
-returns-in_err-to-clause-within g c = λ backed cached known.
+returns-in_err-to-clause-within g c = λ backed cached known count held.
     let told = g.T.Store.files c.args.store.now in
     let parts = c.args.parts.now in
     let at = c.args.at.now in
     let m = c.index-parts-at.result in
-    let kind = c.args.rule.now.kind in
     let priors = map (λ b. (goal.BeliefNode-dyn g (b.vtable, b.value)).meaning b.value) c.args.plugs.now in
-    let filters = map filter_tree c.args.filters.now in
-    let network = network_tree c.args.network.now in
     let is = part-is parts at.part m c.requires.some c.index-parts-at.is in
     let own : IsPartBacked told m.source = backed-at parts at.part m c.requires.some c.index-parts-at.is told backed in
-    let read : live_ranges m.marks (ranges_of (length (reads told m.source))) ≡ layout_in m = ap (λ n. live_ranges m.marks (ranges_of n)) (reads-length told m.source) in
-    let front : layout (take at.part parts) + layout_in m ≤ layout parts = subst (λ (p : Marked). layout (take at.part parts) + layout_in p ≤ layout parts) is (layout-front parts at.part) in
-    let asked = ap (λ (p : Marked). layout (take at.part parts) + asked_of p.marks at.id at.ahead) is in
-    subst (λ n. SpendsWithin kind priors filters network (passed told parts at) (live told parts) n (layout parts) c.args.squares.now c.pass_marked.new.squares) (sym asked)
-    (within-part kind priors filters network told parts at m (asked_of m.marks at.id at.ahead) (live_ranges m.marks (ranges_of (length (reads told m.source)))) (layout (take at.part parts)) (layout parts) c.args.squares.now c.pass_marked.new.squares is c.requires.some (omega (arith, read, front))
-    (c.pass_marked.ensures.within own (read-at told parts at m c.args.cache.now c.args.held.now is cached) (subst (λ (p : Marked). IsKnown kind priors filters network c.args.tables.now at.part (reads told p.source) at.id at.ahead) is known.here)))
+    let kind = c.args.rule.now.kind in
+    let filters = map filter_tree c.args.filters.now in
+    let network = network_tree c.args.network.now in
+    let tables = c.args.tables.now in
+    let terms = length c.args.terms.now in
+    let s = sought kind priors filters network tables count in
+    let first : List Document = live told (take at.part parts) in
+    let here = subst (λ (p : Marked). IsKnown kind priors filters network tables at.part (reads told p.source) at.id at.ahead) is known.here in
+    let blocks = read-at told parts at m c.args.cache.now c.args.held.now is cached in
+    Spends-part s told parts at terms c.args.held.now.range c.args.squares.now c.pass_marked.new.squares c.args.blocks.now c.pass_marked.new.blocks c.requires.some
+    (subst (λ (p : Marked). Holds s (live_to (stretch at.part first (reads told p.source) p.marks) at.id) c.args.first.now → Spends network terms (work_to s (stretch at.part first (reads told p.source) p.marks) at.id at.ahead c.args.held.now.range c.args.squares.now c.args.blocks.now) (work_of s (stretch at.part first (reads told p.source) p.marks) c.pass_marked.new.squares c.pass_marked.new.blocks)) (sym is)
+    (c.pass_marked.ensures.within own blocks here first count) held)
 
 pub returns-clause-within : goal.returns-clause-within
-returns-clause-within g c = λ backed cached known.
+returns-clause-within g c = λ backed cached known count held.
     let told = g.T.Store.files c.args.store.now in
     let parts = c.args.parts.now in
     let at = c.args.at.now in
     let m = c.index-parts-at.result in
-    let kind = c.args.rule.now.kind in
     let priors = map (λ b. (goal.BeliefNode-dyn g (b.vtable, b.value)).meaning b.value) c.args.plugs.now in
-    let filters = map filter_tree c.args.filters.now in
-    let network = network_tree c.args.network.now in
     let is = part-is parts at.part m c.requires.some c.index-parts-at.is in
     let own : IsPartBacked told m.source = backed-at parts at.part m c.requires.some c.index-parts-at.is told backed in
-    let read : live_ranges m.marks (ranges_of (length (reads told m.source))) ≡ layout_in m = ap (λ n. live_ranges m.marks (ranges_of n)) (reads-length told m.source) in
-    let front : layout (take at.part parts) + layout_in m ≤ layout parts = subst (λ (p : Marked). layout (take at.part parts) + layout_in p ≤ layout parts) is (layout-front parts at.part) in
-    let asked = ap (λ (p : Marked). layout (take at.part parts) + asked_of p.marks at.id at.ahead) is in
-    subst (λ n. SpendsWithin kind priors filters network (passed told parts at) (live told parts) n (layout parts) c.args.squares.now c.pass_marked.new.squares) (sym asked)
-    (within-part kind priors filters network told parts at m (asked_of m.marks at.id at.ahead) (live_ranges m.marks (ranges_of (length (reads told m.source)))) (layout (take at.part parts)) (layout parts) c.args.squares.now c.pass_marked.new.squares is c.requires.some (omega (arith, read, front))
-    (c.pass_marked.ensures.within own (read-at told parts at m c.args.cache.now c.args.held.now is cached) (subst (λ (p : Marked). IsKnown kind priors filters network c.args.tables.now at.part (reads told p.source) at.id at.ahead) is known.here)))
+    let kind = c.args.rule.now.kind in
+    let filters = map filter_tree c.args.filters.now in
+    let network = network_tree c.args.network.now in
+    let tables = c.args.tables.now in
+    let terms = length c.args.terms.now in
+    let s = sought kind priors filters network tables count in
+    let first : List Document = live told (take at.part parts) in
+    let here = subst (λ (p : Marked). IsKnown kind priors filters network tables at.part (reads told p.source) at.id at.ahead) is known.here in
+    let blocks = read-at told parts at m c.args.cache.now c.args.held.now is cached in
+    Spends-part s told parts at terms c.args.held.now.range c.args.squares.now c.pass_marked.new.squares c.args.blocks.now c.pass_marked.new.blocks c.requires.some
+    (subst (λ (p : Marked). Holds s (live_to (stretch at.part first (reads told p.source) p.marks) at.id) c.args.first.now → Spends network terms (work_to s (stretch at.part first (reads told p.source) p.marks) at.id at.ahead c.args.held.now.range c.args.squares.now c.args.blocks.now) (work_of s (stretch at.part first (reads told p.source) p.marks) c.pass_marked.new.squares c.pass_marked.new.blocks)) (sym is)
+    (c.pass_marked.ensures.within own blocks here first count) held)
 
 -- ---- blocks
 

@@ -6,21 +6,20 @@ use Rattle.belief_nodes.specs.Network.{network_tree}
 use Rattle.disk_index.specs.QuietLaws.{CacheKeeps-after, CacheKeeps-same, IsQuiet-same, IsQuiet-then}
 use Rattle.disk_index.specs.Snapshots.{AreBacked, IsFileAmong, live}
 use Rattle.ranker.specs.Blocks.{AreReadAt, opened_at}
-use Rattle.ranker.specs.First.{counted}
-use Rattle.ranker.specs.Passed.{asked_at, layout, passed, ranges_in}
+use Rattle.ranker.specs.Passed.{passed, ranges_in}
+use Rattle.ranker.specs.Unbeaten.{sought, work_at, work_in}
 use Rattle.ranker.specs.Windows.{KeepsWindows}
 use Rattle.ranker.proofs.AskedLemmas.{asked-le}
 use Rattle.ranker.proofs.OpeningLemmas.{opened-all, opens-more, opens-same, opens-then, times-sum}
-use Rattle.ranker.proofs.PassedLemmas.{Advances-same, Advances-then}
-use Rattle.ranker.proofs.PlaceLemmas.{Advances-later, IsAheadAt-later, credit-min}
+use Rattle.ranker.proofs.PlaceLemmas.{IsAheadAt-later, credit-min}
 use Rattle.ranker.proofs.WindowLemmas.{KeepsWindows-same, KeepsWindows-then}
-use Rattle.ranker.proofs.WithinLemmas.{cost-passed, within-later, within-more, within-then}
+use Rattle.ranker.proofs.WorkLemmas.{Passes-later, Passes-same, Passes-then, Spends-all, Spends-later, Spends-then}
 use Rattle.ranker.proofs.snapshots.pass_parts.Goals as goal
 
 pub loop-left-init : goal.loop-left-init
 loop-left-init g c = record {
   stay = refl;
-  so_far = λ backed cached known. Advances-same _ _ _ _ _ _;
+  so_far = λ backed cached known count. Passes-same _ _ _ _ _;
   ahead = λ backed cached known. known;
   windows = KeepsWindows-same _ _ _;
   place = c.requires.place;
@@ -48,13 +47,17 @@ loop-left-preserved g c =
     let docs = c.in_ok-passed.ensures.docs in
     record {
       stay = c.pass_next.ensures.stay ∙ inv.stay;
-      so_far = λ backed cached known.
+      so_far = λ backed cached known count.
           let there : AreBacked here parts = subst (λ (f : Option Files). AreBacked f parts) (sym same) backed in
           let blocks : AreReadAt here parts c.loop-left.at c.loop-left.cache c.loop-left.held =
           subst (λ (f : Option Files). AreReadAt f parts c.loop-left.at c.loop-left.cache c.loop-left.held) (sym same) (inv.read backed cached) in
-          Advances-then kind priors filters network (passed told parts c.args.at.now) (passed told parts c.loop-left.at) (passed told parts c.pass_next.new.at) (counted c.args.first.now c.args.squares.now (asked_at parts c.args.at.now)) (counted c.loop-left.first c.loop-left.squares (asked_at parts c.loop-left.at)) (counted c.pass_next.new.first c.pass_next.new.squares (asked_at parts c.pass_next.new.at)) (inv.so_far backed cached known)
-          (Advances-later kind _ priors filters network here told parts c.loop-left.at c.pass_next.new.at (counted c.loop-left.first c.loop-left.squares (asked_at parts c.loop-left.at)) (counted c.pass_next.new.first c.pass_next.new.squares (asked_at parts c.pass_next.new.at)) inv.stay same
-          (c.in_ok-passed.ensures.first there blocks (IsAheadAt-later kind priors _ filters network c.args.tables.now told here parts c.loop-left.at (sym inv.stay) (sym same) (inv.ahead backed cached known))));
+          let s = sought kind priors filters network c.args.tables.now count in
+          Passes-then s (length c.args.terms.now) (passed told parts c.args.at.now) (passed told parts c.loop-left.at) (passed told parts c.pass_next.new.at) c.args.first.now c.loop-left.first c.pass_next.new.first
+          (work_at s told parts c.args.at.now c.args.held.now.range c.args.squares.now c.args.blocks.now) (work_at s told parts c.loop-left.at c.loop-left.held.range c.loop-left.squares c.loop-left.blocks) (work_at s told parts c.pass_next.new.at c.pass_next.new.held.range c.pass_next.new.squares c.pass_next.new.blocks)
+          (inv.so_far backed cached known count)
+          (Passes-later _ priors here told inv.stay same (λ ps. sought kind ps filters network c.args.tables.now count) parts (length c.args.terms.now) c.loop-left.first c.loop-left.at c.pass_next.new.at c.pass_next.new.first
+          (λ t f. work_at t f parts c.loop-left.at c.loop-left.held.range c.loop-left.squares c.loop-left.blocks) (λ t f. work_at t f parts c.pass_next.new.at c.pass_next.new.held.range c.pass_next.new.squares c.pass_next.new.blocks)
+          (c.in_ok-passed.ensures.first there blocks (IsAheadAt-later kind priors _ filters network c.args.tables.now told here parts c.loop-left.at (sym inv.stay) (sym same) (inv.ahead backed cached known)) count));
       ahead = λ backed cached known.
           let there : AreBacked here parts = subst (λ (f : Option Files). AreBacked f parts) (sym same) backed in
           let blocks : AreReadAt here parts c.loop-left.at c.loop-left.cache c.loop-left.held =
@@ -107,34 +110,51 @@ returns-after-loop-left-clause-credit g c = λ told.
 -- ---- squarings
 
 pub returns-after-loop-left-clause-within : goal.returns-after-loop-left-clause-within
-returns-after-loop-left-clause-within g c = λ backed cached known.
+returns-after-loop-left-clause-within g c = λ backed cached known count held.
     let told = g.T.Store.files c.args.store.now in
     let parts = c.args.parts.now in
     let kind = c.args.rule.now.kind in
     let priors = map (λ b. (goal.BeliefNode-dyn g (b.vtable, b.value)).meaning b.value) c.args.plugs.now in
     let filters = map filter_tree c.args.filters.now in
     let network = network_tree c.args.network.now in
-    within-more kind priors filters network (passed told parts c.args.at.now) (passed told parts c.loop-left.at) (live told parts) (asked_at parts c.args.at.now) (asked_at parts c.loop-left.at) (layout parts) c.args.squares.now c.loop-left.squares (c.loop-left.invariant.so_far backed cached known).cost
-    (cost-passed kind priors filters network told parts c.loop-left.at) (asked-le told parts c.loop-left.at (c.loop-left.invariant.ahead backed cached known).here.span)
+    let s = sought kind priors filters network c.args.tables.now count in
+    let inv = c.loop-left.invariant in
+    Spends-all s told parts c.loop-left.at (length c.args.terms.now) (work_at s told parts c.args.at.now c.args.held.now.range c.args.squares.now c.args.blocks.now) c.loop-left.held.range c.loop-left.squares c.loop-left.blocks inv.place
+    (asked-le told parts c.loop-left.at (inv.ahead backed cached known).here.span) ((inv.so_far backed cached known count).spends held)
+
+pub returns-else-at-parts-clause-within : goal.returns-else-at-parts-clause-within
+returns-else-at-parts-clause-within g c = λ backed cached known count held.
+    let told = g.T.Store.files c.args.store.now in
+    let parts = c.args.parts.now in
+    let kind = c.args.rule.now.kind in
+    let priors = map (λ b. (goal.BeliefNode-dyn g (b.vtable, b.value)).meaning b.value) c.args.plugs.now in
+    let filters = map filter_tree c.args.filters.now in
+    let network = network_tree c.args.network.now in
+    let s = sought kind priors filters network c.args.tables.now count in
+    let inv = c.loop-left.invariant in
+    Spends-all s told parts c.loop-left.at (length c.args.terms.now) (work_at s told parts c.args.at.now c.args.held.now.range c.args.squares.now c.args.blocks.now) c.loop-left.held.range c.loop-left.squares c.loop-left.blocks inv.place
+    (asked-le told parts c.loop-left.at (inv.ahead backed cached known).here.span) ((inv.so_far backed cached known count).spends held)
 
 pub returns-in_err-passed-clause-within : goal.returns-in_err-passed-clause-within
-returns-in_err-passed-clause-within g c = λ backed cached known.
+returns-in_err-passed-clause-within g c = λ backed cached known count held.
     let told = g.T.Store.files c.args.store.now in
-    let here = g.T.Store.files c.loop-left.store in
     let parts = c.args.parts.now in
-    let inv = c.loop-left.invariant in
     let kind = c.args.rule.now.kind in
     let priors = map (λ b. (goal.BeliefNode-dyn g (b.vtable, b.value)).meaning b.value) c.args.plugs.now in
     let filters = map filter_tree c.args.filters.now in
     let network = network_tree c.args.network.now in
+    let s = sought kind priors filters network c.args.tables.now count in
+    let inv = c.loop-left.invariant in
+    let here = g.T.Store.files c.loop-left.store in
     let same : here ≡ told = inv.quiet.same_files in
     let there : AreBacked here parts = subst (λ (f : Option Files). AreBacked f parts) (sym same) backed in
     let blocks : AreReadAt here parts c.loop-left.at c.loop-left.cache c.loop-left.held =
     subst (λ (f : Option Files). AreReadAt f parts c.loop-left.at c.loop-left.cache c.loop-left.held) (sym same) (inv.read backed cached) in
-    let next = within-later kind _ priors filters network here told parts c.loop-left.at (asked_at parts c.loop-left.at) (layout parts) c.loop-left.squares c.pass_next.new.squares inv.stay same
-    (c.pass_next.ensures.within there blocks (IsAheadAt-later kind priors _ filters network c.args.tables.now told here parts c.loop-left.at (sym inv.stay) (sym same) (inv.ahead backed cached known))) in
-    within-then kind priors filters network (passed told parts c.args.at.now) (passed told parts c.loop-left.at) (live told parts) (asked_at parts c.args.at.now) (asked_at parts c.loop-left.at) (layout parts) c.args.squares.now c.loop-left.squares c.pass_next.new.squares
-    (inv.so_far backed cached known).cost next
+    let so_far = inv.so_far backed cached known count in
+    Spends-then network (length c.args.terms.now) (work_at s told parts c.args.at.now c.args.held.now.range c.args.squares.now c.args.blocks.now) (work_at s told parts c.loop-left.at c.loop-left.held.range c.loop-left.squares c.loop-left.blocks) (work_in s told parts c.pass_next.new.squares c.pass_next.new.blocks) (so_far.spends held)
+    (Spends-later _ priors here told inv.stay same (λ ps. sought kind ps filters network c.args.tables.now count) parts (length c.args.terms.now) c.loop-left.first c.loop-left.at
+    (λ t f. work_at t f parts c.loop-left.at c.loop-left.held.range c.loop-left.squares c.loop-left.blocks) (λ t f. work_in t f parts c.pass_next.new.squares c.pass_next.new.blocks)
+    (c.pass_next.ensures.within there blocks (IsAheadAt-later kind priors _ filters network c.args.tables.now told here parts c.loop-left.at (sym inv.stay) (sym same) (inv.ahead backed cached known)) count) (so_far.step held))
 
 -- ---- blocks
 

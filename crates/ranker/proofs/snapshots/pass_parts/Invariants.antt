@@ -1,4 +1,4 @@
-use Rattle.std.proofs.Common.{◌≡◌, ◌≤◌, ◌+◌, ◌-◌, ◌*◌, length, map, min}
+use Rattle.std.proofs.Common.{◌≡◌, ◌≤◌, ◌+◌, ◌-◌, ◌*◌, ℕ, length, map, min}
 use Rattle.ri_base.specs.Query.{filter_tree}
 use Rattle.store_ends.specs.Files.{IsQuiet}
 use Rattle.belief_nodes.specs.Network.{network_tree}
@@ -7,8 +7,8 @@ use Rattle.disk_index.specs.Parts.{outlines_of}
 use Rattle.disk_index.specs.Snapshots.{AreBacked, IsFileAmong, live}
 use Rattle.range_masks.specs.Held.{FitDocuments}
 use Rattle.ranker.specs.Blocks.{AreReadAt, OpensWithin, opened_at}
-use Rattle.ranker.specs.First.{Advances, counted}
-use Rattle.ranker.specs.Passed.{IsAheadAt, IsPlace, asked_at, part_at, passed}
+use Rattle.ranker.specs.Passed.{IsAheadAt, IsPlace, part_at, passed}
+use Rattle.ranker.specs.Unbeaten.{Passes, sought, work_at}
 use Rattle.ranker.specs.Windows.{KeepsWindows}
 use Rattle.ranker.proofs.snapshots.pass_parts.Given as goal
 
@@ -17,7 +17,8 @@ invariant-loop-left g l = record {
   stay : map (λ b. (goal.BeliefNode-dyn g (b.vtable, b.value)).meaning b.value) l.plugs ≡ map (λ b. (goal.BeliefNode-dyn g (b.vtable, b.value)).meaning b.value) l.fn.plugs;
   so_far : AreBacked (g.T.Store.files l.fn.store) l.parts → AreReadAt (g.T.Store.files l.fn.store) l.parts l.fn.at l.fn.cache l.fn.held
       → IsAheadAt l.rule.kind (map (λ b. (goal.BeliefNode-dyn g (b.vtable, b.value)).meaning b.value) l.fn.plugs) (map filter_tree l.filters) (network_tree l.network) l.tables (g.T.Store.files l.fn.store) l.parts l.fn.at
-      → Advances l.rule.kind (map (λ b. (goal.BeliefNode-dyn g (b.vtable, b.value)).meaning b.value) l.fn.plugs) (map filter_tree l.filters) (network_tree l.network) (passed (g.T.Store.files l.fn.store) l.parts l.fn.at) (passed (g.T.Store.files l.fn.store) l.parts l.at) (counted l.fn.first l.fn.squares (asked_at l.parts l.fn.at)) (counted l.first l.squares (asked_at l.parts l.at));
+      → (count : ℕ) → Passes (sought l.rule.kind (map (λ b. (goal.BeliefNode-dyn g (b.vtable, b.value)).meaning b.value) l.fn.plugs) (map filter_tree l.filters) (network_tree l.network) l.tables count) (length l.terms) (passed (g.T.Store.files l.fn.store) l.parts l.fn.at) (passed (g.T.Store.files l.fn.store) l.parts l.at) l.fn.first l.first
+      (work_at (sought l.rule.kind (map (λ b. (goal.BeliefNode-dyn g (b.vtable, b.value)).meaning b.value) l.fn.plugs) (map filter_tree l.filters) (network_tree l.network) l.tables count) (g.T.Store.files l.fn.store) l.parts l.fn.at l.fn.held.range l.fn.squares l.fn.blocks) (work_at (sought l.rule.kind (map (λ b. (goal.BeliefNode-dyn g (b.vtable, b.value)).meaning b.value) l.fn.plugs) (map filter_tree l.filters) (network_tree l.network) l.tables count) (g.T.Store.files l.fn.store) l.parts l.at l.held.range l.squares l.blocks);
   ahead : AreBacked (g.T.Store.files l.fn.store) l.parts → AreReadAt (g.T.Store.files l.fn.store) l.parts l.fn.at l.fn.cache l.fn.held
       → IsAheadAt l.rule.kind (map (λ b. (goal.BeliefNode-dyn g (b.vtable, b.value)).meaning b.value) l.fn.plugs) (map filter_tree l.filters) (network_tree l.network) l.tables (g.T.Store.files l.fn.store) l.parts l.fn.at
       → IsAheadAt l.rule.kind (map (λ b. (goal.BeliefNode-dyn g (b.vtable, b.value)).meaning b.value) l.fn.plugs) (map filter_tree l.filters) (network_tree l.network) l.tables (g.T.Store.files l.fn.store) l.parts l.at;

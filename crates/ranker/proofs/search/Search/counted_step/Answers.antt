@@ -59,3 +59,15 @@ returns-clause-opens g c = rw c.as_slice.ensures at (rw c.parts.ensures.parts at
 
 pub returns-in_err-advance-clause-opens : goal.returns-in_err-advance-clause-opens
 returns-in_err-advance-clause-opens g c = rw c.as_slice.ensures at (rw c.parts.ensures.parts at c.advance.ensures.opens)
+
+pub returns-clause-met : goal.returns-clause-met
+returns-clause-met g c = λ backed cached h.
+    (rw c.as_slice.ensures at (rw c.deref.ensures.value at (rw c.deref-2.ensures.value at (rw c.parts.ensures.parts at c.in_ok-advance.ensures.met)))) backed (record { cache = cached; held = h.blocks }) h.ahead c.args.self.now.most h.held
+
+pub returns-clause-meets : goal.returns-clause-meets
+returns-clause-meets g c = λ backed cached h.
+    (rw c.as_slice.ensures at (rw c.deref.ensures.value at (rw c.deref-2.ensures.value at (rw c.parts.ensures.parts at c.advance.ensures.meets)))) backed (record { cache = cached; held = h.blocks }) h.ahead c.args.self.now.most h.held
+
+pub returns-in_err-advance-clause-meets : goal.returns-in_err-advance-clause-meets
+returns-in_err-advance-clause-meets g c = λ backed cached h.
+    (rw c.as_slice.ensures at (rw c.deref.ensures.value at (rw c.deref-2.ensures.value at (rw c.parts.ensures.parts at c.advance.ensures.meets)))) backed (record { cache = cached; held = h.blocks }) h.ahead c.args.self.now.most h.held

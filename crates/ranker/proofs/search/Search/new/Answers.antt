@@ -8,7 +8,7 @@ use Rattle.ranker.proofs.search.Search.new.Goals as goal
 
 pub returns-clause-taken : goal.returns-clause-taken
 returns-clause-taken c = λ kind priors told tables. record {
-  held = c.first_held-held.ensures.held kind priors _ _;
+  held = c.first_held-held.ensures.held kind priors _ (network_tree c.in_ok-network.network) (c.args.checked.kept.whole ∙ ap (λ (n : NetworkTree). scale_of n) (sym c.in_ok-network.ensures));
   ahead = record { here = IsKnown-on kind priors _ _ _ 0 _ 0 0 nothing_known c.nothing-2.result (omega arith) (omega arith) c.nothing-2.ensures (IsKnown-nothing kind priors _ _ _ 0 _ (tables 0)); each = tables };
   blocks = c.nothing.ensures.answers _;
 }

@@ -1,7 +1,7 @@
 // How often an expression occurs in a document.
 ghost use Rattle.std.specs.Prelude.{◌≡◌, ◌<◌, ◌≤◌, length, option_copied, Err, IfErr, IfOk};
 ghost use Rattle.ri_base.specs.Collection.{document_at};
-ghost use Rattle.ri_base.specs.Expression.{expr_tree};
+ghost use Rattle.ri_base.specs.Expression.{EachWord, expr_tree};
 ghost use Rattle.ri_base.specs.Faults.{IsOutside};
 ghost use Rattle.ri_base.specs.Keeps.{Keeps, Rose};
 ghost use Rattle.field_extents.specs.Extents.{AreInOrder, begin_count};
@@ -40,6 +40,10 @@ pub fn occurrences<P: Postings>(
     ensures exact { P.sound part.old → IfOk result
         (λ n. n ≡ occurrences (expr_tree expr.now) (option_copied context.entry) (document_at (P.documents part.old) id)) }
     ensures few { IfOk result (λ n. n ≤ counted_tokens (option_copied context.entry) (document_at (P.documents part.old) id)) }
+
+    // Also of a part that isn't sound, each term's places were told, so no malformed block is passed by.
+    ensures told { IfOk result (λ _. EachWord (λ t. P.told part.old t id) (expr_tree expr.now)) }
+
     ensures honest { P.sound part.old → IfErr result IsOutside }
     ensures store { result ≡ Err SegFault.Store → Rose (P.faults part.old) (P.faults part.new) }
 {

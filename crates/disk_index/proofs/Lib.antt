@@ -14,6 +14,7 @@ pub mod NextLemmas
 pub mod OpeningLaws
 pub mod PresenceLemmas
 pub mod RankLemmas
+pub mod ReadableLemmas
 pub mod ReadingLemmas
 pub mod RebuildLemmas
 pub mod RebuiltLemmas

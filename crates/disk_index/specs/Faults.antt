@@ -16,7 +16,7 @@ use Rattle.seg_codec.specs.Fits.{FitBlock}
 use Rattle.seg_codec.specs.Spelling.{block_bytes}
 use Rattle.seg_codec.specs.declared.blocks.BlockEntry.{BlockEntry}
 use Rattle.seg_codec.specs.declared.documents.Entry.{Entry}
-use Rattle.disk_index.specs.Blocks.{IsBlockFault, bytes_at, places_of}
+use Rattle.disk_index.specs.Blocks.{IsBlockFault, IsBlockIn, bytes_at, places_of}
 use Rattle.disk_index.specs.Cache.{KeptBlock}
 use Rattle.disk_index.specs.Kept.{Kept, key_of, place_of}
 use Rattle.disk_index.specs.Names.{segment_name}
@@ -41,6 +41,15 @@ pub record AreTold (told : Option Files) (cached : List KeptBlock) (kept : Kept)
   pub entries : List BlockEntry
   pub block : IsTermBlock told cached kept term (id / 64) entries
   pub places : ps ≡ places_of id entries
+
+-- a block of this key is kept, or the file has one there where the files are told
+pub record IsReadable (told : Option Files) (kept : List KeptBlock) (key : BlockKey) : Type 0 where
+  pub entries : List BlockEntry
+  pub here : Contains kept (key, entries) ⊎ ((files : Files) → told ≡ Some files → IsBlockIn files key entries)
+
+-- the same of the block of a term for a range, where the dictionary has one
+abbrev pub IsTermReadable : Option Files → List KeptBlock → Kept → List ℕ → ℕ → Type 0
+IsTermReadable told cached kept term range = MatchOption (place_of kept.dictionary term range) (Unit {0}) (λ p. IsReadable told cached (key_of kept.number range p))
 
 -- rising places of a document of so many tokens
 pub record ArePlacesIn (size : ℕ) (ps : List ℕ) : Type 0 where

@@ -1,5 +1,5 @@
 -- What a part reads as, together with the files, and when it is backed.
-use Rattle.std.specs.Prelude.{◌≡◌, ◌≤◌, ℕ, List, length, map, Option}
+use Rattle.std.specs.Prelude.{◌≡◌, ◌≤◌, ◌/◌, ℕ, List, length, map, Option}
 use Rattle.ri_base.specs.Collection.{document_at}
 use Rattle.ri_base.specs.Documents.{Document}
 use Rattle.ri_base.specs.Faults.{IsOutside}
@@ -10,7 +10,7 @@ use Rattle.seg_codec.specs.Segment.{entry_of}
 use Rattle.seg_codec.specs.declared.documents.Entry.{Entry}
 use Rattle.disk_index.specs.Blocks.{of_range, told_file}
 use Rattle.disk_index.specs.Cache.{CacheKeeps, KeptBlock}
-use Rattle.disk_index.specs.Faults.{AreTold, IsRangeFault, IsTermFault}
+use Rattle.disk_index.specs.Faults.{AreTold, IsRangeFault, IsTermFault, IsTermReadable}
 use Rattle.disk_index.specs.Kept.{Kept}
 use Rattle.disk_index.specs.Reads.{IsBacked, rebuilt}
 use Rattle.disk_index.specs.Together.{AreTogether, IsDocumentsFault}
@@ -60,6 +60,11 @@ IsPartFault files cached (OnDisk kept) term id fault = IsTermFault files cached 
 abbrev pub ArePlacesOf : Option Files → List KeptBlock → Source → List ℕ → ℕ → List ℕ → Type 0
 ArePlacesOf told cached (InMemory docs) term id ps = ps ≡ places term (document_at docs id)
 ArePlacesOf told cached (OnDisk kept) term id ps = AreTold told cached kept term id ps
+
+-- the block of the term for the range of the document can be read, where there is one; a part in memory has no blocks
+abbrev pub IsReadableOf : Option Files → List KeptBlock → Source → List ℕ → ℕ → Type 0
+IsReadableOf told cached (InMemory docs) term id = Unit {0}
+IsReadableOf told cached (OnDisk kept) term id = IsTermReadable told cached kept term (id / 64)
 
 -- what may be read as the documents of a range of the part: of one on disk what the blocks of the range tell
 abbrev pub AreRangeOf : Option Files → List KeptBlock → Source → ℕ → List Document → Type 0

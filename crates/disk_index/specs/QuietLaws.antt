@@ -1,8 +1,13 @@
 -- What reading leaves holds of a state and itself, and over two steps.
-use Rattle.std.proofs.Common.{◌≡◌, ℕ, List, Option, inl, inr, refl, subst, ◌∙◌, arith}
+use Rattle.std.proofs.Common.{◌≡◌, ◌/◌, ℕ, List, Option, None, Some, inl, inr, refl, subst, ◌∙◌, arith}
+use Rattle.std.specs.Option.{MatchOption}
 use Rattle.store_ends.specs.Files.{Files, IsQuiet}
+use Rattle.seg_codec.specs.declared.dictionary.BlockPlace.{BlockPlace}
 use Rattle.disk_index.specs.Cache.{CacheKeeps, IsCacheBacked, KeptBlock}
-use Rattle.disk_index.specs.Parts.{IsFileOf, IsQuietReader, Source}
+use Rattle.disk_index.specs.Faults.{IsReadable}
+use Rattle.disk_index.specs.Kept.{key_of, place_of}
+use Rattle.disk_index.specs.Parts.{InMemory, IsFileOf, IsQuietReader, IsReadableOf, OnDisk, Source}
+use Rattle.disk_index.specs.declared.cache.BlockKey.{BlockKey}
 
 pub CacheKeeps-same : (told : Option Files) (IsOwn : ℕ → Type 0) (c : List KeptBlock) → CacheKeeps told IsOwn c c
 CacheKeeps-same told IsOwn c = record { each = λ e h. inl h }
@@ -17,6 +22,26 @@ CacheKeeps-after f g IsOwn c d k same a b = CacheKeeps-then f IsOwn c d k a (sub
 -- a backed cache stays backed, whether the part is or not
 pub IsCacheBacked-kept : (told : Option Files) (IsOwn : ℕ → Type 0) (c d : List KeptBlock) → CacheKeeps told IsOwn c d → IsCacheBacked told c → IsCacheBacked told d
 IsCacheBacked-kept told IsOwn c d keeps backed files is e h = elim (keeps.each e h) [ inl was ↦ backed files is e was | inr new ↦ new.1 files is ]
+
+-- ---- what can be read after reading could be read before
+
+-- the block of a key
+IsReadable-before : (told : Option Files) (IsOwn : ℕ → Type 0) (c d : List KeptBlock) (key : BlockKey) → CacheKeeps told IsOwn c d → IsReadable told d key → IsReadable told c key
+IsReadable-before told IsOwn c d key keeps now = record {
+  entries = now.entries;
+  here = elim now.here [ inl kept ↦ elim (keeps.each (key, now.entries) kept) [ inl was ↦ inl was | inr new ↦ inr new.1 ] | inr file ↦ inr file ];
+}
+
+-- that of a term for a range, where there is one
+readable-before : (told : Option Files) (IsOwn : ℕ → Type 0) (c d : List KeptBlock) (number range : ℕ) (place : Option BlockPlace) → CacheKeeps told IsOwn c d
+    → MatchOption place (Unit {0}) (λ p. IsReadable told d (key_of number range p)) → MatchOption place (Unit {0}) (λ p. IsReadable told c (key_of number range p))
+readable-before told IsOwn c d number range None keeps now = tt
+readable-before told IsOwn c d number range (Some p) keeps now = IsReadable-before told IsOwn c d (key_of number range p) keeps now
+
+pub IsReadableOf-before : (told : Option Files) (IsOwn : ℕ → Type 0) (c d : List KeptBlock) (p : Source) (term : List ℕ) (id : ℕ) → CacheKeeps told IsOwn c d
+    → IsReadableOf told d p term id → IsReadableOf told c p term id
+IsReadableOf-before told IsOwn c d (InMemory docs) term id keeps now = tt
+IsReadableOf-before told IsOwn c d (OnDisk kept) term id keeps now = readable-before told IsOwn c d kept.number (id / 64) (place_of kept.dictionary term (id / 64)) keeps now
 
 module _ {S : Type 0} (files : S → Option Files) (layers : S → Option (List Files)) (clock : S → ℕ) (since : S → ℕ → Files → Type 0) (longest : S → ℕ) (held : S → List ℕ) (faults : S → ℕ) where
   pub IsQuiet-same : (s : S) → IsQuiet files layers clock since longest held s s
@@ -54,3 +79,10 @@ module _ {S : Type 0} (files : S → Option Files) (layers : S → Option (List 
     cache = CacheKeeps-after (files r) (files s) (IsFileOf p) c d k a.store.same_files a.cache
         (subst (λ (x : Source). CacheKeeps (files s) (IsFileOf x) d k) a.same_part b.cache);
   }
+
+  pub IsQuietReader-readable : (p q : Source) (sn sm cn cm : ℕ) (s t : S) (c d : List KeptBlock) (term : List ℕ) (id : ℕ)
+      → IsQuietReader files layers clock since longest held faults p q sn sm cn cm s t c d → IsReadableOf (files t) d q term id → IsReadableOf (files s) c p term id
+  IsQuietReader-readable p q sn sm cn cm s t c d term id quiet now =
+      let same_part = subst (λ (x : Source). IsReadableOf (files t) d x term id) quiet.same_part now in
+      let same_files = subst (λ (f : Option Files). IsReadableOf f d p term id) quiet.store.same_files same_part in
+      IsReadableOf-before (files s) (IsFileOf p) c d p term id quiet.cache same_files

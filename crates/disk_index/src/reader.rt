@@ -30,7 +30,7 @@ impl<'a, T: Store> PartReader<'a, T> {
 impl<'a, T: Store> Postings for PartReader<'a, T> {
     ghost use Rattle.std.specs.Prelude.{◌≡◌};
     ghost use Rattle.disk_index.specs.Cache.{IsCacheBacked};
-    ghost use Rattle.disk_index.specs.Parts.{IsPartBacked, IsQuietReader, reads, source_of};
+    ghost use Rattle.disk_index.specs.Parts.{IsPartBacked, IsQuietReader, IsReadableOf, reads, source_of};
 
     ghost documents = { λ s. reads (T.files s.store.now) (source_of s.part.now) };
 
@@ -39,6 +39,8 @@ impl<'a, T: Store> Postings for PartReader<'a, T> {
     ghost sound = { λ s. IsPartBacked (T.files s.store.now) (source_of s.part.now) × IsCacheBacked (T.files s.store.now) s.cache.now };
 
     ghost quiet = { λ r s. IsQuietReader T.files T.layers T.clock T.since T.longest T.held T.faults (source_of r.part.now) (source_of s.part.now) r.store.ghost_name s.store.ghost_name r.cache.ghost_name s.cache.ghost_name r.store.now s.store.now r.cache.now s.cache.now };
+
+    ghost told = { λ s term id. IsReadableOf (T.files s.store.now) s.cache.now (source_of s.part.now) term id };
 
     fn docs(&self) -> u32 {
         self.part.docs()
@@ -60,9 +62,11 @@ impl<'a, T: Store> Postings for PartReader<'a, T> {
         self.part.positions(alloc, self.store, self.cache, term, id)
     }
 
-    ghost use Rattle.disk_index.specs.QuietLaws.{IsQuietReader-same, IsQuietReader-then};
+    ghost use Rattle.disk_index.specs.QuietLaws.{IsQuietReader-readable, IsQuietReader-same, IsQuietReader-then};
 
     ghost quiet_same = { λ s. IsQuietReader-same _ _ _ _ _ _ _ _ _ _ _ _ };
 
     ghost quiet_then = { λ r s t first second. IsQuietReader-then _ _ _ _ _ _ _ _ _ _ _ _ _ _ _ _ _ _ _ _ _ _ first second };
+
+    ghost told_before = { λ r s term id quiet now. IsQuietReader-readable _ _ _ _ _ _ _ _ _ _ _ _ _ _ _ _ _ _ _ quiet now };
 }

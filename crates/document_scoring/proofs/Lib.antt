@@ -3,3 +3,4 @@ pub mod CounterLemmas
 pub mod FilterLemmas
 pub mod FirstsLemmas
 pub mod ScoringLemmas
+pub mod ToldLemmas

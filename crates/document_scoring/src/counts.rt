@@ -7,6 +7,7 @@ ghost use Rattle.query_check.specs.Leaves.{leaf_tree};
 ghost use Rattle.belief_nodes.specs.Leaves.{IsLeafCount};
 ghost use Rattle.document_scoring.specs.Candidates.{some_occurs};
 ghost use Rattle.document_scoring.specs.Counts.{count_of};
+ghost use Rattle.document_scoring.specs.Told.{IsLeafTold};
 
 use crate::counters::whole_count;
 use crate::found::found_of;
@@ -27,6 +28,10 @@ pub fn count_of<P: Postings>(
     ensures exact { P.sound part.old → IfOk result
         (λ n. n ≡ count_of (document_at (P.documents part.old) id) (leaf_tree leaf.now)) }
     ensures range { IfOk result (λ n. IsLeafCount n) }
+
+    // Also of a part that isn't sound, no malformed block is passed by.
+    ensures told { IfOk result (λ _. IsLeafTold (λ t. P.told part.old t id) (leaf_tree leaf.now)) }
+
     ensures honest { P.sound part.old → IfErr result IsOutside }
     ensures store { result ≡ Err SegFault.Store → Rose (P.faults part.old) (P.faults part.new) }
 {

@@ -6,6 +6,7 @@ ghost use Rattle.ri_base.specs.Faults.{IsOutside};
 ghost use Rattle.ri_base.specs.Keeps.{Keeps, Rose};
 ghost use Rattle.ri_base.specs.Query.{filter_tree};
 ghost use Rattle.document_scoring.specs.Candidates.{passes};
+ghost use Rattle.document_scoring.specs.Told.{AreFiltersTold, IsFilterTold};
 
 use extent_evaluation::extents_have_one_list;
 use extent_walks::ExtentIter;
@@ -23,6 +24,7 @@ fn passes<P: Postings>(
     ensures keeps { Keeps P.documents P.faults P.sound P.quiet part.old part.new }
     ensures exact { P.sound part.old → IfOk result
         (λ b. b ≡ passes (document_at (P.documents part.old) id) (filter_tree filter.now)) }
+    ensures told { IfOk result (λ _. IsFilterTold (λ t. P.told part.old t id) (filter_tree filter.now)) }
     ensures honest { P.sound part.old → IfErr result IsOutside }
     ensures store { result ≡ Err SegFault.Store → Rose (P.faults part.old) (P.faults part.new) }
 {
@@ -43,6 +45,10 @@ pub fn all_pass<P: Postings>(
     ensures keeps { Keeps P.documents P.faults P.sound P.quiet part.old part.new }
     ensures exact { P.sound part.old → IfOk result
         (λ b. b ≡ list_all (passes (document_at (P.documents part.old) id)) (map filter_tree filters.now)) }
+
+    // Also of a part that isn't sound, no malformed block is passed by.
+    ensures told { IfOk result (AreFiltersTold (λ t. P.told part.old t id) (map filter_tree filters.now)) }
+
     ensures honest { P.sound part.old → IfErr result IsOutside }
     ensures store { result ≡ Err SegFault.Store → Rose (P.faults part.old) (P.faults part.new) }
 {

@@ -1,7 +1,7 @@
 // What is found of the leaves of a query in a document.
-ghost use Rattle.std.specs.Prelude.{◌≡◌, ◌<◌, length, map, slice_index_or, take, All, Err, IfErr, IfOk, IfSome};
+ghost use Rattle.std.specs.Prelude.{◌≡◌, ◌<◌, ◌⊎◌, length, map, slice_index_or, take, All, Contains, Err, IfErr, IfOk, IfSome};
 ghost use Rattle.ri_base.specs.Collection.{document_at};
-ghost use Rattle.ri_base.specs.Expression.{expr_tree};
+ghost use Rattle.ri_base.specs.Expression.{EachWord, expr_tree};
 ghost use Rattle.ri_base.specs.Faults.{IsOutside};
 ghost use Rattle.ri_base.specs.Keeps.{Keeps, Rose};
 ghost use Rattle.ri_base.specs.Pair.{Pair};
@@ -9,6 +9,7 @@ ghost use Rattle.field_extents.specs.Extents.{AreInOrder};
 ghost use Rattle.query_check.specs.Leaves.{leaf_tree, prior};
 ghost use Rattle.document_scoring.specs.Counters.{IsFewer, IsFound, found_count};
 ghost use Rattle.document_scoring.specs.Counts.{count_in, counted};
+ghost use Rattle.document_scoring.specs.Told.{IsLeafTold};
 
 use belief_nodes::same_leaf;
 use extent_evaluation::{extents, extents_have_one_list};
@@ -66,6 +67,7 @@ pub fn counted<P: Postings>(
     ensures order { IfOk result AreInOrder }
     // No more of them begin in a window than the fields of a context cover positions of it.
     ensures few { IfOk result (λ found. IfSome context.now (IsFewer found (document_at (P.documents part.old) id).fields)) }
+    ensures told { IfOk result (λ _. EachWord (λ t. P.told part.old t id) (expr_tree expr.now)) }
     ensures honest { P.sound part.old → IfErr result IsOutside }
     ensures store { result ≡ Err SegFault.Store → Rose (P.faults part.old) (P.faults part.new) }
 {
@@ -89,6 +91,7 @@ pub fn found_of<'a, P: Postings>(
     ensures exact { P.sound part.old → IfOk result
         (λ found. (w : Pair) → found_count (document_at (P.documents part.old) id).fields w found ≡ count_in (document_at (P.documents part.old) id) w (leaf_tree leaf.now)) }
     ensures found { IfOk result (IsFound (document_at (P.documents part.old) id).fields) }
+    ensures told { IfOk result (λ _. IsLeafTold (λ t. P.told part.old t id) (leaf_tree leaf.now)) }
     ensures honest { P.sound part.old → IfErr result IsOutside }
     ensures store { result ≡ Err SegFault.Store → Rose (P.faults part.old) (P.faults part.new) }
 {
@@ -122,6 +125,8 @@ fn found_at<'a, P: Postings>(
         → ((w : Pair) → map (found_count (document_at (P.documents part.old) id).fields w) before.now ≡ map (count_in (document_at (P.documents part.old) id) w) (take number (map leaf_tree leaves.now)))
         → IfOk result (λ found. (w : Pair) → found_count (document_at (P.documents part.old) id).fields w found ≡ count_in (document_at (P.documents part.old) id) w (slice_index_or (map leaf_tree leaves.now) number (prior 0))) }
     ensures found { IfOk result (IsFound (document_at (P.documents part.old) id).fields) }
+    ensures told { IfOk result (λ _. IsLeafTold (λ t. P.told part.old t id) (slice_index_or (map leaf_tree leaves.now) number (prior 0))
+        ⊎ Contains (take number (map leaf_tree leaves.now)) (slice_index_or (map leaf_tree leaves.now) number (prior 0))) }
     ensures honest { P.sound part.old → IfErr result IsOutside }
     ensures store { result ≡ Err SegFault.Store → Rose (P.faults part.old) (P.faults part.new) }
 {
@@ -148,6 +153,7 @@ pub fn all_found<'a, P: Postings>(
         (λ v. (w : Pair) → map (found_count (document_at (P.documents part.old) id).fields w) v.items ≡ map (count_in (document_at (P.documents part.old) id) w) (map leaf_tree leaves.now)) }
     ensures each { IfOk result (λ v. length v.items ≡ length leaves.now) }
     ensures found { IfOk result (λ v. All (IsFound (document_at (P.documents part.old) id).fields) v.items) }
+    ensures told { IfOk result (λ _. All (IsLeafTold (λ t. P.told part.old t id)) (map leaf_tree leaves.now)) }
     ensures honest { P.sound part.old → IfErr result IsOutside }
     ensures store { result ≡ Err SegFault.Store → Rose (P.faults part.old) (P.faults part.new) }
 {

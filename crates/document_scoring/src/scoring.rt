@@ -13,6 +13,7 @@ ghost use Rattle.belief_nodes.specs.Network.{network_tree};
 ghost use Rattle.windows.specs.Windows.{windows};
 ghost use Rattle.document_scoring.specs.Counters.{IsFound, IsReady, counter_count, found_count};
 ghost use Rattle.document_scoring.specs.Rows.{Adds, AddsRows, AddsWindows, row_candidate, window_candidate};
+ghost use Rattle.document_scoring.specs.Told.{IsDocumentTold};
 
 use crate::counters::{Counter, count_all, counters_of};
 use crate::counts::some_occurs;
@@ -153,6 +154,9 @@ pub fn score_document<P: Postings, F: Fn(u32, u32, u64, u64) -> Fraction>(
 
     // Also of a part that isn't sound, what is added are windows of that document.
     ensures shape { OnOk result (AddsRows (document_at (P.documents part.old) id) (length (network_tree network.now).leaves) rows.old.items rows.new.items) }
+
+    // And no malformed block is passed by.
+    ensures told { OnOk result (IsDocumentTold (λ t. P.told part.old t id) (map filter_tree filters.now) (network_tree network.now).leaves rows.old.items rows.new.items) }
 
     ensures stay { map (λ plug. meaning plug) plugs.new ≡ map (λ plug. meaning plug) plugs.old }
     ensures honest { P.sound part.old → IfErr result IsOutside }

@@ -2,7 +2,7 @@
 ghost use Rattle.std.specs.Prelude.{◌≡◌, ◌<◌, length, map, All, IfOk, IfErr, Err};
 ghost use Rattle.std.specs.List.{AllZip};
 ghost use Rattle.ri_base.specs.Collection.{document_at};
-ghost use Rattle.ri_base.specs.Expression.{expr_tree};
+ghost use Rattle.ri_base.specs.Expression.{EachWord, EachWordOf, expr_tree, expr_trees};
 ghost use Rattle.ri_base.specs.Faults.{IsOutside};
 ghost use Rattle.ri_base.specs.Keeps.{Keeps, Rose};
 ghost use Rattle.field_extents.specs.Extents.{AreInOrder};
@@ -31,6 +31,10 @@ pub fn extents<P: Postings>(
     ensures exact { P.sound postings.old → IfOk result
         (IsListing (Ext (expr_tree expr.now) (document_at (P.documents postings.old) id))) }
     ensures order { IfOk result AreInOrder }
+
+    // Also of a part that isn't sound, each term's places were told, so no malformed block is passed by.
+    ensures told { IfOk result (λ _. EachWord (λ t. P.told postings.old t id) (expr_tree expr.now)) }
+
     ensures honest { P.sound postings.old → IfErr result IsOutside }
     ensures store { result ≡ Err SegFault.Store → Rose (P.faults postings.old) (P.faults postings.new) }
 {
@@ -49,6 +53,7 @@ fn evaluated<P: Postings>(
     ensures exact { P.sound postings.old → IfOk result
         (Lists (Ext (expr_tree expr.now) (document_at (P.documents postings.old) id))) }
     ensures ascending { IfOk result IsAscending }
+    ensures told { IfOk result (λ _. EachWord (λ t. P.told postings.old t id) (expr_tree expr.now)) }
     ensures honest { P.sound postings.old → IfErr result IsOutside }
     ensures store { result ≡ Err SegFault.Store → Rose (P.faults postings.old) (P.faults postings.new) }
 {
@@ -92,6 +97,7 @@ fn all_evaluated<P: Postings>(
     ensures exact { P.sound postings.old → IfOk result
         (λ v. AllZip (λ x xs. Lists (Ext x (document_at (P.documents postings.old) id)) xs) (map expr_tree all.now) v.items) }
     ensures ascending { IfOk result (λ v. All IsAscending v.items) }
+    ensures told { IfOk result (λ _. EachWordOf (λ t. P.told postings.old t id) (expr_trees (map expr_tree all.now))) }
     ensures honest { P.sound postings.old → IfErr result IsOutside }
     ensures store { result ≡ Err SegFault.Store → Rose (P.faults postings.old) (P.faults postings.new) }
 {

@@ -8,3 +8,4 @@ pub mod PresenceLemmas
 pub mod RowLemmas
 pub mod SameLemmas
 pub mod Tested
+pub mod WordLemmas

@@ -50,6 +50,7 @@ pub fn of_term<P: Postings>(
     ensures exact { P.sound postings.old → IfOk result
         (Lists (Ext (word term.now) (document_at (P.documents postings.old) id))) }
     ensures ascending { IfOk result IsAscending }
+    ensures told { IfOk result (λ _. P.told postings.old term.now id) }
     ensures honest { P.sound postings.old → IfErr result IsOutside }
     ensures store { result ≡ Err SegFault.Store → Rose (P.faults postings.old) (P.faults postings.new) }
 {

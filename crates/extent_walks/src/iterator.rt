@@ -1,7 +1,7 @@
 // The extents of an expression, one after the other.
 ghost use Rattle.std.specs.Prelude.{◌≡◌, ◌<◌, length, map, drop, slice_get, IfOk, IfErr, Err};
 ghost use Rattle.ri_base.specs.Collection.{document_at};
-ghost use Rattle.ri_base.specs.Expression.{expr_tree};
+ghost use Rattle.ri_base.specs.Expression.{EachWord, EachWordOf, expr_tree, expr_trees};
 ghost use Rattle.ri_base.specs.Faults.{IsOutside};
 ghost use Rattle.ri_base.specs.Keeps.{Keeps, Rose};
 ghost use Rattle.extent_lists.specs.Extents.{Ext};
@@ -32,6 +32,7 @@ fn walk_of<P: Postings>(
     ensures exact { P.sound postings.old → IfOk result
         (λ w. Gives (plan w) (expr_tree expr.now) (document_at (P.documents postings.old) id)) }
     ensures kept { IfOk result IsKept }
+    ensures told { IfOk result (λ _. EachWord (λ t. P.told postings.old t id) (expr_tree expr.now)) }
     ensures honest { P.sound postings.old → IfErr result IsOutside }
     ensures store { result ≡ Err SegFault.Store → Rose (P.faults postings.old) (P.faults postings.new) }
 {
@@ -92,6 +93,7 @@ fn group_of<P: Postings>(
     ensures exact { P.sound postings.old → IfOk result
         (λ v. GiveEach (plans v.items) (map expr_tree all.now) (document_at (P.documents postings.old) id)) }
     ensures kept { IfOk result (λ v. AreKept v.items) }
+    ensures told { IfOk result (λ _. EachWordOf (λ t. P.told postings.old t id) (expr_trees (map expr_tree all.now))) }
     ensures honest { P.sound postings.old → IfErr result IsOutside }
     ensures store { result ≡ Err SegFault.Store → Rose (P.faults postings.old) (P.faults postings.new) }
 {
@@ -136,6 +138,10 @@ impl ExtentIter {
         ensures keeps { Keeps P.documents P.faults P.sound P.quiet postings.old postings.new }
         ensures exact { P.sound postings.old → IfOk result
             (IsListing (Ext (expr_tree expr.now) (document_at (P.documents postings.old) id))) }
+
+        // Also of a part that isn't sound, each term's places were told, so no malformed block is passed by.
+        ensures told { IfOk result (λ _. EachWord (λ t. P.told postings.old t id) (expr_tree expr.now)) }
+
         ensures honest { P.sound postings.old → IfErr result IsOutside }
         ensures store { result ≡ Err SegFault.Store → Rose (P.faults postings.old) (P.faults postings.new) }
     {

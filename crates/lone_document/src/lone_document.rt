@@ -88,6 +88,8 @@ impl<'a> Postings for LoneDocument<'a> {
 
     ghost quiet = { λ r s. r ≡ s };
 
+    ghost told = { λ _ _ _. ⊤ };
+
     fn docs(&self) -> u32 {
         let _one = &self.doc;
         1
@@ -115,4 +117,6 @@ impl<'a> Postings for LoneDocument<'a> {
     ghost quiet_same = { λ s. refl };
 
     ghost quiet_then = { λ r s t first second. first ∙ second };
+
+    ghost told_before = { λ r s term id quiet told. told };
 }

@@ -31,6 +31,10 @@ block_in held term = lookup (is_at (slice_cmp nat_cmp term)) held.blocks
 abbrev pub answer : Held → List ℕ → ℕ → Option (List ℕ)
 answer held term id = if id / 64 == held.range then option_map (places_of id) (block_in held term) else None
 
+-- they tell of the term in the document
+abbrev pub IsAnswered : Held → List ℕ → ℕ → Type 0
+IsAnswered held term id = is_some (answer held term id) ≡ true
+
 -- whether they tell that the document at a place of a range has the term; none is told of another range, or where the block isn't held
 abbrev pub bit_answer : Held → List ℕ → ℕ → ℕ → Option Bool
 bit_answer held term range i = if range == held.range then option_map (λ es. list_any (λ e. e.id % 64 == i) es) (block_in held term) else None

@@ -1,4 +1,5 @@
 pub mod Held
+pub mod HeldLaws
 pub mod Masks
 pub mod May
 pub mod Most

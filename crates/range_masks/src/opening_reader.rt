@@ -50,10 +50,10 @@ impl<'a, T: Store> OpeningReader<'a, T> {
 }
 
 impl<'a, T: Store> Postings for OpeningReader<'a, T> {
-    ghost use Rattle.std.specs.Prelude.{◌≡◌};
+    ghost use Rattle.std.specs.Prelude.{◌≡◌, ◌⊎◌};
     ghost use Rattle.disk_index.specs.Cache.{IsCacheBacked};
-    ghost use Rattle.disk_index.specs.Parts.{IsPartBacked, IsQuietReader, reads, source_of};
-    ghost use Rattle.range_masks.specs.Held.{AreAnswersOf};
+    ghost use Rattle.disk_index.specs.Parts.{IsPartBacked, IsQuietReader, IsReadableOf, reads, source_of};
+    ghost use Rattle.range_masks.specs.Held.{AreAnswersOf, IsAnswered};
 
     ghost documents = { λ s. reads (T.files s.store.now) (source_of s.part.now) };
 
@@ -62,6 +62,8 @@ impl<'a, T: Store> Postings for OpeningReader<'a, T> {
     ghost sound = { λ s. IsPartBacked (T.files s.store.now) (source_of s.part.now) × IsCacheBacked (T.files s.store.now) s.cache.now × AreAnswersOf (reads (T.files s.store.now) (source_of s.part.now)) s.held.now };
 
     ghost quiet = { λ r s. IsQuietReader T.files T.layers T.clock T.since T.longest T.held T.faults (source_of r.part.now) (source_of s.part.now) r.store.ghost_name s.store.ghost_name r.cache.ghost_name s.cache.ghost_name r.store.now s.store.now r.cache.now s.cache.now × s.held.now ≡ r.held.now × s.held.ghost_name ≡ r.held.ghost_name };
+
+    ghost told = { λ s term id. IsAnswered s.held.now term id ⊎ IsReadableOf (T.files s.store.now) s.cache.now (source_of s.part.now) term id };
 
     fn docs(&self) -> u32 {
         self.part.docs()
@@ -87,11 +89,15 @@ impl<'a, T: Store> Postings for OpeningReader<'a, T> {
     }
 
     ghost use Rattle.std.proofs.Common.{refl, ◌∙◌};
-    ghost use Rattle.disk_index.specs.QuietLaws.{IsQuietReader-same, IsQuietReader-then};
+    ghost use Rattle.disk_index.specs.QuietLaws.{IsQuietReader-readable, IsQuietReader-same, IsQuietReader-then};
 
     ghost quiet_same = { λ s. (IsQuietReader-same _ _ _ _ _ _ _ _ _ _ _ _, refl, refl) };
 
     ghost quiet_then = { λ r s t first second. (IsQuietReader-then _ _ _ _ _ _ _ _ _ _ _ _ _ _ _ _ _ _ _ _ _ _ first.0 second.0, second.1 ∙ first.1, second.2 ∙ first.2) };
+
+    ghost use Rattle.range_masks.specs.HeldLaws.{answered-before};
+
+    ghost told_before = { λ r s term id quiet now. answered-before _ _ _ _ _ _ quiet.1 (λ here. IsQuietReader-readable _ _ _ _ _ _ _ _ _ _ _ _ _ _ _ _ _ _ _ quiet.0 here) now };
 }
 
 impl<'a, T: Store> TermMasks for OpeningReader<'a, T> {

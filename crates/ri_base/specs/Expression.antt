@@ -1,5 +1,5 @@
 -- Expressions as contracts see them: the plain tree that an expression stands for, and its bounds.
-use Rattle.std.specs.Prelude.{ℕ, ◌+◌, ◌≤◌, ◌≡◌, max, Bool, true, false, ◌&&◌, nat_le, not, List, [], ◌∷◌}
+use Rattle.std.specs.Prelude.{ℕ, ◌+◌, ◌≤◌, ◌≡◌, ⊤, max, Bool, true, false, ◌&&◌, nat_le, not, List, [], ◌∷◌}
 use Rattle.ri_base.specs.Text.{is_term, is_name}
 use Rattle.ri_base.specs.declared.expression.ExtentExpr.{ExtentExpr, Word, Any, Ordered', Unordered', Syn', Band', InField', Row_of-ExtentExpr, end_of-ExtentExpr, more_of-ExtentExpr}
 use Rattle.ri_base.specs.declared.limits.TheConstants.{MAX_QUERY_DEPTH, MAX_QUERY_NODES, MAX_WIDTH}
@@ -104,3 +104,18 @@ pub record IsBounded (x : ExprTree) : Type 0 where
   pub shallow : depth x ≤ MAX_QUERY_DEPTH
   pub few : nodes x ≤ MAX_QUERY_NODES
   pub sound : is_sound x ≡ true
+
+-- it is so of each term that stands in the expression
+unfoldable mutual
+  pub EachWord : (List ℕ → Type 0) → ExprTree → Type 0
+  EachWord P (word t) = P t
+  EachWord P (ordered n xs) = EachWordOf P xs
+  EachWord P (unordered n xs) = EachWordOf P xs
+  EachWord P (syn xs) = EachWordOf P xs
+  EachWord P (any f) = ⊤
+  EachWord P (band xs) = EachWordOf P xs
+  EachWord P (in_field x f) = EachWord P x
+
+  pub EachWordOf : (List ℕ → Type 0) → ExprTrees → Type 0
+  EachWordOf P none = ⊤
+  EachWordOf P (more x xs) = EachWord P x × EachWordOf P xs

@@ -15,7 +15,8 @@ use std::alloc::Global;
 ///
 /// A part that reads files counts the faults of its store. It is `sound` where all that it keeps of its files, and
 /// the files, are those of one list of documents. `quiet` relates two of its states where the second differs from
-/// the first by no more than reading may change.
+/// the first by no more than reading may change. `told` says of a term and a document that the part's files, or what
+/// it keeps of them, can be read there, whether the part is sound or not: then no malformed place was passed by.
 pub trait Postings {
     ghost documents: { Self → List Document };
 
@@ -24,6 +25,8 @@ pub trait Postings {
     ghost sound: { Self → Type 0 };
 
     ghost quiet: { Self → Self → Type 0 };
+
+    ghost told: { Self → List ℕ → ℕ → Type 0 };
 
     /// How many documents there are.
     fn docs(&self) -> u32
@@ -55,6 +58,7 @@ pub trait Postings {
         ensures rising { IfOk result IsStrictlyIncreasing }
         ensures below { IfOk result
             (All (λ p. p < length (document_at (documents self.old) id).tokens)) }
+        ensures told { IfOk result (λ _. told self.old term.now id) }
 
         ensures exact { sound self.old → IfOk result
             (λ ps. ps ≡ places term.now (document_at (documents self.old) id)) }
@@ -65,4 +69,7 @@ pub trait Postings {
     ghost quiet_same: { (s : Self) → quiet s s };
 
     ghost quiet_then: { (r s t : Self) → quiet r s → quiet s t → quiet r t };
+
+    // What can be read after reading could be read before.
+    ghost told_before: { (r s : Self) (term : List ℕ) (id : ℕ) → quiet r s → told s term id → told r term id };
 }

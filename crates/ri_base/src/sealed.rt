@@ -169,6 +169,8 @@ impl Postings for Sealed {
 
     ghost quiet = { λ r s. r ≡ s };
 
+    ghost told = { λ _ _ _. ⊤ };
+
     fn docs(&self) -> u32 {
         self.docs.len() as u32
     }
@@ -195,4 +197,6 @@ impl Postings for Sealed {
     ghost quiet_same = { λ s. refl };
 
     ghost quiet_then = { λ r s t first second. first ∙ second };
+
+    ghost told_before = { λ r s term id quiet told. told };
 }

@@ -1,16 +1,18 @@
-use Rattle.std.proofs.Common.{arith, rules, ◌≡◌, ◌<◌, ◌+◌, ◌++◌, ◌∷◌, [], List, get_or, length, map, take, ap, sym, subst, ◌∙◌}
+use Rattle.std.proofs.Common.{arith, rules, ◌≡◌, ◌<◌, ◌+◌, ◌++◌, ◌∷◌, [], List, ℕ, inl, inr, get_or, length, map, take, ap, sym, subst, ◌∙◌}
 use Rattle.std.specs.List.{All}
 use Rattle.std.proofs.lemmas.List.{length-map, length_push, take_all}
-use Rattle.std.proofs.lemmas.List.Elements.{All-push}
+use Rattle.std.proofs.lemmas.List.Elements.{All-contains, All-more, All-push}
 use Rattle.ri_base.specs.Collection.{document_at}
 use Rattle.ri_base.specs.Documents.{Document}
 use Rattle.ri_base.specs.Pair.{Pair}
 use Rattle.query_check.specs.Leaves.{leaf_tree, prior}
 use Rattle.document_scoring.specs.Counters.{IsFound, found_count}
 use Rattle.document_scoring.specs.Counts.{count_in}
+use Rattle.document_scoring.specs.Told.{IsLeafTold}
 use Rattle.document_scoring.specs.declared.found.LeafExtents.{LeafExtents}
 use Rattle.document_scoring.proofs.CountLemmas.{IsFound-stays, found_stays, next_same}
 use Rattle.document_scoring.proofs.FirstsLemmas.{default, so_far_read}
+use Rattle.document_scoring.proofs.ToldLemmas.{IsLeafTold-weaker}
 use Rattle.document_scoring.proofs.found.all_found.Goals as goal
 
 pub found_at-requires-clause-before : goal.found_at-requires-clause-before
@@ -44,6 +46,15 @@ loop-number-preserved g c =
           (found_stays docs read c.args.id w leaf found stay
           (c.in_ok-found.ensures.exact (c.loop-number.invariant.keeps.sound_stays sound) (before sound) w)));
       each = rw pushed (length_push all found ∙ ap (λ n. n + 1) c.loop-number.invariant.each);
+      told =
+          let IsTold = λ (t : List ℕ). g.P.Postings.told c.args.part.now t c.args.id in
+          let IsToldNow = λ (t : List ℕ). g.P.Postings.told c.loop-number.part t c.args.id in
+          let before = λ (t : List ℕ). g.met.P.Postings.told_before c.args.part.now c.loop-number.part t c.args.id c.loop-number.invariant.keeps.stays_quiet in
+          let here : IsLeafTold IsTold leaf = elim c.in_ok-found.ensures.told [
+            | inl now ↦ IsLeafTold-weaker IsToldNow IsTold before leaf now
+            | inr earlier ↦ All-contains (IsLeafTold IsTold) (take i leaves) leaf c.loop-number.invariant.told earlier
+          ] in
+          All-more (IsLeafTold IsTold) leaves i (prior 0) inside c.loop-number.invariant.told here;
       found = rw pushed (All-push (IsFound d.fields) all found c.loop-number.invariant.found (IsFound-stays docs read c.args.id found stay c.in_ok-found.ensures.found));
     }
 
@@ -52,3 +63,8 @@ returns-clause-exact g c = λ sound w.
     let d = document_at (g.P.Postings.documents c.args.part.now) c.args.id in
     let long = length-map c.args.leaves.now leaf_tree in
     c.loop-number.invariant.so_far sound w ∙ ap (map (count_in d w)) (take_all c.loop-number.number (map leaf_tree c.args.leaves.now) (omega (arith, c.loop-number-test.false, long)))
+
+pub returns-clause-told : goal.returns-clause-told
+returns-clause-told g c =
+    let long = length-map c.args.leaves.now leaf_tree in
+    subst (All (IsLeafTold (λ t. g.P.Postings.told c.args.part.now t c.args.id))) (take_all c.loop-number.number (map leaf_tree c.args.leaves.now) (omega (arith, c.loop-number-test.false, long))) c.loop-number.invariant.told

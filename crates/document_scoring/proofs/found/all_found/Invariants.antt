@@ -5,6 +5,7 @@ use Rattle.ri_base.specs.Pair.{Pair}
 use Rattle.query_check.specs.Leaves.{leaf_tree}
 use Rattle.document_scoring.specs.Counters.{IsFound, found_count}
 use Rattle.document_scoring.specs.Counts.{count_in}
+use Rattle.document_scoring.specs.Told.{IsLeafTold}
 use Rattle.document_scoring.proofs.found.all_found.Given as goal
 
 abbrev pub invariant-loop-number : goal.invariant-loop-number
@@ -14,5 +15,6 @@ invariant-loop-number g l = record {
       → map (found_count (document_at (g.P.Postings.documents l.fn.part) l.id).fields w) l.all.items
       ≡ map (count_in (document_at (g.P.Postings.documents l.fn.part) l.id) w) (take l.number (map leaf_tree l.leaves));
   each : length l.all.items ≡ l.number;
+  told : All (IsLeafTold (λ t. g.P.Postings.told l.fn.part t l.id)) (take l.number (map leaf_tree l.leaves));
   found : All (IsFound (document_at (g.P.Postings.documents l.fn.part) l.id).fields) l.all.items;
 }

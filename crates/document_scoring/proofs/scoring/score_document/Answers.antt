@@ -1,12 +1,16 @@
-use Rattle.std.proofs.Common.{◌≡◌, List, length, map, ap, subst, sym, ◌∙◌}
+use Rattle.std.proofs.Common.{◌≡◌, ℕ, List, inl, inr, length, map, ap, refl, subst, sym, ◌∙◌}
+use Rattle.std.specs.List.{All}
 use Rattle.std.proofs.lemmas.List.{length-map}
+use Rattle.std.proofs.lemmas.List.Elements.{All-weaker}
 use Rattle.ri_base.specs.Collection.{document_at}
 use Rattle.ri_base.specs.Documents.{AreFields, Document}
 use Rattle.ri_base.specs.Query.{filter_tree}
 use Rattle.query_check.specs.Leaves.{leaf_tree}
 use Rattle.belief_nodes.specs.Network.{network_tree}
 use Rattle.document_scoring.specs.Counters.{found_count}
+use Rattle.document_scoring.specs.Told.{AreFiltersTold, IsLeafTold}
 use Rattle.document_scoring.proofs.ScoringLemmas.{adds_document, counted_is, no_rows, not_passed, rows_of_windows}
+use Rattle.document_scoring.proofs.ToldLemmas.{IsLeafTold-weaker}
 use Rattle.document_scoring.proofs.scoring.score_document.Goals as goal
 
 pub returns-then-not-branch-clause-exact : goal.returns-then-not-branch-clause-exact
@@ -57,3 +61,17 @@ returns-clause-shape g c =
     c.args.network.now.kept.each
     (λ w. length-map c.deref.result.now (found_count spans w) ∙ found)
     c.in_ok-score_found.ensures.adds
+
+-- ---- of which terms places were told
+
+pub returns-then-not-branch-clause-told : goal.returns-then-not-branch-clause-told
+returns-then-not-branch-clause-told g c =
+    inr (subst (AreFiltersTold (λ t. g.P.Postings.told c.args.part.now t c.args.id) (map filter_tree c.args.filters.now)) c.if-not-branch.true c.in_ok-all_pass.ensures.told, refl)
+
+pub returns-clause-told : goal.returns-clause-told
+returns-clause-told g c =
+    let IsTold = λ (t : List ℕ). g.P.Postings.told c.args.part.now t c.args.id in
+    let before = λ (t : List ℕ). g.met.P.Postings.told_before c.args.part.now c.all_pass.new.part t c.args.id c.in_ok-all_pass.ensures.keeps.stays_quiet in
+    let filters = subst (AreFiltersTold IsTold (map filter_tree c.args.filters.now)) c.if-not-branch.false c.in_ok-all_pass.ensures.told in
+    let leaves = All-weaker _ (IsLeafTold IsTold) (λ l. IsLeafTold-weaker _ IsTold before l) (map leaf_tree c.leaves.result.now) c.in_ok-found.ensures.told in
+    inl (filters, subst (All (IsLeafTold IsTold)) c.leaves.ensures leaves)

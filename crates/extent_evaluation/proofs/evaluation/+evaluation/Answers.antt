@@ -1,18 +1,31 @@
-use Rattle.std.proofs.Common.{rules, [], ◌∷◌, ◌++◌, ◌≡◌, ◌∙◌, List, length, ap}
-use Rattle.std.proofs.lemmas.List.Elements.{All-push}
+use Rattle.std.proofs.Common.{arith, refl, rules, [], ◌∷◌, ◌++◌, ◌≡◌, ◌∙◌, ℕ, List, length, ap}
+use Rattle.std.proofs.lemmas.List.Elements.{All-nil, All-push}
+use Rattle.std.proofs.lemmas.Result.{IfOk-weaker}
 use Rattle.ri_base.specs.Collection.{document_at}
 use Rattle.ri_base.specs.Documents.{Document}
+use Rattle.ri_base.specs.Expression.{expr_tree}
 use Rattle.ri_base.specs.declared.expression.ExtentExpr.{the_lemmas}
 use Rattle.ri_base.proofs.ExpressionLemmas.{expr_tree-Word}
 use Rattle.extent_lists.specs.Rows.{IsAscending}
 use Rattle.extent_evaluation.proofs.EvaluationLemmas.{AreListed-more, Lists-of_any, Lists-of_band, Lists-of_in_field, Lists-of_ordered, Lists-of_syn, Lists-of_unordered}
 use Rattle.extent_evaluation.proofs.InsideLemmas.{IsAscending-inside}
 use Rattle.extent_lists.proofs.KeepsLemmas.{Keeps-then}
+use Rattle.extent_lists.proofs.WordLemmas.{EachWord-of_any, EachWord-of_band, EachWord-of_in_field, EachWord-of_ordered, EachWord-of_syn, EachWord-of_unordered, EachWord-of_word, EachWord-weaker, EachWordOf-more, EachWordOf-none}
 use Rattle.extent_evaluation.proofs.InsideLemmas.{AreInOrder-ascending}
 use Rattle.extent_evaluation.proofs.evaluation.+evaluation.Goals as goal
 
 pub all_evaluated-evaluated-requires : goal.all_evaluated-evaluated-requires
 all_evaluated-evaluated-requires g t c κs within = search (rules, the_lemmas)
+
+pub all_evaluated-loop-x-init : goal.all_evaluated-loop-x-init
+all_evaluated-loop-x-init g t c =
+    let empty : c.new-lists.result.items ≡ [] = search rules in
+    record {
+      keeps = record { documents_stay = refl; no_fault_lost = omega arith; sound_stays = λ u. u; stays_quiet = g.met.P.Postings.quiet_same _ };
+      listed = λ sound. rw empty tt;
+      ascending = rw empty (All-nil IsAscending);
+      told = EachWordOf-none _;
+    }
 
 pub all_evaluated-loop-x-preserved : goal.all_evaluated-loop-x-preserved
 all_evaluated-loop-x-preserved g t c =
@@ -23,7 +36,42 @@ all_evaluated-loop-x-preserved g t c =
           let listed = rw c.loop-x.invariant.keeps.documents_stay at (c.in_ok-found.ensures.exact (c.loop-x.invariant.keeps.sound_stays sound)) in
           rw pushed (AreListed-more _ _ _ _ _ _ c.loop-x-test.true c.x-item.is (c.loop-x.invariant.listed sound) listed);
       ascending = rw pushed (All-push IsAscending c.loop-x.lists.items c.in_ok-found.found c.loop-x.invariant.ascending c.in_ok-found.ensures.ascending);
+      told =
+          let before = λ (t : List ℕ). g.met.P.Postings.told_before c.args.postings.now c.loop-x.postings t c.args.id c.loop-x.invariant.keeps.stays_quiet in
+          let here = EachWord-weaker _ (λ t. g.P.Postings.told c.args.postings.now t c.args.id) before (expr_tree c.x-item.result) c.in_ok-found.ensures.told in
+          EachWordOf-more (λ t. g.P.Postings.told c.args.postings.now t c.args.id) c.args.all.now c.loop-x.x-index c.x-item.result c.loop-x-test.true c.x-item.is c.loop-x.invariant.told here;
     }
+
+-- ---- what was told of each term
+
+pub evaluated-returns-in-Word-clause-told : goal.evaluated-returns-in-Word-clause-told
+evaluated-returns-in-Word-clause-told g t c =
+    IfOk-weaker _ _ _ (λ found told. EachWord-of_word (λ t. g.P.Postings.told c.args.postings.now t c.args.id) c.args.expr.now c.in-Word.term c.in-Word.is told) c.of_term.ensures.told
+
+pub evaluated-returns-in_ok-chains-in-Ordered-clause-told : goal.evaluated-returns-in_ok-chains-in-Ordered-clause-told
+evaluated-returns-in_ok-chains-in-Ordered-clause-told g t c =
+    EachWord-of_ordered _ c.args.expr.now c.in-Ordered.n c.in-Ordered.all c.in-Ordered.is (rw c.deref.ensures.value at c.in_ok-lists-in-Ordered.ensures.told)
+
+pub evaluated-returns-in_ok-windows-in-Unordered-clause-told : goal.evaluated-returns-in_ok-windows-in-Unordered-clause-told
+evaluated-returns-in_ok-windows-in-Unordered-clause-told g t c =
+    EachWord-of_unordered _ c.args.expr.now c.in-Unordered.n c.in-Unordered.all c.in-Unordered.is (rw c.deref-in-Unordered.ensures.value at c.in_ok-lists-in-Unordered.ensures.told)
+
+pub evaluated-returns-in_ok-union_of-in-Syn-clause-told : goal.evaluated-returns-in_ok-union_of-in-Syn-clause-told
+evaluated-returns-in_ok-union_of-in-Syn-clause-told g t c =
+    EachWord-of_syn _ c.args.expr.now c.in-Syn.all c.in-Syn.is (rw c.deref-in-Syn.ensures.value at c.in_ok-lists-in-Syn.ensures.told)
+
+pub evaluated-returns-in_ok-of_fields-in-Any-clause-told : goal.evaluated-returns-in_ok-of_fields-in-Any-clause-told
+evaluated-returns-in_ok-of_fields-in-Any-clause-told g t c = EachWord-of_any _ c.args.expr.now c.in-Any.name c.in-Any.is
+
+pub evaluated-returns-in_ok-whole_if_each-in-Band-clause-told : goal.evaluated-returns-in_ok-whole_if_each-in-Band-clause-told
+evaluated-returns-in_ok-whole_if_each-in-Band-clause-told g t c =
+    EachWord-of_band _ c.args.expr.now c.in-Band.all c.in-Band.is (rw c.deref-in-Band.ensures.value at c.in_ok-lists-in-Band.ensures.told)
+
+pub evaluated-returns-in_ok-inside-in-InField-clause-told : goal.evaluated-returns-in_ok-inside-in-InField-clause-told
+evaluated-returns-in_ok-inside-in-InField-clause-told g t c =
+    EachWord-of_in_field _ c.args.expr.now c.in-InField.x c.in-InField.name c.in-InField.is (rw c.deref-in-InField.ensures at c.in_ok-found-in-InField.ensures.told)
+
+-- ---- which extents they are
 
 pub evaluated-inside-requires-clause-extents : goal.evaluated-inside-requires-clause-extents
 evaluated-inside-requires-clause-extents g t c = AreInOrder-ascending _ c.in_ok-found-in-InField.ensures.ascending

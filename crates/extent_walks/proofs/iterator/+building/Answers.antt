@@ -1,15 +1,27 @@
-use Rattle.std.proofs.Common.{rules, ◌≡◌, ◌∙◌, ◌∷◌, ◌++◌, [], length, List, ap, refl}
+use Rattle.std.proofs.Common.{arith, rules, ◌≡◌, ◌∙◌, ◌∷◌, ◌++◌, [], ℕ, length, List, ap, refl}
 use Rattle.ri_base.specs.Collection.{document_at}
 use Rattle.ri_base.specs.Documents.{Document}
+use Rattle.ri_base.specs.Expression.{expr_tree}
 use Rattle.extent_walks.specs.Walks.{plan, plans}
 use Rattle.ri_base.specs.declared.expression.ExtentExpr.{the_lemmas}
 use Rattle.extent_walks.proofs.BuildLemmas.{GiveEach-more, Gives-of_any, Gives-of_band, Gives-of_in_field, Gives-of_ordered, Gives-of_syn, Gives-of_unordered, Gives-of_word, chain_plan-is}
 use Rattle.extent_lists.proofs.KeepsLemmas.{Keeps-then}
+use Rattle.extent_lists.proofs.WordLemmas.{EachWord-of_any, EachWord-of_band, EachWord-of_in_field, EachWord-of_ordered, EachWord-of_syn, EachWord-of_unordered, EachWord-of_word, EachWord-weaker, EachWordOf-more, EachWordOf-none}
 use Rattle.extent_walks.proofs.WalkLaws.{AreKept-push, plan-Listed, plan-Union, plan-Whole, plan-Window, plan-Within}
 use Rattle.extent_walks.proofs.iterator.+building.Goals as goal
 
 pub group_of-walk_of-requires : goal.group_of-walk_of-requires
 group_of-walk_of-requires g t c κs within = search (rules, the_lemmas)
+
+pub group_of-loop-x-init : goal.group_of-loop-x-init
+group_of-loop-x-init g t c =
+    let empty : c.new-out.result.items ≡ [] = search rules in
+    record {
+      keeps = record { documents_stay = refl; no_fault_lost = omega arith; sound_stays = λ u. u; stays_quiet = g.met.P.Postings.quiet_same _ };
+      gives = λ sound. rw empty tt;
+      kept = rw empty tt;
+      told = EachWordOf-none _;
+    }
 
 pub group_of-loop-x-preserved : goal.group_of-loop-x-preserved
 group_of-loop-x-preserved g t c =
@@ -21,7 +33,41 @@ group_of-loop-x-preserved g t c =
           let here = rw c.loop-x.invariant.keeps.documents_stay at (c.in_ok-walk.ensures.exact (c.loop-x.invariant.keeps.sound_stays sound)) in
           rw pushed (GiveEach-more d _ _ _ c.loop-x.out.items c.new.result c.loop-x-test.true c.x-item.is (c.loop-x.invariant.gives sound) (rw c.new.ensures.walk here));
       kept = rw pushed (AreKept-push c.loop-x.out.items c.new.result c.loop-x.invariant.kept c.new.ensures.kept);
+      told =
+          let before = λ (t : List ℕ). g.met.P.Postings.told_before c.args.postings.now c.loop-x.postings t c.args.id c.loop-x.invariant.keeps.stays_quiet in
+          let here = EachWord-weaker _ (λ t. g.P.Postings.told c.args.postings.now t c.args.id) before (expr_tree c.x-item.result) c.in_ok-walk.ensures.told in
+          EachWordOf-more (λ t. g.P.Postings.told c.args.postings.now t c.args.id) c.args.all.now c.loop-x.x-index c.x-item.result c.loop-x-test.true c.x-item.is c.loop-x.invariant.told here;
     }
+
+-- ---- what was told of each term
+
+pub walk_of-returns-in_ok-found-in-Word-clause-told : goal.walk_of-returns-in_ok-found-in-Word-clause-told
+walk_of-returns-in_ok-found-in-Word-clause-told g t c = EachWord-of_word _ c.args.expr.now c.in-Word.term c.in-Word.is c.in_ok-found-in-Word.ensures.told
+
+pub walk_of-returns-in_ok-chain_of-in-Ordered-clause-told : goal.walk_of-returns-in_ok-chain_of-in-Ordered-clause-told
+walk_of-returns-in_ok-chain_of-in-Ordered-clause-told g t c =
+    EachWord-of_ordered _ c.args.expr.now c.in-Ordered.n c.in-Ordered.all c.in-Ordered.is (rw c.deref.ensures.value at c.in_ok-all-in-Ordered.ensures.told)
+
+pub walk_of-returns-in_ok-all-in-Unordered-clause-told : goal.walk_of-returns-in_ok-all-in-Unordered-clause-told
+walk_of-returns-in_ok-all-in-Unordered-clause-told g t c =
+    EachWord-of_unordered _ c.args.expr.now c.in-Unordered.n c.in-Unordered.all c.in-Unordered.is (rw c.deref-in-Unordered.ensures.value at c.in_ok-all-in-Unordered.ensures.told)
+
+pub walk_of-returns-in_ok-all-in-Syn-clause-told : goal.walk_of-returns-in_ok-all-in-Syn-clause-told
+walk_of-returns-in_ok-all-in-Syn-clause-told g t c =
+    EachWord-of_syn _ c.args.expr.now c.in-Syn.all c.in-Syn.is (rw c.deref-in-Syn.ensures.value at c.in_ok-all-in-Syn.ensures.told)
+
+pub walk_of-returns-in_ok-fields-in-Any-clause-told : goal.walk_of-returns-in_ok-fields-in-Any-clause-told
+walk_of-returns-in_ok-fields-in-Any-clause-told g t c = EachWord-of_any _ c.args.expr.now c.in-Any.name c.in-Any.is
+
+pub walk_of-returns-in_ok-all-in-Band-clause-told : goal.walk_of-returns-in_ok-all-in-Band-clause-told
+walk_of-returns-in_ok-all-in-Band-clause-told g t c =
+    EachWord-of_band _ c.args.expr.now c.in-Band.all c.in-Band.is (rw c.deref-in-Band.ensures.value at c.in_ok-all-in-Band.ensures.told)
+
+pub walk_of-returns-in_ok-ahead-in-InField-clause-told : goal.walk_of-returns-in_ok-ahead-in-InField-clause-told
+walk_of-returns-in_ok-ahead-in-InField-clause-told g t c =
+    EachWord-of_in_field _ c.args.expr.now c.in-InField.x c.in-InField.name c.in-InField.is (rw c.deref-in-InField.ensures at c.in_ok-inner-in-InField.ensures.told)
+
+-- ---- which extents they are
 
 pub walk_of-returns-in_ok-found-in-Word-clause-exact : goal.walk_of-returns-in_ok-found-in-Word-clause-exact
 walk_of-returns-in_ok-found-in-Word-clause-exact g t c = λ sound.

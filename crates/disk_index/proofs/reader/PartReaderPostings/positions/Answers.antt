@@ -1,8 +1,10 @@
 use Rattle.std.proofs.Common.{◌<◌, ap, sym, subst, refl, Option}
+use Rattle.std.proofs.lemmas.Result.{IfOk-weaker}
 use Rattle.store_ends.specs.Files.{Files}
 use Rattle.disk_index.specs.Cache.{IsCacheBacked}
 use Rattle.disk_index.specs.Parts.{IsFileOf, IsPartBacked, reads, source_of}
 use Rattle.disk_index.specs.QuietLaws.{IsCacheBacked-kept}
+use Rattle.disk_index.proofs.ReadableLemmas.{IsReadableOf-places}
 use Rattle.disk_index.proofs.RebuiltLemmas.{reads-length}
 use Rattle.disk_index.proofs.reader.PartReaderPostings.positions.Goals as goal
 
@@ -20,3 +22,8 @@ returns-clause-keeps g c =
           (s.0, IsCacheBacked-kept _ (IsFileOf part) c.args.self.now.cache.now c.positions.new.cache c.positions.ensures.cache s.1);
       stays_quiet = record { same_part = refl; same_store = refl; same_cache = refl; store = quiet; no_fault_lost = c.positions.ensures.later; cache = c.positions.ensures.cache };
     }
+
+pub returns-clause-told : goal.returns-clause-told
+returns-clause-told g c =
+    let s = c.args.self.now in
+    IfOk-weaker _ _ _ (λ places are. IsReadableOf-places (g.T.Store.files s.store.now) s.cache.now (source_of s.part.now) c.args.term.now c.args.id places are) c.positions.ensures.told

@@ -1,6 +1,8 @@
-use Rattle.std.proofs.Common.{◌≡◌, ◌<◌, List, ℕ, Option, Some, IfSome, length, ap, sym, subst, refl, rules}
+use Rattle.std.proofs.Common.{◌≡◌, ◌<◌, List, ℕ, Option, Some, IfSome, inl, inr, length, ap, sym, subst, refl, rules}
 use Rattle.std.specs.List.{All}
 use Rattle.std.specs.List.Sorted.{IsStrictlyIncreasing}
+use Rattle.std.specs.Option.{is_some}
+use Rattle.std.proofs.lemmas.Result.{IfOk-weaker}
 use Rattle.ri_base.specs.Collection.{document_at}
 use Rattle.store_ends.specs.Files.{Files}
 use Rattle.seg_codec.specs.Blocks.{tokens_of}
@@ -8,6 +10,7 @@ use Rattle.disk_index.specs.Cache.{IsCacheBacked}
 use Rattle.disk_index.specs.Faults.{ArePlacesIn}
 use Rattle.disk_index.specs.Parts.{IsFileOf, IsPartBacked, outlines_of, reads, source_of}
 use Rattle.disk_index.specs.QuietLaws.{IsCacheBacked-kept}
+use Rattle.disk_index.proofs.ReadableLemmas.{IsReadableOf-places}
 use Rattle.disk_index.proofs.RebuiltLemmas.{reads-length}
 use Rattle.range_masks.specs.Held.{AreAnswersOf, answer}
 use Rattle.range_masks.proofs.EntryLemmas.{tokens-read}
@@ -49,3 +52,13 @@ returns-in-None-clause-keeps g c =
           (s.0, IsCacheBacked-kept _ (IsFileOf part) c.args.self.now.cache.now c.positions.new.cache c.positions.ensures.cache s.1, s.2);
       stays_quiet = (record { same_part = refl; same_store = refl; same_cache = refl; store = quiet; no_fault_lost = c.positions.ensures.later; cache = c.positions.ensures.cache }, refl, refl);
     }
+
+pub returns-in_ok-to_vec-in-Some-clause-told : goal.returns-in_ok-to_vec-in-Some-clause-told
+returns-in_ok-to_vec-in-Some-clause-told g c =
+    let told : answer c.args.self.now.held.now c.args.term.now c.args.id ≡ Some c.in-Some.places.now = search rules in
+    inl (ap is_some told)
+
+pub returns-in-None-clause-told : goal.returns-in-None-clause-told
+returns-in-None-clause-told g c =
+    let s = c.args.self.now in
+    IfOk-weaker _ _ _ (λ places are. inr (IsReadableOf-places (g.T.Store.files s.store.now) s.cache.now (source_of s.part.now) c.args.term.now c.args.id places are)) c.positions.ensures.told

@@ -1,12 +1,11 @@
 -- Places that are found one after the other.
 use Rattle.std.proofs.Common.{◌≡◌, ◌<◌, ◌≤◌, ◌+◌, ◌⊎◌, inl, inr, ℕ, zero, suc, Bool, true, false, List, [], ◌∷◌, ◌++◌, length, map, get_or, take, drop, refl, ap, sym, subst, ◌∙◌, arith, Option, Some, None, length-append}
 use Rattle.std.specs.Prelude.{is_some}
-use Rattle.std.specs.List.{All, AllByRecursion, IsDistinct}
+use Rattle.std.specs.List.{All, IsDistinct}
 use Rattle.std.specs.Map.{lookup}
 use Rattle.std.specs.Str.{bytes_eq}
 use Rattle.std.proofs.lemmas.List.{append-nil, get_or-map, length-map, length-take, take-append-drop, take_all, take_more}
 use Rattle.std.proofs.lemmas.List.Elements.{All-push}
-use Rattle.std.proofs.Math.Seq.{take-append_seam}
 use Rattle.ri_base.specs.Collection.{document_at, empty_document}
 use Rattle.ri_base.specs.Documents.{Document}
 use Rattle.ri_base.specs.declared.limits.TheConstants.{MAX_PART_DOCS}
@@ -19,7 +18,7 @@ use Rattle.holdings.specs.Kept.{AreKept, ArePlaced, IsPlaced, cell, row}
 use Rattle.holdings.specs.MarkedParts.{IsWhole, docnos_in, docnos_of, filled}
 use Rattle.holdings.specs.Marks.{cells}
 use Rattle.holdings.specs.Parts.{all_parts, parts_of}
-use Rattle.holdings.specs.Placing.{PlacesOne, Repeats, front_of, named}
+use Rattle.holdings.specs.Placing.{PlacesOne, Repeats, before_place, front_of, named}
 use Rattle.holdings.specs.declared.spot.Spot.{Spot}
 use Rattle.holdings.proofs.CellLemmas.{map-push}
 use Rattle.holdings.proofs.KeptLemmas.{All-front, ArePlaced-add, ArePlaced-close, CanWrite, placed-distinct}
@@ -197,14 +196,10 @@ within-parts [] p i k e = cc
 within-parts (m ∷ ms) zero i k e = omega arith
 within-parts (m ∷ ms) (suc p) i k e = (let rest = within-parts ms p i k e in omega (arith, rest))
 
-all-left : (P : List ℕ → Type 0) (xs ys : List (List ℕ)) → AllByRecursion P (xs ++ ys) → AllByRecursion P xs
-all-left P [] ys all = tt
-all-left P (x ∷ xs) ys all = (all.0, all-left P xs ys all.1)
-
-distinct-left : (xs ys : List (List ℕ)) → IsDistinct bytes_eq (xs ++ ys) → IsDistinct bytes_eq xs
-unfolding IsDistinct
-distinct-left [] ys d = tt
-distinct-left (x ∷ xs) ys d = (all-left (λ y. bytes_eq x y ≡ false) xs ys d.0, distinct-left xs ys d.1)
+-- the documents before a place in the last of some parts
+before-last_part : (front : List Marked) (m : Marked) (n : ℕ) → before_place (front ++ m ∷ []) (length front) n ≡ front ++ front_of (take n (docnos_in m.source)) (take n m.marks) ∷ []
+before-last_part [] m n = refl
+before-last_part (x ∷ front) m n = ap (λ (l : List Marked). x ∷ l) (before-last_part front m n)
 
 -- a document whose docno is there already
 pub Repeats-next : (places : List (List ℕ × Spot)) (front : List Marked) (m : Marked) (n : ℕ) → length m.marks ≡ length (docnos_in m.source) → n < length m.marks → get_or m.marks n false ≡ false
@@ -218,16 +213,14 @@ Repeats-next places front m n long within free there kept =
     let rows : row prefix ≡ cells (take n ks) (take n m.marks) = ap (λ l. cells l (take n m.marks)) (names (take n ks)) in
     let stands : cell (map row (front ++ prefix ∷ [])) r.0.part r.0.id ≡ Some k = (kept.placed k r.0).0 r.1 in
     let few : length (row prefix) ≤ n = (let a = ap length rows in let b = length-cells (take n ks) (take n m.marks) in let c = length-take n ks in omega (arith, a, b, c)) in
-    let all : docnos_of (front ++ prefix ∷ []) ≡ docnos_of front ++ unmarked (docnos_in prefix.source) prefix.marks = flat_map-push (λ (x : Marked). unmarked (docnos_in x.source) x.marks) front prefix in
-    let distinct : IsDistinct bytes_eq (docnos_of front) =
-    distinct-left (docnos_of front) (unmarked (docnos_in prefix.source) prefix.marks) (subst (IsDistinct bytes_eq) all (placed-distinct places (front ++ prefix ∷ []) kept)) in
+    let distinct : IsDistinct bytes_eq (docnos_of (front ++ prefix ∷ [])) = placed-distinct places (front ++ prefix ∷ []) kept in
     record {
       docno = k;
       first = r.0;
       at_first = last-front front m prefix r.0.part r.0.id k (λ j e. cells-front ks m.marks n j k (ap (λ l. get_or l j None) (sym rows) ∙ e)) stands;
       at_second = last-cell front m n ∙ cells-next ks m.marks n within long free;
       earlier = elim (before-last front prefix r.0.part r.0.id k stands) [ inl less ↦ inl less | inr last ↦ inr (last.0, omega (arith, last.1, few)) ];
-      before = subst (λ (ps : List Marked). IsDistinct bytes_eq (docnos_of ps)) (sym (take-append_seam front (m ∷ []))) distinct;
+      before = subst (λ (ps : List Marked). IsDistinct bytes_eq (docnos_of ps)) (sym (before-last_part front m n)) distinct;
     }
 
 cell-more : (xs ys : List Marked) (p i : ℕ) (k : List ℕ) → cell (map row xs) p i ≡ Some k → cell (map row (xs ++ ys)) p i ≡ Some k
@@ -235,21 +228,21 @@ cell-more [] ys p i k e = cc
 cell-more (x ∷ xs) ys zero i k e = e
 cell-more (x ∷ xs) ys (suc p) i k e = cell-more xs ys p i k e
 
-take-front : (n : ℕ) (xs ys : List Marked) → n ≤ length xs → take n (xs ++ ys) ≡ take n xs
-take-front zero xs ys le = refl
-take-front (suc n) [] ys le = absurd (omega (arith, le))
-take-front (suc n) (x ∷ xs) ys le = ap (λ l. x ∷ l) (take-front n xs ys (omega (arith, le)))
+before-more : (xs ys : List Marked) (p i : ℕ) → p < length xs → before_place (xs ++ ys) p i ≡ before_place xs p i
+before-more [] ys p i less = absurd (omega (arith, less))
+before-more (x ∷ xs) ys zero i less = refl
+before-more (x ∷ xs) ys (suc p) i less = ap (λ (l : List Marked). x ∷ l) (before-more xs ys p i (omega (arith, less)))
 
 Repeats-more : (xs ys : List Marked) (s : Spot) → Repeats xs s → Repeats (xs ++ ys) s
 Repeats-more xs ys s r =
-    let within : s.part ≤ length xs = (let below = within-parts xs s.part s.id r.docno r.at_second in omega (arith, below)) in
+    let within : s.part < length xs = within-parts xs s.part s.id r.docno r.at_second in
     record {
       docno = r.docno;
       first = r.first;
       at_first = cell-more xs ys _ _ _ r.at_first;
       at_second = cell-more xs ys _ _ _ r.at_second;
       earlier = r.earlier;
-      before = subst (λ (ps : List Marked). IsDistinct bytes_eq (docnos_of ps)) (sym (take-front s.part xs ys within)) r.before;
+      before = subst (λ (ps : List Marked). IsDistinct bytes_eq (docnos_of ps)) (sym (before-more xs ys s.part s.id within)) r.before;
     }
 
 pub Repeats-parts : (parts : List Marked) (i : ℕ) (x : Marked) (s : Spot) → i < length parts → x ≡ get_or parts i x

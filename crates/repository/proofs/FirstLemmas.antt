@@ -64,10 +64,10 @@ pub entry-outside : (f : Files) (e : SegEntry) (m : Marked) (fault : SegFault) �
 entry-outside f e m fault o bad = opened-outside f e.number e.docs o.kept fault (o.opened f refl) bad
 
 -- the part of the entry at a place
-pub part-at : (f : Files) (es : List SegEntry) (ms : List Marked) (i : ℕ) (e : SegEntry) → AllZip (IsEntryOpened (Some f)) es ms → i < length es → e ≡ get_or es i e → (m : Marked) × IsEntryOpened (Some f) e m
+pub part-at : (f : Files) (es : List SegEntry) (ms : List Marked) (i : ℕ) (e : SegEntry) → AllZip (IsEntryOpened (Some f)) es ms → i < length es → e ≡ get_or es i e → (m : Marked) × (m ≡ get_or ms i m) × IsEntryOpened (Some f) e m
 part-at f [] ms i e opened below at = absurd (omega (arith, below))
 part-at f (x ∷ es) [] i e opened below at = absurd opened
-part-at f (x ∷ es) (m ∷ ms) zero e opened below at = (m, subst (λ (y : SegEntry). IsEntryOpened (Some f) y m) (sym at) opened.0)
+part-at f (x ∷ es) (m ∷ ms) zero e opened below at = (m, refl, subst (λ (y : SegEntry). IsEntryOpened (Some f) y m) (sym at) opened.0)
 part-at f (x ∷ es) (m ∷ ms) (suc i) e opened below at = part-at f es ms i e opened.1 (omega (arith, below)) at
 
 -- ---- the first that is refused

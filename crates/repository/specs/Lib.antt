@@ -3,6 +3,7 @@ pub mod Merges
 pub mod Names
 pub mod Numbers
 pub mod Opening
+pub mod Places
 pub mod Priors
 pub mod Saved
 pub mod Stale

@@ -16,7 +16,7 @@ use Rattle.manifest.specs.declared.manifest.SegEntry.{SegEntry}
 use Rattle.disk_index.specs.Blocks.{file_of}
 use Rattle.disk_index.specs.Kept.{Kept, kept_of}
 use Rattle.disk_index.specs.Opening.{IsOpenFault, IsOpened}
-use Rattle.disk_index.specs.Parts.{OnDisk}
+use Rattle.disk_index.specs.Parts.{OnDisk, outlines_of}
 use Rattle.disk_index.specs.Reads.{HasSegment}
 use Rattle.disk_index.specs.Snapshots.{Marked, documents_held}
 use Rattle.holdings.specs.Contents.{Contents, closed_held}
@@ -26,6 +26,7 @@ use Rattle.holdings.specs.declared.limits.Limits.{Limits}
 use Rattle.holdings.specs.declared.refusals.PartsFault.{PartsFault}
 use Rattle.holdings.specs.declared.refusals.PartsFault.TheVariants as across
 use Rattle.repository.specs.Names.{manifest_name}
+use Rattle.repository.specs.Places.{document_place}
 use Rattle.repository.specs.Stands.{HasManifest, marks_from}
 use Rattle.repository.specs.States.{State}
 
@@ -86,12 +87,13 @@ pub record IsEntryFault (files : Files) (es : List SegEntry) (fault : SegFault) 
   pub refused : IsOpenFault files entry.number entry.docs fault
 
 -- The fault that is told of the entry of a part that can't be held: it has too many documents or tokens, at their number in its
--- header, or a docno that is there already, at some place of its documents.
-abbrev pub TellsAcross : List SegEntry → PartsFault → SegFault → Type 0
-TellsAcross es (across.TooManyDocs part) fault = (e : SegEntry) × (e ≡ slice_index_or es part e) × (fault ≡ Malformed (names.Segment e.number) parts.Header 12)
-TellsAcross es (across.TooManyTokens part) fault = (e : SegEntry) × (e ≡ slice_index_or es part e) × (fault ≡ Malformed (names.Segment e.number) parts.Header 16)
-TellsAcross es (across.Repeated part id) fault = (e : SegEntry) × (e ≡ slice_index_or es part e) × ((place : ℕ) × (fault ≡ Malformed (names.Segment e.number) parts.Documents place))
-TellsAcross es across.Memory fault = fault ≡ Memory
+-- header, or a docno that is there already, where that document stands.
+abbrev pub TellsAcross : List SegEntry → List Marked → PartsFault → SegFault → Type 0
+TellsAcross es ms (across.TooManyDocs part) fault = (e : SegEntry) × (e ≡ slice_index_or es part e) × (fault ≡ Malformed (names.Segment e.number) parts.Header 12)
+TellsAcross es ms (across.TooManyTokens part) fault = (e : SegEntry) × (e ≡ slice_index_or es part e) × (fault ≡ Malformed (names.Segment e.number) parts.Header 16)
+TellsAcross es ms (across.Repeated part id) fault =
+    (e : SegEntry) × (m : Marked) × (e ≡ slice_index_or es part e) × (m ≡ slice_index_or ms part m) × (fault ≡ Malformed (names.Segment e.number) parts.Documents (document_place (outlines_of m.source) id))
+TellsAcross es ms across.Memory fault = fault ≡ Memory
 
 -- the files of all entries are read, but they can't be held together
 pub record IsAcrossFault (told : Option Files) (limits : Limits) (es : List SegEntry) (fault : SegFault) : Type 0 where
@@ -99,7 +101,7 @@ pub record IsAcrossFault (told : Option Files) (limits : Limits) (es : List SegE
   pub are_opened : AllZip (IsEntryOpened told) es opened
   pub why : PartsFault
   pub unfit : IsPartsFault limits opened why
-  pub tells : TellsAcross es why fault
+  pub tells : TellsAcross es opened why fault
 
 -- The store or the memory is to blame; or the manifest; or what it lists, one file or all together.
 pub data IsOpeningFault (files : Files) (limits : Limits) (fault : SegFault) : Type 0 where

@@ -3,6 +3,7 @@
 
 mod across;
 mod creation;
+mod docno_place;
 mod exchange;
 mod files;
 mod listing;

@@ -11,6 +11,6 @@ returns-in-Repeated-clause-tells g c = λ f ms told opened.
     let is = c.index-entries-part-in-Repeated.is in
     let below : c.in-Repeated.part < length c.args.entries.now = rw c.in-Repeated.is at c.requires in
     let part = part-at f c.args.entries.now ms c.in-Repeated.part entry opened below is in
-    let tells : TellsAcross c.args.entries.now (Repeated c.in-Repeated.part c.in-Repeated.id) c.docno_fault.result ⊎ IsOutside c.docno_fault.result =
-    elim (c.docno_fault.ensures.tells f part.0 told part.1) [ inl at ↦ inl (entry, is, at) | inr outside ↦ inr outside ] in
+    let tells : TellsAcross c.args.entries.now ms (Repeated c.in-Repeated.part c.in-Repeated.id) c.docno_fault.result ⊎ IsOutside c.docno_fault.result =
+    elim (c.docno_fault.ensures.tells f part.0 told part.2) [ inl at ↦ inl (entry, part.0, is, part.1, at) | inr outside ↦ inr outside ] in
     rw c.in-Repeated.is tells

@@ -1,0 +1,98 @@
+-- Where a document stands in the file of its segment: what stands behind it is counted from the end.
+use Rattle.std.proofs.Common.{◌≡◌, ◌≤◌, ◌<◌, ◌+◌, ◌*◌, ℕ, List, [], ◌∷◌, ◌++◌, length, map, take, drop, Option, Some, None, Result, Ok, Err, refl, ap, sym, subst, ◌∙◌, arith}
+use Rattle.std.specs.Prelude.{IfErr, IfOk, sum_by}
+use Rattle.std.specs.Int.{w16, w32, to_le_bytes}
+use Rattle.std.specs.List.{flat_map}
+use Rattle.std.specs.Option.{IfSome, option_map, unwrap_or}
+use Rattle.std.proofs.lemmas.List.{length-append, length-map}
+use Rattle.std.proofs.lemmas.List.Concat.{flat_map-cons}
+use Rattle.std.proofs.lemmas.List.Sums.{sum_by-cons, sum_by-take-drop}
+use Rattle.ri_base.specs.FieldAnswers.{AnswersPart}
+use Rattle.ri_base.specs.Faults.{IsOutside}
+use Rattle.ri_base.specs.Spelling.{spelled_text}
+use Rattle.ri_base.specs.declared.seg_fault.FileName.{FileName}
+use Rattle.ri_base.specs.declared.seg_fault.PartName.{PartName}
+use Rattle.ri_base.specs.declared.seg_fault.SegFault.{SegFault}
+use Rattle.ri_base.specs.declared.seg_fault.SegFault.TheVariants.{Malformed, Missing, Store, Memory}
+use Rattle.store_ends.specs.Files.{Files}
+use Rattle.seg_codec.specs.Documents.{names_in_order}
+use Rattle.seg_codec.specs.Whole.{ArePlaced}
+use Rattle.seg_codec.specs.Spelling.{documents_bytes, numbered, spelled_entry, spelled_row, spelled_rows}
+use Rattle.seg_codec.specs.declared.documents.Entry.{Entry}
+use Rattle.seg_codec.specs.declared.documents.Row.{Row}
+use Rattle.seg_codec.specs.declared.header.Header.{Header}
+use Rattle.repository.specs.Places.{bytes_of, document_place}
+
+-- ---- how many bytes stand there
+
+rows-length : (rs : List Row) → length (flat_map spelled_row rs) ≡ 10 * length rs
+rows-length [] = refl
+rows-length (r ∷ rs) =
+    let one : length (spelled_row r) ≡ 10 = refl in
+    let step = ap length (flat_map-cons spelled_row r rs) ∙ length-append (spelled_row r) (flat_map spelled_row rs) in
+    step ∙ omega (arith, one, rows-length rs)
+
+entry-length : (ns : List (List ℕ)) (e : Entry) → length (spelled_entry ns e) ≡ bytes_of e
+entry-length ns e =
+    let rs : List Row = map (numbered ns) e.fields in
+    let four : length (to_le_bytes w32 e.tokens) ≡ 4 = refl in
+    let two : length (to_le_bytes w16 (length rs)) ≡ 2 = refl in
+    let inner = length-append (to_le_bytes w16 (length rs)) (flat_map spelled_row rs) in
+    let middle = length-append (to_le_bytes w32 e.tokens) (spelled_rows rs) in
+    let outer = length-append e.docno (to_le_bytes w32 e.tokens ++ spelled_rows rs) in
+    let count : length rs ≡ length e.fields = length-map (numbered ns) e.fields in
+    omega (arith, four, two, inner, middle, outer, rows-length rs, count)
+
+entries-length : (ns : List (List ℕ)) (es : List Entry) → length (flat_map (spelled_entry ns) es) ≡ sum_by bytes_of es
+entries-length ns [] = refl
+entries-length ns (e ∷ es) =
+    let step = ap length (flat_map-cons (spelled_entry ns) e es) ∙ length-append (spelled_entry ns e) (flat_map (spelled_entry ns) es) in
+    step ∙ omega (arith, entry-length ns e, entries-length ns es, sum_by-cons bytes_of e es)
+
+-- ---- the place
+
+pub place_at : (es : List Entry) (id : ℕ) → document_place es id + sum_by bytes_of (drop id es) ≡ 64 + length (documents_bytes es)
+place_at es id =
+    let ns : List (List ℕ) = names_in_order es in
+    let front = length-append (flat_map spelled_text ns) (flat_map (spelled_entry ns) (take id es)) in
+    let all = length-append (flat_map spelled_text ns) (flat_map (spelled_entry ns) es) in
+    omega (arith, front, all, entries-length ns (take id es), entries-length ns es, sum_by-take-drop bytes_of es id)
+
+-- ---- what a store answers of a file
+
+pub told_size : (told : Option Files) (f : Files) (name other : List ℕ) (n : Option ℕ) → told ≡ Some f → name ≡ other → IfSome told (λ (f : Files). n ≡ option_map length (f name)) → unwrap_or n 0 ≡ length (unwrap_or (f other) [])
+told_size None f name other n is same h = absurd cc
+told_size (Some g) f name other n is same h =
+    let here : n ≡ option_map length (f other) = subst (λ (o : Option Files). IfSome o (λ (f : Files). n ≡ option_map length (f name))) is h ∙ ap (λ (l : List ℕ). option_map length (f l)) same in
+    ap (λ (o : Option ℕ). unwrap_or o 0) here ∙ by (f other)
+  where
+    by : (o : Option (List ℕ)) → unwrap_or (option_map length o) 0 ≡ length (unwrap_or o [])
+    by None = refl
+    by (Some file) = refl
+
+-- ---- a part that can be read
+
+-- what is answered of it
+pub answered : {A : Type 0} (r : Result A SegFault) (read : Result A ℕ) (file : FileName) (part : PartName) (end : ℕ) (x : A) → AnswersPart (λ v. v) r read file part end → read ≡ Ok x → IfOk r (λ v. v ≡ x)
+answered (Ok v) read file part end x answer is = cc
+answered (Err e) read file part end x answer is = tt
+
+-- it isn't to blame
+pub unbroken : {A : Type 0} (e : SegFault) (read : Result A ℕ) (file : FileName) (part : PartName) (end : ℕ) (x : A) → AnswersPart {X = A} (λ v. v) (Err e) read file part end → read ≡ Ok x → IsOutside e
+unbroken (Malformed f p place) read file part end x answer is = (let broken = answer.3 in absurd cc)
+unbroken (Missing f) read file part end x answer is = absurd answer
+unbroken Store read file part end x answer is = absurd answer
+unbroken Memory read file part end x answer is = tt
+
+pub answered-outside : {A : Type 0} (r : Result A SegFault) (read : Result A ℕ) (file : FileName) (part : PartName) (end : ℕ) (x : A) → AnswersPart (λ v. v) r read file part end → read ≡ Ok x → IfErr r IsOutside
+answered-outside (Ok v) read file part end x answer is = tt
+answered-outside (Err e) read file part end x answer is = unbroken e read file part end x answer is
+
+-- the documents stand first, and the dictionary behind them
+pub documents-first : (size : ℕ) (r : Result Header SegFault) → IfOk r (ArePlaced size) → IfOk r (λ h. h.documents_at ≡ 64)
+documents-first size (Ok h) placed = placed.documents
+documents-first size (Err e) placed = tt
+
+pub dictionary-behind : (size : ℕ) (r : Result Header SegFault) → IfOk r (ArePlaced size) → IfOk r (λ h. h.documents_at ≤ h.dictionary_at)
+dictionary-behind size (Ok h) placed = omega (arith, placed.documents, placed.dictionary)
+dictionary-behind size (Err e) placed = tt

@@ -123,8 +123,11 @@ impl<'a, T: Store> TermMasks for OpeningReader<'a, T> {
 impl<'a, T: Store> OpensRanges for OpeningReader<'a, T> {
     ghost use Rattle.std.specs.Prelude.{◌≡◌};
     ghost use Rattle.disk_index.specs.Parts.{IsQuietReader, source_of};
+    ghost use Rattle.range_masks.specs.Held.{HoldsEach};
 
     ghost present = { λ s. s.held.now.range };
+
+    ghost holds = { λ s terms. HoldsEach (source_of s.part.now) terms s.held.now };
 
     ghost calm = { λ r s. IsQuietReader T.files T.layers T.clock T.since T.longest T.held T.faults (source_of r.part.now) (source_of s.part.now) r.store.ghost_name s.store.ghost_name r.cache.ghost_name s.cache.ghost_name r.store.now s.store.now r.cache.now s.cache.now × s.held.ghost_name ≡ r.held.ghost_name };
 

@@ -1,5 +1,5 @@
 // Blocks that a part is asked to open.
-ghost use Rattle.std.specs.Prelude.{◌≡◌, ◌≤◌, ◌+◌, ℕ, length, Err, IfErr, OnOk};
+ghost use Rattle.std.specs.Prelude.{◌≡◌, ◌≤◌, ◌+◌, ℕ, ⊥, List, length, Err, IfErr, OnOk};
 ghost use Rattle.ri_base.specs.Faults.{IsOutside};
 ghost use Rattle.ri_base.specs.Keeps.{Keeps, Rose};
 
@@ -11,9 +11,11 @@ use std::sync::ledger::Ledger;
 /// A part of the collection that opens the blocks of terms for a range, and answers by them from then on.
 ///
 /// `calm` relates two of its states where the second differs from the first by no more than reading and opening may change. The blocks
-/// are those of `present`, a range.
+/// are those of `present`, a range, and `holds` says that those of some terms are there.
 pub trait OpensRanges: TermMasks {
     ghost present: { Self → ℕ };
+
+    ghost holds: { Self → List (List ℕ) → Type 0 };
 
     ghost calm: { Self → Self → Type 0 };
 
@@ -27,6 +29,7 @@ pub trait OpensRanges: TermMasks {
     ) -> Result<(), SegFault>
         ensures keeps { Keeps Self.documents Self.faults Self.sound calm self.old self.new }
         ensures present { OnOk result (present self.new ≡ range) }
+        ensures holds { Self.sound self.old → OnOk result ((present self.old ≡ range → ⊥) → holds self.new terms.now) }
         ensures none { present self.old ≡ range → blocks.new ≡ blocks.old }
         ensures cost { blocks.new ≤ blocks.old + length terms.now }
         ensures honest { Self.sound self.old → IfErr result IsOutside }

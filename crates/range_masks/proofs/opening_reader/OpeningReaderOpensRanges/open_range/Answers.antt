@@ -29,3 +29,6 @@ returns-in_err-opened-clause-keeps g c =
           (s.0, IsCacheBacked-kept _ (IsFileOf part) c.args.self.now.cache.now c.open.new.cache c.open.ensures.cache s.1, s.2);
       stays_quiet = (record { same_part = refl; same_store = refl; same_cache = refl; store = quiet; no_fault_lost = c.open.ensures.later; cache = c.open.ensures.cache }, refl);
     }
+
+pub returns-clause-holds : goal.returns-clause-holds
+returns-clause-holds g c sound other = c.in_ok-opened.ensures.each sound.0 sound.1

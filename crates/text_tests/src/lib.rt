@@ -1,5 +1,5 @@
 //! Tests of the TREC text that is read, of the words and documents that are made of it, and of the
-//! words of the command line. The program itself does nothing.
+//! words of the command line.
 #![tactic(auto)]
 
 #[cfg(test)]
@@ -12,5 +12,3 @@ mod pieces;
 mod reading;
 #[cfg(test)]
 mod words;
-
-fn main() {}

@@ -1,4 +1,4 @@
-//! Tests of parts on disk, called as their users call them. The program itself does nothing.
+//! Tests of parts on disk, called as their users call them.
 #![tactic(auto)]
 
 #[cfg(test)]
@@ -9,5 +9,3 @@ mod failing;
 mod places;
 #[cfg(test)]
 mod segment;
-
-fn main() {}

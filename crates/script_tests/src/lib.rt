@@ -1,5 +1,5 @@
 //! Tests of what a session script, the lines of docnos and the rows of a prior are read as, and of the events of a generated
-//! collection. The program itself does nothing.
+//! collection.
 #![tactic(auto)]
 
 #[cfg(test)]
@@ -16,5 +16,3 @@ mod priors;
 mod shown;
 #[cfg(test)]
 mod table;
-
-fn main() {}

@@ -1,4 +1,4 @@
-//! Tests of passages, beliefs, priors, logarithms, scores and explained results that were worked out by hand or computed elsewhere. The program itself does nothing.
+//! Tests of passages, beliefs, priors, logarithms, scores and explained results that were worked out by hand or computed elsewhere.
 #![tactic(auto)]
 
 #[cfg(test)]
@@ -13,5 +13,3 @@ mod logarithms;
 mod priors;
 #[cfg(test)]
 mod scores;
-
-fn main() {}

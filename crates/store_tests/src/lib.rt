@@ -1,4 +1,4 @@
-//! Tests of the stores, of the front of a source and of ends over std, called as their users call them. The program itself does nothing.
+//! Tests of the stores, of the front of a source and of ends over std, called as their users call them.
 #![tactic(auto)]
 
 #[cfg(test)]
@@ -13,5 +13,3 @@ mod fronts;
 mod memory;
 #[cfg(test)]
 mod pages;
-
-fn main() {}

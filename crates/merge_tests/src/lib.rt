@@ -1,4 +1,4 @@
-//! Tests of merges in turns, called as their users call them. The program itself does nothing.
+//! Tests of merges in turns, called as their users call them.
 #![tactic(auto)]
 
 #[cfg(test)]
@@ -11,5 +11,3 @@ mod job;
 mod parts;
 #[cfg(test)]
 mod turns;
-
-fn main() {}

@@ -1,4 +1,4 @@
-//! Tests of repositories, called as their users call them. The program itself does nothing.
+//! Tests of repositories, called as their users call them.
 #![tactic(auto)]
 
 #[cfg(test)]
@@ -15,5 +15,3 @@ mod stays;
 mod stops;
 #[cfg(test)]
 mod together;
-
-fn main() {}

@@ -1,4 +1,4 @@
-//! Tests of a desk, called as its users call it. The program itself does nothing.
+//! Tests of a desk, called as its users call it.
 #![tactic(auto)]
 
 #[cfg(test)]
@@ -21,5 +21,3 @@ mod rows;
 mod session;
 #[cfg(test)]
 mod stops;
-
-fn main() {}

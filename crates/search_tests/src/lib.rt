@@ -1,4 +1,4 @@
-//! Tests of searches in steps and of sums over snapshots, called as their users call them. The program itself does nothing.
+//! Tests of searches in steps and of sums over snapshots, called as their users call them.
 #![tactic(auto)]
 
 #[cfg(test)]
@@ -23,5 +23,3 @@ mod stats;
 mod sums;
 #[cfg(test)]
 mod work;
-
-fn main() {}

@@ -1,4 +1,4 @@
-//! Tests of the files of a repository, called as their users call them. The program itself does nothing.
+//! Tests of the files of a repository, called as their users call them.
 #![tactic(auto)]
 
 #[cfg(test)]
@@ -15,5 +15,3 @@ mod sections;
 mod segments;
 #[cfg(test)]
 mod written;
-
-fn main() {}

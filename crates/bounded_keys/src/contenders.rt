@@ -7,7 +7,7 @@ ghost use Rattle.std.specs.Ordering.{is_lt};
 ghost use Rattle.bounded_keys.specs.Kept.{AreAmong, AreContenders, IsApart, IsKept, beats, is_beaten_by};
 
 use crate::Leading;
-use crate::near::{Near, drop_above, limit_of};
+use crate::near::{LEAST_ROOM, Near, drop_above, limit_of};
 use crate::runs::first_of_runs;
 use crate::threshold::Threshold;
 use std::alloc::{AllocError, Global};
@@ -37,15 +37,15 @@ impl<T: Leading> Model for Contenders<T> {
     ghost invariant = { λ c. IsHeap T.cmp (heap_items c.heap) × (heap_len c.heap ≤ c.most) × IsFull T.before c.most c.near.full c.near.items.items };
 }
 
-/// Makes room for all that may be held, and for as many beside them as may be kept at first, once the room for an eighth of them is taken.
-/// So the list is moved once it is long, and no more than once.
+/// Makes room for another item: for as many again as are held, and no more than are ever held and kept beside them at first.
 fn make_room<T: Leading>(heap: &mut BinaryHeap<T>, most: usize) -> Result<(), AllocError>
     ensures items { heap_items heap.new ≡ heap_items heap.old }
     ensures len { heap_len heap.new ≡ heap_len heap.old }
 {
     let len = heap.len();
-    if len == heap.capacity() && len >= most / 8 {
-        heap.reserve_exact(limit_of(most, most).saturating_sub(len))?;
+    if len == heap.capacity() {
+        let left = limit_of(most, most).saturating_sub(len);
+        heap.reserve_exact(left.min(len.max(LEAST_ROOM)))?;
     }
     Ok(())
 }

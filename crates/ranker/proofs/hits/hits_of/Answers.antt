@@ -14,8 +14,8 @@ loop-settled-init c = record {
 }
 
 -- one more of two lists that go over into each other by f and g
-more : {A B C : Type 0} (f : A → C) (g : B → C) (as : List A) (bs : List B) (a : A) (b : B) → map f as ≡ map g bs → f a ≡ g b → map f (as ++ a ∷ []) ≡ map g (bs ++ b ∷ [])
-more f g as bs a b e h = map-append f as (a ∷ []) ∙ ap (λ cs. cs ++ f a ∷ []) e ∙ ap (λ c. map g bs ++ c ∷ []) h ∙ sym (map-append g bs (b ∷ []))
+more : {A B C : Type 0} (f : A → C) (g : B → C) (xs : List A) (ys : List B) (a : A) (b : B) → map f xs ≡ map g ys → f a ≡ g b → map f (xs ++ a ∷ []) ≡ map g (ys ++ b ∷ [])
+more f g xs ys a b e h = map-append f xs (a ∷ []) ∙ ap (λ cs. cs ++ f a ∷ []) e ∙ ap (λ c. map g ys ++ c ∷ []) h ∙ sym (map-append g ys (b ∷ []))
 
 pub loop-settled-preserved : goal.loop-settled-preserved
 loop-settled-preserved c =

@@ -9,9 +9,16 @@ use Rattle.ranker.specs.declared.window.Window.{Window}
 use Rattle.ranker.proofs.hits.hits_of.Goals as goal
 
 pub loop-settled-init : goal.loop-settled-init
-loop-settled-init c = record {
-  made = ([], sym (ap reverse c.reverse.ensures.items ∙ reverse-reverse c.args.first.items), refl, refl);
-}
+loop-settled-init c =
+    let none : c.in_ok-hits.hits.items ≡ [] = search rules in
+    record {
+      made = (
+        [],
+        sym (ap reverse c.reverse.ensures.items ∙ reverse-reverse c.args.first.items),
+        ap (map candidate_of) none,
+        ap (map (λ (h : Hit). h.key)) none,
+      );
+    }
 
 -- one more of two lists that go over into each other by f and g
 more : {A B C : Type 0} (f : A → C) (g : B → C) (xs : List A) (ys : List B) (a : A) (b : B) → map f xs ≡ map g ys → f a ≡ g b → map f (xs ++ a ∷ []) ≡ map g (ys ++ b ∷ [])

@@ -61,10 +61,14 @@ abbrev pub ArePlacesOf : Option Files → List KeptBlock → Source → List ℕ
 ArePlacesOf told cached (InMemory docs) term id ps = ps ≡ places term (document_at docs id)
 ArePlacesOf told cached (OnDisk kept) term id ps = AreTold told cached kept term id ps
 
--- the block of the term for the range of the document can be read, where there is one; a part in memory has no blocks
+-- the block of the term for a range can be read, where there is one; a part in memory has no blocks
+abbrev pub IsReadableIn : Option Files → List KeptBlock → Source → List ℕ → ℕ → Type 0
+IsReadableIn told cached (InMemory docs) term range = Unit {0}
+IsReadableIn told cached (OnDisk kept) term range = IsTermReadable told cached kept term range
+
+-- the same of the range of a document
 abbrev pub IsReadableOf : Option Files → List KeptBlock → Source → List ℕ → ℕ → Type 0
-IsReadableOf told cached (InMemory docs) term id = Unit {0}
-IsReadableOf told cached (OnDisk kept) term id = IsTermReadable told cached kept term (id / 64)
+IsReadableOf told cached p term id = IsReadableIn told cached p term (id / 64)
 
 -- what may be read as the documents of a range of the part: of one on disk what the blocks of the range tell
 abbrev pub AreRangeOf : Option Files → List KeptBlock → Source → ℕ → List Document → Type 0

@@ -4,9 +4,9 @@ use Rattle.std.specs.Option.{MatchOption}
 use Rattle.store_ends.specs.Files.{Files, IsQuiet}
 use Rattle.seg_codec.specs.declared.dictionary.BlockPlace.{BlockPlace}
 use Rattle.disk_index.specs.Cache.{CacheKeeps, IsCacheBacked, KeptBlock}
-use Rattle.disk_index.specs.Faults.{IsReadable}
-use Rattle.disk_index.specs.Kept.{key_of, place_of}
-use Rattle.disk_index.specs.Parts.{InMemory, IsFileOf, IsQuietReader, IsReadableOf, OnDisk, Source}
+use Rattle.disk_index.specs.Faults.{IsReadable, IsTermReadable}
+use Rattle.disk_index.specs.Kept.{Kept, key_of, place_of}
+use Rattle.disk_index.specs.Parts.{InMemory, IsFileOf, IsQuietReader, IsReadableIn, IsReadableOf, OnDisk, Source}
 use Rattle.disk_index.specs.declared.cache.BlockKey.{BlockKey}
 
 pub CacheKeeps-same : (told : Option Files) (IsOwn : ℕ → Type 0) (c : List KeptBlock) → CacheKeeps told IsOwn c c
@@ -38,10 +38,14 @@ readable-before : (told : Option Files) (IsOwn : ℕ → Type 0) (c d : List Kep
 readable-before told IsOwn c d number range None keeps now = tt
 readable-before told IsOwn c d number range (Some p) keeps now = IsReadable-before told IsOwn c d (key_of number range p) keeps now
 
-pub IsReadableOf-before : (told : Option Files) (IsOwn : ℕ → Type 0) (c d : List KeptBlock) (p : Source) (term : List ℕ) (id : ℕ) → CacheKeeps told IsOwn c d
-    → IsReadableOf told d p term id → IsReadableOf told c p term id
-IsReadableOf-before told IsOwn c d (InMemory docs) term id keeps now = tt
-IsReadableOf-before told IsOwn c d (OnDisk kept) term id keeps now = readable-before told IsOwn c d kept.number (id / 64) (place_of kept.dictionary term (id / 64)) keeps now
+pub IsTermReadable-before : (told : Option Files) (IsOwn : ℕ → Type 0) (c d : List KeptBlock) (kept : Kept) (term : List ℕ) (range : ℕ) → CacheKeeps told IsOwn c d
+    → IsTermReadable told d kept term range → IsTermReadable told c kept term range
+IsTermReadable-before told IsOwn c d kept term range keeps now = readable-before told IsOwn c d kept.number range (place_of kept.dictionary term range) keeps now
+
+pub IsReadableIn-before : (told : Option Files) (IsOwn : ℕ → Type 0) (c d : List KeptBlock) (p : Source) (term : List ℕ) (range : ℕ) → CacheKeeps told IsOwn c d
+    → IsReadableIn told d p term range → IsReadableIn told c p term range
+IsReadableIn-before told IsOwn c d (InMemory docs) term range keeps now = tt
+IsReadableIn-before told IsOwn c d (OnDisk kept) term range keeps now = IsTermReadable-before told IsOwn c d kept term range keeps now
 
 module _ {S : Type 0} (files : S → Option Files) (layers : S → Option (List Files)) (clock : S → ℕ) (since : S → ℕ → Files → Type 0) (longest : S → ℕ) (held : S → List ℕ) (faults : S → ℕ) where
   pub IsQuiet-same : (s : S) → IsQuiet files layers clock since longest held s s
@@ -85,4 +89,4 @@ module _ {S : Type 0} (files : S → Option Files) (layers : S → Option (List 
   IsQuietReader-readable p q sn sm cn cm s t c d term id quiet now =
       let same_part = subst (λ (x : Source). IsReadableOf (files t) d x term id) quiet.same_part now in
       let same_files = subst (λ (f : Option Files). IsReadableOf f d p term id) quiet.store.same_files same_part in
-      IsReadableOf-before (files s) (IsFileOf p) c d p term id quiet.cache same_files
+      IsReadableIn-before (files s) (IsFileOf p) c d p term (id / 64) quiet.cache same_files

@@ -1,10 +1,11 @@
 -- Which documents pass the filters of a query.
-use Rattle.std.proofs.Common.{◌≡◌, ◌<◌, ℕ, Bool, true, false, not, if◌then◌else◌, Option, List, [], ◌∷◌, length, map, get_or, slice_get, refl, sym, ap, ◌∙◌, arith}
+use Rattle.std.proofs.Common.{◌≡◌, ◌<◌, ◌+◌, ℕ, Bool, true, false, not, if◌then◌else◌, Option, List, [], ◌∷◌, length, map, get_or, slice_get, take, refl, sym, ap, ◌∙◌, arith}
 use Rattle.std.proofs.Math.Bool.{beq}
 use Rattle.std.specs.List.{list_all}
 use Rattle.std.specs.Option.{is_some}
-use Rattle.std.proofs.lemmas.List.{get_or-map, length-map}
-use Rattle.std.proofs.lemmas.List.Folds.{list_all_at}
+use Rattle.std.proofs.lemmas.Bool.{and_from}
+use Rattle.std.proofs.lemmas.List.{get_or-map, length-map, take_more}
+use Rattle.std.proofs.lemmas.List.Folds.{list_all-append, list_all-map, list_all_at}
 use Rattle.ri_base.specs.Collection.{document_at}
 use Rattle.ri_base.specs.Documents.{Document}
 use Rattle.ri_base.specs.Pair.{Pair}
@@ -38,3 +39,17 @@ not_all_pass docs read id filters i f passed same inside is tested fails =
     let long : length (map filter_tree filters) ≡ length filters = length-map filters filter_tree in
     let there : get_or (map filter_tree filters) i (filter_tree f) ≡ filter_tree f = get_or-map filter_tree filters i f (filter_tree f) inside ∙ ap filter_tree (sym is) in
     sym (list_all_at (passes (document_at docs id)) (map filter_tree filters) i (filter_tree f) (omega (arith, long, inside)) (ap (passes (document_at docs id)) there ∙ here))
+
+-- one filter more is passed
+pub all_pass_more : (docs read : List Document) (id : ℕ) (filters : List Filter) (i : ℕ) (f : Filter) (passed : Bool) → read ≡ docs → i < length filters → f ≡ get_or filters i f
+    → passed ≡ passes (document_at read id) (filter_tree f) → passed ≡ true → list_all (passes (document_at docs id)) (map filter_tree (take i filters)) ≡ true
+    → list_all (passes (document_at docs id)) (map filter_tree (take (i + 1) filters)) ≡ true
+all_pass_more docs read id filters i f passed same inside is tested holds so_far =
+    let d = document_at docs id in
+    let here : passes d (filter_tree f) ≡ true = ap (λ (ds : List Document). passes (document_at ds id) (filter_tree f)) (sym same) ∙ sym tested ∙ holds in
+    let last : passes d (filter_tree (get_or filters i f)) ≡ true = ap (λ (x : Filter). passes d (filter_tree x)) (sym is) ∙ here in
+    let front = sym (list_all-map (passes d) filter_tree (take i filters)) ∙ so_far in
+    list_all-map (passes d) filter_tree (take (i + 1) filters)
+    ∙ ap (list_all (λ x. passes d (filter_tree x))) (take_more filters i f inside)
+    ∙ list_all-append (λ x. passes d (filter_tree x)) (take i filters) (get_or filters i f ∷ [])
+    ∙ and_from _ _ front (and_from _ _ last refl)

@@ -1,10 +1,10 @@
 -- Of which leaves and filters places were told.
-use Rattle.std.proofs.Common.{◌≡◌, ◌<◌, ◌⊎◌, ℕ, Bool, true, false, List, Option, Contains, length, map, take, get_or, inl, inr, refl, sym, ap, subst, ◌∙◌, arith}
+use Rattle.std.proofs.Common.{◌≡◌, ◌<◌, ℕ, false, List, Option, Contains, length, map, take, get_or, sym, ap, subst, ◌∙◌, arith}
 use Rattle.std.specs.List.{All}
 use Rattle.std.proofs.lemmas.List.{get_or-map, get_or-take, length-map, length-take}
 use Rattle.std.proofs.lemmas.List.Elements.{All-contains_itself, All-get_or}
 use Rattle.ri_base.specs.Expression.{EachWord, expr_tree}
-use Rattle.ri_base.specs.Query.{FilterTree, filter_tree}
+use Rattle.ri_base.specs.Query.{filter_tree}
 use Rattle.ri_base.specs.declared.expression.ExtentExpr.{ExtentExpr}
 use Rattle.ri_base.specs.declared.query.Filter.{Filter}
 use Rattle.query_check.specs.Leaves.{LeafTree, extents, leaf_tree, prior}

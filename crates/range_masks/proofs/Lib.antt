@@ -7,3 +7,4 @@ pub mod MostLemmas
 pub mod NextLemmas
 pub mod PostingLemmas
 pub mod RunLemmas
+pub mod ToldLemmas

@@ -1,6 +1,7 @@
 // Blocks of a range that are held.
 ghost use Rattle.std.specs.Prelude.{◌≡◌, ◌<◌, ◌≤◌, ◌+◌, ◌-◌, ◌^◌, ℕ, List, [], Some, cond, is_some, option_map, Err, IfErr, IfOk, OnOk};
 ghost use Rattle.std.specs.Int.{bit_at};
+ghost use Rattle.std.specs.List.{All};
 ghost use Rattle.std.specs.Str.{bytes_eq};
 ghost use Rattle.ri_base.specs.Documents.{Document};
 ghost use Rattle.ri_base.specs.Faults.{IsOutside};
@@ -8,7 +9,7 @@ ghost use Rattle.ri_base.specs.Keeps.{Rose};
 ghost use Rattle.seg_codec.specs.declared.documents.Entry.{Entry};
 ghost use Rattle.store_ends.specs.Files.{Files, IsQuiet};
 ghost use Rattle.disk_index.specs.Cache.{CacheKeeps, IsCacheBacked};
-ghost use Rattle.disk_index.specs.Parts.{IsFileOf, IsPartBacked, IsSourceFault, outlines_of, reads, source_of};
+ghost use Rattle.disk_index.specs.Parts.{IsFileOf, IsPartBacked, IsReadableIn, IsSourceFault, outlines_of, reads, source_of};
 ghost use Rattle.range_masks.specs.Held.{AreAnswersOf, AreBlocksOf, FitDocuments, HoldsEach, answer, bit_answer, block_in, most_answer, most_opened};
 
 use crate::most::most_of_entries;
@@ -60,6 +61,9 @@ impl RangeBlocks {
         // The block of each term is held, so that a reader asks the part for none of them.
         ensures each { IsPartBacked (T.files store.old) (source_of part.now) → IsCacheBacked (T.files store.old) cache.old
             → IfOk result (HoldsEach (source_of part.now) terms.now) }
+
+        // Whatever the file has, the block of each term could be read.
+        ensures told { IfOk result (λ _. All (λ t. IsReadableIn (T.files store.old) cache.old (source_of part.now) t range) terms.now) }
 
         ensures fits { IfOk result (FitDocuments (outlines_of (source_of part.now))) }
         ensures opened { IfOk result (λ held. blocks.new ≡ blocks.old + held.opened) }

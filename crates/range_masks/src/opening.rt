@@ -1,12 +1,12 @@
 // Opening the blocks of a range of a part on disk.
-ghost use Rattle.std.specs.Prelude.{◌≡◌, ◌<◌, ◌≤◌, ◌+◌, ◌^◌, ℕ, List, Some, true, is_some, length, Err, IfErr, IfOk, IsTrue, OnOk};
+ghost use Rattle.std.specs.Prelude.{◌≡◌, ◌<◌, ◌≤◌, ◌+◌, ◌^◌, ◌⊎◌, ℕ, List, Some, true, is_some, length, Err, IfErr, IfOk, IsTrue, OnOk};
 ghost use Rattle.std.specs.List.{All};
 ghost use Rattle.ri_base.specs.Documents.{Document};
 ghost use Rattle.ri_base.specs.Faults.{IsOutside};
 ghost use Rattle.ri_base.specs.Keeps.{Rose};
 ghost use Rattle.store_ends.specs.Files.{Files, IsQuiet};
 ghost use Rattle.disk_index.specs.Cache.{CacheKeeps, IsCacheBacked};
-ghost use Rattle.disk_index.specs.Faults.{ArePlacesIn, IsRangeFault};
+ghost use Rattle.disk_index.specs.Faults.{ArePlacesIn, IsRangeFault, IsTermReadable};
 ghost use Rattle.disk_index.specs.Reads.{IsBacked};
 ghost use Rattle.range_masks.specs.Held.{AreBlocksOf, FitDocuments, HasAll, IsEntryOf, block_in};
 
@@ -34,6 +34,7 @@ pub(crate) fn open_on_disk<T: Store, L: Ledger>(
         → IfOk result (AreBlocksOf docs) }
     ensures each { (docs : List Document) → IsBacked (T.files store.old) index.now docs → IsCacheBacked (T.files store.old) cache.old
         → IfOk result (HasAll terms.now) }
+    ensures told { IfOk result (λ _. All (λ t. IsTermReadable (T.files store.old) cache.old index.now t range) terms.now) }
     ensures fits { IfOk result (FitDocuments index.now.outlines) }
     ensures opened { IfOk result (λ held. blocks.new ≡ blocks.old + held.opened) }
     ensures cost { blocks.new ≤ blocks.old + length terms.now }
@@ -67,6 +68,8 @@ fn open_block<T: Store, L: Ledger>(
         → AreBlocksOf docs held.old → OnOk result (AreBlocksOf docs held.new) }
     ensures has { (docs : List Document) → IsBacked (T.files store.old) index.now docs → IsCacheBacked (T.files store.old) cache.old
         → OnOk result (is_some (block_in held.new term.now) ≡ true) }
+    ensures told { OnOk result (is_some (block_in held.old term.now) ≡ true ⊎ IsTermReadable (T.files store.old) cache.old index.now term.now held.old.range) }
+    ensures only { OnOk result ((t : List ℕ) → is_some (block_in held.new t) ≡ true → is_some (block_in held.old t) ≡ true ⊎ (t ≡ term.now)) }
     ensures still { OnOk result ((t : List ℕ) → is_some (block_in held.old t) ≡ true → is_some (block_in held.new t) ≡ true) }
     ensures fits { FitDocuments index.now.outlines held.old → OnOk result (FitDocuments index.now.outlines held.new) }
     ensures opened { OnOk result (blocks.new + held.old.opened ≡ blocks.old + held.new.opened) }

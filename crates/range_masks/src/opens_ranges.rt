@@ -1,5 +1,6 @@
 // Blocks that a part is asked to open.
-ghost use Rattle.std.specs.Prelude.{◌≡◌, ◌≤◌, ◌+◌, ℕ, ⊥, List, length, Err, IfErr, OnOk};
+ghost use Rattle.std.specs.Prelude.{◌≡◌, ◌≤◌, ◌+◌, ◌/◌, ℕ, ⊥, List, length, Err, IfErr, OnOk};
+ghost use Rattle.std.specs.List.{All};
 ghost use Rattle.ri_base.specs.Faults.{IsOutside};
 ghost use Rattle.ri_base.specs.Keeps.{Keeps, Rose};
 
@@ -30,6 +31,7 @@ pub trait OpensRanges: TermMasks {
         ensures keeps { Keeps Self.documents Self.faults Self.sound calm self.old self.new }
         ensures present { OnOk result (present self.new ≡ range) }
         ensures holds { Self.sound self.old → OnOk result ((present self.old ≡ range → ⊥) → holds self.new terms.now) }
+        ensures told { OnOk result ((present self.old ≡ range → ⊥) → All (λ t. (id : ℕ) → id / 64 ≡ range → Self.told self.old t id) terms.now) }
         ensures none { present self.old ≡ range → blocks.new ≡ blocks.old }
         ensures cost { blocks.new ≤ blocks.old + length terms.now }
         ensures honest { Self.sound self.old → IfErr result IsOutside }

@@ -1,5 +1,5 @@
 // What a part tells of a term in a range of ids.
-ghost use Rattle.std.specs.Prelude.{◌≡◌, ◌≤◌, Err, IfErr, IfOk, IfSome};
+ghost use Rattle.std.specs.Prelude.{◌≡◌, ◌≤◌, ◌/◌, ℕ, Err, IfErr, IfOk, IfSome};
 ghost use Rattle.ri_base.specs.Faults.{IsOutside};
 ghost use Rattle.ri_base.specs.Keeps.{Keeps, Rose};
 ghost use Rattle.range_masks.specs.Masks.{IsMask};
@@ -17,6 +17,10 @@ pub trait TermMasks: Postings {
     fn term_mask(&mut self, alloc: Global, term: &Term, range: u32) -> Result<u64, SegFault>
         ensures keeps { Keeps Self.documents Self.faults Self.sound Self.quiet self.old self.new }
         ensures exact { Self.sound self.old → IfOk result (IsMask (has_term term.now) range (Self.documents self.old)) }
+
+        // Also of a part that isn't sound, it was told of the term in each document of the range, so no malformed block is passed by.
+        ensures told { IfOk result (λ _. (id : ℕ) → id / 64 ≡ range → Self.told self.old term.now id) }
+
         ensures honest { Self.sound self.old → IfErr result IsOutside }
         ensures store { result ≡ Err SegFault.Store → Rose (Self.faults self.old) (Self.faults self.new) };
 
@@ -24,6 +28,7 @@ pub trait TermMasks: Postings {
     fn most_places(&mut self, alloc: Global, term: &Term, range: u32) -> Result<usize, SegFault>
         ensures keeps { Keeps Self.documents Self.faults Self.sound Self.quiet self.old self.new }
         ensures exact { Self.sound self.old → IfOk result (λ most. most ≡ most_places term.now range (Self.documents self.old)) }
+        ensures told { IfOk result (λ _. (id : ℕ) → id / 64 ≡ range → Self.told self.old term.now id) }
         ensures honest { Self.sound self.old → IfErr result IsOutside }
         ensures store { result ≡ Err SegFault.Store → Rose (Self.faults self.old) (Self.faults self.new) };
 

@@ -1,10 +1,11 @@
 // Why a hit has its score.
-ghost use Rattle.std.specs.Prelude.{◌≡◌, ◌<◌, length, map, Err, IfErr, IfOk};
+ghost use Rattle.std.specs.Prelude.{◌≡◌, ◌<◌, length, map, All, Err, IfErr, IfOk};
 ghost use Rattle.ri_base.specs.Collection.{document_at};
 ghost use Rattle.ri_base.specs.Faults.{IsOutside};
 ghost use Rattle.ri_base.specs.Keeps.{Keeps, Rose};
 ghost use Rattle.query_check.specs.Answers.{whole_checked};
 ghost use Rattle.query_check.specs.Leaves.{leaf_tree};
+ghost use Rattle.document_scoring.specs.Told.{IsLeafTold};
 ghost use Rattle.result_explanation.specs.Explanation.{IsExplanation, leaves_told, told_leaf};
 
 use crate::leaf::leaf_shown;
@@ -30,6 +31,7 @@ fn leaves_shown<P: Postings>(
     ensures keeps { Keeps P.documents P.faults P.sound P.quiet part.old part.new }
     ensures exact { P.sound part.old → IfOk result
         (λ shown. map told_leaf shown ≡ leaves_told names.now (document_at (P.documents part.old) id) window (map leaf_tree leaves.now) stats.now beliefs.now) }
+    ensures told { IfOk result (λ _. All (IsLeafTold (λ t. P.told part.old t id)) (map leaf_tree leaves.now)) }
     ensures honest { P.sound part.old → IfErr result IsOutside }
     ensures store { result ≡ Err SegFault.Store → Rose (P.faults part.old) (P.faults part.new) }
 {
@@ -60,6 +62,10 @@ pub fn explain<P: Postings>(
     ensures keeps { Keeps P.documents P.faults P.sound P.quiet part.old part.new }
     ensures exact { P.sound part.old → IfOk result
         (IsExplanation names.now (whole_checked checked.now) stats.now (document_at (P.documents part.old) id) rank hit) }
+
+    // Also of a part that isn't sound, no malformed block is passed by.
+    ensures told { IfOk result (λ _. All (IsLeafTold (λ t. P.told part.old t id)) (map leaf_tree checked.now.leaves.items)) }
+
     ensures scale { IfOk result (λ explained. explained.scale ≡ checked.now.scale) }
     ensures honest { P.sound part.old → IfErr result IsOutside }
     ensures store { result ≡ Err SegFault.Store → Rose (P.faults part.old) (P.faults part.new) }

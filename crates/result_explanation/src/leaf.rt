@@ -4,6 +4,7 @@ ghost use Rattle.ri_base.specs.Collection.{document_at};
 ghost use Rattle.ri_base.specs.Faults.{IsOutside};
 ghost use Rattle.ri_base.specs.Keeps.{Keeps, Rose};
 ghost use Rattle.query_check.specs.Leaves.{leaf_tree};
+ghost use Rattle.document_scoring.specs.Told.{IsLeafTold};
 ghost use Rattle.result_explanation.specs.Explanation.{leaf_told, prior_name, told_leaf};
 
 use crate::counted::{count_in, within};
@@ -41,6 +42,7 @@ pub fn leaf_shown<P: Postings>(
     ensures keeps { Keeps P.documents P.faults P.sound P.quiet part.old part.new }
     ensures exact { P.sound part.old → IfOk result
         (λ shown. told_leaf shown ≡ leaf_told names.now (document_at (P.documents part.old) id) window (leaf_tree leaf.now) stats belief) }
+    ensures told { IfOk result (λ _. IsLeafTold (λ t. P.told part.old t id) (leaf_tree leaf.now)) }
     ensures honest { P.sound part.old → IfErr result IsOutside }
     ensures store { result ≡ Err SegFault.Store → Rose (P.faults part.old) (P.faults part.new) }
 {

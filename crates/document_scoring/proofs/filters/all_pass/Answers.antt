@@ -1,4 +1,4 @@
-use Rattle.std.proofs.Common.{ℕ, List, subst, rules, arith}
+use Rattle.std.proofs.Common.{ℕ, List, subst, arith}
 use Rattle.std.specs.List.{All}
 use Rattle.std.proofs.lemmas.List.{take_all}
 use Rattle.std.proofs.lemmas.List.Elements.{All-map, All-more}
@@ -8,7 +8,7 @@ use Rattle.ri_base.specs.declared.query.Filter.{Filter}
 use Rattle.extent_lists.proofs.KeepsLemmas.{Keeps-then}
 use Rattle.extent_lists.proofs.WordLemmas.{EachWord-weaker}
 use Rattle.document_scoring.specs.Told.{IsFilterTold}
-use Rattle.document_scoring.proofs.FilterLemmas.{not_all_pass}
+use Rattle.document_scoring.proofs.FilterLemmas.{all_pass_more, not_all_pass}
 use Rattle.document_scoring.proofs.ToldLemmas.{one_told}
 use Rattle.document_scoring.proofs.filters.all_pass.Goals as goal
 
@@ -28,7 +28,10 @@ loop-filter-preserved g c =
     let here : IsFilterTold IsTold (filter_tree f) = EachWord-weaker _ IsTold before (expr_tree f.expr) c.in_ok-passes.ensures.told in
     record {
       keeps = Keeps-then _ _ _ _ g.met.P.Postings.quiet_then _ _ _ c.loop-filter.invariant.keeps c.passes.ensures.keeps;
-      so_far = search rules;
+      so_far = λ sound.
+          all_pass_more (g.P.Postings.documents c.args.part.now) (g.P.Postings.documents c.loop-filter.part) c.args.id c.args.filters.now c.loop-filter.filter-index f
+          c.in_ok-passes.field-0 c.loop-filter.invariant.keeps.documents_stay c.loop-filter-test.true c.filter-item.is
+          (c.in_ok-passes.ensures.exact (c.loop-filter.invariant.keeps.sound_stays sound)) c.if-not-branch.false (c.loop-filter.invariant.so_far sound);
       told = All-more (λ x. IsFilterTold IsTold (filter_tree x)) c.args.filters.now c.loop-filter.filter-index f c.loop-filter-test.true c.loop-filter.invariant.told
           (subst (λ (x : Filter). IsFilterTold IsTold (filter_tree x)) c.filter-item.is here);
     }

@@ -1,8 +1,9 @@
 use Rattle.std.proofs.Common.{◌≡◌, List, IfOk, ap, sym, subst, ◌∙◌}
 use Rattle.ri_base.specs.Documents.{Document}
 use Rattle.disk_index.specs.Cache.{CacheKeeps}
+use Rattle.disk_index.specs.Faults.{IsTermReadable}
 use Rattle.disk_index.specs.Kept.{Kept}
-use Rattle.disk_index.specs.Parts.{IsFileOf, IsPartBacked, reads, source_of}
+use Rattle.disk_index.specs.Parts.{IsFileOf, IsPartBacked, IsReadableIn, reads, source_of}
 use Rattle.disk_index.specs.Reads.{IsBacked}
 use Rattle.disk_index.specs.declared.part.Part.{Part}
 use Rattle.disk_index.proofs.RebuiltLemmas.{reads-backed}
@@ -36,3 +37,14 @@ returns-in-Disk-clause-honest g c = λ part.
     let b = subst (λ (p : Part). IsPartBacked told (source_of p)) c.in-Disk.is part in
     let own : IsBacked told c.deref-in-Disk.result.now b.0 = subst (λ (k : Kept). IsBacked told k b.0) (sym c.deref-in-Disk.ensures) b.1 in
     c.most_on_disk.ensures.honest b.0 own
+
+pub returns-in-Memory-clause-told : goal.returns-in-Memory-clause-told
+returns-in-Memory-clause-told g c =
+    subst (λ (p : Part). IsReadableIn (g.T.Store.files c.args.store.now) c.args.cache.now (source_of p) c.args.term.now c.args.range) (sym c.in-Memory.is) tt
+
+pub returns-in-Disk-clause-told : goal.returns-in-Disk-clause-told
+returns-in-Disk-clause-told g c =
+    let told = g.T.Store.files c.args.store.now in
+    let r = c.most_on_disk.result in
+    subst (λ (p : Part). IfOk r (λ _. IsReadableIn told c.args.cache.now (source_of p) c.args.term.now c.args.range)) (sym c.in-Disk.is)
+    (subst (λ (k : Kept). IfOk r (λ _. IsTermReadable told c.args.cache.now k c.args.term.now c.args.range)) c.deref-in-Disk.ensures c.most_on_disk.ensures.told)

@@ -1,9 +1,11 @@
-use Rattle.std.proofs.Common.{◌≡◌, ◌≤◌, ◌+◌, List, take}
+use Rattle.std.proofs.Common.{◌≡◌, ◌≤◌, ◌+◌, ℕ, List, true, is_some, take}
+use Rattle.std.specs.List.{All}
 use Rattle.ri_base.specs.Documents.{Document}
 use Rattle.store_ends.specs.Files.{IsQuiet}
 use Rattle.disk_index.specs.Cache.{CacheKeeps, IsCacheBacked}
+use Rattle.disk_index.specs.Faults.{IsTermReadable}
 use Rattle.disk_index.specs.Reads.{IsBacked}
-use Rattle.range_masks.specs.Held.{AreBlocksOf, FitDocuments, HasAll}
+use Rattle.range_masks.specs.Held.{AreBlocksOf, FitDocuments, HasAll, block_in}
 use Rattle.range_masks.proofs.opening.open_on_disk.Given as goal
 
 abbrev pub invariant-loop-term : goal.invariant-loop-term
@@ -17,4 +19,6 @@ invariant-loop-term g l = record {
   fits : FitDocuments l.index.outlines l.held;
   exact : (docs : List Document) → IsBacked (g.T.Store.files l.initial.store) l.index docs → IsCacheBacked (g.T.Store.files l.initial.store) l.initial.cache → AreBlocksOf docs l.held;
   each : (docs : List Document) → IsBacked (g.T.Store.files l.initial.store) l.index docs → IsCacheBacked (g.T.Store.files l.initial.store) l.initial.cache → HasAll (take l.term-index l.terms) l.held;
+  told : All (λ t. IsTermReadable (g.T.Store.files l.initial.store) l.initial.cache l.index t l.range) (take l.term-index l.terms);
+  held : (t : List ℕ) → is_some (block_in l.held t) ≡ true → IsTermReadable (g.T.Store.files l.initial.store) l.initial.cache l.index t l.range;
 }

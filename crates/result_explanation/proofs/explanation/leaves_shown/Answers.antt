@@ -1,11 +1,16 @@
-use Rattle.std.proofs.Common.{rules, ◌≡◌, ◌<◌, ◌≤◌, ◌++◌, List, length, get_or, map, sym, ap, ◌∙◌, arith}
+use Rattle.std.proofs.Common.{rules, ◌≡◌, ◌<◌, ◌≤◌, ◌++◌, ℕ, List, length, get_or, map, sym, ap, subst, ◌∙◌, arith}
+use Rattle.std.specs.List.{All}
 use Rattle.std.proofs.Math.ListN.{get_or-map}
-use Rattle.std.proofs.lemmas.List.{length-map}
+use Rattle.std.proofs.lemmas.List.{length-map, take_all}
+use Rattle.std.proofs.lemmas.List.Elements.{All-map, All-more}
 use Rattle.ri_base.specs.Collection.{document_at}
 use Rattle.ri_base.specs.Documents.{Document}
 use Rattle.ri_base.specs.declared.hit.LeafStats.{LeafStats}
 use Rattle.extent_lists.proofs.KeepsLemmas.{Keeps-then}
 use Rattle.query_check.specs.Leaves.{leaf_tree}
+use Rattle.query_check.specs.declared.leaf_kind.LeafKind.{LeafKind}
+use Rattle.document_scoring.specs.Told.{IsLeafTold}
+use Rattle.document_scoring.proofs.ToldLemmas.{IsLeafTold-weaker}
 use Rattle.result_explanation.specs.Explanation.{leaf_told, told_leaf}
 use Rattle.result_explanation.proofs.LeafLemmas.{joined_none, leaf_end, leaf_next}
 use Rattle.result_explanation.proofs.explanation.leaves_shown.Goals as goal
@@ -33,6 +38,12 @@ loop-i-preserved g c =
           (omega (arith, inside, c.requires.stats)) (omega (arith, inside, c.requires.beliefs)) here (search rules) c.index-beliefs-i.is
           c.loop-i.shown c.in_ok-leaf.leaf _ told (inv.so_far sound) in
           rw c.in_ok-push.ensures.ok next;
+      told =
+          let IsTold = λ (t : List ℕ). g.P.Postings.told c.args.part.now t c.args.id in
+          let before = λ (t : List ℕ). g.met.P.Postings.told_before c.args.part.now c.loop-i.part t c.args.id inv.keeps.stays_quiet in
+          let told : IsLeafTold IsTold (leaf_tree leaf) = IsLeafTold-weaker _ IsTold before (leaf_tree leaf) c.in_ok-leaf.ensures.told in
+          All-more (λ l. IsLeafTold IsTold (leaf_tree l)) leaves i leaf inside inv.told
+          (subst (λ (l : LeafKind). IsLeafTold IsTold (leaf_tree l)) c.index-leaves-i.is told);
     }
 
 pub returns-clause-exact : goal.returns-clause-exact
@@ -42,3 +53,10 @@ returns-clause-exact g c = λ sound.
     let end : length leaves ≤ c.loop-i.i = c.loop-i-test.false in
     let none = leaf_end c.args.names.now d c.args.window (map leaf_tree leaves) c.args.stats.now c.args.beliefs.now c.loop-i.i (omega (arith, end, length-map leaves leaf_tree)) in
     sym (joined_none (map told_leaf c.loop-i.shown)) ∙ ap (λ rest. map told_leaf c.loop-i.shown ++ rest) (sym none) ∙ c.loop-i.invariant.so_far sound
+
+pub returns-clause-told : goal.returns-clause-told
+returns-clause-told g c =
+    let IsTold = λ (t : List ℕ). g.P.Postings.told c.args.part.now t c.args.id in
+    let leaves = c.args.leaves.now in
+    All-map (IsLeafTold IsTold) leaf_tree leaves
+    (subst (All (λ l. IsLeafTold IsTold (leaf_tree l))) (take_all c.loop-i.i leaves c.loop-i-test.false) c.loop-i.invariant.told)

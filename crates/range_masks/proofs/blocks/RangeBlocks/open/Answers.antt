@@ -1,8 +1,10 @@
 use Rattle.std.proofs.Common.{◌≡◌, List, IfOk, ap, sym, subst, ◌∙◌}
+use Rattle.std.specs.List.{All}
 use Rattle.ri_base.specs.Documents.{Document}
 use Rattle.disk_index.specs.Cache.{CacheKeeps}
+use Rattle.disk_index.specs.Faults.{IsTermReadable}
 use Rattle.disk_index.specs.Kept.{Kept}
-use Rattle.disk_index.specs.Parts.{IsFileOf, IsPartBacked, reads, source_of}
+use Rattle.disk_index.specs.Parts.{IsFileOf, IsPartBacked, IsReadableIn, reads, source_of}
 use Rattle.disk_index.specs.Reads.{IsBacked}
 use Rattle.disk_index.specs.declared.part.Part.{Part}
 use Rattle.disk_index.proofs.RebuiltLemmas.{reads-backed}
@@ -31,3 +33,15 @@ returns-in-Disk-clause-cache g c =
     let told = g.T.Store.files c.args.store.now in
     subst (λ (p : Part). CacheKeeps told (IsFileOf (source_of p)) c.args.cache.now c.open_on_disk.new.cache) (sym c.in-Disk.is)
     (subst (λ (k : Kept). CacheKeeps told (λ n. n ≡ k.number) c.args.cache.now c.open_on_disk.new.cache) c.deref.ensures c.open_on_disk.ensures.cache)
+
+pub returns-in-Memory-clause-told : goal.returns-in-Memory-clause-told
+returns-in-Memory-clause-told g c =
+    let told = g.T.Store.files c.args.store.now in
+    subst (λ (p : Part). All (λ t. IsReadableIn told c.args.cache.now (source_of p) t c.args.range) c.args.terms.now) (sym c.in-Memory.is) (λ k d low. tt)
+
+pub returns-in-Disk-clause-told : goal.returns-in-Disk-clause-told
+returns-in-Disk-clause-told g c =
+    let told = g.T.Store.files c.args.store.now in
+    let r = c.open_on_disk.result in
+    subst (λ (p : Part). IfOk r (λ _. All (λ t. IsReadableIn told c.args.cache.now (source_of p) t c.args.range) c.args.terms.now)) (sym c.in-Disk.is)
+    (subst (λ (k : Kept). IfOk r (λ _. All (λ t. IsTermReadable told c.args.cache.now k t c.args.range) c.args.terms.now)) c.deref.ensures c.open_on_disk.ensures.told)

@@ -1,9 +1,11 @@
-use Rattle.std.proofs.Common.{ap, sym, subst, refl, Option}
+use Rattle.std.proofs.Common.{◌≡◌, ◌/◌, ◌⊎◌, ℕ, inr, ap, sym, subst, refl, Option}
+use Rattle.std.proofs.lemmas.List.Elements.{All-weaker}
 use Rattle.store_ends.specs.Files.{Files}
 use Rattle.disk_index.specs.Cache.{IsCacheBacked}
-use Rattle.disk_index.specs.Parts.{IsFileOf, IsPartBacked, reads, source_of}
+use Rattle.disk_index.specs.Parts.{IsFileOf, IsPartBacked, IsReadableIn, IsReadableOf, reads, source_of}
 use Rattle.disk_index.specs.QuietLaws.{IsCacheBacked-kept}
-use Rattle.range_masks.specs.Held.{AreAnswersOf}
+use Rattle.range_masks.specs.Held.{AreAnswersOf, IsAnswered}
+use Rattle.range_masks.proofs.ToldLemmas.{readable-each}
 use Rattle.range_masks.proofs.opening_reader.OpeningReaderOpensRanges.open_range.Goals as goal
 
 pub returns-clause-keeps : goal.returns-clause-keeps
@@ -32,3 +34,10 @@ returns-in_err-opened-clause-keeps g c =
 
 pub returns-clause-holds : goal.returns-clause-holds
 returns-clause-holds g c sound other = c.in_ok-opened.ensures.each sound.0 sound.1
+
+pub returns-clause-told : goal.returns-clause-told
+returns-clause-told g c = λ other.
+    let s = c.args.self.now in
+    let told = g.T.Store.files s.store.now in
+    All-weaker (λ t. IsReadableIn told s.cache.now (source_of s.part.now) t c.args.range) (λ t. (id : ℕ) → id / 64 ≡ c.args.range → IsAnswered s.held.now t id ⊎ IsReadableOf told s.cache.now (source_of s.part.now) t id)
+    (λ t can id here. inr (readable-each told s.cache.now (source_of s.part.now) t c.args.range can id here)) c.args.terms.now c.in_ok-opened.ensures.told

@@ -1,10 +1,12 @@
-use Rattle.std.proofs.Common.{◌≡◌, Some, IfSome, ap, sym, subst, refl, rules, Option}
+use Rattle.std.proofs.Common.{◌≡◌, Some, IfSome, inl, inr, ap, sym, subst, refl, rules, Option}
+use Rattle.std.proofs.lemmas.Result.{IfOk-weaker}
 use Rattle.store_ends.specs.Files.{Files}
 use Rattle.disk_index.specs.Cache.{IsCacheBacked}
 use Rattle.disk_index.specs.Parts.{IsFileOf, IsPartBacked, reads, source_of}
 use Rattle.disk_index.specs.QuietLaws.{IsCacheBacked-kept}
 use Rattle.range_masks.specs.Held.{AreAnswersOf, most_answer}
 use Rattle.range_masks.specs.Most.{most_places}
+use Rattle.range_masks.proofs.ToldLemmas.{answered-most, readable-each}
 use Rattle.range_masks.proofs.opening_reader.OpeningReaderTermMasks.most_places.Goals as goal
 
 pub returns-in-Some-clause-exact : goal.returns-in-Some-clause-exact
@@ -24,3 +26,14 @@ returns-in-None-clause-keeps g c =
           (s.0, IsCacheBacked-kept _ (IsFileOf part) c.args.self.now.cache.now c.most_in_part.new.cache c.most_in_part.ensures.cache s.1, s.2);
       stays_quiet = (record { same_part = refl; same_store = refl; same_cache = refl; store = quiet; no_fault_lost = c.most_in_part.ensures.later; cache = c.most_in_part.ensures.cache }, refl, refl);
     }
+
+pub returns-in-Some-clause-told : goal.returns-in-Some-clause-told
+returns-in-Some-clause-told g c = λ id here.
+    let held = c.args.self.now.held.now in
+    let told : most_answer held c.args.term.now c.args.range ≡ Some c.in-Some.most = search rules in
+    inl (answered-most held c.args.term.now c.args.range c.in-Some.most told id here)
+
+pub returns-in-None-clause-told : goal.returns-in-None-clause-told
+returns-in-None-clause-told g c =
+    let s = c.args.self.now in
+    IfOk-weaker _ _ _ (λ _ can id here. inr (readable-each (g.T.Store.files s.store.now) s.cache.now (source_of s.part.now) c.args.term.now c.args.range can id here)) c.most_in_part.ensures.told

@@ -1,12 +1,14 @@
-use Rattle.std.proofs.Common.{◌≡◌, Some, ap, sym, subst, refl, ◌∙◌, rules, Option}
+use Rattle.std.proofs.Common.{◌≡◌, Some, inl, inr, ap, sym, subst, refl, ◌∙◌, rules, arith, Option}
 use Rattle.std.specs.Int.{bit_at}
 use Rattle.std.specs.Option.{option_map}
+use Rattle.std.proofs.lemmas.Result.{IfOk-weaker}
 use Rattle.store_ends.specs.Files.{Files}
 use Rattle.disk_index.specs.Cache.{IsCacheBacked}
 use Rattle.disk_index.specs.Parts.{IsFileOf, IsPartBacked, reads, source_of}
 use Rattle.disk_index.specs.QuietLaws.{IsCacheBacked-kept}
 use Rattle.range_masks.specs.Held.{AreAnswersOf}
 use Rattle.range_masks.proofs.HeldLemmas.{mask-told}
+use Rattle.range_masks.proofs.ToldLemmas.{answered-mask, readable-each}
 use Rattle.range_masks.proofs.opening_reader.OpeningReaderTermMasks.term_mask.Goals as goal
 
 pub returns-in-Some-clause-exact : goal.returns-in-Some-clause-exact
@@ -27,3 +29,13 @@ returns-in-None-clause-keeps g c =
           (s.0, IsCacheBacked-kept _ (IsFileOf part) c.args.self.now.cache.now c.mask_in_part.new.cache c.mask_in_part.ensures.cache s.1, s.2);
       stays_quiet = (record { same_part = refl; same_store = refl; same_cache = refl; store = quiet; no_fault_lost = c.mask_in_part.ensures.later; cache = c.mask_in_part.ensures.cache }, refl, refl);
     }
+
+pub returns-in-Some-clause-told : goal.returns-in-Some-clause-told
+returns-in-Some-clause-told g c = λ id here.
+    let told : c.mask.result ≡ Some c.in-Some.mask = search rules in
+    inl (answered-mask c.args.self.now.held.now c.args.term.now c.args.range (bit_at c.in-Some.mask 0) (sym (ap (option_map (λ m. bit_at m 0)) told) ∙ c.mask.ensures 0 (omega arith)) id here)
+
+pub returns-in-None-clause-told : goal.returns-in-None-clause-told
+returns-in-None-clause-told g c =
+    let s = c.args.self.now in
+    IfOk-weaker _ _ _ (λ _ can id here. inr (readable-each (g.T.Store.files s.store.now) s.cache.now (source_of s.part.now) c.args.term.now c.args.range can id here)) c.mask_in_part.ensures.told

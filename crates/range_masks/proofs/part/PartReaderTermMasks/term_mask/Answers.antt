@@ -1,8 +1,10 @@
 use Rattle.std.proofs.Common.{ap, sym, subst, refl, Option}
+use Rattle.std.proofs.lemmas.Result.{IfOk-weaker}
 use Rattle.store_ends.specs.Files.{Files}
 use Rattle.disk_index.specs.Cache.{IsCacheBacked}
 use Rattle.disk_index.specs.Parts.{IsFileOf, IsPartBacked, reads, source_of}
 use Rattle.disk_index.specs.QuietLaws.{IsCacheBacked-kept}
+use Rattle.range_masks.proofs.ToldLemmas.{readable-each}
 use Rattle.range_masks.proofs.part.PartReaderTermMasks.term_mask.Goals as goal
 
 pub returns-clause-keeps : goal.returns-clause-keeps
@@ -16,3 +18,8 @@ returns-clause-keeps g c =
           (s.0, IsCacheBacked-kept _ (IsFileOf part) c.args.self.now.cache.now c.mask_in_part.new.cache c.mask_in_part.ensures.cache s.1);
       stays_quiet = record { same_part = refl; same_store = refl; same_cache = refl; store = quiet; no_fault_lost = c.mask_in_part.ensures.later; cache = c.mask_in_part.ensures.cache };
     }
+
+pub returns-clause-told : goal.returns-clause-told
+returns-clause-told g c =
+    let s = c.args.self.now in
+    IfOk-weaker _ _ _ (λ _ can. readable-each (g.T.Store.files s.store.now) s.cache.now (source_of s.part.now) c.args.term.now c.args.range can) c.mask_in_part.ensures.told

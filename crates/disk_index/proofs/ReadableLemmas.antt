@@ -32,8 +32,8 @@ IsReadableOf-places told cached (OnDisk kept) term id ps are =
 answer-readable : {E : Type 0} (told : Option Files) (cached : List KeptBlock) (docs : List Entry) (number range : ℕ) (place : Option BlockPlace) (r : Result (List BlockEntry) E)
     → MatchOption place (IfOk r (λ es. es ≡ [])) (λ p. IfOk r (CameFrom told cached docs (key_of number range p)))
     → IfOk r (λ _. MatchOption place (Unit {0}) (λ p. IsReadable told cached (key_of number range p)))
-answer-readable told cached docs number range None r origin = IfOk-weaker _ _ r (λ es empty. tt) origin
-answer-readable told cached docs number range (Some p) r origin = IfOk-weaker _ _ r (λ es came. came-readable told cached docs (key_of number range p) es came) origin
+answer-readable told cached docs number range None r origin = IfOk-weaker r _ _ (λ es empty. tt) origin
+answer-readable told cached docs number range (Some p) r origin = IfOk-weaker r _ _ (λ es came. came-readable told cached docs (key_of number range p) es came) origin
 
 pub IsTermReadable-origin : {E : Type 0} (told : Option Files) (cached : List KeptBlock) (kept : Kept) (term : List ℕ) (range : ℕ) (r : Result (List BlockEntry) E)
     → MatchOption (place_of kept.dictionary term range) (IfOk r (λ es. es ≡ [])) (λ p. IfOk r (CameFrom told cached kept.outlines (key_of kept.number range p)))
@@ -45,5 +45,5 @@ pub IsTermReadable-none : (told : Option Files) (cached : List KeptBlock) (kept 
 IsTermReadable-none told cached kept term range none = by (place_of kept.dictionary term range) none
   where
     by : (place : Option BlockPlace) → is_some place ≡ false → MatchOption place (Unit {0}) (λ p. IsReadable told cached (key_of kept.number range p))
-    by None no = tt
-    by (Some p) no = absurd cc
+    by None is = tt
+    by (Some p) is = absurd cc

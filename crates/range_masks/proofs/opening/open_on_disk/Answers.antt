@@ -20,7 +20,7 @@ loop-term-preserved g c =
     let opened = c.in_ok-open_block.ensures in
     let before : (t : List ℕ) → IsTermReadable (g.T.Store.files c.loop-term.store) c.loop-term.cache c.args.index.now t c.loop-term.held.range → IsTermReadable (g.T.Store.files c.args.store.now) c.args.cache.now c.args.index.now t c.args.range =
     λ t can. IsTermReadable-before (g.T.Store.files c.args.store.now) (λ n. n ≡ c.args.index.now.number) c.args.cache.now c.loop-term.cache c.args.index.now t c.args.range inv.cache
-        (subst (λ r. IsTermReadable (g.T.Store.files c.args.store.now) c.loop-term.cache c.args.index.now t r) inv.range (subst (λ (f : Option Files). IsTermReadable f c.loop-term.cache c.args.index.now t c.loop-term.held.range) inv.quiet.same_files can)) in
+    (subst (λ r. IsTermReadable (g.T.Store.files c.args.store.now) c.loop-term.cache c.args.index.now t r) inv.range (subst (λ (f : Option Files). IsTermReadable f c.loop-term.cache c.args.index.now t c.loop-term.held.range) inv.quiet.same_files can)) in
     let own : IsTermReadable (g.T.Store.files c.args.store.now) c.args.cache.now c.args.index.now c.term-item.result c.args.range =
     elim opened.told [ inl was ↦ inv.held c.term-item.result was | inr can ↦ before c.term-item.result can ] in
     record {

@@ -7,7 +7,7 @@ ghost use Rattle.std.specs.Ordering.{is_lt};
 ghost use Rattle.bounded_keys.specs.Kept.{AreAmong, AreContenders, IsApart, IsKept, beats, is_beaten_by};
 
 use crate::Leading;
-use crate::near::{Near, drop_above};
+use crate::near::{LEAST_ROOM, Near, drop_above, limit_of};
 use crate::runs::first_of_runs;
 use crate::threshold::Threshold;
 use std::alloc::{AllocError, Global};
@@ -35,6 +35,19 @@ impl<T: Leading> Model for Contenders<T> {
     ghost view = { λ c. record { most = c.most; scale = c.scale; held = heap_items c.heap; near = c.near.items.items } };
 
     ghost invariant = { λ c. IsHeap T.cmp (heap_items c.heap) × (heap_len c.heap ≤ c.most) × IsFull T.before c.most c.near.full c.near.items.items };
+}
+
+/// Makes room for another item: for as many again as are held, and no more than are ever held and kept beside them at first.
+fn make_room<T: Leading>(heap: &mut BinaryHeap<T>, most: usize) -> Result<(), AllocError>
+    ensures items { heap_items heap.new ≡ heap_items heap.old }
+    ensures len { heap_len heap.new ≡ heap_len heap.old }
+{
+    let len = heap.len();
+    if len == heap.capacity() {
+        let left = limit_of(most, most).saturating_sub(len);
+        heap.reserve_exact(left.min(len.max(LEAST_ROOM)))?;
+    }
+    Ok(())
 }
 
 /// What is beaten by what is held.
@@ -146,6 +159,7 @@ impl<T: Leading + Drop> Contenders<T> {
         ensures among { OnOk result (AreAmong (self.new.held ++ self.new.near) (item ∷ (self.old.held ++ self.old.near))) }
     {
         if self.heap.len() < self.most {
+            make_room(&mut self.heap, self.most)?;
             self.heap.push(item)?;
             return Ok(());
         }

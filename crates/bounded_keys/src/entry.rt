@@ -20,7 +20,7 @@ use std::sync::ledger::Ledger;
 /// The beliefs of a candidate's leaves, with the digits of their logarithms.
 pub type Leaves = List<LogChain>;
 
-const _: () = prove!(size_of::<LogChain>() <= 64);
+const _: () = prove!(size_of::<LogChain>() <= 40);
 
 /// A candidate whose key is known at the first level, with its leaves there. Entries are compared by that key alone.
 #[derive(Drop)]

@@ -5,7 +5,6 @@ ghost use Rattle.log_chain.specs.declared.chain.TheConstants.{FIRST, LAST};
 ghost use Rattle.bounded_keys.specs.Entries.{IsEarly, WereOffered, by_key, in_question, settled};
 ghost use Rattle.bounded_keys.specs.Kept.{AreAmong};
 
-use crate::room::take_last;
 use crate::{Combination, Contenders, Entry, Settled};
 use first_few::FirstFew;
 use ri_base::{NoMemory, Steps};
@@ -27,7 +26,7 @@ fn offer_settled<W: Ord + Drop, C: Combination, L: Ledger>(
     ensures cost { OnOk result (squares.new ≡ squares.old + (LAST - FIRST) * C.leaves combination.now * length entries.items) }
     ensures within { squares.new ≤ squares.old + (LAST - FIRST) * C.leaves combination.now * length entries.items }
 {
-    while let Some(entry) = take_last(&mut entries) {
+    while let Some(entry) = entries.pop() {
         first.offer(entry.settle(alloc, combination, squares)?)?;
     }
     Ok(())
@@ -51,8 +50,9 @@ impl<W: Ord + Drop> Contenders<Entry<W>> {
         ensures within { (all : List (Entry W)) → WereOffered W.cmp all self
             → squares.new ≤ squares.old + (LAST - FIRST) * C.leaves combination.now * length (in_question self.scale self.most all) }
     {
-        let mut first = FirstFew::new(alloc, self.most());
+        let most = self.most();
         let entries = self.into_contenders(alloc)?;
+        let mut first = FirstFew::new(alloc, most, entries.len())?;
         offer_settled(alloc, combination, entries, &mut first, squares)?;
         Ok(first.into_sorted())
     }

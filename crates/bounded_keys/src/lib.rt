@@ -9,7 +9,6 @@ mod laws;
 mod leading;
 mod likeness;
 mod near;
-mod room;
 mod runs;
 mod threshold;
 

@@ -20,12 +20,12 @@ pub struct Near<T: Leading> {
 }
 
 /// How many items may come beside those that were left before all are looked through again.
-const LEAST_ROOM: usize = 16;
+pub const LEAST_ROOM: usize = 16;
 
-/// The limit where so many items are left and so many may be held. There is room for a quarter of the greater number, so each item that
-/// comes pays for a look at five, and few items are held beside those that must be.
-fn limit_of(left: usize, most: usize) -> usize {
-    left.saturating_add(left.max(most) / 4)
+/// The limit where so many items are left and so many may be held. There is room for a sixteenth of the greater number, so each item that
+/// comes pays for a look at seventeen, and few items are held beside those that must be.
+pub fn limit_of(left: usize, most: usize) -> usize {
+    left.saturating_add(left.max(most) / 16)
         .saturating_add(LEAST_ROOM)
 }
 

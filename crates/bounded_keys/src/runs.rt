@@ -3,7 +3,6 @@ ghost use Rattle.std.specs.Prelude.{◌≡◌, ◌∷◌, [], List, IfOk, OnOk};
 ghost use Rattle.bounded_keys.specs.Runs.{Continues, HoldsRuns};
 
 use crate::Leading;
-use crate::room::take_last;
 use std::alloc::{AllocError, Global};
 
 /// Of items that were taken the first of each run, at most so many. It tells where the last item stands that is kept of the longest run
@@ -28,17 +27,18 @@ fn run_with<T: Leading + Drop>(items: &[T], run: usize, item: &T) -> usize
 }
 
 impl<T: Leading + Drop> Runs<T> {
-    fn new(alloc: Global, most: usize) -> Runs<T>
-        ensures most { result.most ≡ most }
-        ensures runs { HoldsRuns T.before most [] result.run result.full result.items.items }
+    /// None was taken yet; there is room for so many.
+    fn new(alloc: Global, most: usize, room: usize) -> Result<Runs<T>, AllocError>
+        ensures most { IfOk result (λ runs. runs.most ≡ most) }
+        ensures runs { IfOk result (λ runs. HoldsRuns T.before most [] runs.run runs.full runs.items.items) }
     {
-        Runs {
-            items: Vec::new(alloc),
+        Ok(Runs {
+            items: Vec::with_capacity(alloc, room)?,
             full: None,
             most,
             run: 0,
             longest: most,
-        }
+        })
     }
 
     /// Takes the next item in, unless so many of its run are kept.
@@ -67,8 +67,8 @@ pub fn first_of_runs<T: Leading + Drop>(
     ensures { IfOk result (λ runs. HoldsRuns T.before most items.items runs.run runs.full runs.items.items) }
 {
     items.sort_unstable_by(|a, b| b.in_runs(a));
-    let mut runs = Runs::new(alloc, most);
-    while let Some(item) = take_last(&mut items) {
+    let mut runs = Runs::new(alloc, most, items.len())?;
+    while let Some(item) = items.pop() {
         runs.take(item)?;
     }
     Ok(runs)

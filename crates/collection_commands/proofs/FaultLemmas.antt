@@ -1,12 +1,8 @@
 -- Which faults a command answers where a call on the ends or on files is refused.
-use Rattle.std.proofs.Common.{◌≡◌, ◌∙◌, ℕ, Result, Err, ap, refl, sym, subst}
-use Rattle.std.specs.Prelude.{◌≢◌}
-use Rattle.ri_base.specs.declared.seg_fault.SegFault.{SegFault}
-use Rattle.ri_base.specs.declared.seg_fault.SegFault.TheVariants as files
-use Rattle.command_pieces.specs.CommandFaults.{IsChangeFault, IsItemsFault, of_files, of_items}
+use Rattle.std.proofs.Common.{◌≡◌, refl, sym, subst}
+use Rattle.command_pieces.specs.CommandFaults.{IsChangeFault, IsItemsFault, of_items}
 use Rattle.command_pieces.specs.declared.command_fault.CommandFault.{CommandFault}
 use Rattle.command_pieces.specs.declared.command_fault.CommandFault.TheVariants as command
-use Rattle.command_pieces.specs.Faults.{StaysUnless}
 use Rattle.command_pieces.specs.declared.fault.Fault.{Fault}
 use Rattle.command_pieces.specs.declared.fault.Fault.TheVariants as fault
 
@@ -36,25 +32,6 @@ pub items_store : (e : Fault) (f : CommandFault) → f ≡ of_items e → f ≡ 
 items_store fault.Read f is store = cc
 items_store fault.Write f is store = cc
 items_store fault.Memory f is store = cc
-
--- the count of an end stays where the fault isn't that of this end
-
-pub items_write_stays : {X Y : Type 0} (e : Fault) (f : CommandFault) (r : Result Y CommandFault) (before now : ℕ) → r ≡ Err f → f ≡ of_items e → StaysUnless {X = X} fault.Write (Err e) before now → r ≢ Err command.Write → now ≡ before
-items_write_stays fault.Read f r before now at is stays other = stays (λ h. cc)
-items_write_stays fault.Write f r before now at is stays other = absurd (other (at ∙ ap (λ (g : CommandFault). Err g) is))
-items_write_stays fault.Memory f r before now at is stays other = stays (λ h. cc)
-
-pub items_read_stays : {X Y : Type 0} (e : Fault) (f : CommandFault) (r : Result Y CommandFault) (before now : ℕ) → r ≡ Err f → f ≡ of_items e → StaysUnless {X = X} fault.Read (Err e) before now → r ≢ Err command.Read → now ≡ before
-items_read_stays fault.Read f r before now at is stays other = absurd (other (at ∙ ap (λ (g : CommandFault). Err g) is))
-items_read_stays fault.Write f r before now at is stays other = stays (λ h. cc)
-items_read_stays fault.Memory f r before now at is stays other = stays (λ h. cc)
-
--- the count of a store stays where the fault isn't that of the store
-pub files_stays : {X Y : Type 0} (e : SegFault) (f : CommandFault) (x : Result X SegFault) (r : Result Y CommandFault) (before now : ℕ) → x ≡ Err e → r ≡ Err f → f ≡ of_files e → (x ≢ Err files.Store → now ≡ before) → r ≢ Err command.Store → now ≡ before
-files_stays (files.Malformed file part place) f x r before now of at is stays other = stays (λ h. cc)
-files_stays (files.Missing file) f x r before now of at is stays other = stays (λ h. cc)
-files_stays files.Store f x r before now of at is stays other = absurd (other (at ∙ ap (λ (g : CommandFault). Err g) is))
-files_stays files.Memory f x r before now of at is stays other = stays (λ h. cc)
 
 -- ---- of a change, where items are taken too
 

@@ -1,5 +1,4 @@
 pub mod CommandFaults
-pub mod Ends
 pub mod ExtentLines
 pub mod Faults
 pub mod Lines

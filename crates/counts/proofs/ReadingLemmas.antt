@@ -1,21 +1,33 @@
 -- What reading leaves of a store and a cache, over several calls.
-use Rattle.std.proofs.Common.{◌≡◌, ◌<◌, ◌≤◌, ℕ, List, Option, Contains, get_or, length, inl, inr, sym, subst, arith}
-use Rattle.std.proofs.lemmas.List.Elements.{All-contains}
+use Rattle.std.proofs.Common.{◌≡◌, ◌<◌, ◌≤◌, ◌+◌, ◌/◌, ◌++◌, ◌⊎◌, ◌∙◌, ℕ, List, [], ◌∷◌, Option, All, Contains, eq-or-lt_of_le, get_or, length, take, inl, inr, ap, sym, subst, arith}
+use Rattle.std.proofs.lemmas.List.{take_more}
+use Rattle.std.proofs.lemmas.List.Elements.{All-contains, All-push}
+use Rattle.ri_base.specs.Expression.{ExprTree}
 use Rattle.ri_base.specs.Faults.{IsOutside}
 use Rattle.ri_base.specs.Keeps.{Rose}
 use Rattle.ri_base.specs.declared.seg_fault.SegFault.{SegFault}
 use Rattle.ri_base.specs.declared.seg_fault.SegFault.TheVariants.{Malformed, Missing, Store, Memory}
 use Rattle.store_ends.specs.Files.{Files}
+use Rattle.extent_lists.proofs.WordLemmas.{EachWord-weaker}
 use Rattle.disk_index.specs.Cache.{IsCacheBacked, KeptBlock}
-use Rattle.disk_index.specs.Parts.{IsFileOf, IsPartBacked, Source}
-use Rattle.disk_index.specs.QuietLaws.{CacheKeeps-after, CacheKeeps-same, IsCacheBacked-kept, IsQuiet-same, IsQuiet-then}
+use Rattle.disk_index.specs.Parts.{IsFileOf, IsPartBacked, IsReadableOf, Source}
+use Rattle.disk_index.specs.QuietLaws.{CacheKeeps-after, CacheKeeps-same, IsCacheBacked-kept, IsQuiet-same, IsQuiet-then, IsReadableIn-before}
 use Rattle.disk_index.specs.Snapshots.{AreBacked, IsFileAmong, Marked}
 use Rattle.disk_index.proofs.AmongLemmas.{blocks-among}
 use Rattle.counts.specs.Reading.{IsFaultOf, OnlyReads}
+use Rattle.counts.specs.Told.{IsLiveTold}
 
 -- a fault that came later came
 pub rose-earlier : (before mid now : ℕ) → before ≤ mid → Rose mid now → Rose before now
 rose-earlier before mid now first rose = omega (arith, first, rose)
+
+-- one number more
+pub below-next : (a b : ℕ) → a < b + 1 → a < b ⊎ (a ≡ b)
+below-next a b less = let most : a ≤ b = omega (arith, less) in elim (eq-or-lt_of_le most) [ inl is ↦ inr is | inr below ↦ inl below ]
+
+-- one part more
+pub parts-more : (P : Marked → Type 0) (parts : List Marked) (i : ℕ) (m : Marked) → i < length parts → m ≡ get_or parts i m → P m → All P (take i parts) → All P (take (i + 1) parts)
+parts-more P parts i m inside is own all = subst (All P) (sym (take_more parts i m inside ∙ ap (λ (y : Marked). take i parts ++ y ∷ []) (sym is))) (All-push P (take i parts) m all own)
 
 module _ {S : Type 0} (files : S → Option Files) (layers : S → Option (List Files)) (clock : S → ℕ) (since : S → ℕ → Files → Type 0) (longest : S → ℕ) (held : S → List ℕ) (faults : S → ℕ) where
   module _ (IsOwn : ℕ → Type 0) where
@@ -36,6 +48,13 @@ module _ {S : Type 0} (files : S → Option Files) (layers : S → Option (List 
 
     pub cache-backed : (s t : S) (c d : List KeptBlock) → OnlyReads files layers clock since longest held faults IsOwn s t c d → IsCacheBacked (files s) c → IsCacheBacked (files t) d
     cache-backed s t c d reads backed = subst (λ (f : Option Files). IsCacheBacked f d) (sym reads.quiet.same_files) (IsCacheBacked-kept (files s) IsOwn c d reads.cache backed)
+
+    -- what is told afterwards could be told before
+    pub live-before : (s t : S) (c d : List KeptBlock) (x : ExprTree) (m : Marked) (id : ℕ) → OnlyReads files layers clock since longest held faults IsOwn s t c d
+        → IsLiveTold (files t) d x m id → IsLiveTold (files s) c x m id
+    live-before s t c d x m id reads told live may =
+        EachWord-weaker (λ w. IsReadableOf (files t) d m.source w id) (λ w. IsReadableOf (files s) c m.source w id)
+        (λ w can. IsReadableIn-before (files s) IsOwn c d m.source w (id / 64) reads.cache (subst (λ (f : Option Files). IsReadableOf f d m.source w id) reads.quiet.same_files can)) x (told live may)
 
   -- a part's file is among those of its snapshot
   pub reads-among : (parts : List Marked) (i : ℕ) (m : Marked) (s t : S) (c d : List KeptBlock) → i < length parts → m ≡ get_or parts i m

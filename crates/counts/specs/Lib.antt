@@ -2,3 +2,4 @@ pub mod Kept
 pub mod PartSums
 pub mod Reading
 pub mod Sums
+pub mod Told

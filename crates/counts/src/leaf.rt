@@ -9,6 +9,7 @@ ghost use Rattle.disk_index.specs.Snapshots.{AreBacked, IsFileAmong, live};
 ghost use Rattle.counts.specs.Kept.{AreSums, IsKept, IsNew, Kept, all_kept};
 ghost use Rattle.counts.specs.Reading.{IsFaultOf};
 ghost use Rattle.counts.specs.Sums.{AreBounded, sums};
+ghost use Rattle.counts.specs.Told.{ArePartsTold};
 
 use crate::kept_sum::{KeptSum, SumKey};
 use crate::sums::sums_of;
@@ -79,6 +80,11 @@ impl Counts {
             ⊎ IsOkAnd result (IsNew generation (expr_tree expr.now) (option_copied context.entry) e) }
 
         ensures range { IfOk result (λ s. AreBounded s) }
+
+        // Whatever the files have, sums that weren't kept are made of blocks that were told, so no malformed one is passed by.
+        ensures told { IfOk result (λ s. IsKept self.old generation (expr_tree expr.now) (option_copied context.entry) s
+            ⊎ ArePartsTold (T.files store.old) cache.old (expr_tree expr.now) snapshot.now) }
+
         ensures fault { IfErr result (IsFaultOf (T.files store.old) snapshot.now cache.old) }
         ensures honest { AreBacked (T.files store.old) snapshot.now → IsCacheBacked (T.files store.old) cache.old → IfErr result IsOutside }
         ensures cache { CacheKeeps (T.files store.old) (IsFileAmong snapshot.now) cache.old cache.new }

@@ -1,17 +1,18 @@
 // How often an expression occurs in the documents of a snapshot, and in how many of their tokens.
-ghost use Rattle.std.specs.Prelude.{◌≡◌, ◌<◌, ◌≤◌, ◌+◌, ◌*◌, Option, option_copied, sum_by, Err, IfErr, IfOk};
+ghost use Rattle.std.specs.Prelude.{◌≡◌, ◌<◌, ◌≤◌, ◌+◌, ◌*◌, ◌/◌, ℕ, Option, option_copied, sum_by, Err, IfErr, IfOk};
 ghost use Rattle.ri_base.specs.Collection.{document_at, token_count};
-ghost use Rattle.ri_base.specs.Expression.{expr_tree};
+ghost use Rattle.ri_base.specs.Expression.{EachWord, expr_tree};
 ghost use Rattle.ri_base.specs.Faults.{IsOutside};
 ghost use Rattle.ri_base.specs.Keeps.{Rose};
 ghost use Rattle.ri_base.specs.declared.limits.TheConstants.{MAX_HELD_TOKENS};
 ghost use Rattle.store_ends.specs.Files.{Files};
 ghost use Rattle.disk_index.specs.Cache.{IsCacheBacked};
-ghost use Rattle.disk_index.specs.Parts.{IsFileOf, IsPartBacked, reads, size, source_of};
+ghost use Rattle.disk_index.specs.Parts.{IsFileOf, IsPartBacked, IsReadableOf, reads, size, source_of};
 ghost use Rattle.disk_index.specs.Snapshots.{AreBacked, IsFileAmong, IsSnapshot, live, live_in};
 ghost use Rattle.counts.specs.PartSums.{living, sum_first};
 ghost use Rattle.counts.specs.Reading.{IsFaultOf, OnlyReads};
 ghost use Rattle.counts.specs.Sums.{AreBounded, counted_tokens, occurrences, sums};
+ghost use Rattle.counts.specs.Told.{ArePartsTold, IsLiveTold, IsPartTold};
 
 use crate::lengths::total_of;
 use crate::occurrences::occurrences;
@@ -35,6 +36,7 @@ fn in_document<T: Store>(
     ensures exact { IsPartBacked (T.files store.old) (source_of part.now) → IsCacheBacked (T.files store.old) cache.old
         → IfOk result (λ n. n ≡ occurrences (expr_tree expr.now) (option_copied context.entry) (document_at (reads (T.files store.old) (source_of part.now)) id)) }
     ensures few { IfOk result (λ n. n ≤ counted_tokens (option_copied context.entry) (document_at (reads (T.files store.old) (source_of part.now)) id)) }
+    ensures told { IfOk result (λ _. EachWord (λ t. IsReadableOf (T.files store.old) cache.old (source_of part.now) t id) (expr_tree expr.now)) }
     ensures honest { IsPartBacked (T.files store.old) (source_of part.now) → IsCacheBacked (T.files store.old) cache.old → IfErr result IsOutside }
     ensures reads { OnlyReads T.files T.layers T.clock T.since T.longest T.held T.faults (IsFileOf (source_of part.now)) store.old store.new cache.old cache.new }
     ensures store { result ≡ Err SegFault.Store → Rose (T.faults store.old) (T.faults store.new) }
@@ -57,6 +59,7 @@ fn in_live_document<T: Store>(
     ensures exact { IsPartBacked (T.files store.old) marked.now.source → IsCacheBacked (T.files store.old) cache.old
         → IfOk result (λ n. n ≡ living (occurrences (expr_tree expr.now) (option_copied context.entry)) (T.files store.old) marked.now id) }
     ensures few { IfOk result (λ n. n ≤ living (counted_tokens (option_copied context.entry)) (T.files store.old) marked.now id) }
+    ensures told { IfOk result (λ _. IsLiveTold (T.files store.old) cache.old (expr_tree expr.now) marked.now id) }
     ensures honest { IsPartBacked (T.files store.old) marked.now.source → IsCacheBacked (T.files store.old) cache.old → IfErr result IsOutside }
     ensures reads { OnlyReads T.files T.layers T.clock T.since T.longest T.held T.faults (IsFileOf marked.now.source) store.old store.new cache.old cache.new }
     ensures store { result ≡ Err SegFault.Store → Rose (T.faults store.old) (T.faults store.new) }
@@ -85,6 +88,8 @@ fn in_range<T: Store>(
         ≡ sum_first (occurrences (expr_tree expr.now) (option_copied context.entry)) (T.files store.old) marked.now (64 * range + 64)) }
     ensures few { IfOk result (λ n. sum_first (counted_tokens (option_copied context.entry)) (T.files store.old) marked.now (64 * range) + n
         ≤ sum_first (counted_tokens (option_copied context.entry)) (T.files store.old) marked.now (64 * range + 64)) }
+    ensures told { IfOk result
+        (λ _. (id : ℕ) → id < size marked.now.source → id / 64 ≡ range → IsLiveTold (T.files store.old) cache.old (expr_tree expr.now) marked.now id) }
     ensures honest { IsPartBacked (T.files store.old) marked.now.source → IsCacheBacked (T.files store.old) cache.old → IfErr result IsOutside }
     ensures reads { OnlyReads T.files T.layers T.clock T.since T.longest T.held T.faults (IsFileOf marked.now.source) store.old store.new cache.old cache.new }
     ensures store { result ≡ Err SegFault.Store → Rose (T.faults store.old) (T.faults store.new) }
@@ -117,6 +122,7 @@ fn in_part<T: Store>(
     ensures exact { IsPartBacked (T.files store.old) marked.now.source → IsCacheBacked (T.files store.old) cache.old
         → IfOk result (λ n. n ≡ sum_by (occurrences (expr_tree expr.now) (option_copied context.entry)) (live_in (T.files store.old) marked.now)) }
     ensures few { IfOk result (λ n. n ≤ sum_by (counted_tokens (option_copied context.entry)) (live_in (T.files store.old) marked.now)) }
+    ensures told { IfOk result (λ _. IsPartTold (T.files store.old) cache.old (expr_tree expr.now) marked.now) }
     ensures honest { IsPartBacked (T.files store.old) marked.now.source → IsCacheBacked (T.files store.old) cache.old → IfErr result IsOutside }
     ensures reads { OnlyReads T.files T.layers T.clock T.since T.longest T.held T.faults (IsFileOf marked.now.source) store.old store.new cache.old cache.new }
     ensures store { result ≡ Err SegFault.Store → Rose (T.faults store.old) (T.faults store.new) }
@@ -143,6 +149,7 @@ fn in_parts<T: Store>(
     ensures exact { AreBacked (T.files store.old) parts.now → IsCacheBacked (T.files store.old) cache.old
         → IfOk result (λ n. n ≡ sum_by (occurrences (expr_tree expr.now) (option_copied context.entry)) (live (T.files store.old) parts.now)) }
     ensures few { IfOk result (λ n. n ≤ sum_by (counted_tokens (option_copied context.entry)) (live (T.files store.old) parts.now)) }
+    ensures told { IfOk result (λ _. ArePartsTold (T.files store.old) cache.old (expr_tree expr.now) parts.now) }
     ensures fault { IfErr result (IsFaultOf (T.files store.old) parts.now cache.old) }
     ensures reads { OnlyReads T.files T.layers T.clock T.since T.longest T.held T.faults (IsFileAmong parts.now) store.old store.new cache.old cache.new }
     ensures store { result ≡ Err SegFault.Store → Rose (T.faults store.old) (T.faults store.new) }
@@ -167,6 +174,10 @@ pub fn sums_of<T: Store>(
     ensures exact { AreBacked (T.files store.old) snapshot.now → IsCacheBacked (T.files store.old) cache.old
         → IfOk result (λ s. s ≡ sums (live (T.files store.old) snapshot.now) (expr_tree expr.now) (option_copied context.entry)) }
     ensures range { IfOk result (λ s. AreBounded s) }
+
+    // Whatever the files have, the blocks of the terms were told for each live document, so no malformed one is passed by.
+    ensures told { IfOk result (λ _. ArePartsTold (T.files store.old) cache.old (expr_tree expr.now) snapshot.now) }
+
     ensures fault { IfErr result (IsFaultOf (T.files store.old) snapshot.now cache.old) }
     ensures reads { OnlyReads T.files T.layers T.clock T.since T.longest T.held T.faults (IsFileAmong snapshot.now) store.old store.new cache.old cache.new }
     ensures store { result ≡ Err SegFault.Store → Rose (T.faults store.old) (T.faults store.new) }

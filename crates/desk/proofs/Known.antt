@@ -10,12 +10,12 @@ use Rattle.query_check.specs.Check.{all_leaves, is_length, leaves_of, place_or, 
 use Rattle.query_check.specs.Leaves as leaves
 use Rattle.query_check.specs.Leaves.{LeafTree}
 use Rattle.belief_nodes.specs.Priors as nodes
-use Rattle.belief_nodes.specs.Priors.{no_prior, prior_at, prior_fraction}
+use Rattle.belief_nodes.specs.Priors.{no_prior, prior_at}
 use Rattle.desk.specs.Priors.{kept_prior, length_prior, priors_with, run_priors}
 use Rattle.repository.specs.Stands.{Prior}
 use Rattle.desk.specs.Keeping.{AsksFor}
 use Rattle.desk.specs.Plugs.{ArePlugs, IsPlugOf}
-use Rattle.desk.proofs.Plugs.{TellsAlike}
+use Rattle.desk.proofs.Plugs.{AreAlike, TellsAlike, alike-same, alike-then}
 
 -- ---- numbers of priors
 
@@ -63,17 +63,25 @@ last-at ps few =
     get_or-append_right (map kept_of ps) (drop (length ps) run_priors) (length ps) 8 no_prior (length-map ps kept_of) few
     ∙ get_or-drop (length ps) run_priors (8 - length ps) no_prior ∙ ap (λ n. get_or run_priors n no_prior) all
 
-same-fraction : (p : Prior) (plug : nodes.Prior) → IsPlugOf p plug → (docno : List ℕ) (tokens : ℕ) → prior_fraction plug docno tokens ≡ prior_fraction (kept_of p) docno tokens
-same-fraction p plug is docno tokens = λ i. prior_fraction (record { rows = is.rows i; steps = is.steps i; rest = is.rest i; is_table = true }) docno tokens
+same-prior : (p : Prior) (plug : nodes.Prior) → IsPlugOf p plug → AreAlike plug (kept_of p)
+same-prior p plug is = record { rows = is.rows; steps = is.steps; rest = is.rest }
+
+-- the prior of lengths
+last-alike : (ps : List Prior) (plugs : List nodes.Prior) → ArePlugs ps plugs → length ps ≤ 8 → (n : ℕ) → n ≡ 8 → AreAlike (prior_at plugs n) (prior_at (priors_with ps) n)
+last-alike ps plugs are few n e = alike-same (prior_at plugs n) (prior_at (priors_with ps) n)
+    (ap (λ k. prior_at plugs k) e ∙ are.last ∙ sym (last-at ps few) ∙ ap (λ k. prior_at (priors_with ps) k) (sym e))
 
 pub plugs-alike : (ps : List Prior) (plugs : List nodes.Prior) → ArePlugs ps plugs → length ps ≤ 8 → (l : LeafTree) → AsksFor (length ps) l → TellsAlike plugs (priors_with ps) l
 plugs-alike ps plugs are few (leaves.extents x context) asks = tt
-plugs-alike [] plugs are few (leaves.prior n) asks = λ docno tokens. elim asks [
+plugs-alike [] plugs are few (leaves.prior n) asks = elim asks [
   | inl lt ↦ absurd (omega (arith, lt))
-  | inr e ↦ ap (λ k. prior_fraction (prior_at plugs k) docno tokens) e ∙ ap (λ p. prior_fraction p docno tokens) (are.last ∙ sym (last-at [] few)) ∙ ap (λ k. prior_fraction (prior_at (priors_with []) k) docno tokens) (sym e)
+  | inr e ↦ last-alike [] plugs are few n e
 ]
-plugs-alike (p ∷ ps) plugs are few (leaves.prior n) asks = λ docno tokens. elim asks [
-  | inl lt ↦ same-fraction (get_or (p ∷ ps) n p) (prior_at plugs n) (are.stored n (get_or (p ∷ ps) n p) lt (get_or_default (p ∷ ps) n p (get_or (p ∷ ps) n p) lt)) docno tokens
-      ∙ ap (λ x. prior_fraction x docno tokens) (sym (stored-at (p ∷ ps) n p lt))
-  | inr e ↦ ap (λ k. prior_fraction (prior_at plugs k) docno tokens) e ∙ ap (λ x. prior_fraction x docno tokens) (are.last ∙ sym (last-at (p ∷ ps) few)) ∙ ap (λ k. prior_fraction (prior_at (priors_with (p ∷ ps)) k) docno tokens) (sym e)
+plugs-alike (p ∷ ps) plugs are few (leaves.prior n) asks = elim asks [
+  | inl lt ↦
+      let own = get_or (p ∷ ps) n p in
+      alike-then (prior_at plugs n) (kept_of own) (prior_at (priors_with (p ∷ ps)) n)
+      (same-prior own (prior_at plugs n) (are.stored n own lt (get_or_default (p ∷ ps) n p own lt)))
+      (alike-same (kept_of own) (prior_at (priors_with (p ∷ ps)) n) (sym (stored-at (p ∷ ps) n p lt)))
+  | inr e ↦ last-alike (p ∷ ps) plugs are few n e
 ]

@@ -9,6 +9,7 @@ use Rattle.query_check.specs.Leaves as leaves
 use Rattle.query_check.specs.Leaves.{LeafTree}
 use Rattle.belief_nodes.specs.Network.{network_tree}
 use Rattle.belief_nodes.specs.Priors as nodes
+use Rattle.belief_nodes.specs.Priors.{prior_at}
 use Rattle.manifest.specs.declared.manifest.PriorEntry.{PriorEntry}
 use Rattle.disk_index.specs.Snapshots.{AreBacked, Marked, live}
 use Rattle.ranker.specs.Ranking.{query_network}
@@ -23,7 +24,7 @@ use Rattle.desk.specs.Queries.{AreListed, IsQueryBacked, priors_in, query_of, ta
 use Rattle.desk.specs.State.{advanced}
 use Rattle.desk.specs.declared.query.OpenQuery.{OpenQuery}
 use Rattle.desk.proofs.Known.{plugs-alike}
-use Rattle.desk.proofs.Plugs.{TellsAlike, taken-alike}
+use Rattle.desk.proofs.Plugs.{TellsAlike, alike-turned, taken-alike}
 
 -- it reads as it did, with more credit
 pub query-advanced : (told : Option Files) (docs : ℕ) (q r : OpenQuery) → r.name ≡ q.name → IsSameSearch q.search r.search → r.search.at.credit ≡ min (q.search.at.credit + docs) (length (searched told q.search))
@@ -48,7 +49,7 @@ asks-alike told entries plugs few are ls asks =
 
 turned : (a b : List nodes.Prior) (l : LeafTree) → TellsAlike a b l → TellsAlike b a l
 turned a b (leaves.extents x context) alike = tt
-turned a b (leaves.prior n) alike = λ docno tokens. sym (alike docno tokens)
+turned a b (leaves.prior n) alike = alike-turned (prior_at a n) (prior_at b n) alike
 
 -- what is told alike one way round is so the other way round
 alike-back : (a b : List nodes.Prior) (ls : List LeafTree) → All (TellsAlike a b) ls → All (TellsAlike b a) ls

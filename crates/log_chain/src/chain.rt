@@ -19,13 +19,15 @@ pub const MAX_LEVEL: u32 = 60;
 const PLACES: u32 = 62;
 
 /// The digits of the logarithm to base 2 of `q / p`, for a fraction `p / q`. At level `k` they are the whole part of that
-/// logarithm times `2 ^ k`, or one less.
+/// logarithm times `2 ^ k`, or one less. The digits before the point and the `k` digits behind it are kept apart, so that each fits into
+/// a word.
 #[derive(Debug, Drop)]
 pub struct LogChain {
     fraction: Fraction,
+    rest: u64,
+    behind: u64,
+    whole: u32,
     level: u32,
-    digits: u128,
-    rest: u128,
 }
 
 impl Model for LogChain {
@@ -35,7 +37,7 @@ impl Model for LogChain {
 
     ghost view = { λ a. record { p = a.fraction.p; q = a.fraction.q; level = a.level } };
 
-    ghost invariant = { λ a. IsReached a.fraction.p a.fraction.q a.level a.digits a.rest };
+    ghost invariant = { λ a. IsReached a.fraction.p a.fraction.q a.level a.whole a.behind a.rest };
 }
 
 impl LogChain {
@@ -44,11 +46,13 @@ impl LogChain {
         ensures { result ≡ record { p = f.p; q = f.q; level = 0 } }
     {
         let whole = (f.q / f.p).ilog2();
+        let rest = (u128::from(f.q) << PLACES) / (u128::from(f.p) << whole);
         LogChain {
             fraction: f,
+            rest: rest as u64,
+            behind: 0,
+            whole,
             level: 0,
-            digits: u128::from(whole),
-            rest: (u128::from(f.q) << PLACES) / (u128::from(f.p) << whole),
         }
     }
 
@@ -59,13 +63,13 @@ impl LogChain {
         ensures cost { squares.new ≡ squares.old + 1 }
     {
         squares.tick();
-        let square = self.rest * self.rest;
+        let square = u128::from(self.rest) * u128::from(self.rest);
         if square < 1 << (2 * PLACES + 1) {
-            self.digits = 2 * self.digits;
-            self.rest = square >> PLACES;
+            self.behind = 2 * self.behind;
+            self.rest = (square >> PLACES) as u64;
         } else {
-            self.digits = 2 * self.digits + 1;
-            self.rest = square >> (PLACES + 1);
+            self.behind = 2 * self.behind + 1;
+            self.rest = (square >> (PLACES + 1)) as u64;
         }
         self.level += 1;
     }
@@ -79,7 +83,7 @@ impl LogChain {
         ensures few { result < 2 ^ (self.now.level + 6) }
         ensures small { result < 2 ^ 66 }
     {
-        self.digits
+        (u128::from(self.whole) << self.level) + u128::from(self.behind)
     }
 
     /// The fraction whose logarithm they tell.

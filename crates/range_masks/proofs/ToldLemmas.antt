@@ -21,19 +21,19 @@ readable-each told cached p term range can id here = subst (λ r. IsReadableIn t
 
 -- the same of blocks that are held: where they tell of the range they tell of each document of it
 some-before : {X Y : Type 0} (f : X → Y) (o : Option X) → is_some (option_map f o) ≡ true → is_some o ≡ true
-some-before f None no = absurd cc
-some-before f (Some x) yes = refl
+some-before f None is = absurd cc
+some-before f (Some x) is = refl
 
 some-mapped : {X Y : Type 0} (f : X → Y) (o : Option X) → is_some o ≡ true → is_some (option_map f o) ≡ true
-some-mapped f None no = absurd cc
-some-mapped f (Some x) yes = refl
+some-mapped f None is = absurd cc
+some-mapped f (Some x) is = refl
 
 answered-each : {X : Type 0} (f : List BlockEntry → X) (held : Held) (term : List ℕ) (range : ℕ) → is_some (cond (range == held.range) (option_map f (block_in held term)) None) ≡ true
     → (id : ℕ) → id / 64 ≡ range → IsAnswered held term id
 answered-each f held term range tells id here = by (range == held.range) refl tells
   where
     by : (b : Bool) → (range == held.range) ≡ b → is_some (cond b (option_map f (block_in held term)) None) ≡ true → IsAnswered held term id
-    by false own no = absurd cc
+    by false own none = absurd cc
     by true own some =
         let inside : (id / 64 == held.range) ≡ true = ap (λ r. r == held.range) here ∙ own in
         ap (λ b. is_some (cond b (option_map (places_of id) (block_in held term)) None)) inside ∙ some-mapped (places_of id) (block_in held term) (some-before f (block_in held term) some)

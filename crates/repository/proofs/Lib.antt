@@ -16,6 +16,7 @@ pub mod MarkLemmas
 pub mod NameLemmas
 pub mod NumberLemmas
 pub mod OpenLemmas
+pub mod PartLemmas
 pub mod PlaceLemmas
 pub mod PriorLemmas
 pub mod PriorSetLemmas

@@ -1,5 +1,5 @@
 -- The manifest that lists nothing, and that files have one manifest.
-use Rattle.std.proofs.Common.{◌≡◌, ℕ, List, [], Option, Some, None, Result, Ok, Err, inl, inr, refl, sym, ap, subst, ◌∙◌, arith}
+use Rattle.std.proofs.Common.{◌≡◌, ℕ, List, [], Option, Some, None, inl, inr, refl, sym, ap, subst, ◌∙◌, arith}
 use Rattle.std.specs.List.{IsDistinct}
 use Rattle.std.specs.Str.{bytes_eq}
 use Rattle.std.specs.Option.{IfSome, option_map}
@@ -8,10 +8,8 @@ use Rattle.ri_base.specs.Faults.{IsOutside}
 use Rattle.ri_base.specs.declared.seg_fault.FileName.TheVariants as names
 use Rattle.ri_base.specs.declared.seg_fault.PartName.TheVariants as parts
 use Rattle.ri_base.specs.declared.seg_fault.SegFault.{SegFault}
-use Rattle.ri_base.specs.declared.seg_fault.SegFault.TheVariants.{Malformed, Missing, Store, Memory}
 use Rattle.store_ends.specs.Files.{Files, Leaves, LeavesNoMore, OldOrNew, with_file}
 use Rattle.store_ends.proofs.Files.{Leaves-same, Leaves-then, with_file-same}
-use Rattle.ri_base.specs.FieldAnswers.{AnswersPart}
 use Rattle.manifest.specs.Files.{manifest}
 use Rattle.manifest.specs.Fits.{IsManifest}
 use Rattle.manifest.specs.Spelling.{manifest_text}
@@ -23,15 +21,10 @@ use Rattle.holdings.specs.declared.limits.Limits.{Limits}
 use Rattle.repository.specs.Names.{manifest_name}
 use Rattle.repository.specs.Opening.{IsManifestFault}
 use Rattle.repository.specs.Stands.{HasManifest, IsStarted, Stands, empty_collection, empty_manifest}
+use Rattle.repository.proofs.PartLemmas.{one-read, unbroken}
 
 pub some_same : {A : Type 0} (x y : A) → Some x ≡ Some y → x ≡ y
 some_same x y e = cc
-
-ok_same : {A E : Type 0} (x y : A) (r : Result A E) → r ≡ Ok x → r ≡ Ok y → x ≡ y
-ok_same x y r a b = cc
-
-ok_err : {A E : Type 0} (x : A) (e : E) (r : Result A E) → r ≡ Ok x → r ≡ Err e → ⊥
-ok_err x e r a b = cc
 
 -- ---- the manifest that lists nothing
 
@@ -107,7 +100,7 @@ told_file_is view (Some g) f name other o is same h = subst (λ (t : Option File
 -- ---- one manifest
 
 manifest-same : (a b : Manifest) → IsManifest a → IsManifest b → manifest_text a ≡ manifest_text b → a ≡ b
-manifest-same a b fit other same = ok_same a b (manifest (manifest_text b)) (ap manifest (sym same) ∙ manifest_again a fit) (manifest_again b other)
+manifest-same a b fit other same = one-read (manifest (manifest_text b)) a b (ap manifest (sym same) ∙ manifest_again a fit) (manifest_again b other)
 
 pub HasManifest-same : (told : Option Files) (a b : Manifest) → HasManifest told a → HasManifest told b → a ≡ b
 HasManifest-same told a b x y =
@@ -115,15 +108,9 @@ HasManifest-same told a b x y =
     let text : manifest_text a ≡ manifest_text b = some_same _ _ (sym x.file ∙ ap (λ (f : Files). f manifest_name) files ∙ y.file) in
     manifest-same a b x.form y.form text
 
--- the bytes of a manifest aren't refused
-outside-read : (m : Manifest) (bytes : List ℕ) (fault : SegFault) → manifest bytes ≡ Ok m → AnswersPart {X = Manifest} (λ m. m) (Err fault) (manifest bytes) names.Manifest parts.Manifest (length bytes) → IsOutside fault
-outside-read m bytes (Malformed file part place) is h = absurd (ok_err m h.2 (manifest bytes) is h.3)
-outside-read m bytes (Missing file) is h = absurd h
-outside-read m bytes Store is h = tt
-outside-read m bytes Memory is h = tt
-
+-- its bytes aren't refused
 pub honest-manifest : (told : Option Files) (list : Manifest) (f : Files) (fault : SegFault) → HasManifest told list → told ≡ Some f → IsManifestFault f fault → IsOutside fault
 honest-manifest told list f fault has is bad =
     let files : has.files ≡ f = some_same _ _ (sym has.is_told ∙ is) in
     let bytes : bad.0 ≡ manifest_text list = some_same _ _ (sym bad.1 ∙ ap (λ (g : Files). g manifest_name) (sym files) ∙ has.file) in
-    outside-read list bad.0 fault (ap manifest bytes ∙ manifest_again list has.form) bad.2
+    unbroken fault (manifest bad.0) names.Manifest parts.Manifest (length bad.0) list bad.2 (ap manifest bytes ∙ manifest_again list has.form)

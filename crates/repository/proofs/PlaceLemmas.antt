@@ -1,19 +1,14 @@
 -- Where a document stands in the file of its segment: what stands behind it is counted from the end.
 use Rattle.std.proofs.Common.{◌≡◌, ◌≤◌, ◌<◌, ◌+◌, ◌*◌, ℕ, List, [], ◌∷◌, ◌++◌, length, map, take, drop, Option, Some, None, Result, Ok, Err, refl, ap, sym, subst, ◌∙◌, arith}
-use Rattle.std.specs.Prelude.{IfErr, IfOk, sum_by}
+use Rattle.std.specs.Prelude.{IfOk, sum_by}
 use Rattle.std.specs.Int.{w16, w32, to_le_bytes}
 use Rattle.std.specs.List.{flat_map}
 use Rattle.std.specs.Option.{IfSome, option_map, unwrap_or}
 use Rattle.std.proofs.lemmas.List.{length-append, length-map}
 use Rattle.std.proofs.lemmas.List.Concat.{flat_map-cons}
 use Rattle.std.proofs.lemmas.List.Sums.{sum_by-cons, sum_by-take-drop}
-use Rattle.ri_base.specs.FieldAnswers.{AnswersPart}
-use Rattle.ri_base.specs.Faults.{IsOutside}
 use Rattle.ri_base.specs.Spelling.{spelled_text}
-use Rattle.ri_base.specs.declared.seg_fault.FileName.{FileName}
-use Rattle.ri_base.specs.declared.seg_fault.PartName.{PartName}
 use Rattle.ri_base.specs.declared.seg_fault.SegFault.{SegFault}
-use Rattle.ri_base.specs.declared.seg_fault.SegFault.TheVariants.{Malformed, Missing, Store, Memory}
 use Rattle.store_ends.specs.Files.{Files}
 use Rattle.seg_codec.specs.Documents.{names_in_order}
 use Rattle.seg_codec.specs.Whole.{ArePlaced}
@@ -40,7 +35,7 @@ entry-length ns e =
     let inner = length-append (to_le_bytes w16 (length rs)) (flat_map spelled_row rs) in
     let middle = length-append (to_le_bytes w32 e.tokens) (spelled_rows rs) in
     let outer = length-append e.docno (to_le_bytes w32 e.tokens ++ spelled_rows rs) in
-    let count : length rs ≡ length e.fields = length-map (numbered ns) e.fields in
+    let count : length rs ≡ length e.fields = length-map e.fields (numbered ns) in
     omega (arith, four, two, inner, middle, outer, rows-length rs, count)
 
 entries-length : (ns : List (List ℕ)) (es : List Entry) → length (flat_map (spelled_entry ns) es) ≡ sum_by bytes_of es
@@ -70,23 +65,7 @@ told_size (Some g) f name other n is same h =
     by None = refl
     by (Some file) = refl
 
--- ---- a part that can be read
-
--- what is answered of it
-pub answered : {A : Type 0} (r : Result A SegFault) (read : Result A ℕ) (file : FileName) (part : PartName) (end : ℕ) (x : A) → AnswersPart (λ v. v) r read file part end → read ≡ Ok x → IfOk r (λ v. v ≡ x)
-answered (Ok v) read file part end x answer is = cc
-answered (Err e) read file part end x answer is = tt
-
--- it isn't to blame
-pub unbroken : {A : Type 0} (e : SegFault) (read : Result A ℕ) (file : FileName) (part : PartName) (end : ℕ) (x : A) → AnswersPart {X = A} (λ v. v) (Err e) read file part end → read ≡ Ok x → IsOutside e
-unbroken (Malformed f p place) read file part end x answer is = (let broken = answer.3 in absurd cc)
-unbroken (Missing f) read file part end x answer is = absurd answer
-unbroken Store read file part end x answer is = absurd answer
-unbroken Memory read file part end x answer is = tt
-
-pub answered-outside : {A : Type 0} (r : Result A SegFault) (read : Result A ℕ) (file : FileName) (part : PartName) (end : ℕ) (x : A) → AnswersPart (λ v. v) r read file part end → read ≡ Ok x → IfErr r IsOutside
-answered-outside (Ok v) read file part end x answer is = tt
-answered-outside (Err e) read file part end x answer is = unbroken e read file part end x answer is
+-- ---- where the parts stand
 
 -- the documents stand first, and the dictionary behind them
 pub documents-first : (size : ℕ) (r : Result Header SegFault) → IfOk r (ArePlaced size) → IfOk r (λ h. h.documents_at ≡ 64)

@@ -22,6 +22,7 @@ use Rattle.repository.specs.Priors.{IsPriorFault}
 use Rattle.repository.specs.Stands.{IsPriorListed, Prior}
 use Rattle.repository.specs.States.{IsNumbered, State}
 use Rattle.repository.proofs.ManifestLemmas.{some_same}
+use Rattle.repository.proofs.PartLemmas.{one-read}
 
 pub rows-read : (told : Option Files) (f : Files) (e : PriorEntry) (bytes : List ℕ) (t : PriorTable) → told ≡ Some f → Some bytes ≡ f (prior_name e.number) → (bytes ≡ prior_text t) × IsPrior t
     → IsPriorListed told e (record { name = e.name; table = t })
@@ -49,10 +50,7 @@ fault-outside f n Memory h = tt
 -- ---- one table
 
 table-same : (a b : PriorTable) → IsPrior a → IsPrior b → prior_text a ≡ prior_text b → a ≡ b
-table-same a b fit other same = ok_same a b (prior_file (prior_text b)) (ap prior_file (sym same) ∙ prior_again a fit) (prior_again b other)
-  where
-    ok_same : (x y : PriorTable) (r : Result PriorTable ℕ) → r ≡ Ok x → r ≡ Ok y → x ≡ y
-    ok_same x y r a b = cc
+table-same a b fit other same = one-read (prior_file (prior_text b)) a b (ap prior_file (sym same) ∙ prior_again a fit) (prior_again b other)
 
 -- the file of an entry has one table
 pub one-table : (told : Option Files) (e : PriorEntry) (a b : Prior) → IsPriorListed told e a → IsPriorListed told e b → a.table ≡ b.table

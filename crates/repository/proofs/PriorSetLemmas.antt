@@ -27,15 +27,15 @@ use Rattle.repository.proofs.NumberLemmas.{among-listed, below-next, none-of, nu
 use Rattle.repository.proofs.SaveLemmas.{leaves-among, same-among}
 
 -- a name that is that of no own number isn't that of an own one
-pub not-other : (own : ℕ → Type 0) (n : ℕ) → n < 2 ^ 64 → own n → IsOther own (prior_name n) → ⊥
-not-other own n fits o other = (other n fits o).1 refl
+pub not-other : (own : ℕ → Type 0) (n : ℕ) (name : List ℕ) → n < 2 ^ 64 → own n → name ≡ prior_name n → IsOther own name → ⊥
+not-other own n name fits o is other = (other n fits o).1 is
 
 -- whatever becomes of the file of an own number, the others stay
-pub others-stay : (own : ℕ → Type 0) (n : ℕ) (a b : Option Files) → n < 2 ^ 64 → own n → AnyState (prior_name n) a b → SameWhere (IsOther own) a b
-others-stay own n a b fits o any = SameWhere-any (IsOther own) (prior_name n) a a b (not-other own n fits o) (SameWhere-same (IsOther own) a) any
+pub others-stay : (own : ℕ → Type 0) (name : List ℕ) (a b : Option Files) → (IsOther own name → ⊥) → AnyState name a b → SameWhere (IsOther own) a b
+others-stay own name a b owned any = SameWhere-any (IsOther own) name a a b owned (SameWhere-same (IsOther own) a) any
 
-pub leaves-others : (own : ℕ → Type 0) (n : ℕ) (past since : ℕ → Files → Type 0) (a : Option Files) → n < 2 ^ 64 → own n → Leaves past since (AnyState (prior_name n) a) → Leaves past since (SameWhere (IsOther own) a)
-leaves-others own n past since a fits o leaves = record { each = λ t f h. elim (leaves.each t f h) [ inl old ↦ inl old | inr any ↦ inr (others-stay own n a (Some f) fits o any) ] }
+pub leaves-others : (own : ℕ → Type 0) (name : List ℕ) (past since : ℕ → Files → Type 0) (a : Option Files) → (IsOther own name → ⊥) → Leaves past since (AnyState name a) → Leaves past since (SameWhere (IsOther own) a)
+leaves-others own name past since a owned leaves = record { each = λ t f h. elim (leaves.each t f h) [ inl old ↦ inl old | inr any ↦ inr (others-stay own name a (Some f) owned any) ] }
 
 -- ---- the priors afterwards
 

@@ -17,26 +17,21 @@ use Rattle.repository.proofs.NumberLemmas.{among-own, among-right}
 abbrev pub IsThat : ℕ → ℕ → Type 0
 IsThat number n = n ≡ number
 
-own-segment : (number : ℕ) → number < 2 ^ 64 → IsOther (IsThat number) (segment_name number) → ⊥
-own-segment number small other = (other number small refl).0 refl
+pub own-segment : (number : ℕ) (name : List ℕ) → number < 2 ^ 64 → name ≡ segment_name number → IsOther (IsThat number) name → ⊥
+own-segment number name small is other = (other number small refl).0 is
 
-own-prior : (number : ℕ) → number < 2 ^ 64 → IsOther (IsThat number) (prior_name number) → ⊥
-own-prior number small other = (other number small refl).1 refl
+pub own-prior : (number : ℕ) (name : List ℕ) → number < 2 ^ 64 → name ≡ prior_name number → IsOther (IsThat number) name → ⊥
+own-prior number name small is other = (other number small refl).1 is
 
-pub segment-removed : (number : ℕ) (a b : Option Files) → number < 2 ^ 64 → OldOrNew (segment_name number) None a b → SameWhere (IsOther (IsThat number)) a b
-segment-removed number a b small step = SameWhere-step (IsOther (IsThat number)) (segment_name number) None a a b (own-segment number small) (SameWhere-same (IsOther (IsThat number)) a) step
+-- a file of its own is removed
 
-pub prior-removed : (number : ℕ) (a b c : Option Files) → number < 2 ^ 64 → SameWhere (IsOther (IsThat number)) a b → OldOrNew (prior_name number) None b c → SameWhere (IsOther (IsThat number)) a c
-prior-removed number a b c small same step = SameWhere-step (IsOther (IsThat number)) (prior_name number) None a b c (own-prior number small) same step
+pub file-removed : (number : ℕ) (name : List ℕ) (a b c : Option Files) → (IsOther (IsThat number) name → ⊥) → SameWhere (IsOther (IsThat number)) a b → OldOrNew name None b c → SameWhere (IsOther (IsThat number)) a c
+file-removed number name a b c own same step = SameWhere-step (IsOther (IsThat number)) name None a b c own same step
 
-pub segment-stops : (number : ℕ) (past since : ℕ → Files → Type 0) (a : Option Files) → number < 2 ^ 64 → Leaves past since (OldOrNew (segment_name number) None a) → Leaves past since (SameWhere (IsOther (IsThat number)) a)
-segment-stops number past since a small leaves =
-    Leaves-then past past since (SameWhere (IsOther (IsThat number)) a) (OldOrNew (segment_name number) None a) (Leaves-same past (SameWhere (IsOther (IsThat number)) a)) leaves (λ f step. segment-removed number a f small step)
-
-pub prior-stops : (number : ℕ) (past mid since : ℕ → Files → Type 0) (a b : Option Files) → number < 2 ^ 64 → SameWhere (IsOther (IsThat number)) a b → Leaves past mid (SameWhere (IsOther (IsThat number)) a)
-    → Leaves mid since (OldOrNew (prior_name number) None b) → Leaves past since (SameWhere (IsOther (IsThat number)) a)
-prior-stops number past mid since a b small same first second =
-    Leaves-then past mid since (SameWhere (IsOther (IsThat number)) a) (OldOrNew (prior_name number) None b) first second (λ f step. prior-removed number a b f small same step)
+pub file-stops : (number : ℕ) (name : List ℕ) (past mid since : ℕ → Files → Type 0) (a b : Option Files) → (IsOther (IsThat number) name → ⊥) → SameWhere (IsOther (IsThat number)) a b → Leaves past mid (SameWhere (IsOther (IsThat number)) a)
+    → Leaves mid since (OldOrNew name None b) → Leaves past since (SameWhere (IsOther (IsThat number)) a)
+file-stops number name past mid since a b own same first second =
+    Leaves-then past mid since (SameWhere (IsOther (IsThat number)) a) (OldOrNew name None b) first second (λ f step. file-removed number name a b f own same step)
 
 -- ---- one of several numbers
 
@@ -71,11 +66,12 @@ gone-still name n None c e gone = subst (IsGone n) (sym e) tt
 gone-still name n (Some f) c e gone =
     subst (IsGone n) (sym e) (none-there name (segment_name n) f (bytes_eq (segment_name n) name) gone.0, none-there name (prior_name n) f (bytes_eq (prior_name n) name) gone.1)
 
-pub gone-both : (n : ℕ) (a b c : Option Files) → b ≡ option_map (with_file (segment_name n) None) a → c ≡ option_map (with_file (prior_name n) None) b → IsGone n c
-gone-both n None b c first second = subst (IsGone n) (sym (second ∙ ap (option_map (with_file (prior_name n) None)) first)) tt
-gone-both n (Some f) b c first second =
+pub gone-both : (n : ℕ) (segment prior : List ℕ) (a b c : Option Files) → segment ≡ segment_name n → prior ≡ prior_name n → b ≡ option_map (with_file segment None) a → c ≡ option_map (with_file prior None) b → IsGone n c
+gone-both n segment prior None b c one other first second = subst (IsGone n) (sym (second ∙ ap (option_map (with_file prior None)) first)) tt
+gone-both n segment prior (Some f) b c one other first second =
     let g = with_file (segment_name n) None f in
-    subst (IsGone n) (sym (second ∙ ap (option_map (with_file (prior_name n) None)) first))
+    let left : c ≡ Some (with_file (prior_name n) None g) = second ∙ ap (option_map (with_file prior None)) first ∙ ap (λ (l : List ℕ). Some (with_file l None (with_file segment None f))) other ∙ ap (λ (l : List ℕ). Some (with_file (prior_name n) None (with_file l None f))) one in
+    subst (IsGone n) (sym left)
     (with_file-other (prior_name n) (segment_name n) None g (λ e. segment_name-prior n n e) ∙ with_file-same (segment_name n) None f, with_file-same (prior_name n) None g)
 
 -- one number more

@@ -1,5 +1,5 @@
 // The faults of parts that can't be held together, told of the segments that they were opened of.
-ghost use Rattle.std.specs.Prelude.{◌≡◌, ◌≤◌, ◌<◌, ◌⊎◌, List, Some, length};
+ghost use Rattle.std.specs.Prelude.{◌≡◌, ◌≤◌, ◌<◌, ◌⊎◌, ◌≢◌, List, Some, length};
 ghost use Rattle.std.specs.List.{AllZip};
 ghost use Rattle.ri_base.specs.Faults.{IsOutside};
 ghost use Rattle.ri_base.specs.Keeps.{Rose};
@@ -42,6 +42,7 @@ fn docno_fault<T: Store>(alloc: Global, store: &mut T, entry: &SegEntry, id: u32
     ensures quiet { IsQuiet T.files T.layers T.clock T.since T.longest T.held store.old store.new }
     ensures later { T.faults store.old ≤ T.faults store.new }
     ensures store { result ≡ SegFault.Store → Rose (T.faults store.old) (T.faults store.new) }
+    ensures none { result ≢ SegFault.Store → T.faults store.new ≡ T.faults store.old }
 {
     match docno_place(alloc, store, entry, id) {
         Ok(place) => SegFault::Malformed {
@@ -66,6 +67,7 @@ pub fn across<T: Store>(
     ensures quiet { IsQuiet T.files T.layers T.clock T.since T.longest T.held store.old store.new }
     ensures later { T.faults store.old ≤ T.faults store.new }
     ensures store { result ≡ SegFault.Store → Rose (T.faults store.old) (T.faults store.new) }
+    ensures none { result ≢ SegFault.Store → T.faults store.new ≡ T.faults store.old }
 {
     match fault {
         PartsFault::TooManyDocs { part } => header_fault(&entries[part], DOCS_PLACE),

@@ -1,5 +1,5 @@
 // Where a document stands in the file of a segment.
-ghost use Rattle.std.specs.Prelude.{◌≡◌, ◌≤◌, ◌<◌, ◌+◌, ◌^◌, List, Some, Ok, Err, IfOk, IfErr, drop, length, sum_by, take};
+ghost use Rattle.std.specs.Prelude.{◌≡◌, ◌≤◌, ◌<◌, ◌+◌, ◌^◌, ◌≢◌, List, Some, Ok, Err, IfOk, IfErr, drop, length, sum_by, take};
 ghost use Rattle.ri_base.specs.Faults.{IsOutside};
 ghost use Rattle.ri_base.specs.Keeps.{Rose};
 ghost use Rattle.store_ends.specs.Files.{Files, IsQuiet};
@@ -35,6 +35,7 @@ fn segment_length<T: Store>(store: &mut T, number: u64) -> Result<u64, SegFault>
     ensures quiet { IsQuiet T.files T.layers T.clock T.since T.longest T.held store.old store.new }
     ensures later { T.faults store.old ≤ T.faults store.new }
     ensures store { result ≡ Err SegFault.Store → Rose (T.faults store.old) (T.faults store.new) }
+    ensures none { result ≢ Err SegFault.Store → T.faults store.new ≡ T.faults store.old }
 {
     let name = segment_name(number);
     match store.len(as_text(&name)) {
@@ -51,6 +52,7 @@ fn fill<T: Store>(store: &mut T, number: u64, at: u64, buf: &mut [u8]) -> Result
     ensures quiet { IsQuiet T.files T.layers T.clock T.since T.longest T.held store.old store.new }
     ensures later { T.faults store.old ≤ T.faults store.new }
     ensures store { result ≡ Err SegFault.Store → Rose (T.faults store.old) (T.faults store.new) }
+    ensures none { result ≢ Err SegFault.Store → T.faults store.new ≡ T.faults store.old }
 {
     let name = segment_name(number);
     match store.read_at(as_text(&name), at, buf) {
@@ -72,6 +74,7 @@ fn segment_bytes<T: Store>(
     ensures quiet { IsQuiet T.files T.layers T.clock T.since T.longest T.held store.old store.new }
     ensures later { T.faults store.old ≤ T.faults store.new }
     ensures store { result ≡ Err SegFault.Store → Rose (T.faults store.old) (T.faults store.new) }
+    ensures none { result ≢ Err SegFault.Store → T.faults store.new ≡ T.faults store.old }
 {
     let mut bytes = vec![in alloc; 0u8; count]?;
     let read = fill(store, number, at, &mut bytes)?;
@@ -88,6 +91,7 @@ fn header_of<T: Store>(alloc: Global, store: &mut T, entry: &SegEntry) -> Result
     ensures quiet { IsQuiet T.files T.layers T.clock T.since T.longest T.held store.old store.new }
     ensures later { T.faults store.old ≤ T.faults store.new }
     ensures store { result ≡ Err SegFault.Store → Rose (T.faults store.old) (T.faults store.new) }
+    ensures none { result ≢ Err SegFault.Store → T.faults store.new ≡ T.faults store.old }
 {
     let size = segment_length(store, entry.number)?;
     let bytes = segment_bytes(alloc, store, entry.number, 0, HEADER_BYTES)?;
@@ -152,6 +156,7 @@ fn place_behind<T: Store>(
     ensures quiet { IsQuiet T.files T.layers T.clock T.since T.longest T.held store.old store.new }
     ensures later { T.faults store.old ≤ T.faults store.new }
     ensures store { result ≡ Err SegFault.Store → Rose (T.faults store.old) (T.faults store.new) }
+    ensures none { result ≢ Err SegFault.Store → T.faults store.new ≡ T.faults store.old }
 {
     let count = (header.dictionary_at - header.documents_at) as usize;
     let bytes = segment_bytes(alloc, store, number, header.documents_at, count)?;
@@ -171,6 +176,7 @@ pub fn docno_place<T: Store>(
     ensures quiet { IsQuiet T.files T.layers T.clock T.since T.longest T.held store.old store.new }
     ensures later { T.faults store.old ≤ T.faults store.new }
     ensures store { result ≡ Err SegFault.Store → Rose (T.faults store.old) (T.faults store.new) }
+    ensures none { result ≢ Err SegFault.Store → T.faults store.new ≡ T.faults store.old }
 {
     let header = header_of(alloc, store, entry)?;
     place_behind(alloc, store, entry.number, &header, id)

@@ -5,11 +5,10 @@ ghost use Rattle.ri_base.specs.Faults.{IsOutside};
 ghost use Rattle.ri_base.specs.Keeps.{Rose};
 ghost use Rattle.store_ends.specs.Causes.{HasOutCause};
 ghost use Rattle.store_ends.specs.Files.{AnyState, Files, GoesOn, IsQuiet, Leaves, OldOrNew, with_file};
-ghost use Rattle.disk_index.specs.Names.{segment_name};
 ghost use Rattle.repository.specs.Names.{manifest_name, prior_name};
 
 use crate::names::prior_name;
-use disk_index::{as_text, segment_name, store_fault};
+use disk_index::{as_text, store_fault};
 use ri_base::SegFault;
 use ri_ends::OutFault;
 use std::alloc::Global;
@@ -105,7 +104,7 @@ pub fn replace_manifest<T: Store>(store: &mut T, manifest: &[u8]) -> Result<(), 
 }
 
 /// Makes the file of this name hold these bytes. A stop within it leaves any bytes, or no such file.
-fn put_file<T: Store>(store: &mut T, name: &[u8], bytes: &[u8]) -> Result<(), SegFault>
+pub fn put_file<T: Store>(store: &mut T, name: &[u8], bytes: &[u8]) -> Result<(), SegFault>
     requires ascii { IsAscii name.now }
     requires short { length name.now ≤ 30 }
     ensures done { OnOk result (T.files store.new ≡ option_map (with_file name.now (Some bytes.now)) (T.files store.old)) }
@@ -123,40 +122,8 @@ fn put_file<T: Store>(store: &mut T, name: &[u8], bytes: &[u8]) -> Result<(), Se
     }
 }
 
-/// Makes the file of the segment of this number hold these bytes. A stop within it leaves any bytes, or no such file.
-#[tactic(auto, using(crate::proofs::NameLemmas::segment_ascii, crate::proofs::NameLemmas::segment_short))]
-pub fn put_segment<T: Store>(store: &mut T, number: u64, bytes: &[u8]) -> Result<(), SegFault>
-    ensures done { OnOk result (T.files store.new ≡ option_map (with_file (segment_name number) (Some bytes.now)) (T.files store.old)) }
-    ensures changed { AnyState (segment_name number) (T.files store.old) (T.files store.new) }
-    ensures stops { Leaves (T.since store.old) (T.since store.new) (AnyState (segment_name number) (T.files store.old)) }
-    ensures goes_on { GoesOn T.layers T.clock T.longest T.held store.old store.new }
-    ensures outside { IfErr result IsOutside }
-    ensures later { T.faults store.old ≤ T.faults store.new }
-    ensures store { result ≡ Err SegFault.Store → Rose (T.faults store.old) (T.faults store.new) }
-    ensures none { result ≢ Err SegFault.Store → T.faults store.new ≡ T.faults store.old }
-{
-    let name = segment_name(number);
-    put_file(store, &name, bytes)
-}
-
-/// The same for the file of the prior of this number.
-#[tactic(auto, using(crate::proofs::NameLemmas::prior_ascii, crate::proofs::NameLemmas::prior_short))]
-pub fn put_prior<T: Store>(store: &mut T, number: u64, bytes: &[u8]) -> Result<(), SegFault>
-    ensures done { OnOk result (T.files store.new ≡ option_map (with_file (prior_name number) (Some bytes.now)) (T.files store.old)) }
-    ensures changed { AnyState (prior_name number) (T.files store.old) (T.files store.new) }
-    ensures stops { Leaves (T.since store.old) (T.since store.new) (AnyState (prior_name number) (T.files store.old)) }
-    ensures goes_on { GoesOn T.layers T.clock T.longest T.held store.old store.new }
-    ensures outside { IfErr result IsOutside }
-    ensures later { T.faults store.old ≤ T.faults store.new }
-    ensures store { result ≡ Err SegFault.Store → Rose (T.faults store.old) (T.faults store.new) }
-    ensures none { result ≢ Err SegFault.Store → T.faults store.new ≡ T.faults store.old }
-{
-    let name = prior_name(number);
-    put_file(store, &name, bytes)
-}
-
 /// Leaves no file of this name.
-fn remove_file<T: Store>(store: &mut T, name: &[u8]) -> Result<(), SegFault>
+pub fn remove_file<T: Store>(store: &mut T, name: &[u8]) -> Result<(), SegFault>
     requires ascii { IsAscii name.now }
     requires short { length name.now ≤ 30 }
     ensures done { OnOk result (T.files store.new ≡ option_map (with_file name.now None) (T.files store.old)) }
@@ -172,36 +139,4 @@ fn remove_file<T: Store>(store: &mut T, name: &[u8]) -> Result<(), SegFault>
         Ok(()) => Ok(()),
         Err(fault) => Err(store_fault(fault)),
     }
-}
-
-/// Leaves no file of the segment of this number.
-#[tactic(auto, using(crate::proofs::NameLemmas::segment_ascii, crate::proofs::NameLemmas::segment_short))]
-pub fn remove_segment<T: Store>(store: &mut T, number: u64) -> Result<(), SegFault>
-    ensures done { OnOk result (T.files store.new ≡ option_map (with_file (segment_name number) None) (T.files store.old)) }
-    ensures changed { OldOrNew (segment_name number) None (T.files store.old) (T.files store.new) }
-    ensures stops { Leaves (T.since store.old) (T.since store.new) (OldOrNew (segment_name number) None (T.files store.old)) }
-    ensures goes_on { GoesOn T.layers T.clock T.longest T.held store.old store.new }
-    ensures outside { IfErr result IsOutside }
-    ensures later { T.faults store.old ≤ T.faults store.new }
-    ensures store { result ≡ Err SegFault.Store → Rose (T.faults store.old) (T.faults store.new) }
-    ensures none { result ≢ Err SegFault.Store → T.faults store.new ≡ T.faults store.old }
-{
-    let name = segment_name(number);
-    remove_file(store, &name)
-}
-
-/// Leaves no file of the prior of this number.
-#[tactic(auto, using(crate::proofs::NameLemmas::prior_ascii, crate::proofs::NameLemmas::prior_short))]
-pub fn remove_prior<T: Store>(store: &mut T, number: u64) -> Result<(), SegFault>
-    ensures done { OnOk result (T.files store.new ≡ option_map (with_file (prior_name number) None) (T.files store.old)) }
-    ensures changed { OldOrNew (prior_name number) None (T.files store.old) (T.files store.new) }
-    ensures stops { Leaves (T.since store.old) (T.since store.new) (OldOrNew (prior_name number) None (T.files store.old)) }
-    ensures goes_on { GoesOn T.layers T.clock T.longest T.held store.old store.new }
-    ensures outside { IfErr result IsOutside }
-    ensures later { T.faults store.old ≤ T.faults store.new }
-    ensures store { result ≡ Err SegFault.Store → Rose (T.faults store.old) (T.faults store.new) }
-    ensures none { result ≢ Err SegFault.Store → T.faults store.new ≡ T.faults store.old }
-{
-    let name = prior_name(number);
-    remove_file(store, &name)
 }

@@ -15,7 +15,8 @@ ghost use Rattle.repository.specs.Stale.{with_old};
 ghost use Rattle.repository.specs.Stands.{IsPriorListed};
 ghost use Rattle.repository.specs.Writes.{IsOther};
 
-use crate::files::{prior_file, put_prior};
+use crate::files::{prior_file, put_file};
+use crate::names::prior_name;
 use crate::numbers::Numbers;
 use crate::stale::note_stale;
 use manifest::{PriorEntry, PriorRows, prior_bytes, read_prior};
@@ -108,6 +109,7 @@ pub fn is_full(priors: &[PriorEntry], name: &Name) -> bool
 }
 
 /// Puts the rows into a new file, and answers its number.
+#[tactic(auto, using(crate::proofs::NameLemmas::prior_ascii, crate::proofs::NameLemmas::prior_short))]
 pub fn put_rows<T: Store>(
     alloc: Global,
     store: &mut T,
@@ -130,6 +132,7 @@ pub fn put_rows<T: Store>(
     let _form = rows.rows();
     let bytes = prior_bytes(alloc, rows)?;
     let number = numbers.take()?;
-    put_prior(store, number, bytes.as_slice())?;
+    let name = prior_name(number);
+    put_file(store, &name, bytes.as_slice())?;
     Ok(number)
 }

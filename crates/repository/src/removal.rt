@@ -6,11 +6,14 @@ ghost use Rattle.store_ends.specs.Files.{GoesOn, Leaves, SameWhere};
 ghost use Rattle.repository.specs.Numbers.{is_among};
 ghost use Rattle.repository.specs.Writes.{AreGone, IsGone, IsOther};
 
-use crate::files::{remove_prior, remove_segment};
+use crate::files::remove_file;
+use crate::names::prior_name;
+use disk_index::segment_name;
 use ri_base::SegFault;
 use store_ends::Store;
 
 /// Removes the files that this number may have, that of a segment and that of a prior.
+#[tactic(auto, using(crate::proofs::NameLemmas::prior_ascii, crate::proofs::NameLemmas::prior_short, crate::proofs::NameLemmas::segment_ascii, crate::proofs::NameLemmas::segment_short))]
 fn remove_number<T: Store>(store: &mut T, number: u64) -> Result<(), SegFault>
     ensures gone { OnOk result (IsGone number (T.files store.new)) }
     ensures still { OnOk result ((n : ℕ) → IsGone n (T.files store.old) → IsGone n (T.files store.new)) }
@@ -22,8 +25,10 @@ fn remove_number<T: Store>(store: &mut T, number: u64) -> Result<(), SegFault>
     ensures store { result ≡ Err SegFault.Store → Rose (T.faults store.old) (T.faults store.new) }
     ensures none { result ≢ Err SegFault.Store → T.faults store.new ≡ T.faults store.old }
 {
-    remove_segment(store, number)?;
-    remove_prior(store, number)?;
+    let segment = segment_name(number);
+    remove_file(store, &segment)?;
+    let prior = prior_name(number);
+    remove_file(store, &prior)?;
     Ok(())
 }
 

@@ -18,9 +18,9 @@ ghost use Rattle.repository.specs.Saved.{AllSaved, IsUnlisted, Saves};
 ghost use Rattle.repository.specs.States.{part_numbers};
 ghost use Rattle.repository.specs.Writes.{IsOther};
 
-use crate::files::put_segment;
+use crate::files::put_file;
 use crate::numbers::Numbers;
-use disk_index::{DiskIndex, Part};
+use disk_index::{DiskIndex, Part, segment_name};
 use holdings::Holdings;
 use manifest::PriorEntry;
 use ri_base::{Sealed, SegFault};
@@ -30,6 +30,7 @@ use std::rc::Rc;
 use store_ends::Store;
 
 /// Writes documents as the segment of this number, and answers the part that has them there. Nothing is read of the file.
+#[tactic(auto, using(crate::proofs::NameLemmas::segment_ascii, crate::proofs::NameLemmas::segment_short))]
 fn write_segment<T: Store>(
     alloc: Global,
     store: &mut T,
@@ -52,7 +53,8 @@ fn write_segment<T: Store>(
     let bytes = seg_bytes(alloc, sealed)?;
     let index = DiskIndex::of_bytes(alloc, bytes.as_slice(), number)?;
     let shared = Rc::new(alloc, index).map_err(AllocError::from)?;
-    put_segment(store, number, bytes.as_slice())?;
+    let name = segment_name(number);
+    put_file(store, &name, bytes.as_slice())?;
     Ok(shared)
 }
 

@@ -9,12 +9,12 @@ loop-entry-preserved g c =
     let before = c.loop-entry.invariant.taken in
     let x = c.in-Some.entry in
     let key = g.C.Combination.key_of c.args.combination.now in
-    let popped : c.loop-entry.entries.items ≡ c.take_last.new.items.items ++ x ∷ [] = search rules in
+    let popped : c.loop-entry.entries.items ≡ c.pop.new.self.items ++ x ∷ [] = search rules in
     record {
       most = c.offer.ensures.most ∙ c.loop-entry.invariant.most;
       taken = (
         x ∷ before.0,
-        before.1 ∙ ap (λ xs. xs ++ before.0) popped ∙ append_assoc c.take_last.new.items.items (x ∷ []) before.0,
+        before.1 ∙ ap (λ xs. xs ++ before.0) popped ∙ append_assoc c.pop.new.self.items (x ∷ []) before.0,
         cost_more c.args.squares.now (28 * g.C.Combination.leaves c.args.combination.now) x before.0 c.loop-entry.squares c.settle.new.squares before.2 c.settle.ensures.cost,
         λ all f.
             let held = subst (λ k. AreFirst (by_key g.W.Ord.cmp) k (map (settled key) before.0 ++ all) c.loop-entry.first.held) (sym c.loop-entry.invariant.most) (before.3 all f) in

@@ -1,9 +1,10 @@
 use Rattle.std.proofs.Common.{◌≡◌, ◌<◌, ◌≤◌, false, get_or, IfErr, IfOk, option_copied, subst, sym, ◌∙◌}
+use Rattle.std.proofs.lemmas.Result.{IfOk-weaker}
 use Rattle.ri_base.specs.Collection.{document_at}
-use Rattle.ri_base.specs.Expression.{expr_tree}
+use Rattle.ri_base.specs.Expression.{EachWord, expr_tree}
 use Rattle.ri_base.specs.Faults.{IsOutside}
 use Rattle.disk_index.specs.Cache.{IsCacheBacked}
-use Rattle.disk_index.specs.Parts.{IsFileOf, IsPartBacked, Source, reads, size}
+use Rattle.disk_index.specs.Parts.{IsFileOf, IsPartBacked, IsReadableOf, Source, reads, size}
 use Rattle.counts.specs.Reading.{OnlyReads}
 use Rattle.counts.specs.Sums.{counted_tokens, occurrences}
 use Rattle.counts.proofs.ReadingLemmas.{reads-same}
@@ -51,3 +52,11 @@ pub returns-clause-reads : goal.returns-clause-reads
 returns-clause-reads g c =
     subst (λ (p : Source). OnlyReads g.T.Store.files g.T.Store.layers g.T.Store.clock g.T.Store.since g.T.Store.longest g.T.Store.held g.T.Store.faults (IsFileOf p) c.args.store.now c.in_document.new.store c.args.cache.now c.in_document.new.cache)
     c.part.ensures.part c.in_document.ensures.reads
+
+pub returns-then-is_marked-clause-told : goal.returns-then-is_marked-clause-told
+returns-then-is_marked-clause-told g c = λ live may. let marked = sym c.is_marked.ensures ∙ c.if-is_marked.true in absurd cc
+
+pub returns-clause-told : goal.returns-clause-told
+returns-clause-told g c =
+    IfOk-weaker c.in_document.result _ _ (λ n each live may.
+    subst (λ (p : Source). EachWord (λ t. IsReadableOf (g.T.Store.files c.args.store.now) c.args.cache.now p t c.args.id) (expr_tree c.args.expr.now)) c.part.ensures.part each) c.in_document.ensures.told

@@ -1,9 +1,9 @@
-use Rattle.std.proofs.Common.{◌≤◌, ◌+◌, ◌*◌, option_copied, ap, ◌∙◌, arith}
+use Rattle.std.proofs.Common.{◌≤◌, ◌+◌, ◌*◌, ◌/◌, option_copied, inl, inr, ap, ◌∙◌, arith}
 use Rattle.std.proofs.lemmas.Result.{err_from_is_err_and}
 use Rattle.ri_base.specs.Expression.{expr_tree}
 use Rattle.disk_index.specs.Parts.{size}
 use Rattle.counts.specs.Sums.{counted_tokens, occurrences}
-use Rattle.counts.proofs.ReadingLemmas.{cache-backed, part-backed, reads-same, reads-then}
+use Rattle.counts.proofs.ReadingLemmas.{below-next, cache-backed, live-before, part-backed, reads-same, reads-then}
 use Rattle.counts.proofs.SumsLemmas.{counted-range, few-range, first-end, tokens-within}
 use Rattle.counts.proofs.sums.in_part.Goals as goal
 
@@ -11,7 +11,7 @@ pub in_range-requires-clause-range : goal.in_range-requires-clause-range
 in_range-requires-clause-range g c = let same = ap size c.part.ensures.part in omega (arith, c.loop-range-test.true, c.div_ceil-ranges.ensures, c.docs.ensures.size, same)
 
 pub loop-range-init : goal.loop-range-init
-loop-range-init g c = record { counted = λ backed cached. omega arith; few = omega arith; reads = reads-same _ _ _ _ _ _ _ _ _ _ }
+loop-range-init g c = record { counted = λ backed cached. omega arith; few = omega arith; told = λ id inside below. absurd (omega (arith, below)); reads = reads-same _ _ _ _ _ _ _ _ _ _ }
 
 pub overflow_add-count : goal.overflow_add-count
 overflow_add-count g c =
@@ -33,6 +33,10 @@ loop-range-preserved g c =
           counted-range (occurrences (expr_tree c.args.expr.now) (option_copied c.args.context)) told m mid c.loop-range.range c.loop-range.count c.in_ok-found.found reads.quiet.same_files
           (c.loop-range.invariant.counted backed cached) found;
       few = few-range (counted_tokens (option_copied c.args.context)) told m mid c.loop-range.range c.loop-range.count c.in_ok-found.found reads.quiet.same_files c.loop-range.invariant.few c.in_ok-found.ensures.few;
+      told = λ id inside below. elim (below-next (id / 64) c.loop-range.range below) [
+        | inl less ↦ c.loop-range.invariant.told id inside less
+        | inr is ↦ live-before _ _ _ _ _ _ _ _ _ _ _ _ (expr_tree c.args.expr.now) m id reads (c.in_ok-found.ensures.told id inside is)
+      ];
       reads = reads-then _ _ _ _ _ _ _ _ _ _ _ _ _ _ reads c.in_ok-found.ensures.reads;
     }
 
@@ -59,3 +63,8 @@ returns-clause-few g c =
     let end : size m.source ≤ 64 * c.loop-range.range = omega (arith, c.loop-range-test.false, c.div_ceil-ranges.ensures, c.docs.ensures.size, same) in
     let all = first-end (counted_tokens (option_copied c.args.context)) (g.T.Store.files c.args.store.now) m (64 * c.loop-range.range) end in
     omega (arith, all, c.loop-range.invariant.few)
+
+pub returns-clause-told : goal.returns-clause-told
+returns-clause-told g c = λ id inside.
+    let same = ap size c.part.ensures.part in
+    c.loop-range.invariant.told id inside (omega (arith, inside, c.loop-range-test.false, c.div_ceil-ranges.ensures, c.docs.ensures.size, same))

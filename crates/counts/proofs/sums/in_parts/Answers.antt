@@ -1,4 +1,5 @@
-use Rattle.std.proofs.Common.{◌+◌, Option, option_copied, sum_by, ap, ◌∙◌, arith}
+use Rattle.std.proofs.Common.{◌+◌, Option, option_copied, sum_by, ap, subst, ◌∙◌, arith}
+use Rattle.std.proofs.lemmas.List.{take_all}
 use Rattle.std.proofs.lemmas.Result.{err_from_is_err_and}
 use Rattle.ri_base.specs.Expression.{expr_tree}
 use Rattle.store_ends.specs.Files.{Files}
@@ -6,7 +7,8 @@ use Rattle.disk_index.specs.Parts.{IsPartBacked}
 use Rattle.disk_index.specs.Snapshots.{live_in}
 use Rattle.disk_index.proofs.AmongLemmas.{backed-at, there-at}
 use Rattle.counts.specs.Sums.{counted_tokens, occurrences}
-use Rattle.counts.proofs.ReadingLemmas.{cache-backed, fault-of, part-backed, reads-among, reads-same, reads-then}
+use Rattle.counts.specs.Told.{ArePartsTold, IsPartTold}
+use Rattle.counts.proofs.ReadingLemmas.{cache-backed, fault-of, live-before, part-backed, parts-more, reads-among, reads-same, reads-then}
 use Rattle.counts.proofs.SumsLemmas.{live-all, live-more, live-within, part-short}
 use Rattle.counts.proofs.sums.in_parts.Goals as goal
 
@@ -14,7 +16,7 @@ pub in_part-requires : goal.in_part-requires
 in_part-requires g c = part-short c.args.parts.now c.loop-marked.marked-index c.marked-item.result c.requires c.loop-marked-test.true c.marked-item.is
 
 pub loop-marked-init : goal.loop-marked-init
-loop-marked-init g c = record { counted = λ backed cached. omega arith; few = omega arith; reads = reads-same _ _ _ _ _ _ _ _ _ _ }
+loop-marked-init g c = record { counted = λ backed cached. omega arith; few = omega arith; told = λ k d low. absurd (omega (arith, low)); reads = reads-same _ _ _ _ _ _ _ _ _ _ }
 
 pub overflow_add-count : goal.overflow_add-count
 overflow_add-count g c =
@@ -46,6 +48,10 @@ loop-marked-preserved g c =
           let own = ap (λ (t : Option Files). sum_by k (live_in t m)) reads.quiet.same_files in
           let more = live-more k told ms i m c.loop-marked-test.true c.marked-item.is in
           omega (arith, c.loop-marked.invariant.few, c.in_ok-found.ensures.few, own, more);
+      told =
+          let x = expr_tree c.args.expr.now in
+          parts-more (IsPartTold told c.args.cache.now x) ms i m c.loop-marked-test.true c.marked-item.is
+          (λ id inside. live-before _ _ _ _ _ _ _ _ _ _ _ _ x m id reads (c.in_ok-found.ensures.told id inside)) c.loop-marked.invariant.told;
       reads = reads-then _ _ _ _ _ _ _ _ _ _ _ _ _ _ reads (reads-among _ _ _ _ _ _ _ ms i m _ _ _ _ c.loop-marked-test.true c.marked-item.is c.in_ok-found.ensures.reads);
     }
 
@@ -74,3 +80,7 @@ pub returns-clause-few : goal.returns-clause-few
 returns-clause-few g c =
     let all = live-all (counted_tokens (option_copied c.args.context)) (g.T.Store.files c.args.store.now) c.args.parts.now c.loop-marked.marked-index c.loop-marked-test.false in
     omega (arith, c.loop-marked.invariant.few, all)
+
+pub returns-clause-told : goal.returns-clause-told
+returns-clause-told g c =
+    subst (ArePartsTold (g.T.Store.files c.args.store.now) c.args.cache.now (expr_tree c.args.expr.now)) (take_all c.loop-marked.marked-index c.args.parts.now c.loop-marked-test.false) c.loop-marked.invariant.told

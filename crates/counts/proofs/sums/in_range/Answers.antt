@@ -1,11 +1,12 @@
-use Rattle.std.proofs.Common.{◌≡◌, ◌<◌, ◌+◌, ◌*◌, option_copied, false, sym, ap, subst, ◌∙◌, rules, arith}
+use Rattle.std.proofs.Common.{◌≡◌, ◌<◌, ◌+◌, ◌*◌, option_copied, true, false, inl, inr, sym, ap, subst, ◌∙◌, rules, arith}
 use Rattle.std.proofs.lemmas.Result.{err_from_is_err_and}
 use Rattle.ri_base.specs.Expression.{expr_tree}
 use Rattle.extent_lists.specs.Presence.{may_with}
 use Rattle.disk_index.specs.Parts.{Source, size, source_of}
 use Rattle.disk_index.specs.Presence.{may_have}
 use Rattle.counts.specs.Sums.{counted_tokens, occurrences}
-use Rattle.counts.proofs.ReadingLemmas.{cache-backed, part-backed, reads-same, reads-then}
+use Rattle.counts.specs.Told.{IsLiveTold}
+use Rattle.counts.proofs.ReadingLemmas.{below-next, cache-backed, live-before, part-backed, reads-same, reads-then}
 use Rattle.counts.proofs.SumsLemmas.{counted-next, few-next, first-grows, first-last, range-skipped, tokens-within}
 use Rattle.counts.proofs.sums.in_range.Goals as goal
 
@@ -30,6 +31,16 @@ returns-then-not-may_occur-clause-few g c =
 pub returns-then-not-may_occur-clause-reads : goal.returns-then-not-may_occur-clause-reads
 returns-then-not-may_occur-clause-reads g c = reads-same _ _ _ _ _ _ _ _ _ _
 
+pub returns-then-not-may_occur-clause-told : goal.returns-then-not-may_occur-clause-told
+returns-then-not-may_occur-clause-told g c = λ id inside here live may.
+    let m = c.args.marked.now in
+    let x = expr_tree c.args.expr.now in
+    let not : c.may_occur.result ≡ false = search rules in
+    let own : may_with (may_have (source_of c.part-part.result.now) c.args.range) x ≡ c.may_occur.result = sym c.may_occur.ensures in
+    let none : may_with (may_have m.source c.args.range) x ≡ false = subst (λ (p : Source). may_with (may_have p c.args.range) x ≡ false) c.part-part.ensures.part (own ∙ not) in
+    let some : may_with (may_have m.source c.args.range) x ≡ true = subst (λ r. may_with (may_have m.source r) x ≡ true) here may in
+    absurd cc
+
 -- ---- numbers
 
 pub overflow_mul-first : goal.overflow_mul-first
@@ -53,7 +64,7 @@ overflow_add-count g c =
     omega (arith, few, tokens-within (option_copied c.args.context) told m (c.loop-id.id + 1), c.requires.short told, c.from-count.ensures)
 
 pub loop-id-init : goal.loop-id-init
-loop-id-init g c = record { counted = λ backed cached. omega arith; few = omega arith; reads = reads-same _ _ _ _ _ _ _ _ _ _ }
+loop-id-init g c = record { counted = λ backed cached. omega arith; few = omega arith; told = λ id from below. absurd (omega (arith, from, below)); reads = reads-same _ _ _ _ _ _ _ _ _ _ }
 
 pub loop-id-preserved : goal.loop-id-preserved
 loop-id-preserved g c =
@@ -74,6 +85,12 @@ loop-id-preserved g c =
       few =
           let next = few-next k told m mid (64 * c.args.range) c.loop-id.id c.loop-id.count c.in_ok-found.found reads.quiet.same_files whole inside c.loop-id.invariant.few c.in_ok-found.ensures.few in
           omega (arith, next, c.from-count.ensures);
+      told = λ id from below.
+          let own : IsLiveTold told c.args.cache.now (expr_tree c.args.expr.now) m c.loop-id.id = live-before _ _ _ _ _ _ _ _ _ _ _ _ (expr_tree c.args.expr.now) m c.loop-id.id reads c.in_ok-found.ensures.told in
+          elim (below-next id c.loop-id.id below) [
+            | inl less ↦ c.loop-id.invariant.told id from less
+            | inr is ↦ subst (IsLiveTold told c.args.cache.now (expr_tree c.args.expr.now) m) (sym is) own
+          ];
       reads = reads-then _ _ _ _ _ _ _ _ _ _ _ _ _ _ reads c.in_ok-found.ensures.reads;
     }
 
@@ -107,3 +124,8 @@ returns-clause-few g c =
     let last = first-last k (g.T.Store.files c.args.store.now) m (64 * c.args.range) c.loop-id.id 64 (omega (arith, c.requires.range)) (omega (arith, c.loop-id-test.false, c.requires.range, c.docs-docs.ensures.size, same, c.min.ensures)) in
     let all = c.loop-id.invariant.few in
     omega (arith, all, last)
+
+pub returns-clause-told : goal.returns-clause-told
+returns-clause-told g c = λ id inside here.
+    let same = ap size c.part-part.ensures.part in
+    c.loop-id.invariant.told id (omega (arith, here)) (omega (arith, inside, here, c.loop-id-test.false, c.requires.range, c.docs-docs.ensures.size, same, c.min.ensures))

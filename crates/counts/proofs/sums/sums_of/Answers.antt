@@ -4,6 +4,7 @@ use Rattle.ri_base.specs.Expression.{expr_tree}
 use Rattle.disk_index.specs.Snapshots.{AreBacked, IsFileAmong, IsSnapshot, Marked, live}
 use Rattle.counts.specs.Reading.{IsFaultOf, OnlyReads}
 use Rattle.counts.specs.Sums.{counted_tokens, occurrences}
+use Rattle.counts.specs.Told.{ArePartsTold}
 use Rattle.counts.proofs.sums.sums_of.Goals as goal
 
 pub in_parts-requires : goal.in_parts-requires
@@ -37,3 +38,6 @@ returns-clause-range g c =
     let told = g.T.Store.files c.args.store.now in
     let same = ap (λ (ms : List Marked). sum_by (counted_tokens (option_copied c.args.context)) (live told ms)) c.parts.ensures.parts in
     record { part = omega (arith, c.in_ok-cf.ensures.few, c.total_of-total.ensures.exact told, same); few = c.total_of-total.ensures.most }
+
+pub returns-clause-told : goal.returns-clause-told
+returns-clause-told g c = subst (ArePartsTold (g.T.Store.files c.args.store.now) c.args.cache.now (expr_tree c.args.expr.now)) c.parts.ensures.parts c.in_ok-cf.ensures.told

@@ -47,9 +47,6 @@ pub returns-clause-each : goal.returns-clause-each
 returns-clause-each g c = λ docs b kept.
     subst (λ (l : List (List ℕ)). HasAll l c.loop-term.held) (take_all c.loop-term.term-index c.args.terms.now c.loop-term-test.false) (c.loop-term.invariant.each docs b kept)
 
-pub loop-term-entered-held : goal.loop-term-entered-held
-loop-term-entered-held g c = λ t has. absurd cc
-
 pub returns-clause-told : goal.returns-clause-told
 returns-clause-told g c =
     subst (λ (l : List (List ℕ)). All (λ t. IsTermReadable (g.T.Store.files c.args.store.now) c.args.cache.now c.args.index.now t c.args.range) l)

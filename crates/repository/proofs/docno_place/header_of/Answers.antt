@@ -2,7 +2,8 @@ use Rattle.std.proofs.Common.{◌≡◌, ℕ, List, Ok, length, ap, ◌∙◌}
 use Rattle.seg_codec.specs.Headers.{header}
 use Rattle.seg_codec.proofs.WholeLemmas.{placed_if_read}
 use Rattle.disk_index.specs.Blocks.{file_of}
-use Rattle.repository.proofs.PlaceLemmas.{answered, answered-outside, dictionary-behind, documents-first}
+use Rattle.repository.proofs.PartLemmas.{answered, answered-outside}
+use Rattle.repository.proofs.PlaceLemmas.{dictionary-behind, documents-first}
 use Rattle.repository.proofs.docno_place.header_of.Goals as goal
 
 pub returns-clause-first : goal.returns-clause-first
@@ -15,16 +16,16 @@ pub returns-clause-found : goal.returns-clause-found
 returns-clause-found g c = λ f h told is.
     let file : List ℕ = file_of f c.args.entry.now.number in
     let size = c.in_ok-size.ensures.length f told in
-    let bytes = c.in_ok-bytes.ensures.bytes f (c.in_ok-size.ensures.quiet.same_files ∙ told) in
-    let here : header c.args.entry.now.docs c.in_ok-size.size c.in_ok-bytes.bytes.items ≡ Ok h =
-    ap (λ (n : ℕ). header c.args.entry.now.docs n c.in_ok-bytes.bytes.items) size ∙ ap (λ (b : List ℕ). header c.args.entry.now.docs (length file) b) bytes ∙ is in
+    let bytes = c.deref.ensures.value ∙ c.in_ok-bytes.ensures.bytes f (c.in_ok-size.ensures.quiet.same_files ∙ told) in
+    let here : header c.args.entry.now.docs c.in_ok-size.size c.deref.result.now ≡ Ok h =
+    ap (λ (n : ℕ). header c.args.entry.now.docs n c.deref.result.now) size ∙ ap (λ (b : List ℕ). header c.args.entry.now.docs (length file) b) bytes ∙ is in
     answered c.read_header.result _ _ _ _ h c.read_header.ensures.exact here
 
 pub returns-clause-outside : goal.returns-clause-outside
 returns-clause-outside g c = λ f h told is.
     let file : List ℕ = file_of f c.args.entry.now.number in
     let size = c.in_ok-size.ensures.length f told in
-    let bytes = c.in_ok-bytes.ensures.bytes f (c.in_ok-size.ensures.quiet.same_files ∙ told) in
-    let here : header c.args.entry.now.docs c.in_ok-size.size c.in_ok-bytes.bytes.items ≡ Ok h =
-    ap (λ (n : ℕ). header c.args.entry.now.docs n c.in_ok-bytes.bytes.items) size ∙ ap (λ (b : List ℕ). header c.args.entry.now.docs (length file) b) bytes ∙ is in
+    let bytes = c.deref.ensures.value ∙ c.in_ok-bytes.ensures.bytes f (c.in_ok-size.ensures.quiet.same_files ∙ told) in
+    let here : header c.args.entry.now.docs c.in_ok-size.size c.deref.result.now ≡ Ok h =
+    ap (λ (n : ℕ). header c.args.entry.now.docs n c.deref.result.now) size ∙ ap (λ (b : List ℕ). header c.args.entry.now.docs (length file) b) bytes ∙ is in
     answered-outside c.read_header.result _ _ _ _ h c.read_header.ensures.exact here

@@ -3,17 +3,17 @@ use Rattle.std.proofs.lemmas.Result.{err_from_is_err_and}
 use Rattle.seg_codec.specs.Documents.{documents}
 use Rattle.seg_codec.specs.declared.documents.Entry.{Entry}
 use Rattle.repository.specs.Places.{document_place}
-use Rattle.repository.proofs.PlaceLemmas.{answered, unbroken}
+use Rattle.repository.proofs.PartLemmas.{one-read, unbroken}
 use Rattle.repository.proofs.docno_place.place_behind.Goals as goal
 
 pub returns-in_err-documents-clause-outside : goal.returns-in_err-documents-clause-outside
 returns-in_err-documents-clause-outside g c = λ f es told is.
     let p = err_from_is_err_and c.from_residual-in_err-documents.result c.from_residual-in_err-documents.ensures.1 in
-    let here : documents c.args.header.now c.in_ok-bytes.bytes.items ≡ Ok es = ap (documents c.args.header.now) (c.in_ok-bytes.ensures.bytes f told) ∙ is in
+    let here : documents c.args.header.now c.deref.result.now ≡ Ok es = ap (documents c.args.header.now) (c.deref.ensures.value ∙ c.in_ok-bytes.ensures.bytes f told) ∙ is in
     rw (p.1, p.2) (unbroken _ _ _ _ _ es c.in_err-documents.ensures.exact here)
 
 pub returns-clause-place : goal.returns-clause-place
 returns-clause-place g c = λ f es told is.
-    let here : documents c.args.header.now c.in_ok-bytes.bytes.items ≡ Ok es = ap (documents c.args.header.now) (c.in_ok-bytes.ensures.bytes f told) ∙ is in
-    let same : c.in_ok-documents.documents ≡ es = answered (Ok c.in_ok-documents.documents) _ _ _ _ es c.in_ok-documents.ensures.exact here in
+    let here : documents c.args.header.now c.deref.result.now ≡ Ok es = ap (documents c.args.header.now) (c.deref.ensures.value ∙ c.in_ok-bytes.ensures.bytes f told) ∙ is in
+    let same : c.in_ok-documents.documents ≡ es = one-read _ _ es c.in_ok-documents.ensures.exact here in
     c.place_within.ensures ∙ ap (λ (es : List Entry). document_place es c.args.id) same

@@ -9,10 +9,10 @@ pub bytes_before-before-requires : goal.bytes_before-before-requires
 bytes_before-before-requires c =
     let at = place_at c.args.documents.now c.args.id in
     let behind = ap (sum_by bytes_of) (c.from_id.ensures ∙ ap (λ (es : List Entry). drop c.args.id es) c.as_slice.ensures.same) in
-    omega (arith, at, behind, ap length c.requires, c.len.ensures)
+    omega (arith, at, behind, ap length c.requires)
 
 pub returns : goal.returns
 returns c =
     let at = place_at c.args.documents.now c.args.id in
     let behind = ap (sum_by bytes_of) (c.from_id.ensures ∙ ap (λ (es : List Entry). drop c.args.id es) c.as_slice.ensures.same) in
-    omega (arith, at, behind, ap length c.requires, c.len.ensures, c.bytes_before-before.ensures)
+    omega (arith, at, behind, ap length c.requires, c.bytes_before-before.ensures)

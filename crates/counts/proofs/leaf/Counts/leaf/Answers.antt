@@ -28,6 +28,9 @@ pub returns-in-Some-clause-range : goal.returns-in-Some-clause-range
 returns-in-Some-clause-range g c =
     bounded-kept (all_kept c.self.inside.sums.entries) c.args.generation (expr_tree c.args.expr.now) (option_copied c.args.context) c.in-Some.stats c.self.invariant c.in-Some.ensures.found
 
+pub returns-in-Some-clause-told : goal.returns-in-Some-clause-told
+returns-in-Some-clause-told g c = inl (subst (λ (l : List Kept). IsKept l c.args.generation (expr_tree c.args.expr.now) (option_copied c.args.context) c.in-Some.stats) c.self.view_is c.in-Some.ensures.found)
+
 -- ---- they can't be made
 
 pub returns-in_err-stats-clause-kept : goal.returns-in_err-stats-clause-kept
@@ -62,6 +65,9 @@ returns-clause-adds g c = λ e h. elim (c.keep.ensures e h) [
   | inl mid ↦ inl (subst (λ (l : List Kept). Contains l e) c.self.view_is (c.kept_at.ensures.stay e mid))
   | inr own ↦ inr own
 ]
+
+pub returns-clause-told : goal.returns-clause-told
+returns-clause-told g c = inr c.in_ok-stats.ensures.told
 
 pub returns-clause-cache : goal.returns-clause-cache
 returns-clause-cache g c = c.in_ok-stats.ensures.reads.cache

@@ -1,10 +1,10 @@
-use Rattle.std.proofs.Common.{◌≡◌, Some, IfSome, inl, inr, ap, sym, subst, refl, rules, Option}
+use Rattle.std.proofs.Common.{◌≡◌, ◌/◌, ◌⊎◌, ℕ, Some, IfSome, inl, inr, ap, sym, subst, refl, rules, Option}
 use Rattle.std.proofs.lemmas.Result.{IfOk-weaker}
 use Rattle.store_ends.specs.Files.{Files}
 use Rattle.disk_index.specs.Cache.{IsCacheBacked}
-use Rattle.disk_index.specs.Parts.{IsFileOf, IsPartBacked, reads, source_of}
+use Rattle.disk_index.specs.Parts.{IsFileOf, IsPartBacked, IsReadableIn, IsReadableOf, reads, source_of}
 use Rattle.disk_index.specs.QuietLaws.{IsCacheBacked-kept}
-use Rattle.range_masks.specs.Held.{AreAnswersOf, most_answer}
+use Rattle.range_masks.specs.Held.{AreAnswersOf, IsAnswered, most_answer}
 use Rattle.range_masks.specs.Most.{most_places}
 use Rattle.range_masks.proofs.ToldLemmas.{answered-most, readable-each}
 use Rattle.range_masks.proofs.opening_reader.OpeningReaderTermMasks.most_places.Goals as goal
@@ -36,4 +36,8 @@ returns-in-Some-clause-told g c = λ id here.
 pub returns-in-None-clause-told : goal.returns-in-None-clause-told
 returns-in-None-clause-told g c =
     let s = c.args.self.now in
-    IfOk-weaker _ _ _ (λ _ can id here. inr (readable-each (g.T.Store.files s.store.now) s.cache.now (source_of s.part.now) c.args.term.now c.args.range can id here)) c.most_in_part.ensures.told
+    let told = g.T.Store.files s.store.now in
+    let p = source_of s.part.now in
+    let t = c.args.term.now in
+    IfOk-weaker c.most_in_part.result (λ n. IsReadableIn told s.cache.now p t c.args.range) (λ n. (id : ℕ) → id / 64 ≡ c.args.range → IsAnswered s.held.now t id ⊎ IsReadableOf told s.cache.now p t id)
+    (λ n can id here. inr (readable-each told s.cache.now p t c.args.range can id here)) c.most_in_part.ensures.told

@@ -37,15 +37,23 @@ impl<T: Leading> Model for Contenders<T> {
     ghost invariant = { λ c. IsHeap T.cmp (heap_items c.heap) × (heap_len c.heap ≤ c.most) × IsFull T.before c.most c.near.full c.near.items.items };
 }
 
-/// Makes room for another item: for as many again as are held, and no more than are ever held and kept beside them at first.
+/// How much room is made where so many items are held, of a limit: it is halved as often as it stays above these, and above a few. So the
+/// room is doubled as items come, and the last time it becomes the limit.
+fn room_above(held: usize, limit: usize) -> usize {
+    let least = held.saturating_add(1).max(LEAST_ROOM);
+    let halvings = (limit / least).max(1).ilog2();
+    limit >> halvings
+}
+
+/// Makes room for another item where there is none, and in the end for all that are ever held, and kept beside them at first.
 fn make_room<T: Leading>(heap: &mut BinaryHeap<T>, most: usize) -> Result<(), AllocError>
     ensures items { heap_items heap.new ≡ heap_items heap.old }
     ensures len { heap_len heap.new ≡ heap_len heap.old }
 {
     let len = heap.len();
     if len == heap.capacity() {
-        let left = limit_of(most, most).saturating_sub(len);
-        heap.reserve_exact(left.min(len.max(LEAST_ROOM)))?;
+        let room = room_above(len, limit_of(most, most));
+        heap.reserve_exact(room.saturating_sub(len))?;
     }
     Ok(())
 }

@@ -1,5 +1,5 @@
 // The documents of a range of a part on disk, put together from its blocks.
-ghost use Rattle.std.specs.Prelude.{◌≡◌, ◌≤◌, ◌<◌, ◌*◌, List, Some, Ok, Err, IfOk, IfErr, OnOk, length, map};
+ghost use Rattle.std.specs.Prelude.{◌≡◌, ◌≢◌, ◌≤◌, ◌<◌, ◌*◌, List, Some, Ok, Err, IfOk, IfErr, OnOk, length, map};
 ghost use Rattle.ri_base.specs.Documents.{Document};
 ghost use Rattle.ri_base.specs.Faults.{IsOutside};
 ghost use Rattle.ri_base.specs.Keeps.{Rose};
@@ -54,6 +54,7 @@ impl DiskIndex {
         ensures quiet { IsQuiet T.files T.layers T.clock T.since T.longest T.held store.old store.new }
         ensures later { T.faults store.old ≤ T.faults store.new }
         ensures store { result ≡ Err SegFault.Store → Rose (T.faults store.old) (T.faults store.new) }
+        ensures none { result ≢ Err SegFault.Store → T.faults store.new ≡ T.faults store.old }
     {
         let told = self.told(alloc, store, cache, range)?;
         match documents_of(alloc, self.dictionary(), self.outlines(range), &told.rows)? {
@@ -83,6 +84,7 @@ impl DiskIndex {
         ensures quiet { IsQuiet T.files T.layers T.clock T.since T.longest T.held store.old store.new }
         ensures later { T.faults store.old ≤ T.faults store.new }
         ensures store { result ≡ Err SegFault.Store → Rose (T.faults store.old) (T.faults store.new) }
+        ensures none { result ≢ Err SegFault.Store → T.faults store.new ≡ T.faults store.old }
     {
         let mut rows = untold_rows(alloc, self.outlines(range))?;
         let mut last = self.blocks_at();

@@ -1,5 +1,5 @@
 // A part of the collection that lies in a file.
-ghost use Rattle.std.specs.Prelude.{◌≡◌, ◌≤◌, ◌<◌, ◌+◌, ◌*◌, ◌^◌, ℕ, List, Some, Err, IfOk, IfErr, IfSome, MatchOption, if◌then◌else◌, length, slice_index_or, IsTrue, [], is_some};
+ghost use Rattle.std.specs.Prelude.{◌≡◌, ◌≢◌, ◌≤◌, ◌<◌, ◌+◌, ◌*◌, ◌^◌, ℕ, List, Some, Err, IfOk, IfErr, IfSome, MatchOption, if◌then◌else◌, length, slice_index_or, IsTrue, [], is_some};
 ghost use Rattle.std.specs.List.{All, AllPairs};
 ghost use Rattle.std.specs.List.Sorted.{IsStrictlyIncreasing};
 ghost use Rattle.std.specs.Option.{option_map, option_map_or};
@@ -78,6 +78,7 @@ impl DiskIndex {
         ensures quiet { IsQuiet T.files T.layers T.clock T.since T.longest T.held store.old store.new }
         ensures later { T.faults store.old ≤ T.faults store.new }
         ensures store { result ≡ Err SegFault.Store → Rose (T.faults store.old) (T.faults store.new) }
+        ensures none { result ≢ Err SegFault.Store → T.faults store.new ≡ T.faults store.old }
     {
         let size = file_length(store, number)?;
         let parts = read_kept(alloc, store, number, docs, size)?;
@@ -239,6 +240,7 @@ impl DiskIndex {
         ensures quiet { IsQuiet T.files T.layers T.clock T.since T.longest T.held store.old store.new }
         ensures later { T.faults store.old ≤ T.faults store.new }
         ensures store { result ≡ Err SegFault.Store → Rose (T.faults store.old) (T.faults store.new) }
+        ensures none { result ≢ Err SegFault.Store → T.faults store.new ≡ T.faults store.old }
     {
         match self.ranked_key(rank, range) {
             None => Ok(Block::empty(alloc)?),
@@ -308,6 +310,7 @@ impl DiskIndex {
         ensures quiet { IsQuiet T.files T.layers T.clock T.since T.longest T.held store.old store.new }
         ensures later { T.faults store.old ≤ T.faults store.new }
         ensures store { result ≡ Err SegFault.Store → Rose (T.faults store.old) (T.faults store.new) }
+        ensures none { result ≢ Err SegFault.Store → T.faults store.new ≡ T.faults store.old }
     {
         match self.key(term, range) {
             None => Ok(Block::empty(alloc)?),
@@ -343,6 +346,7 @@ impl DiskIndex {
         ensures quiet { IsQuiet T.files T.layers T.clock T.since T.longest T.held store.old store.new }
         ensures later { T.faults store.old ≤ T.faults store.new }
         ensures store { result ≡ Err SegFault.Store → Rose (T.faults store.old) (T.faults store.new) }
+        ensures none { result ≢ Err SegFault.Store → T.faults store.new ≡ T.faults store.old }
     {
         self.counted_positions::<T, Brand>(alloc, store, cache, term, id, Blank::new(1))
     }
@@ -373,6 +377,7 @@ impl DiskIndex {
         ensures quiet { IsQuiet T.files T.layers T.clock T.since T.longest T.held store.old store.new }
         ensures later { T.faults store.old ≤ T.faults store.new }
         ensures store { result ≡ Err SegFault.Store → Rose (T.faults store.old) (T.faults store.new) }
+        ensures none { result ≢ Err SegFault.Store → T.faults store.new ≡ T.faults store.old }
     {
         let mut blocks = Steps::<L>::new(blank);
         let block = self.block(alloc, store, cache, term, id / 64, &mut blocks)?;

@@ -1,5 +1,5 @@
 // Reading what is kept of a segment's file.
-ghost use Rattle.std.specs.Prelude.{◌≡◌, ◌≤◌, ◌<◌, ◌^◌, ℕ, List, Some, Ok, Err, IfOk, IfErr, length, take};
+ghost use Rattle.std.specs.Prelude.{◌≡◌, ◌≢◌, ◌≤◌, ◌<◌, ◌^◌, ℕ, List, Some, Ok, Err, IfOk, IfErr, length, take};
 ghost use Rattle.std.specs.List.{All, AllPairs};
 ghost use Rattle.ri_base.specs.Documents.{Document};
 ghost use Rattle.ri_base.specs.Keeps.{Rose};
@@ -47,6 +47,7 @@ fn header_of<T: Store>(
     ensures quiet { IsQuiet T.files T.layers T.clock T.since T.longest T.held store.old store.new }
     ensures later { T.faults store.old ≤ T.faults store.new }
     ensures store { result ≡ Err SegFault.Store → Rose (T.faults store.old) (T.faults store.new) }
+    ensures none { result ≢ Err SegFault.Store → T.faults store.new ≡ T.faults store.old }
 {
     let bytes = read_bytes(alloc, store, number, 0, HEADER_LENGTH)?;
     read_header(&bytes, FileName::Segment(number), docs, size)
@@ -67,6 +68,7 @@ fn documents_of<T: Store>(
     ensures quiet { IsQuiet T.files T.layers T.clock T.since T.longest T.held store.old store.new }
     ensures later { T.faults store.old ≤ T.faults store.new }
     ensures store { result ≡ Err SegFault.Store → Rose (T.faults store.old) (T.faults store.new) }
+    ensures none { result ≢ Err SegFault.Store → T.faults store.new ≡ T.faults store.old }
 {
     let count = (header.dictionary_at - header.documents_at) as usize;
     let bytes = read_bytes(alloc, store, number, header.documents_at, count)?;
@@ -90,6 +92,7 @@ fn dictionary_of<T: Store>(
     ensures quiet { IsQuiet T.files T.layers T.clock T.since T.longest T.held store.old store.new }
     ensures later { T.faults store.old ≤ T.faults store.new }
     ensures store { result ≡ Err SegFault.Store → Rose (T.faults store.old) (T.faults store.new) }
+    ensures none { result ≢ Err SegFault.Store → T.faults store.new ≡ T.faults store.old }
 {
     let count = (header.blocks_at - header.dictionary_at) as usize;
     let bytes = read_bytes(alloc, store, number, header.dictionary_at, count)?;
@@ -113,6 +116,7 @@ pub(crate) fn read_kept<T: Store>(
     ensures quiet { IsQuiet T.files T.layers T.clock T.since T.longest T.held store.old store.new }
     ensures later { T.faults store.old ≤ T.faults store.new }
     ensures store { result ≡ Err SegFault.Store → Rose (T.faults store.old) (T.faults store.new) }
+    ensures none { result ≢ Err SegFault.Store → T.faults store.new ≡ T.faults store.old }
 {
     let header = header_of(alloc, store, number, docs, size)?;
     let documents = documents_of(alloc, store, number, &header)?;

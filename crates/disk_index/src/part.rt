@@ -1,5 +1,5 @@
 // Parts of the collection, in memory or in a file.
-ghost use Rattle.std.specs.Prelude.{◌≡◌, ◌<◌, ◌≤◌, ◌*◌, Option, Some, length, map, Err, IfOk, IfErr};
+ghost use Rattle.std.specs.Prelude.{◌≡◌, ◌≢◌, ◌<◌, ◌≤◌, ◌*◌, Option, Some, length, map, Err, IfOk, IfErr};
 ghost use Rattle.std.specs.List.{All};
 ghost use Rattle.std.specs.List.Sorted.{IsStrictlyIncreasing};
 ghost use Rattle.ri_base.specs.Collection.{document_at};
@@ -108,6 +108,7 @@ impl Part {
         ensures quiet { IsQuiet T.files T.layers T.clock T.since T.longest T.held store.old store.new }
         ensures later { T.faults store.old ≤ T.faults store.new }
         ensures store { result ≡ Err SegFault.Store → Rose (T.faults store.old) (T.faults store.new) }
+        ensures none { result ≢ Err SegFault.Store → T.faults store.new ≡ T.faults store.old }
     {
         match self {
             Part::Memory(sealed) => in_memory(alloc, sealed, term, id),
@@ -140,6 +141,7 @@ impl Part {
         ensures quiet { IsQuiet T.files T.layers T.clock T.since T.longest T.held store.old store.new }
         ensures later { T.faults store.old ≤ T.faults store.new }
         ensures store { result ≡ Err SegFault.Store → Rose (T.faults store.old) (T.faults store.new) }
+        ensures none { result ≢ Err SegFault.Store → T.faults store.new ≡ T.faults store.old }
     {
         match self {
             Part::Memory(sealed) => documents_in_memory(alloc, sealed, range),

@@ -76,6 +76,7 @@ pub(crate) fn read_bytes<T: Store>(
     ensures quiet { IsQuiet T.files T.layers T.clock T.since T.longest T.held store.old store.new }
     ensures later { T.faults store.old ≤ T.faults store.new }
     ensures store { result ≡ Err SegFault.Store → Rose (T.faults store.old) (T.faults store.new) }
+    ensures none { result ≢ Err SegFault.Store → T.faults store.new ≡ T.faults store.old }
 {
     let mut bytes = vec![in alloc; 0u8; count]?;
     let read = fill(store, number, at, &mut bytes)?;
@@ -100,6 +101,7 @@ pub(crate) fn read_block<T: Store>(
     ensures quiet { IsQuiet T.files T.layers T.clock T.since T.longest T.held store.old store.new }
     ensures later { T.faults store.old ≤ T.faults store.new }
     ensures store { result ≡ Err SegFault.Store → Rose (T.faults store.old) (T.faults store.new) }
+    ensures none { result ≢ Err SegFault.Store → T.faults store.new ≡ T.faults store.old }
 {
     let bytes = read_bytes(alloc, store, key.number, key.place, key.length as usize)?;
     let file = FileName::Segment(key.number);

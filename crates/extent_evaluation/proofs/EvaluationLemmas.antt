@@ -1,6 +1,7 @@
 -- the extents of an operator, of the lists of its arguments
 use Rattle.std.proofs.Common.{◌≡◌, ℕ, zero, suc, ◌+◌, ◌<◌, List, [], ◌∷◌, ◌++◌, filter, map, Vec, Box, Global, add-one, arith, length, get_or, take}
 use Rattle.std.specs.List.{AllZip}
+use Rattle.std.specs.Prelude.{Result, Ok, Err, IfOk, IsOkAnd}
 use Rattle.field_extents.specs.Fields.{lies_in_some}
 use Rattle.ri_base.specs.Documents.{Document, Field}
 use Rattle.ri_base.specs.Expression.{ExprTree, expr_tree, expr_trees, any, band, in_field, ordered, syn, unordered}
@@ -86,6 +87,12 @@ module _ (x : ExtentExpr) (d : Document) where
 
   pub Lists-of_in_field : (b : Box ExtentExpr Global) (f : List ℕ) (fs : List Field) (xs v : List Pair) → x ≡ InField b f → fs ≡ d.fields → Lists (Ext (expr_tree b.value) d) xs → v ≡ filter (lies_in_some fs f) xs → Lists (Ext (expr_tree x) d) v
   Lists-of_in_field b f fs xs v e is l k = rw (e, expr_tree-InField) (lists_in_field d (expr_tree b.value) f xs v l (rw is at k))
+
+-- what follows for the extents that were found follows for those that are given
+pub found-gives : {E F : Type 0} (P Q : List Pair → Type 0) (found : Result (Vec Pair Global) E) (given : Result (List Pair) F) → ((xs : List Pair) → P xs → Q xs) → IfOk found (λ v. P v.items) → IfOk given (λ xs. IsOkAnd found (λ v. v.items ≡ xs)) → IfOk given Q
+found-gives P Q (Ok v) (Ok xs) f p e = f xs (rw e at p)
+found-gives P Q (Err fault) (Ok xs) f p e = absurd e
+found-gives P Q found (Err fault) f p e = tt
 
 listed_suc : (d : Document) (xs : List ExtentExpr) (i : ℕ) (x : ExtentExpr) (ls : List (List Pair)) (l : List Pair) → i < length xs → x ≡ get_or xs i x → AreListed d (take i xs) ls → Lists (Ext (expr_tree x) d) l → AreListed d (take (suc i) xs) (ls ++ l ∷ [])
 listed_suc d [] i x ls l lt e h k = absurd (omega arith)

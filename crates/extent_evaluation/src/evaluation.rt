@@ -1,5 +1,5 @@
 // The extents of an expression.
-ghost use Rattle.std.specs.Prelude.{◌≡◌, ◌<◌, length, map, All, IfOk, IfErr, Err};
+ghost use Rattle.std.specs.Prelude.{◌≡◌, ◌<◌, length, map, All, IfOk, IfErr, IsOkAnd, Err};
 ghost use Rattle.std.specs.List.{AllZip};
 ghost use Rattle.ri_base.specs.Collection.{document_at};
 ghost use Rattle.ri_base.specs.Expression.{EachWord, EachWordOf, expr_tree, expr_trees};
@@ -16,7 +16,7 @@ use crate::union::union_of;
 use crate::unordered::windows;
 use extent_lists::{of_fields, of_term};
 use field_extents::inside;
-use ri_base::{ExtentExpr, Extents, Postings, SegFault};
+use ri_base::{Extent, ExtentExpr, Extents, NoMemory, Postings, SegFault};
 use std::alloc::{AllocError, Global};
 
 /// The extents of the expression in the document, by begin and then end, each once.
@@ -61,27 +61,35 @@ fn evaluated<P: Postings>(
         ExtentExpr::Word(term) => of_term(alloc, term, postings, id),
         ExtentExpr::Ordered(n, all) => {
             let lists = all_evaluated(alloc, all, postings, id)?;
-            Ok(Extents::of(chains(alloc, *n, &lists)?))
+            listed(chains(alloc, *n, &lists))
         }
         ExtentExpr::Unordered(n, all) => {
             let lists = all_evaluated(alloc, all, postings, id)?;
-            Ok(Extents::of(windows(alloc, *n, &lists)?))
+            listed(windows(alloc, *n, &lists))
         }
         ExtentExpr::Syn(all) => {
             let lists = all_evaluated(alloc, all, postings, id)?;
-            Ok(Extents::of(union_of(alloc, &lists)?))
+            listed(union_of(alloc, &lists))
         }
-        ExtentExpr::Any(name) => Ok(Extents::of(of_fields(alloc, postings.spans(id), name)?)),
+        ExtentExpr::Any(name) => listed(of_fields(alloc, postings.spans(id), name)),
         ExtentExpr::Band(all) => {
             let lists = all_evaluated(alloc, all, postings, id)?;
             let length = postings.length(id);
-            Ok(Extents::of(whole_if_each(alloc, &lists, length)?))
+            listed(whole_if_each(alloc, &lists, length))
         }
         ExtentExpr::InField(x, name) => {
             let found = evaluated(alloc, x, postings, id)?;
             Ok(inside(alloc, &found, postings.spans(id), name)?)
         }
     }
+}
+
+/// The extents that were found, or want of memory.
+fn listed(found: Result<Vec<Extent>, NoMemory>) -> Result<Extents, SegFault>
+    ensures some { IfOk result (λ xs. IsOkAnd found (λ v. v.items ≡ xs)) }
+    ensures none { IfErr result (λ fault. fault ≡ SegFault.Memory) }
+{
+    Ok(Extents::of(found?))
 }
 
 /// The extents of each expression.

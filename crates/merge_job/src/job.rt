@@ -1,5 +1,5 @@
 // A merge that is done in turns.
-ghost use Rattle.std.specs.Prelude.{◌≡◌, ◌<◌, ◌≤◌, ◌+◌, ◌↔◌, [], false, Option, Some, Err, length, map, min, IfOk, IfErr, OnOk, MatchResult};
+ghost use Rattle.std.specs.Prelude.{◌≡◌, ◌≢◌, ◌<◌, ◌≤◌, ◌+◌, ◌↔◌, [], false, Option, Some, Err, length, map, min, IfOk, IfErr, OnOk, MatchResult};
 ghost use Rattle.std.specs.List.{AllZip};
 ghost use Rattle.ri_base.specs.Faults.{IsOutside};
 ghost use Rattle.ri_base.specs.Keeps.{Rose};
@@ -103,6 +103,7 @@ impl MergeJob {
         ensures quiet { IsQuiet T.files T.layers T.clock T.since T.longest T.held store.old store.new }
         ensures later { T.faults store.old ≤ T.faults store.new }
         ensures store { result ≡ Err SegFault.Store → Rose (T.faults store.old) (T.faults store.new) }
+        ensures none { result ≢ Err SegFault.Store → T.faults store.new ≡ T.faults store.old }
     {
         let count = self.copied.len();
         let goal = count + docs.min(self.size - count);

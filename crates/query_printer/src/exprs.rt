@@ -44,13 +44,29 @@ pub(crate) fn push_bytes(out: &mut Vec<u8>, bytes: &[u8]) -> Result<(), NoMemory
     Ok(())
 }
 
+/// Appends bytes and others behind them.
+fn push_two(out: &mut Vec<u8>, front: &[u8], back: &[u8]) -> Result<(), NoMemory>
+    ensures { OnOk result (out.new.items ≡ (out.old.items ++ front.now) ++ back.now) }
+{
+    push_bytes(out, front)?;
+    push_bytes(out, back)
+}
+
+/// Appends the name of a window, its width and `(`.
+fn push_width(alloc: Global, out: &mut Vec<u8>, name: &[u8], width: u32) -> Result<(), NoMemory>
+    ensures { OnOk result (out.new.items ≡ ((out.old.items ++ name.now) ++ decimal width) ++ 40 ∷ []) }
+{
+    push_bytes(out, name)?;
+    push_number(alloc, out, u64::from(width))?;
+    push_bytes(out, b"(")
+}
+
 fn push_quoted(out: &mut Vec<u8>, bytes: &[u8]) -> Result<(), NoMemory>
     ensures { OnOk result (out.new.items ≡ out.old.items ++ 34 ∷ (doubled bytes.now ++ 34 ∷ [])) }
 {
-    out.push(b'"')?;
+    push_bytes(out, b"\"")?;
     push_doubled(out, bytes)?;
-    out.push(b'"')?;
-    Ok(())
+    push_bytes(out, b"\"")
 }
 
 #[cycle(printing)]
@@ -60,10 +76,7 @@ pub(crate) fn push_expr(alloc: Global, out: &mut Vec<u8>, x: &ExtentExpr) -> Res
 {
     match x {
         ExtentExpr::Word(term) => push_quoted(out, term.as_bytes()),
-        ExtentExpr::Any(name) => {
-            push_bytes(out, b"#any:")?;
-            push_bytes(out, name.as_bytes())
-        }
+        ExtentExpr::Any(name) => push_two(out, b"#any:", name.as_bytes()),
         ExtentExpr::Syn(all) => {
             push_bytes(out, b"#syn(")?;
             push_all(alloc, out, all)
@@ -73,21 +86,16 @@ pub(crate) fn push_expr(alloc: Global, out: &mut Vec<u8>, x: &ExtentExpr) -> Res
             push_all(alloc, out, all)
         }
         ExtentExpr::Ordered(n, all) => {
-            push_bytes(out, b"#")?;
-            push_number(alloc, out, u64::from(*n))?;
-            push_bytes(out, b"(")?;
+            push_width(alloc, out, b"#", *n)?;
             push_all(alloc, out, all)
         }
         ExtentExpr::Unordered(n, all) => {
-            push_bytes(out, b"#uw")?;
-            push_number(alloc, out, u64::from(*n))?;
-            push_bytes(out, b"(")?;
+            push_width(alloc, out, b"#uw", *n)?;
             push_all(alloc, out, all)
         }
         ExtentExpr::InField(x, name) => {
             push_expr(alloc, out, x)?;
-            push_bytes(out, b".")?;
-            push_bytes(out, name.as_bytes())
+            push_two(out, b".", name.as_bytes())
         }
     }
 }

@@ -10,7 +10,7 @@ use Rattle.ri_base.specs.Pair.{Pair}
 use Rattle.ri_base.specs.declared.fraction.Fraction.{Fraction}
 use Rattle.ri_base.specs.declared.hit.Hit.{Hit}
 use Rattle.ri_base.specs.declared.hit.LeafStats.{LeafStats}
-use Rattle.ranked_output.specs.Texts.{score_text}
+use Rattle.ranked_output.specs.Texts.{hit_text, score_text}
 use Rattle.ranked_output.specs.declared.explained.Explained.{Explained}
 use Rattle.ranked_output.specs.declared.explained.LeafShown.{LeafShown}
 use Rattle.ranked_output.specs.declared.explained.LeafShown.TheVariants.{Extents, Prior}
@@ -49,8 +49,7 @@ leaves_text i (leaf ∷ leaves) = leaf_text i leaf ++ leaves_text (i + 1) leaves
 
 -- result RANK DOCNO BEGIN END
 unfoldable pub result_line : ℕ → Hit → List ℕ
-result_line rank hit =
-    codes "result " ++ decimal rank ++ 32 ∷ hit.docno ++ 32 ∷ decimal hit.begin ++ 32 ∷ decimal hit.end ++ 10 ∷ []
+result_line rank hit = codes "result " ++ decimal rank ++ 32 ∷ hit_text hit.docno hit.begin hit.end
 
 -- scale E
 unfoldable pub scale_line : ℕ → List ℕ

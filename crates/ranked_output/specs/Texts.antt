@@ -43,11 +43,18 @@ sign Below = 62
 sign Same = 61
 sign Near = 126
 
+-- DOCNO BEGIN END, the end of a line
+abbrev pub hit_text : List ℕ → ℕ → ℕ → List ℕ
+hit_text docno begin end = docno ++ 32 ∷ decimal begin ++ 32 ∷ decimal end ++ 10 ∷ []
+
 -- RANK MARK -SCORE DOCNO BEGIN END
 abbrev pub line_text : ℕ → Line → List ℕ
 line_text rank l =
-    decimal rank ++ 32 ∷ sign l.mark ∷ 32 ∷ 45 ∷ score_text l.score ++ 32 ∷ l.docno ++ 32 ∷ decimal l.begin
-    ++ 32 ∷ decimal l.end ++ 10 ∷ []
+    decimal rank ++ 32 ∷ sign l.mark ∷ 32 ∷ 45 ∷ score_text l.score ++ 32 ∷ hit_text l.docno l.begin l.end
+
+-- TOPIC Q0 DOCNO RANK
+abbrev pub found_text : List ℕ → List ℕ → ℕ → List ℕ
+found_text topic docno rank = topic ++ 32 ∷ 81 ∷ 48 ∷ 32 ∷ docno ++ 32 ∷ decimal rank
 
 -- TOPIC Q0 DOCNO RANK -SCORE RUN: the line of a document in a run, six columns as trec_eval reads them
 abbrev pub trec_text : List ℕ → ℕ → List ℕ → ℕ → List ℕ → List ℕ

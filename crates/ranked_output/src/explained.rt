@@ -1,11 +1,13 @@
 // Why a hit has its score: the text of `explain`.
-ghost use Rattle.std.specs.Prelude.{◌≡◌, ◌++◌, IfOk, OnOk};
+ghost use Rattle.std.specs.Prelude.{◌≡◌, ◌∷◌, ◌++◌, [], IfOk, OnOk};
+ghost use Rattle.std.specs.Fmt.{decimal};
 ghost use Rattle.log_chain.specs.Score.{score};
-ghost use Rattle.query_printer.specs.Printed.{context_text};
+ghost use Rattle.ri_base.specs.Expression.{expr_tree};
+ghost use Rattle.query_printer.specs.Printed.{context_text, printed};
 ghost use Rattle.ranked_output.specs.Explained.{belief_column, counts_columns, explained_text, leaf_text, leaves_text, named_number, place_line, places_text, result_line, scale_line, score_line};
 ghost use Rattle.ranked_output.specs.Marks.{IsScale};
 
-use crate::texts::score_text;
+use crate::texts::{push_bytes, push_hit, push_number, score_text};
 use belief_nodes::LeafCount;
 use query_printer::print_expr;
 use ri_base::{Bytes, Extent, ExtentExpr, Extents, Fraction, Hit, LeafStats, List, Name, NoMemory};
@@ -44,11 +46,10 @@ pub struct Explained {
 fn push_named(alloc: Global, text: &mut Vec<u8>, name: &[u8], n: u64) -> Result<(), NoMemory>
     ensures { OnOk result (text.new.items ≡ text.old.items ++ named_number name.now n) }
 {
-    text.push(b' ')?;
-    text.extend_from_slice(name)?;
-    text.push(b' ')?;
-    text.extend_from_slice(n.to_string(alloc)?.as_bytes())?;
-    Ok(())
+    push_bytes(text, b" ")?;
+    push_bytes(text, name)?;
+    push_bytes(text, b" ")?;
+    push_number(alloc, text, n)
 }
 
 fn push_counts(
@@ -69,51 +70,73 @@ fn push_counts(
 fn push_belief(alloc: Global, text: &mut Vec<u8>, belief: Fraction) -> Result<(), NoMemory>
     ensures { OnOk result (text.new.items ≡ text.old.items ++ belief_column belief) }
 {
-    text.extend_from_slice(b" belief ")?;
-    text.extend_from_slice(belief.p.to_string(alloc)?.as_bytes())?;
-    text.push(b'/')?;
-    text.extend_from_slice(belief.q.to_string(alloc)?.as_bytes())?;
-    Ok(())
+    push_bytes(text, b" belief ")?;
+    push_number(alloc, text, belief.p)?;
+    push_bytes(text, b"/")?;
+    push_number(alloc, text, belief.q)
 }
 
 fn push_place(alloc: Global, text: &mut Vec<u8>, x: Extent) -> Result<(), NoMemory>
     ensures { OnOk result (text.new.items ≡ text.old.items ++ place_line x) }
 {
-    text.extend_from_slice(b"at ")?;
-    text.extend_from_slice(x.begin().to_string(alloc)?.as_bytes())?;
-    text.push(b' ')?;
-    text.extend_from_slice(x.end().to_string(alloc)?.as_bytes())?;
-    text.push(b'\n')?;
-    Ok(())
+    push_bytes(text, b"at ")?;
+    push_number(alloc, text, u64::from(x.begin()))?;
+    push_bytes(text, b" ")?;
+    push_number(alloc, text, u64::from(x.end()))?;
+    push_bytes(text, b"\n")
 }
 
-/// The lines of extents.
-fn places_text(alloc: Global, extents: &Extents) -> Result<Vec<u8>, NoMemory>
-    ensures { IfOk result (λ text. text.items ≡ places_text extents.now) }
+/// Appends the lines of extents.
+fn push_places(alloc: Global, text: &mut Vec<u8>, extents: &Extents) -> Result<(), NoMemory>
+    ensures { OnOk result (text.new.items ≡ text.old.items ++ places_text extents.now) }
 {
-    let mut text = Vec::new(alloc);
     for x in extents.as_slice() {
-        push_place(alloc, &mut text, *x)?;
+        push_place(alloc, text, *x)?;
     }
-    Ok(text)
+    Ok(())
 }
 
 fn push_context(text: &mut Vec<u8>, context: &Option<Name>) -> Result<(), NoMemory>
     ensures { OnOk result (text.new.items ≡ text.old.items ++ context_text context.now) }
 {
     if let Some(name) = context {
-        text.extend_from_slice(b".(")?;
-        text.extend_from_slice(name.as_bytes())?;
-        text.push(b')')?;
+        push_bytes(text, b".(")?;
+        push_bytes(text, name.as_bytes())?;
+        push_bytes(text, b")")?;
     }
     Ok(())
 }
 
-/// The lines of the leaf with this number.
-fn leaf_text(alloc: Global, number: usize, leaf: &LeafShown) -> Result<Vec<u8>, NoMemory>
-    ensures { IfOk result (λ text. text.items ≡ leaf_text number leaf.now) }
+/// Appends what a leaf's line begins with: its kind and its number, with a space behind each.
+fn push_leaf_start(
+    alloc: Global,
+    text: &mut Vec<u8>,
+    kind: &[u8],
+    number: usize,
+) -> Result<(), NoMemory>
+    ensures { OnOk result (text.new.items ≡ text.old.items ++ kind.now ++ 32 ∷ decimal number ++ 32 ∷ []) }
 {
-    let mut text = Vec::new(alloc);
+    push_bytes(text, kind)?;
+    push_bytes(text, b" ")?;
+    push_number(alloc, text, number as u64)?;
+    push_bytes(text, b" ")
+}
+
+fn push_expr(alloc: Global, text: &mut Vec<u8>, expr: &ExtentExpr) -> Result<(), NoMemory>
+    ensures { OnOk result (text.new.items ≡ text.old.items ++ printed (expr_tree expr.now)) }
+{
+    push_bytes(text, print_expr(alloc, expr)?.as_slice())
+}
+
+/// Appends the lines of the leaf with this number.
+fn push_leaf(
+    alloc: Global,
+    text: &mut Vec<u8>,
+    number: usize,
+    leaf: &LeafShown,
+) -> Result<(), NoMemory>
+    ensures { OnOk result (text.new.items ≡ text.old.items ++ leaf_text number leaf.now) }
+{
     match leaf {
         LeafShown::Extents {
             expr,
@@ -123,83 +146,65 @@ fn leaf_text(alloc: Global, number: usize, leaf: &LeafShown) -> Result<Vec<u8>, 
             extents,
             belief,
         } => {
-            text.extend_from_slice(b"leaf ")?;
-            text.extend_from_slice(number.to_string(alloc)?.as_bytes())?;
-            text.push(b' ')?;
-            text.extend_from_slice(print_expr(alloc, expr)?.as_slice())?;
-            push_context(&mut text, context)?;
-            push_counts(alloc, &mut text, *count, *stats)?;
-            push_belief(alloc, &mut text, *belief)?;
-            text.push(b'\n')?;
-            text.extend_from_slice(&places_text(alloc, extents)?)?;
+            push_leaf_start(alloc, text, b"leaf", number)?;
+            push_expr(alloc, text, expr)?;
+            push_context(text, context)?;
+            push_counts(alloc, text, *count, *stats)?;
+            push_belief(alloc, text, *belief)?;
+            push_bytes(text, b"\n")?;
+            push_places(alloc, text, extents)
         }
         LeafShown::Prior { name, belief } => {
-            text.extend_from_slice(b"prior ")?;
-            text.extend_from_slice(number.to_string(alloc)?.as_bytes())?;
-            text.push(b' ')?;
-            text.extend_from_slice(name.as_bytes())?;
-            push_belief(alloc, &mut text, *belief)?;
-            text.push(b'\n')?;
+            push_leaf_start(alloc, text, b"prior", number)?;
+            push_bytes(text, name.as_bytes())?;
+            push_belief(alloc, text, *belief)?;
+            push_bytes(text, b"\n")
         }
     }
-    Ok(text)
 }
 
-/// The lines of all leaves, which are counted from 1.
-fn leaves_text(alloc: Global, leaves: &List<LeafShown>) -> Result<Vec<u8>, NoMemory>
-    ensures { IfOk result (λ text. text.items ≡ leaves_text 1 leaves.now) }
+/// Appends the lines of all leaves, which are counted from 1.
+fn push_leaves(alloc: Global, text: &mut Vec<u8>, leaves: &List<LeafShown>) -> Result<(), NoMemory>
+    ensures { OnOk result (text.new.items ≡ text.old.items ++ leaves_text 1 leaves.now) }
 {
-    let mut text = Vec::new(alloc);
     let mut number = 1;
     for leaf in leaves.as_slice() {
-        text.extend_from_slice(&leaf_text(alloc, number, leaf)?)?;
+        push_leaf(alloc, text, number, leaf)?;
         number += 1;
     }
-    Ok(text)
+    Ok(())
 }
 
-/// `result RANK DOCNO BEGIN END`
+/// Appends `result RANK DOCNO BEGIN END`.
 #[tactic(auto, unfolding(crate::specs::Explained::result_line))]
-fn result_line(alloc: Global, rank: u32, hit: &Hit) -> Result<Vec<u8>, NoMemory>
-    ensures { IfOk result (λ text. text.items ≡ result_line rank hit.now) }
+fn push_result_line(alloc: Global, text: &mut Vec<u8>, rank: u32, hit: &Hit) -> Result<(), NoMemory>
+    ensures { OnOk result (text.new.items ≡ text.old.items ++ result_line rank hit.now) }
 {
-    let mut text = Vec::new(alloc);
-    text.extend_from_slice(b"result ")?;
-    text.extend_from_slice(rank.to_string(alloc)?.as_bytes())?;
-    text.push(b' ')?;
-    text.extend_from_slice(hit.docno.as_bytes())?;
-    text.push(b' ')?;
-    text.extend_from_slice(hit.begin.to_string(alloc)?.as_bytes())?;
-    text.push(b' ')?;
-    text.extend_from_slice(hit.end.to_string(alloc)?.as_bytes())?;
-    text.push(b'\n')?;
-    Ok(text)
+    push_bytes(text, b"result ")?;
+    push_number(alloc, text, u64::from(rank))?;
+    push_bytes(text, b" ")?;
+    push_hit(alloc, text, hit)
 }
 
-/// `scale E`
+/// Appends `scale E`.
 #[tactic(auto, unfolding(crate::specs::Explained::scale_line))]
-fn scale_line(alloc: Global, scale: u64) -> Result<Vec<u8>, NoMemory>
-    ensures { IfOk result (λ text. text.items ≡ scale_line scale) }
+fn push_scale_line(alloc: Global, text: &mut Vec<u8>, scale: u64) -> Result<(), NoMemory>
+    ensures { OnOk result (text.new.items ≡ text.old.items ++ scale_line scale) }
 {
-    let mut text = Vec::new(alloc);
-    text.extend_from_slice(b"scale ")?;
-    text.extend_from_slice(scale.to_string(alloc)?.as_bytes())?;
-    text.push(b'\n')?;
-    Ok(text)
+    push_bytes(text, b"scale ")?;
+    push_number(alloc, text, scale)?;
+    push_bytes(text, b"\n")
 }
 
-/// `score -SCORE`
+/// Appends `score -SCORE`.
 #[tactic(auto, unfolding(crate::specs::Explained::score_line))]
-fn score_line(alloc: Global, key: u128, scale: u64) -> Result<Vec<u8>, NoMemory>
+fn push_score_line(alloc: Global, text: &mut Vec<u8>, key: u128, scale: u64) -> Result<(), NoMemory>
     requires { IsScale scale }
-    ensures { IfOk result (λ text. text.items ≡ score_line (score scale key)) }
+    ensures { OnOk result (text.new.items ≡ text.old.items ++ score_line (score scale key)) }
 {
-    let score = score_text(alloc, key, scale)?;
-    let mut text = Vec::new(alloc);
-    text.extend_from_slice(b"score -")?;
-    text.extend_from_slice(score.as_slice())?;
-    text.push(b'\n')?;
-    Ok(text)
+    push_bytes(text, b"score -")?;
+    push_bytes(text, score_text(alloc, key, scale)?.as_slice())?;
+    push_bytes(text, b"\n")
 }
 
 /// The lines that explain a hit: its place, the scale, each leaf with its counts, belief and extents, and the score.
@@ -208,9 +213,9 @@ pub fn explain_lines(alloc: Global, explained: &Explained) -> Result<Bytes, NoMe
     ensures { IfOk result (λ text. text ≡ explained_text explained.now) }
 {
     let mut text = Vec::new(alloc);
-    text.extend_from_slice(&result_line(alloc, explained.rank, &explained.hit)?)?;
-    text.extend_from_slice(&scale_line(alloc, explained.scale)?)?;
-    text.extend_from_slice(&leaves_text(alloc, &explained.leaves)?)?;
-    text.extend_from_slice(&score_line(alloc, explained.hit.key, explained.scale)?)?;
+    push_result_line(alloc, &mut text, explained.rank, &explained.hit)?;
+    push_scale_line(alloc, &mut text, explained.scale)?;
+    push_leaves(alloc, &mut text, &explained.leaves)?;
+    push_score_line(alloc, &mut text, explained.hit.key, explained.scale)?;
     Ok(Bytes::of(text))
 }

@@ -1,7 +1,8 @@
-ghost use Rattle.std.specs.Prelude.{◌≡◌, ◌*◌, ◌/◌, ◌^◌, ◌<◌, IfOk};
+ghost use Rattle.std.specs.Prelude.{◌≡◌, ◌*◌, ◌/◌, ◌^◌, ◌<◌, ◌∷◌, ◌++◌, [], IfOk, OnOk};
+ghost use Rattle.std.specs.Fmt.{decimal};
 ghost use Rattle.ranked_output.specs.Marks.{IsScale};
 ghost use Rattle.log_chain.specs.Score.{score};
-ghost use Rattle.ranked_output.specs.Texts.{line_of, line_text, score_text, sign, trec_text};
+ghost use Rattle.ranked_output.specs.Texts.{found_text, hit_text, line_of, line_text, score_text, sign, trec_text};
 
 use crate::Mark;
 use log_chain::LAST;
@@ -49,26 +50,71 @@ fn sign(mark: Mark) -> u8
     }
 }
 
+/// Appends bytes.
+pub(crate) fn push_bytes(text: &mut Vec<u8>, bytes: &[u8]) -> Result<(), NoMemory>
+    ensures { OnOk result (text.new.items ≡ text.old.items ++ bytes.now) }
+{
+    text.extend_from_slice(bytes)?;
+    Ok(())
+}
+
+/// Appends a number.
+pub(crate) fn push_number(alloc: Global, text: &mut Vec<u8>, n: u64) -> Result<(), NoMemory>
+    ensures { OnOk result (text.new.items ≡ text.old.items ++ decimal n) }
+{
+    push_bytes(text, n.to_string(alloc)?.as_bytes())
+}
+
+/// Appends ` -SCORE` of a key, and a space.
+fn push_score(alloc: Global, text: &mut Vec<u8>, key: u128, scale: u64) -> Result<(), NoMemory>
+    requires { IsScale scale }
+    ensures { OnOk result (text.new.items ≡ text.old.items ++ 32 ∷ 45 ∷ score_text (score scale key) ++ 32 ∷ []) }
+{
+    push_bytes(text, b" -")?;
+    push_bytes(text, score_text(alloc, key, scale)?.as_slice())?;
+    push_bytes(text, b" ")
+}
+
+/// Appends where a hit stands, which ends its line: `DOCNO BEGIN END`.
+pub(crate) fn push_hit(alloc: Global, text: &mut Vec<u8>, hit: &Hit) -> Result<(), NoMemory>
+    ensures { OnOk result (text.new.items ≡ text.old.items ++ hit_text hit.now.docno hit.now.begin hit.now.end) }
+{
+    push_bytes(text, hit.docno.as_bytes())?;
+    push_bytes(text, b" ")?;
+    push_number(alloc, text, u64::from(hit.begin))?;
+    push_bytes(text, b" ")?;
+    push_number(alloc, text, u64::from(hit.end))?;
+    push_bytes(text, b"\n")
+}
+
 /// The line of a hit: `RANK MARK -SCORE DOCNO BEGIN END`. The scale is that of the query.
 pub fn line(alloc: Global, rank: u32, mark: Mark, hit: &Hit, scale: u64) -> Result<Bytes, NoMemory>
     requires { IsScale scale }
     ensures { IfOk result (λ text. text ≡ line_text rank (line_of scale mark hit.now)) }
 {
-    let score = score_text(alloc, hit.key, scale)?;
     let mut text = Vec::new(alloc);
-    text.extend_from_slice(rank.to_string(alloc)?.as_bytes())?;
-    text.push(b' ')?;
-    text.push(sign(mark))?;
-    text.extend_from_slice(b" -")?;
-    text.extend_from_slice(score.as_slice())?;
-    text.push(b' ')?;
-    text.extend_from_slice(hit.docno.as_bytes())?;
-    text.push(b' ')?;
-    text.extend_from_slice(hit.begin.to_string(alloc)?.as_bytes())?;
-    text.push(b' ')?;
-    text.extend_from_slice(hit.end.to_string(alloc)?.as_bytes())?;
-    text.push(b'\n')?;
+    push_number(alloc, &mut text, u64::from(rank))?;
+    push_bytes(&mut text, &[b' ', sign(mark)])?;
+    push_score(alloc, &mut text, hit.key, scale)?;
+    push_hit(alloc, &mut text, hit)?;
     Ok(Bytes::of(text))
+}
+
+/// Appends the columns of a run before the score: `TOPIC Q0 DOCNO RANK`.
+fn push_found(
+    alloc: Global,
+    text: &mut Vec<u8>,
+    topic: &str,
+    docno: &[u8],
+    rank: u32,
+) -> Result<(), NoMemory>
+    ensures { OnOk result (text.new.items ≡ text.old.items ++ found_text topic.now docno.now rank) }
+{
+    push_bytes(text, topic.as_bytes())?;
+    push_bytes(text, b" Q0 ")?;
+    push_bytes(text, docno)?;
+    push_bytes(text, b" ")?;
+    push_number(alloc, text, u64::from(rank))
 }
 
 /// The line of a hit in a run, as trec_eval reads it: `TOPIC Q0 DOCNO RANK -SCORE RUN`. The scale is that of the query.
@@ -83,19 +129,10 @@ pub fn trec_line(
     requires { IsScale scale }
     ensures { IfOk result (λ text. text ≡ trec_text topic.now rank hit.now.docno (score scale hit.now.key) run.now) }
 {
-    let score = score_text(alloc, hit.key, scale)?;
-    let digits = rank.to_string(alloc)?;
-    let (docno, rank) = (hit.docno.as_bytes(), digits.as_bytes());
     let mut text = Vec::new(alloc);
-    text.extend_from_slice(topic.as_bytes())?;
-    text.extend_from_slice(b" Q0 ")?;
-    text.extend_from_slice(docno)?;
-    text.push(b' ')?;
-    text.extend_from_slice(rank)?;
-    text.extend_from_slice(b" -")?;
-    text.extend_from_slice(score.as_slice())?;
-    text.push(b' ')?;
-    text.extend_from_slice(run.as_bytes())?;
-    text.push(b'\n')?;
+    push_found(alloc, &mut text, topic, hit.docno.as_bytes(), rank)?;
+    push_score(alloc, &mut text, hit.key, scale)?;
+    push_bytes(&mut text, run.as_bytes())?;
+    push_bytes(&mut text, b"\n")?;
     Ok(Bytes::of(text))
 }

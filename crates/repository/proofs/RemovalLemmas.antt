@@ -5,7 +5,7 @@ use Rattle.std.specs.Option.{option_map}
 use Rattle.std.specs.Prelude.{bytes_eq, if◌then◌else◌}
 use Rattle.std.proofs.lemmas.List.Elements.{All-more, All-weaker}
 use Rattle.store_ends.specs.Files.{Files, Leaves, OldOrNew, SameWhere, with_file}
-use Rattle.store_ends.proofs.Files.{Leaves-same, Leaves-then, SameWhere-fewer, SameWhere-same, SameWhere-step, SameWhere-then, with_file-other, with_file-same}
+use Rattle.store_ends.proofs.Files.{Leaves-then, SameWhere-fewer, SameWhere-step, SameWhere-then, with_file-other, with_file-same}
 use Rattle.disk_index.specs.Names.{segment_name}
 use Rattle.repository.specs.Names.{manifest_name, prior_name}
 use Rattle.repository.specs.Numbers.{is_among}

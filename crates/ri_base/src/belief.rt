@@ -28,13 +28,13 @@ impl Belief {
         ensures { IfOk result (λ x. belief_tree x ≡ belief_tree self.now) }
     {
         match self {
-            Belief::Combine(all) => Ok(Belief::Combine(clone_all(alloc, all)?)),
-            Belief::Weight(all) => Ok(Belief::Weight(clone_weighted(alloc, all)?)),
-            Belief::Max(all) => Ok(Belief::Max(clone_all(alloc, all)?)),
-            Belief::Prior(name) => Ok(Belief::Prior(name.clone_in(alloc)?)),
+            Belief::Combine(all) => clone_all(alloc, all).map(Belief::Combine),
+            Belief::Weight(all) => clone_weighted(alloc, all).map(Belief::Weight),
+            Belief::Max(all) => clone_all(alloc, all).map(Belief::Max),
+            Belief::Prior(name) => name.clone_in(alloc).map(Belief::Prior),
             Belief::Leaf(x, context) => {
                 let x = x.clone_in(alloc)?;
-                Ok(Belief::Leaf(x, clone_context(alloc, context)?))
+                clone_context(alloc, context).map(|context| Belief::Leaf(x, context))
             }
         }
     }
@@ -67,6 +67,6 @@ fn clone_context(alloc: Global, context: &Option<Name>) -> Result<Option<Name>, 
 {
     match context {
         None => Ok(None),
-        Some(name) => Ok(Some(name.clone_in(alloc)?)),
+        Some(name) => name.clone_in(alloc).map(Some),
     }
 }

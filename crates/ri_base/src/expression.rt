@@ -1,6 +1,6 @@
 // An expression of the query language that names extents.
 ghost use Rattle.std.specs.Prelude.{◌≡◌, IfOk, map};
-ghost use Rattle.ri_base.specs.Expression.{expr_tree};
+ghost use Rattle.ri_base.specs.Expression.{expr_tree, in_field};
 
 use crate::{Name, NoMemory, Term};
 use std::alloc::Global;
@@ -32,18 +32,28 @@ impl ExtentExpr {
         ensures { IfOk result (λ x. expr_tree x ≡ expr_tree self.now) }
     {
         match self {
-            ExtentExpr::Word(term) => Ok(ExtentExpr::Word(term.clone_in(alloc)?)),
-            ExtentExpr::Ordered(n, all) => Ok(ExtentExpr::Ordered(*n, clone_all(alloc, all)?)),
-            ExtentExpr::Unordered(n, all) => Ok(ExtentExpr::Unordered(*n, clone_all(alloc, all)?)),
-            ExtentExpr::Syn(all) => Ok(ExtentExpr::Syn(clone_all(alloc, all)?)),
-            ExtentExpr::Any(name) => Ok(ExtentExpr::Any(name.clone_in(alloc)?)),
-            ExtentExpr::Band(all) => Ok(ExtentExpr::Band(clone_all(alloc, all)?)),
-            ExtentExpr::InField(x, name) => {
-                let inner = x.clone_in(alloc)?;
-                Ok(ExtentExpr::InField(Box::new(alloc, inner)?, name.clone_in(alloc)?))
+            ExtentExpr::Word(term) => term.clone_in(alloc).map(ExtentExpr::Word),
+            ExtentExpr::Ordered(n, all) => {
+                clone_all(alloc, all).map(|all| ExtentExpr::Ordered(*n, all))
             }
+            ExtentExpr::Unordered(n, all) => {
+                clone_all(alloc, all).map(|all| ExtentExpr::Unordered(*n, all))
+            }
+            ExtentExpr::Syn(all) => clone_all(alloc, all).map(ExtentExpr::Syn),
+            ExtentExpr::Any(name) => name.clone_in(alloc).map(ExtentExpr::Any),
+            ExtentExpr::Band(all) => clone_all(alloc, all).map(ExtentExpr::Band),
+            ExtentExpr::InField(x, name) => in_field(alloc, x.clone_in(alloc)?, name),
         }
     }
+}
+
+/// The expression inside a field of an equal name.
+#[tactic(auto, using(crate::proofs::ExpressionLemmas::expr_tree_laws))]
+fn in_field(alloc: Global, x: ExtentExpr, name: &Name) -> Result<ExtentExpr, NoMemory>
+    ensures { IfOk result (λ whole. expr_tree whole ≡ in_field (expr_tree x) name.now) }
+{
+    let name = name.clone_in(alloc)?;
+    Ok(ExtentExpr::InField(Box::new(alloc, x)?, name))
 }
 
 #[cycle(cloning)]

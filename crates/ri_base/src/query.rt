@@ -53,7 +53,7 @@ impl Range {
     {
         match self {
             Range::Whole => Ok(Range::Whole),
-            Range::Field(name) => Ok(Range::Field(name.clone_in(alloc)?)),
+            Range::Field(name) => name.clone_in(alloc).map(Range::Field),
             Range::Passages { width, every } => Ok(Range::Passages {
                 width: *width,
                 every: *every,

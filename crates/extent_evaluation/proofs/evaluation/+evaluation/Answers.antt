@@ -6,8 +6,11 @@ use Rattle.ri_base.specs.Documents.{Document}
 use Rattle.ri_base.specs.Expression.{expr_tree}
 use Rattle.ri_base.specs.declared.expression.ExtentExpr.{the_lemmas}
 use Rattle.ri_base.proofs.ExpressionLemmas.{expr_tree-Word}
-use Rattle.extent_lists.specs.Rows.{IsAscending}
-use Rattle.extent_evaluation.proofs.EvaluationLemmas.{AreListed-more, Lists-of_any, Lists-of_band, Lists-of_in_field, Lists-of_ordered, Lists-of_syn, Lists-of_unordered}
+use Rattle.extent_lists.specs.Extents.{IsField}
+use Rattle.extent_lists.specs.Operators.{IsChain, IsInSome, IsLeastEnd, IsWindow}
+use Rattle.extent_lists.specs.Rows.{IsAscending, Lists, sets}
+use Rattle.extent_evaluation.proofs.BandLemmas.{IsWhole}
+use Rattle.extent_evaluation.proofs.EvaluationLemmas.{AreListed-more, found-gives, Lists-of_any, Lists-of_band, Lists-of_in_field, Lists-of_ordered, Lists-of_syn, Lists-of_unordered}
 use Rattle.extent_evaluation.proofs.InsideLemmas.{IsAscending-inside}
 use Rattle.extent_lists.proofs.KeepsLemmas.{Keeps-then}
 use Rattle.extent_lists.proofs.WordLemmas.{EachWord-of_any, EachWord-of_band, EachWord-of_in_field, EachWord-of_ordered, EachWord-of_syn, EachWord-of_unordered, EachWord-of_word, EachWord-weaker, EachWordOf-more, EachWordOf-none}
@@ -48,24 +51,30 @@ pub evaluated-returns-in-Word-clause-told : goal.evaluated-returns-in-Word-claus
 evaluated-returns-in-Word-clause-told g t c =
     IfOk-weaker _ _ _ (λ found told. EachWord-of_word (λ t. g.P.Postings.told c.args.postings.now t c.args.id) c.args.expr.now c.in-Word.term c.in-Word.is told) c.of_term.ensures.told
 
-pub evaluated-returns-in_ok-chains-in-Ordered-clause-told : goal.evaluated-returns-in_ok-chains-in-Ordered-clause-told
-evaluated-returns-in_ok-chains-in-Ordered-clause-told g t c =
-    EachWord-of_ordered _ c.args.expr.now c.in-Ordered.n c.in-Ordered.all c.in-Ordered.is (rw c.deref.ensures.value at c.in_ok-lists-in-Ordered.ensures.told)
+pub evaluated-returns-in_ok-lists-in-Ordered-clause-told : goal.evaluated-returns-in_ok-lists-in-Ordered-clause-told
+evaluated-returns-in_ok-lists-in-Ordered-clause-told g t c =
+    let words = EachWord-of_ordered _ c.args.expr.now c.in-Ordered.n c.in-Ordered.all c.in-Ordered.is (rw c.deref.ensures.value at c.in_ok-lists-in-Ordered.ensures.told) in
+    IfOk-weaker _ _ _ (λ xs found. words) c.listed.ensures.some
 
-pub evaluated-returns-in_ok-windows-in-Unordered-clause-told : goal.evaluated-returns-in_ok-windows-in-Unordered-clause-told
-evaluated-returns-in_ok-windows-in-Unordered-clause-told g t c =
-    EachWord-of_unordered _ c.args.expr.now c.in-Unordered.n c.in-Unordered.all c.in-Unordered.is (rw c.deref-in-Unordered.ensures.value at c.in_ok-lists-in-Unordered.ensures.told)
+pub evaluated-returns-in_ok-lists-in-Unordered-clause-told : goal.evaluated-returns-in_ok-lists-in-Unordered-clause-told
+evaluated-returns-in_ok-lists-in-Unordered-clause-told g t c =
+    let words = EachWord-of_unordered _ c.args.expr.now c.in-Unordered.n c.in-Unordered.all c.in-Unordered.is (rw c.deref-in-Unordered.ensures.value at c.in_ok-lists-in-Unordered.ensures.told) in
+    IfOk-weaker _ _ _ (λ xs found. words) c.listed-in-Unordered.ensures.some
 
-pub evaluated-returns-in_ok-union_of-in-Syn-clause-told : goal.evaluated-returns-in_ok-union_of-in-Syn-clause-told
-evaluated-returns-in_ok-union_of-in-Syn-clause-told g t c =
-    EachWord-of_syn _ c.args.expr.now c.in-Syn.all c.in-Syn.is (rw c.deref-in-Syn.ensures.value at c.in_ok-lists-in-Syn.ensures.told)
+pub evaluated-returns-in_ok-lists-in-Syn-clause-told : goal.evaluated-returns-in_ok-lists-in-Syn-clause-told
+evaluated-returns-in_ok-lists-in-Syn-clause-told g t c =
+    let words = EachWord-of_syn _ c.args.expr.now c.in-Syn.all c.in-Syn.is (rw c.deref-in-Syn.ensures.value at c.in_ok-lists-in-Syn.ensures.told) in
+    IfOk-weaker _ _ _ (λ xs found. words) c.listed-in-Syn.ensures.some
 
-pub evaluated-returns-in_ok-of_fields-in-Any-clause-told : goal.evaluated-returns-in_ok-of_fields-in-Any-clause-told
-evaluated-returns-in_ok-of_fields-in-Any-clause-told g t c = EachWord-of_any _ c.args.expr.now c.in-Any.name c.in-Any.is
+pub evaluated-returns-in_ok-lists-in-Band-clause-told : goal.evaluated-returns-in_ok-lists-in-Band-clause-told
+evaluated-returns-in_ok-lists-in-Band-clause-told g t c =
+    let words = EachWord-of_band _ c.args.expr.now c.in-Band.all c.in-Band.is (rw c.deref-in-Band.ensures.value at c.in_ok-lists-in-Band.ensures.told) in
+    IfOk-weaker _ _ _ (λ xs found. words) c.listed-in-Band.ensures.some
 
-pub evaluated-returns-in_ok-whole_if_each-in-Band-clause-told : goal.evaluated-returns-in_ok-whole_if_each-in-Band-clause-told
-evaluated-returns-in_ok-whole_if_each-in-Band-clause-told g t c =
-    EachWord-of_band _ c.args.expr.now c.in-Band.all c.in-Band.is (rw c.deref-in-Band.ensures.value at c.in_ok-lists-in-Band.ensures.told)
+pub evaluated-returns-in-Any-clause-told : goal.evaluated-returns-in-Any-clause-told
+evaluated-returns-in-Any-clause-told g t c =
+    let words = EachWord-of_any _ c.args.expr.now c.in-Any.name c.in-Any.is in
+    IfOk-weaker _ _ _ (λ xs found. words) c.listed-in-Any.ensures.some
 
 pub evaluated-returns-in_ok-inside-in-InField-clause-told : goal.evaluated-returns-in_ok-inside-in-InField-clause-told
 evaluated-returns-in_ok-inside-in-InField-clause-told g t c =
@@ -79,30 +88,55 @@ evaluated-inside-requires-clause-extents g t c = AreInOrder-ascending _ c.in_ok-
 pub evaluated-returns-in-Word-clause-exact : goal.evaluated-returns-in-Word-clause-exact
 evaluated-returns-in-Word-clause-exact g t c = λ sound. rw (c.in-Word.is, expr_tree-Word) (c.of_term.ensures.exact sound)
 
-pub evaluated-returns-in_ok-chains-in-Ordered-clause-exact : goal.evaluated-returns-in_ok-chains-in-Ordered-clause-exact
-evaluated-returns-in_ok-chains-in-Ordered-clause-exact g t c = λ sound.
-    rw c.of.ensures (Lists-of_ordered c.args.expr.now _ c.in-Ordered.n c.in-Ordered.all c.in_ok-lists-in-Ordered.lists.items _ c.in-Ordered.is
-    (rw c.deref.ensures.value at (c.in_ok-lists-in-Ordered.ensures.exact sound)) (rw c.deref-in-Ordered.ensures.value at c.in_ok-chains-in-Ordered.ensures))
+pub evaluated-returns-in_ok-lists-in-Ordered-clause-exact : goal.evaluated-returns-in_ok-lists-in-Ordered-clause-exact
+evaluated-returns-in_ok-lists-in-Ordered-clause-exact g t c = λ sound.
+    let lists = rw c.deref.ensures.value at (c.in_ok-lists-in-Ordered.ensures.exact sound) in
+    found-gives (Lists (IsLeastEnd (IsChain c.in-Ordered.n (sets c.in_ok-lists-in-Ordered.lists.items)))) _ _ _ (λ xs found. Lists-of_ordered c.args.expr.now _ c.in-Ordered.n c.in-Ordered.all c.in_ok-lists-in-Ordered.lists.items xs c.in-Ordered.is lists found)
+    (rw c.deref-in-Ordered.ensures.value at c.chains.ensures) c.listed.ensures.some
 
-pub evaluated-returns-in_ok-windows-in-Unordered-clause-exact : goal.evaluated-returns-in_ok-windows-in-Unordered-clause-exact
-evaluated-returns-in_ok-windows-in-Unordered-clause-exact g t c = λ sound.
-    rw c.of-in-Unordered.ensures (Lists-of_unordered c.args.expr.now _ c.in-Unordered.n c.in-Unordered.all c.in_ok-lists-in-Unordered.lists.items _ c.in-Unordered.is
-    (rw c.deref-in-Unordered.ensures.value at (c.in_ok-lists-in-Unordered.ensures.exact sound)) (rw c.deref-in-Unordered-2.ensures.value at c.in_ok-windows-in-Unordered.ensures))
+pub evaluated-returns-in_ok-lists-in-Unordered-clause-exact : goal.evaluated-returns-in_ok-lists-in-Unordered-clause-exact
+evaluated-returns-in_ok-lists-in-Unordered-clause-exact g t c = λ sound.
+    let lists = rw c.deref-in-Unordered.ensures.value at (c.in_ok-lists-in-Unordered.ensures.exact sound) in
+    found-gives (Lists (IsLeastEnd (IsWindow c.in-Unordered.n (sets c.in_ok-lists-in-Unordered.lists.items)))) _ _ _ (λ xs found. Lists-of_unordered c.args.expr.now _ c.in-Unordered.n c.in-Unordered.all c.in_ok-lists-in-Unordered.lists.items xs c.in-Unordered.is lists found)
+    (rw c.deref-in-Unordered-2.ensures.value at c.windows.ensures) c.listed-in-Unordered.ensures.some
 
-pub evaluated-returns-in_ok-union_of-in-Syn-clause-exact : goal.evaluated-returns-in_ok-union_of-in-Syn-clause-exact
-evaluated-returns-in_ok-union_of-in-Syn-clause-exact g t c = λ sound.
-    rw c.of-in-Syn.ensures (Lists-of_syn c.args.expr.now _ c.in-Syn.all c.in_ok-lists-in-Syn.lists.items _ c.in-Syn.is
-    (rw c.deref-in-Syn.ensures.value at (c.in_ok-lists-in-Syn.ensures.exact sound)) (rw c.deref-in-Syn-2.ensures.value at c.in_ok-union_of-in-Syn.ensures))
+pub evaluated-returns-in_ok-lists-in-Syn-clause-exact : goal.evaluated-returns-in_ok-lists-in-Syn-clause-exact
+evaluated-returns-in_ok-lists-in-Syn-clause-exact g t c = λ sound.
+    let lists = rw c.deref-in-Syn.ensures.value at (c.in_ok-lists-in-Syn.ensures.exact sound) in
+    found-gives (Lists (IsInSome (sets c.in_ok-lists-in-Syn.lists.items))) _ _ _ (λ xs found. Lists-of_syn c.args.expr.now _ c.in-Syn.all c.in_ok-lists-in-Syn.lists.items xs c.in-Syn.is lists found)
+    (rw c.deref-in-Syn-2.ensures.value at c.union_of.ensures) c.listed-in-Syn.ensures.some
 
-pub evaluated-returns-in_ok-of_fields-in-Any-clause-exact : goal.evaluated-returns-in_ok-of_fields-in-Any-clause-exact
-evaluated-returns-in_ok-of_fields-in-Any-clause-exact g t c = λ sound.
-    rw c.of-in-Any.ensures (Lists-of_any c.args.expr.now _ c.in-Any.name c.spans.result.now _ c.in-Any.is c.spans.ensures.exact c.in_ok-of_fields-in-Any.ensures)
-
-pub evaluated-returns-in_ok-whole_if_each-in-Band-clause-exact : goal.evaluated-returns-in_ok-whole_if_each-in-Band-clause-exact
-evaluated-returns-in_ok-whole_if_each-in-Band-clause-exact g t c = λ sound.
+pub evaluated-returns-in_ok-lists-in-Band-clause-exact : goal.evaluated-returns-in_ok-lists-in-Band-clause-exact
+evaluated-returns-in_ok-lists-in-Band-clause-exact g t c = λ sound.
     let tokens = c.length-length.ensures.exact ∙ ap (λ (ds : List Document). length (document_at ds c.args.id).tokens) c.in_ok-lists-in-Band.ensures.keeps.documents_stay in
-    rw c.of-in-Band.ensures (Lists-of_band c.args.expr.now _ c.in-Band.all c.in_ok-lists-in-Band.lists.items c.length-length.result _ c.in-Band.is
-    (rw c.deref-in-Band.ensures.value at (c.in_ok-lists-in-Band.ensures.exact sound)) tokens (rw c.deref-in-Band-2.ensures.value at c.in_ok-whole_if_each-in-Band.ensures))
+    let lists = rw c.deref-in-Band.ensures.value at (c.in_ok-lists-in-Band.ensures.exact sound) in
+    found-gives (Lists (IsWhole c.length-length.result c.in_ok-lists-in-Band.lists.items)) _ _ _ (λ xs found. Lists-of_band c.args.expr.now _ c.in-Band.all c.in_ok-lists-in-Band.lists.items c.length-length.result xs c.in-Band.is lists tokens found)
+    (rw c.deref-in-Band-2.ensures.value at c.whole_if_each.ensures) c.listed-in-Band.ensures.some
+
+pub evaluated-returns-in-Any-clause-exact : goal.evaluated-returns-in-Any-clause-exact
+evaluated-returns-in-Any-clause-exact g t c = λ sound.
+    found-gives (Lists (IsField c.spans.result.now c.in-Any.name)) _ _ _ (λ xs found. Lists-of_any c.args.expr.now _ c.in-Any.name c.spans.result.now xs c.in-Any.is c.spans.ensures.exact found)
+    c.of_fields.ensures c.listed-in-Any.ensures.some
+
+pub evaluated-returns-in-Any-clause-ascending : goal.evaluated-returns-in-Any-clause-ascending
+evaluated-returns-in-Any-clause-ascending g t c =
+    found-gives (Lists (IsField c.spans.result.now c.in-Any.name)) IsAscending _ _ (λ xs found. found.ascending) c.of_fields.ensures c.listed-in-Any.ensures.some
+
+pub evaluated-returns-in_ok-lists-in-Ordered-clause-ascending : goal.evaluated-returns-in_ok-lists-in-Ordered-clause-ascending
+evaluated-returns-in_ok-lists-in-Ordered-clause-ascending g t c =
+    found-gives (Lists (IsLeastEnd (IsChain c.in-Ordered.n (sets c.in_ok-lists-in-Ordered.lists.items)))) IsAscending _ _ (λ xs found. found.ascending) (rw c.deref-in-Ordered.ensures.value at c.chains.ensures) c.listed.ensures.some
+
+pub evaluated-returns-in_ok-lists-in-Unordered-clause-ascending : goal.evaluated-returns-in_ok-lists-in-Unordered-clause-ascending
+evaluated-returns-in_ok-lists-in-Unordered-clause-ascending g t c =
+    found-gives (Lists (IsLeastEnd (IsWindow c.in-Unordered.n (sets c.in_ok-lists-in-Unordered.lists.items)))) IsAscending _ _ (λ xs found. found.ascending) (rw c.deref-in-Unordered-2.ensures.value at c.windows.ensures) c.listed-in-Unordered.ensures.some
+
+pub evaluated-returns-in_ok-lists-in-Syn-clause-ascending : goal.evaluated-returns-in_ok-lists-in-Syn-clause-ascending
+evaluated-returns-in_ok-lists-in-Syn-clause-ascending g t c =
+    found-gives (Lists (IsInSome (sets c.in_ok-lists-in-Syn.lists.items))) IsAscending _ _ (λ xs found. found.ascending) (rw c.deref-in-Syn-2.ensures.value at c.union_of.ensures) c.listed-in-Syn.ensures.some
+
+pub evaluated-returns-in_ok-lists-in-Band-clause-ascending : goal.evaluated-returns-in_ok-lists-in-Band-clause-ascending
+evaluated-returns-in_ok-lists-in-Band-clause-ascending g t c =
+    found-gives (Lists (IsWhole c.length-length.result c.in_ok-lists-in-Band.lists.items)) IsAscending _ _ (λ xs found. found.ascending) (rw c.deref-in-Band-2.ensures.value at c.whole_if_each.ensures) c.listed-in-Band.ensures.some
 
 pub evaluated-returns-in_ok-inside-in-InField-clause-exact : goal.evaluated-returns-in_ok-inside-in-InField-clause-exact
 evaluated-returns-in_ok-inside-in-InField-clause-exact g t c = λ sound.

@@ -107,6 +107,7 @@ loop-number-preserved g c =
       cache = AllKept-then c.args.cache.now c.loop-number.cache c.copy_part.new.cache inv.cache c.copy_part.ensures.cache;
       quiet = IsQuiet-then _ _ _ _ _ _ g.T.Store.faults _ _ _ inv.quiet c.copy_part.ensures.quiet;
       later = (let l = inv.later in let k = c.copy_part.ensures.later in omega (arith, l, k));
+      same = c.in_ok-copy_part.ensures.none (λ is. absurd cc) ∙ inv.same;
     }
 
 pub returns-clause-done : goal.returns-clause-done

@@ -71,6 +71,7 @@ loop-i-preserved g c =
       cache = AllKept-then c.args.cache.now c.loop-i.cache c.copy_one.new.cache inv.cache c.copy_one.ensures.cache;
       quiet = IsQuiet-then _ _ _ _ _ _ g.T.Store.faults _ _ _ inv.quiet c.copy_one.ensures.quiet;
       later = (let l = inv.later in let k = c.copy_one.ensures.later in omega (arith, l, k));
+      same = one.none (λ is. absurd cc) ∙ inv.same;
     }
 
 pub returns-clause-done : goal.returns-clause-done

@@ -1,4 +1,4 @@
-use Rattle.std.proofs.Common.{◌≡◌, ◌+◌, List, drop, length, ap, arith, ◌∙◌}
+use Rattle.std.proofs.Common.{List, drop, length, ap, arith, ◌∙◌}
 use Rattle.std.specs.Prelude.{sum_by}
 use Rattle.seg_codec.specs.declared.documents.Entry.{Entry}
 use Rattle.repository.specs.Places.{bytes_of}

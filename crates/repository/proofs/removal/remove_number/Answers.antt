@@ -1,4 +1,4 @@
-use Rattle.std.proofs.Common.{◌≡◌, ◌<◌, ◌^◌, arith}
+use Rattle.std.proofs.Common.{◌<◌, ◌^◌, arith}
 use Rattle.store_ends.specs.Files.{Leaves, SameWhere}
 use Rattle.store_ends.proofs.Files.{Leaves-same, SameWhere-same}
 use Rattle.repository.specs.Writes.{IsOther}

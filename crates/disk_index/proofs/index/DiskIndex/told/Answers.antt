@@ -1,4 +1,4 @@
-use Rattle.std.proofs.Common.{◌≡◌, ◌∷◌, ◌++◌, [], ℕ, List, Option, None, Ok, Err, length, map, take, get_or, replicate, subst, sym, ap, ◌∙◌, arith}
+use Rattle.std.proofs.Common.{◌≡◌, ◌∷◌, ◌++◌, [], ℕ, List, Option, None, Ok, Err, length, map, take, get_or, replicate, refl, subst, sym, ap, ◌∙◌, arith}
 use Rattle.std.proofs.lemmas.List.{take_all, take_more}
 use Rattle.std.proofs.lemmas.Result.{err_from_is_err_and}
 use Rattle.seg_codec.specs.declared.blocks.BlockEntry.{BlockEntry}
@@ -24,6 +24,7 @@ loop-rank-init g c =
     record {
       quiet = IsQuiet-same g.T.Store.files g.T.Store.layers g.T.Store.clock g.T.Store.since g.T.Store.longest g.T.Store.held g.T.Store.faults c.args.store.now;
       later = omega arith;
+      same = refl;
       cache = λ e h. h;
       within = omega arith;
       told = rows;
@@ -110,6 +111,7 @@ loop-rank-preserved g c =
     record {
       quiet = IsQuiet-then g.T.Store.files g.T.Store.layers g.T.Store.clock g.T.Store.since g.T.Store.longest g.T.Store.held g.T.Store.faults _ _ _ inv.quiet c.in_ok-block.ensures.quiet;
       later = omega (arith, inv.later, c.in_ok-block.ensures.later);
+      same = c.in_ok-block.ensures.none (λ is. absurd cc) ∙ inv.same;
       cache = AllKept-then _ _ _ inv.cache c.in_ok-block.ensures.cache;
       within = omega (arith, c.loop-rank-test.true);
       told = rows-more files c.args.cache.now c.args.self.now c.args.range ks i c.loop-rank.rows.items c.put.new.rows.items inv.told (record {

@@ -13,6 +13,7 @@ abbrev pub invariant-loop-rank : goal.invariant-loop-rank
 invariant-loop-rank g l = record {
   quiet : IsQuiet g.T.Store.files g.T.Store.layers g.T.Store.clock g.T.Store.since g.T.Store.longest g.T.Store.held l.initial.store l.store;
   later : g.T.Store.faults l.initial.store ≤ g.T.Store.faults l.store;
+  same : g.T.Store.faults l.store ≡ g.T.Store.faults l.initial.store;
   cache : AllKept l.initial.cache l.cache;
   within : l.rank-index ≤ length l.ranks;
   told : AreRows (g.T.Store.files l.initial.store) l.initial.cache l.self l.range l.ranks l.rank-index l.rows.items;

@@ -34,26 +34,28 @@ fn offer_settled<W: Ord + Drop, C: Combination, L: Ledger>(
 
 impl<W: Ord + Drop> Contenders<Entry<W>> {
     /// The first of all that were offered by their keys at the last level, in order. Further digits are taken of those alone that may
-    /// be among them.
+    /// be among them; of how many is answered too.
     pub fn into_first<C: Combination, L: Ledger>(
         self,
         alloc: Global,
         combination: &C,
         squares: &mut Steps<L>,
-    ) -> Result<Vec<Settled<W>>, NoMemory>
+    ) -> Result<(Vec<Settled<W>>, usize), NoMemory>
         requires scale { self.scale ≡ C.scale combination.now }
         requires early { All (λ x. IsEarly (C.key_of combination.now) (C.leaves combination.now) x) (self.held ++ self.near) }
         ensures front { IfOk result (λ v. (all : List (Entry W)) → WereOffered W.cmp all self → All (λ x. IsEarly (C.key_of combination.now) (C.leaves combination.now) x) all
-            → IsFront (by_key W.cmp) self.most (map (settled (C.key_of combination.now)) all) v.items) }
-        ensures few { IfOk result (λ v. length v.items ≤ self.most) }
-        ensures among { IfOk result (λ v. AreAmong v.items (map (settled (C.key_of combination.now)) (self.held ++ self.near))) }
+            → IsFront (by_key W.cmp) self.most (map (settled (C.key_of combination.now)) all) v.0.items) }
+        ensures few { IfOk result (λ v. length v.0.items ≤ self.most) }
+        ensures among { IfOk result (λ v. AreAmong v.0.items (map (settled (C.key_of combination.now)) (self.held ++ self.near))) }
+        ensures cost { IfOk result (λ v. squares.new ≡ squares.old + (LAST - FIRST) * C.leaves combination.now * v.1) }
         ensures within { (all : List (Entry W)) → WereOffered W.cmp all self
             → squares.new ≤ squares.old + (LAST - FIRST) * C.leaves combination.now * length (in_question self.scale self.most all) }
     {
         let most = self.most();
         let entries = self.into_contenders(alloc)?;
-        let mut first = FirstFew::new(alloc, most, entries.len())?;
+        let count = entries.len();
+        let mut first = FirstFew::new(alloc, most, count)?;
         offer_settled(alloc, combination, entries, &mut first, squares)?;
-        Ok(first.into_sorted())
+        Ok((first.into_sorted(), count))
     }
 }

@@ -137,15 +137,16 @@ impl<'a, T: Store> OpensRanges for OpeningReader<'a, T> {
         terms: &[Term],
         range: u32,
         blocks: &mut Steps<L>,
-    ) -> Result<(), SegFault> {
+    ) -> Result<usize, SegFault> {
         if self.held.range() == range {
-            return Ok(());
+            return Ok(0);
         }
         let opened = RangeBlocks::open(
             alloc, self.part, self.store, self.cache, terms, range, blocks,
         )?;
+        let count = opened.opened();
         *self.held = opened;
-        Ok(())
+        Ok(count)
     }
 
     ghost use Rattle.std.proofs.Common.{ap, refl, ◌∙◌};

@@ -1,5 +1,5 @@
 // Blocks that a part is asked to open.
-ghost use Rattle.std.specs.Prelude.{◌≡◌, ◌≤◌, ◌+◌, ◌/◌, ℕ, List, length, Err, IfErr, OnOk};
+ghost use Rattle.std.specs.Prelude.{◌≡◌, ◌≤◌, ◌+◌, ◌/◌, ℕ, List, length, Err, IfErr, IfOk, OnOk};
 ghost use Rattle.std.specs.List.{All};
 ghost use Rattle.ri_base.specs.Faults.{IsOutside};
 ghost use Rattle.ri_base.specs.Keeps.{Keeps, Rose};
@@ -20,18 +20,20 @@ pub trait OpensRanges: TermMasks {
 
     ghost calm: { Self → Self → Type 0 };
 
-    /// Opens the blocks of these terms for the range, unless blocks of it are held. From then on no others are.
+    /// Opens the blocks of these terms for the range, unless blocks of it are held, and answers how many it opened. From then on no
+    /// others are held.
     fn open_range<L: Ledger>(
         &mut self,
         alloc: Global,
         terms: &[Term],
         range: u32,
         blocks: &mut Steps<L>,
-    ) -> Result<(), SegFault>
+    ) -> Result<usize, SegFault>
         ensures keeps { Keeps Self.documents Self.faults Self.sound calm self.old self.new }
         ensures present { OnOk result (present self.new ≡ range) }
         ensures holds { Self.sound self.old → OnOk result ((present self.old ≡ range → ⊥) → holds self.new terms.now) }
         ensures told { OnOk result ((present self.old ≡ range → ⊥) → All (λ t. (id : ℕ) → id / 64 ≡ range → Self.told self.old t id) terms.now) }
+        ensures opened { IfOk result (λ count. blocks.new ≡ blocks.old + count) }
         ensures none { present self.old ≡ range → blocks.new ≡ blocks.old }
         ensures cost { blocks.new ≤ blocks.old + length terms.now }
         ensures honest { Self.sound self.old → IfErr result IsOutside }

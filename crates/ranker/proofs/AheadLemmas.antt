@@ -1,10 +1,11 @@
 -- What is known of the documents that come next.
 use Rattle.std.proofs.Common.{◌≡◌, ◌<◌, ◌≤◌, ℕ, ◌+◌, ◌*◌, ◌/◌, ◌%◌, zero, suc, ◌-◌, true, false, List, [], ◌∷◌, Contains, IfOk, IfSome, Result, Ok, Err, inl, inr, ◌⊎◌, Option, None, Some, length, take, drop, is_some, slice_get, refl, sym, ap, subst, ◌∙◌, arith}
 use Rattle.std.specs.Int.{bit_at}
+use Rattle.std.specs.List.{All}
 use Rattle.std.proofs.lemmas.Bool.{false≢true}
 use Rattle.std.proofs.lemmas.Bool.Decides.{nat_tests}
 use Rattle.std.proofs.lemmas.List.{length-drop}
-use Rattle.std.proofs.lemmas.List.Elements.{Contains-append_right, Contains-get_or}
+use Rattle.std.proofs.lemmas.List.Elements.{All-contains, Contains-append_right, Contains-get_or}
 use Rattle.std.proofs.lemmas.Nat.Bits.{bit_at-zero}
 use Rattle.ri_base.specs.Collection.{document_at}
 use Rattle.ri_base.specs.Documents.{Document}
@@ -17,6 +18,7 @@ use Rattle.smoothing.specs.declared.rule.RuleKind.{RuleKind}
 use Rattle.belief_nodes.specs.Network.{NetworkTree}
 use Rattle.belief_nodes.specs.Priors.{Prior}
 use Rattle.range_bounds.specs.Ranges.{range_documents}
+use Rattle.range_bounds.specs.Tables.{AreAbsent, IsAbsent}
 use Rattle.range_bounds.specs.declared.table.RangeTable.{RangeTable}
 use Rattle.ranker.specs.Least.{AreFrom}
 use Rattle.ranker.specs.RangeKeys.{range_key}
@@ -168,6 +170,14 @@ module _ (kind : RuleKind) (priors : List Prior) (filters : List FilterTree) (ne
       let long = length-drop (64 * range) docs in
       let here : document_at from at ≡ document_at docs i = document_drop docs (64 * range) at i (omega (arith, low)) inside in
       subst (λ (d : Document). Contains (range_documents docs range) d) here (document_taken from 64 at (omega (arith, low, high)) (omega (arith, long, low, inside)))
+
+  -- where no leaf has an extent in the range
+  pub absent-here : (docs : List Document) (id i : ℕ) (ahead : Ahead) → IsSpan (length docs) id ahead → is_clear ahead.mask ≡ false → id ≤ i → i < ahead.end → AreAbsent network.leaves (range_documents docs (id / 64))
+      → All (IsAbsent (document_at docs i)) network.leaves
+  absent-here docs id i ahead span read low high absent =
+      let short = span.short read in
+      let inside = span.inside in
+      All-contains (λ (d : Document). All (IsAbsent d) network.leaves) (range_documents docs (id / 64)) (document_at docs i) absent (in_range docs i (id / 64) (omega (arith, low)) (omega (arith, high, short)) (omega (arith, high, inside)))
 
   -- with a bound of the range
   pub IsKnown-bounded : (docs : List Document) (id : ℕ) (ahead : Ahead) (bound : Option ℕ) → is_clear ahead.mask ≡ false

@@ -15,6 +15,7 @@ pub mod RankingLemmas
 pub mod ReadLemmas
 pub mod SkippedLemmas
 pub mod SkippingLemmas
+pub mod SpentLemmas
 pub mod SquaresLemmas
 pub mod TermLemmas
 pub mod UnbeatenLemmas

@@ -13,6 +13,7 @@ use Rattle.deletion_list.specs.Marks.{marked_count}
 use Rattle.disk_index.specs.Snapshots.{unmarked}
 use Rattle.document_scoring.specs.Candidates.{candidates}
 use Rattle.bounded_keys.specs.declared.entry.Entry.{Entry}
+use Rattle.range_bounds.specs.Tables.{IsAbsent}
 use Rattle.range_masks.specs.May.{query_may}
 use Rattle.ranker.specs.First.{Advances, AsksWithin, Counted, HoldsFirst, KeptEntries, WereOffered, counted, early_cost, early_of}
 use Rattle.ranker.specs.Passed.{live_ids}
@@ -20,7 +21,7 @@ use Rattle.ranker.specs.Least.{AreFrom}
 use Rattle.ranker.specs.declared.window.Window.{Window}
 use Rattle.ranker.proofs.RankingLemmas.{HoldsFirst-more, candidates-append}
 use Rattle.ranker.proofs.SkippedLemmas.{document_rows}
-use Rattle.ranker.proofs.SkippingLemmas.{HoldsFirst-skipped}
+use Rattle.ranker.proofs.SkippingLemmas.{HoldsFirst-absent, HoldsFirst-skipped}
 
 -- ---- ids
 
@@ -128,11 +129,14 @@ module _ (kind : RuleKind) (priors : List Prior) (filters : List FilterTree) (ne
   Advances-further old new kept next a b was now others all le h = record { step = h.step; cost = let c = h.cost in let more = cost-more network (others + now) all le in omega (arith, c, more) }
 
   -- a document behind any others changes nothing of what is held
-  abbrev PassesBy : Counted → Document → Type 0
+  abbrev pub PassesBy : Counted → Document → Type 0
   PassesBy few d = (before : List Document) (most : ℕ) → HoldsFirst kind priors filters network before most few.kept → HoldsFirst kind priors filters network (before ++ d ∷ []) most few.kept
 
-  passes_unseen : (few : Counted) (d : Document) → query_may filters network.leaves d ≡ false → PassesBy few d
+  pub passes_unseen : (few : Counted) (d : Document) → query_may filters network.leaves d ≡ false → PassesBy few d
   passes_unseen few d none = λ before most h. HoldsFirst-skipped kind priors filters network before d most few.kept none h
+
+  pub passes_absent : (few : Counted) (d : Document) → All (IsAbsent d) network.leaves → PassesBy few d
+  passes_absent few d absent = λ before most h. HoldsFirst-absent kind priors filters network before d most few.kept (λ passed. absent) h
 
   passes_beaten : (few : Counted) (d : Document) (least : ℕ) → length network.leaves ≤ length network.stats
       → ((all more : List (Entry Window)) → WereOffered all few.kept → All (λ x. least ≤ x.leading) more → WereOffered (more ++ all) few.kept)
@@ -197,6 +201,11 @@ module _ (kind : RuleKind) (priors : List Prior) (filters : List FilterTree) (ne
       → ((id : ℕ) → i ≤ id → id < j → query_may filters network.leaves (document_at docs id) ≡ false)
       → Advances kind priors filters network (unmarked (take i docs) marks) (unmarked (take j docs) marks) few few
   Advances-bare docs marks few i j up le whole none = unseen docs marks few (j - i) i j (omega (arith, up)) le whole (λ id low high. passes_unseen few (document_at docs id) (none id low high))
+
+  pub Advances-by-each : (docs : List Document) (marks : List Bool) (few : Counted) (i j : ℕ) → i ≤ j → j ≤ length docs → length marks ≡ length docs
+      → ((id : ℕ) → i ≤ id → id < j → PassesBy few (document_at docs id))
+      → Advances kind priors filters network (unmarked (take i docs) marks) (unmarked (take j docs) marks) few few
+  Advances-by-each docs marks few i j up le whole by = unseen docs marks few (j - i) i j (omega (arith, up)) le whole by
 
   -- documents whose candidates can't be among the first
   pub Advances-beaten : (docs : List Document) (marks : List Bool) (few : Counted) (i j least : ℕ) → i ≤ j → j ≤ length docs → length marks ≡ length docs → length network.leaves ≤ length network.stats

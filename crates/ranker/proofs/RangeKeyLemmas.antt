@@ -1,7 +1,8 @@
 -- The bounds of a range have one key, however their fractions are written.
-use Rattle.std.proofs.Common.{◌≡◌, ◌≤◌, ◌*◌, ℕ, zero, suc, false, List, [], ◌∷◌, Some, Result, Ok, Err, IfOk, length, map, zip, slice_get, refl, ap, subst, ◌∙◌, arith}
+use Rattle.std.proofs.Common.{◌≡◌, ◌<◌, ◌≤◌, ◌*◌, ℕ, zero, suc, true, false, is_some, List, [], ◌∷◌, Option, None, Some, Result, Ok, Err, IfOk, length, map, zip, slice_get, refl, sym, ap, subst, ◌∙◌, arith}
 use Rattle.std.specs.List.{All, AllZip}
 use Rattle.std.specs.Option.{option_map_or}
+use Rattle.std.proofs.lemmas.Bool.{false≢true}
 use Rattle.std.proofs.lemmas.List.Elements.{All-cons, All-contains, All-head, All-nil, All-tail}
 use Rattle.log_chain.specs.declared.chain.TheConstants.{FIRST}
 use Rattle.ri_base.specs.Documents.{Document}
@@ -20,11 +21,12 @@ use Rattle.belief_nodes.proofs.Greatest.{greatest_is}
 use Rattle.belief_nodes.proofs.Same.{digits_same}
 use Rattle.range_bounds.specs.Bounds.{AreBounds, IsLeafBound}
 use Rattle.range_bounds.specs.Ranges.{range_documents}
-use Rattle.range_bounds.specs.Tables.{has_counts}
+use Rattle.range_bounds.specs.Tables.{AreAbsent, IsTableOf, TellsRange, counts_at, has_counts, names_of, terms_of}
+use Rattle.range_bounds.specs.declared.range_counts.RangeCounts.{RangeCounts}
 use Rattle.range_bounds.specs.declared.table.RangeTable.{RangeTable}
 use Rattle.range_bounds.proofs.Leads.{are_beliefs}
 use Rattle.ranker.specs.First.{key_by}
-use Rattle.ranker.specs.RangeKeys.{is_told, leaf_bound, leaf_bounds, range_key}
+use Rattle.ranker.specs.RangeKeys.{has_table, is_told, leaf_bound, leaf_bounds, range_key}
 
 -- ---- whether a range is told
 
@@ -36,6 +38,23 @@ told_past (t ∷ tables) (suc number) range past = told_past tables number range
 
 pub told_without : (tables : List RangeTable) (number range : ℕ) (t : RangeTable) → slice_get tables number ≡ Some t → has_counts t range ≡ false → is_told tables number range ≡ false
 told_without tables number range t is none = ap (λ o. option_map_or (λ (u : RangeTable). has_counts u range) o false) is ∙ none
+
+pub told_with : (tables : List RangeTable) (number range : ℕ) (t : RangeTable) → slice_get tables number ≡ Some t → has_counts t range ≡ true → is_told tables number range ≡ true
+told_with tables number range t is has = ap (λ o. option_map_or (λ (u : RangeTable). has_counts u range) o false) is ∙ has
+
+pub no_table : (tables : List RangeTable) (number : ℕ) → length tables ≤ number → has_table tables number ≡ false
+no_table [] zero past = refl
+no_table [] (suc number) past = refl
+no_table (t ∷ tables) zero past = absurd (omega (arith, past))
+no_table (t ∷ tables) (suc number) past = no_table tables number (omega (arith, past))
+
+-- a table without counts of a range tells that no leaf has an extent there
+pub absent_told : (leaves : List LeafTree) (docs : List Document) (t : RangeTable) (range : ℕ) → IsTableOf leaves docs t → 64 * range < length docs → has_counts t range ≡ false → AreAbsent leaves (range_documents docs range)
+absent_told leaves docs t range is inside none = go (counts_at t range) none (is.each range inside)
+  where
+    go : (counts : Option RangeCounts) → is_some counts ≡ false → TellsRange leaves (terms_of t) (names_of t) (range_documents docs range) counts → AreAbsent leaves (range_documents docs range)
+    go None n h = h
+    go (Some counts) n h = absurd (false≢true (sym n))
 
 -- ---- priors
 

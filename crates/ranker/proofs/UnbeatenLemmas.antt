@@ -14,7 +14,7 @@ use Rattle.document_scoring.specs.Candidates.{Candidate, candidates}
 use Rattle.ranker.specs.Blocks.{OpensWithin}
 use Rattle.ranker.specs.First.{KeptEntries, WereOffered, early_of, scale_of}
 use Rattle.ranker.specs.Passed.{has_live, ranges_of}
-use Rattle.ranker.specs.RangeKeys.{is_told, range_key}
+use Rattle.ranker.specs.RangeKeys.{has_table, range_key}
 use Rattle.ranker.specs.Squares.{entry_by}
 use Rattle.ranker.specs.Unbeaten.{Holds, Sought, Stretch, candidate_count, come_to, is_beaten_behind, is_unbeaten, live_at, live_to, scored, unbeaten}
 use Rattle.ranker.specs.declared.window.Window.{Window}
@@ -25,6 +25,10 @@ use Rattle.ranker.proofs.PlaceLemmas.{unmarked-front}
 use Rattle.ranker.proofs.RankingLemmas.{candidates-append}
 use Rattle.ranker.proofs.SquaresLemmas.{rows_by}
 use Rattle.ranker.proofs.WithinLemmas.{take-take}
+
+pub left-by : {A B C : Type 0} → (A → B) → A ⊎ C → B ⊎ C
+left-by f (inl a) = inl (f a)
+left-by f (inr c) = inr c
 
 -- ---- numbers that rise
 
@@ -204,16 +208,16 @@ module _ (s : Sought) where
     unbeaten-from id none =
         let front = live-before m (64 * (id / 64)) id (omega arith) in
         let first = not-before (live_to m (64 * (id / 64))) front.0 (live_to m id) (range_key s.kind s.priors s.network m.docs (id / 64)) front.1 none in
-        ap (λ (b : Bool). not (is_told s.tables m.number (id / 64) && b)) first ∙ and-none (is_told s.tables m.number (id / 64))
+        ap (λ (b : Bool). not (has_table s.tables m.number && b)) first ∙ and-none (has_table s.tables m.number)
 
     pub is-unbeaten : (id : ℕ) (kept : KeptEntries) (bound : Option ℕ) → Holds s (live_to m id) kept → ((n : ℕ) → bound ≡ Some n → n ≡ range_key s.kind s.priors s.network m.docs (id / 64))
         → IfSome bound (λ n. (all : List (Entry Window)) → WereOffered all kept → is_beaten_by (λ (x : Entry Window). x.leading) kept.scale kept.most all n ≡ false)
-        → (bound ≡ None → (is_told s.tables m.number (id / 64) ≡ false) ⊎ ((all : List (Entry Window)) → WereOffered all kept → (n : ℕ) → is_beaten_by (λ (x : Entry Window). x.leading) kept.scale kept.most all n ≡ false))
+        → (bound ≡ None → (has_table s.tables m.number ≡ false) ⊎ ((all : List (Entry Window)) → WereOffered all kept → (n : ℕ) → is_beaten_by (λ (x : Entry Window). x.leading) kept.scale kept.most all n ≡ false))
         → is_unbeaten s m (id / 64) ≡ true
     is-unbeaten id kept (Some n) h key none unbound =
         unbeaten-from id (ap (is_beaten_behind s (live_to m id)) (sym (key n refl)) ∙ not-beaten (live_to m id) kept n h none)
     is-unbeaten id kept None h key none unbound = by (unbound refl)
       where
-        by : (is_told s.tables m.number (id / 64) ≡ false) ⊎ ((all : List (Entry Window)) → WereOffered all kept → (n : ℕ) → is_beaten_by (λ (x : Entry Window). x.leading) kept.scale kept.most all n ≡ false) → is_unbeaten s m (id / 64) ≡ true
+        by : (has_table s.tables m.number ≡ false) ⊎ ((all : List (Entry Window)) → WereOffered all kept → (n : ℕ) → is_beaten_by (λ (x : Entry Window). x.leading) kept.scale kept.most all n ≡ false) → is_unbeaten s m (id / 64) ≡ true
         by (inl untold) = ap (λ (b : Bool). not (b && is_beaten_behind s (live_to m (64 * (id / 64))) (range_key s.kind s.priors s.network m.docs (id / 64)))) untold
         by (inr few) = unbeaten-from id (not-beaten (live_to m id) kept (range_key s.kind s.priors s.network m.docs (id / 64)) h (λ all offered. few all offered (range_key s.kind s.priors s.network m.docs (id / 64))))

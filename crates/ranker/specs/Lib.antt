@@ -6,6 +6,7 @@ pub mod Passed
 pub mod RangeKeys
 pub mod Ranking
 pub mod Searches
+pub mod Spent
 pub mod Squares
 pub mod Unbeaten
 pub mod Windows

@@ -1,5 +1,5 @@
 -- The bounds of a range of 64 ids as one key. This is the project's own.
-use Rattle.std.specs.Prelude.{ℕ, Bool, false, max, List, map, zip, slice_get}
+use Rattle.std.specs.Prelude.{ℕ, Bool, false, is_some, max, List, map, zip, slice_get}
 use Rattle.std.specs.Option.{option_map_or}
 use Rattle.log_chain.specs.declared.chain.TheConstants.{FIRST}
 use Rattle.ri_base.specs.Documents.{Document}
@@ -32,6 +32,10 @@ leaf_bounds kind priors range docs leaves stats = map (λ leaf. leaf_bound kind 
 abbrev pub range_key : RuleKind → List Prior → NetworkTree → List Document → ℕ → ℕ
 range_key kind priors network docs range = key_at FIRST (leaf_bounds kind priors network.range (range_documents docs range) network.leaves network.stats) network.tree
 
--- whether there is a table of the part of a number, and it has counts of a range
+-- whether there is a table of the part of a number
+abbrev pub has_table : List RangeTable → ℕ → Bool
+has_table tables number = is_some (slice_get tables number)
+
+-- whether it has counts of a range
 abbrev pub is_told : List RangeTable → ℕ → ℕ → Bool
 is_told tables number range = option_map_or (λ t. has_counts t range) (slice_get tables number) false

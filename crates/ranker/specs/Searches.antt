@@ -1,5 +1,5 @@
 -- What a search keeps between its steps.
-use Rattle.std.specs.Prelude.{◌≡◌, ℕ, false, List, Option, length, map}
+use Rattle.std.specs.Prelude.{◌≡◌, ◌≤◌, ◌*◌, ℕ, false, List, Option, length, map}
 use Rattle.ri_base.specs.Documents.{Document}
 use Rattle.ri_base.specs.Query.{FilterTree, filter_tree}
 use Rattle.ri_base.specs.declared.hit.Hit.{Hit}
@@ -73,6 +73,11 @@ met_by kind priors told s = met_at (sought_by kind priors s) told s.snapshot s.a
 -- how many ranges it can't pass in the whole
 abbrev pub unbeaten_by : RuleKind → List Prior → Option Files → Search → ℕ
 unbeaten_by kind priors told s = unbeaten_in (sought_by kind priors s) told s.snapshot (length s.snapshot)
+
+-- the numbers of what it has spent are no more than those of what it has come to
+pub record StaysWithin (kind : RuleKind) (priors : List Prior) (told : Option Files) (s : Search) : Type 0 where
+  pub squares : s.spent.squared ≤ spent_by kind priors told s
+  pub blocks : s.spent.opened ≤ length s.terms * met_by kind priors told s
 
 -- of how many ranges of its parts it has opened the blocks, at most
 abbrev pub opened_by : Search → ℕ

@@ -17,7 +17,7 @@ use Rattle.range_bounds.specs.declared.table.RangeTable.{RangeTable}
 use Rattle.ranker.specs.Blocks.{OpensWithin}
 use Rattle.ranker.specs.First.{AsksWithin, HoldsFirst, KeptEntries, scale_of}
 use Rattle.ranker.specs.Passed.{asked_at, asked_of, has_live, layout, live_ranges, part_at, ranges_of}
-use Rattle.ranker.specs.RangeKeys.{is_told, range_key}
+use Rattle.ranker.specs.RangeKeys.{has_table, range_key}
 use Rattle.ranker.specs.Squares.{entry_by}
 use Rattle.ranker.specs.declared.place.Ahead.{Ahead}
 use Rattle.ranker.specs.declared.place.Place.{Place}
@@ -67,9 +67,9 @@ candidate_count s docs = length (candidates s.kind s.priors s.filters s.network 
 abbrev pub is_beaten_behind : Sought → List Document → ℕ → Bool
 is_beaten_behind s docs least = is_beaten_by (λ (x : Entry Window). x.leading) (scale_of s.network) s.most (map (entry_by s.network) (candidates s.kind s.priors s.filters s.network docs)) least
 
--- whether a range may have candidates that are among the first: its bound isn't told, or not beaten by the candidates before it
+-- whether a range may have candidates that are among the first: its part has no table, or its bound isn't beaten by the candidates before it
 abbrev pub is_unbeaten : Sought → Stretch → ℕ → Bool
-is_unbeaten s m range = not (is_told s.tables m.number range && is_beaten_behind s (live_to m (64 * range)) (range_key s.kind s.priors s.network m.docs range))
+is_unbeaten s m range = not (has_table s.tables m.number && is_beaten_behind s (live_to m (64 * range)) (range_key s.kind s.priors s.network m.docs range))
 
 -- how many of so many first ranges are such and have a live document
 abbrev pub unbeaten : Sought → Stretch → ℕ → ℕ

@@ -19,6 +19,7 @@ ghost use Rattle.ranker.specs.Blocks.{AreReadAt, OpensWithin, opened_at};
 ghost use Rattle.ranker.specs.First.{scale_of};
 ghost use Rattle.ranker.specs.Held.{HoldsEntries, IsHeld, is_open};
 ghost use Rattle.ranker.specs.Passed.{IsAheadAt, IsPlace, part_at, passed, ranges_in};
+ghost use Rattle.ranker.specs.Spent.{RiseAlike};
 ghost use Rattle.ranker.specs.Squares.{spent};
 ghost use Rattle.ranker.specs.Unbeaten.{early_at, early_in, met_at, sought, unbeaten_in};
 ghost use Rattle.ranker.specs.Windows.{HasWindows};
@@ -26,6 +27,7 @@ ghost use Rattle.ranker.specs.Windows.{HasWindows};
 use crate::held::Held;
 use crate::place::Place;
 use crate::snapshots::pass_parts;
+use crate::spent::Spent;
 use belief_nodes::{BeliefNode, Network};
 use bounded_keys::Contenders;
 use disk_index::{BlockCache, MarkedPart};
@@ -58,6 +60,7 @@ pub fn advance<T: Store, F: Fn(u32, u32, u64, u64) -> Fraction, L: Ledger, B: Le
     held: &mut Held,
     squares: &mut Steps<L>,
     blocks: &mut Steps<B>,
+    numbers: &mut Spent,
 ) -> Result<(), SegFault>
     requires rule { Computes F.pre F.post rule.now.kind rule.now.f }
     requires shown { is_range (network_tree network.now).range ≡ true }
@@ -95,6 +98,8 @@ pub fn advance<T: Store, F: Fn(u32, u32, u64, u64) -> Fraction, L: Ledger, B: Le
     ensures open { OnOk result (is_open held.new ≡ nat_lt at.new.credit count) }
     ensures place { IsPlace parts.now at.new }
     ensures credit { OnOk result (at.new.credit ≡ min (at.old.credit + docs) count) }
+    ensures squared { OnOk result (RiseAlike squares.old squares.new numbers.old.squared numbers.new.squared) }
+    ensures counted { OnOk result (RiseAlike blocks.old blocks.new numbers.old.opened numbers.new.opened) }
     ensures stay { map (λ plug. meaning plug) plugs.new ≡ map (λ plug. meaning plug) plugs.old }
     ensures honest { AreBacked (T.files store.old) parts.now → AreReadAt (T.files store.old) parts.now at.old cache.old read.old → IfErr result IsOutside }
     ensures cache { CacheKeeps (T.files store.old) (IsFileAmong parts.now) cache.old cache.new }
@@ -110,12 +115,12 @@ pub fn advance<T: Store, F: Fn(u32, u32, u64, u64) -> Fraction, L: Ledger, B: Le
     };
     pass_parts(
         alloc, filters, network, rule, plugs, parts, store, cache, read, tables, at, terms, docs,
-        first, squares, blocks,
+        first, squares, blocks, numbers,
     )?;
     if at.credit < count {
         return Ok(());
     }
-    held.end(alloc, network, squares)?;
+    held.end(alloc, network, squares, &mut numbers.squared)?;
     Ok(())
 }
 

@@ -1,20 +1,22 @@
 // Ranges whose candidates can't be among the first.
-ghost use Rattle.std.specs.Prelude.{ℕ, ◌≡◌, ◌≤◌, ◌<◌, ◌+◌, ◌/◌, ◌++◌, ◌⊎◌, true, false, is_some, List, None, Some, All, Contains, length, map, IfErr, IfOk, IfSome};
+ghost use Rattle.std.specs.Prelude.{ℕ, ◌≡◌, ◌≤◌, ◌<◌, ◌+◌, ◌*◌, ◌/◌, ◌++◌, ◌⊎◌, true, false, is_some, List, None, Some, All, Contains, length, map, IfErr, IfOk, IfSome, OnOk};
 ghost use Rattle.ri_base.specs.Documents.{Document};
 ghost use Rattle.ri_base.specs.Query.{FilterTree};
 ghost use Rattle.smoothing.specs.Fractions.{Computes};
 ghost use Rattle.belief_nodes.specs.Leaves.{HasPrior};
-ghost use Rattle.belief_nodes.specs.Network.{network_tree};
+ghost use Rattle.belief_nodes.specs.Network.{NetworkTree, network_tree};
 ghost use Rattle.bounded_keys.specs.Kept.{is_beaten_by};
 ghost use Rattle.range_bounds.specs.Ranges.{range_documents};
-ghost use Rattle.range_bounds.specs.Tables.{IsTableOf, has_counts};
+ghost use Rattle.range_bounds.specs.Tables.{AreAbsent, IsTableOf, has_counts};
 ghost use Rattle.ranker.specs.First.{WereOffered, early_cost};
 ghost use Rattle.ranker.specs.Least.{AreFrom};
 ghost use Rattle.ranker.specs.Passed.{IsKnown, IsTold, is_clear};
-ghost use Rattle.ranker.specs.RangeKeys.{is_told, range_key};
+ghost use Rattle.ranker.specs.RangeKeys.{has_table, is_told, range_key};
+ghost use Rattle.ranker.specs.Spent.{RiseAlike};
 
 use crate::keys::NetworkKeys;
 use crate::place::Ahead;
+use crate::spent::count_early;
 use crate::window::Window;
 use belief_nodes::{BeliefNode, Network};
 use bounded_keys::{Contenders, Entry, leading_key};
@@ -41,6 +43,7 @@ fn least_key<F: Fn(u32, u32, u64, u64) -> Fraction, L: Ledger>(
         → IfOk result (λ least. AreFrom rule.now.kind (map (λ plug. meaning plug) plugs.now) (network_tree network.now) least d) }
     ensures key { (docs : List Document) → IsTableOf (network_tree network.now).leaves docs table.now → IfOk result (λ least. least ≡ range_key rule.now.kind (map (λ plug. meaning plug) plugs.now) (network_tree network.now) docs range) }
     ensures cost { squares.new ≤ squares.old + early_cost (network_tree network.now) 1 }
+    ensures exact { OnOk result (squares.new ≡ squares.old + early_cost (network_tree network.now) 1) }
 {
     let bounds = table.bound_fractions(alloc, network, rule, range, plugs)?;
     leading_key(alloc, &NetworkKeys { network }, bounds.as_slice(), squares)
@@ -56,6 +59,7 @@ fn bound_of<F: Fn(u32, u32, u64, u64) -> Fraction, L: Ledger>(
     number: usize,
     range: u32,
     squares: &mut Steps<L>,
+    squared: &mut u64,
 ) -> Result<Option<u128>, NoMemory>
     requires rule { Computes F.pre F.post rule.now.kind rule.now.f }
     requires plugs { All (HasPrior (length plugs.now)) (network_tree network.now).leaves }
@@ -66,6 +70,7 @@ fn bound_of<F: Fn(u32, u32, u64, u64) -> Fraction, L: Ledger>(
     ensures told { IfOk result (λ bound. bound ≡ None → is_told tables.now number range ≡ false) }
     ensures none { IfOk result (λ bound. bound ≡ None → squares.new ≡ squares.old) }
     ensures cost { squares.new ≤ squares.old + early_cost (network_tree network.now) 1 }
+    ensures squared { OnOk result (RiseAlike squares.old squares.new squared.old squared.new) }
 {
     if number >= tables.len() {
         return Ok(None);
@@ -75,7 +80,19 @@ fn bound_of<F: Fn(u32, u32, u64, u64) -> Fraction, L: Ledger>(
         return Ok(None);
     }
     let least = least_key(alloc, network, rule, plugs, table, range, squares)?;
+    count_early(network, 1, squared);
     Ok(Some(least))
+}
+
+/// Whether the table of the part tells that no leaf has an extent in a range: it has no counts of the range.
+pub fn is_absent(tables: &[RangeTable], number: usize, range: u32) -> bool
+    ensures absent { result ≡ true → (network : NetworkTree) (docs : List Document) → 64 * range < length docs → IsTold network tables.now number docs → AreAbsent network.leaves (range_documents docs range) }
+    ensures told { result ≡ false → is_told tables.now number range ≡ false → has_table tables.now number ≡ false }
+{
+    if number >= tables.len() {
+        return false;
+    }
+    !tables[number].has(range)
 }
 
 /// What is known from an id of a range on, with the bound of the range, where the table of the part tells it. It is asked for once, and
@@ -92,6 +109,7 @@ pub fn bounded<P: Postings, F: Fn(u32, u32, u64, u64) -> Fraction, L: Ledger>(
     ahead: Ahead,
     first: &Contenders<Entry<Window>>,
     squares: &mut Steps<L>,
+    squared: &mut u64,
 ) -> Result<Ahead, NoMemory>
     requires rule { Computes F.pre F.post rule.now.kind rule.now.f }
     requires plugs { All (HasPrior (length plugs.now)) (network_tree network.now).leaves }
@@ -105,12 +123,15 @@ pub fn bounded<P: Postings, F: Fn(u32, u32, u64, u64) -> Fraction, L: Ledger>(
     ensures unbound { IfOk result (λ to. to.bound ≡ None → (is_told tables.now number (id / 64) ≡ false) ⊎ ((all : List (Entry Window)) → WereOffered all first.now → (n : ℕ) → is_beaten_by (λ x. x.leading) first.now.scale first.now.most all n ≡ false)) }
     ensures unasked { IfErr result (λ e. ahead.bound ≡ None) }
     ensures cost { squares.new ≤ squares.old + early_cost (network_tree network.now) 1 }
+    ensures squared { OnOk result (RiseAlike squares.old squares.new squared.old squared.new) }
 {
     if ahead.bound.is_some() || !first.beats_some() {
         return Ok(ahead);
     }
     let range = id / 64;
-    let bound = bound_of(alloc, network, rule, plugs, tables, number, range, squares)?;
+    let bound = bound_of(
+        alloc, network, rule, plugs, tables, number, range, squares, squared,
+    )?;
     Ok(Ahead { bound, ..ahead })
 }
 

@@ -13,9 +13,11 @@ ghost use Rattle.range_masks.specs.May.{query_may};
 ghost use Rattle.document_scoring.specs.Candidates.{candidates};
 ghost use Rattle.ranker.specs.First.{Advances, HoldsFirst, SpendsWithin, counted, early_cost};
 ghost use Rattle.ranker.specs.Passed.{live_ids};
+ghost use Rattle.ranker.specs.Spent.{RiseAlike};
 ghost use Rattle.ranker.specs.Windows.{KeepsWindows};
 
 use crate::entries::offer_rows;
+use crate::spent::count_early;
 use crate::window::Window;
 use belief_nodes::{BeliefNode, Network};
 use bounded_keys::{Contenders, Entry};
@@ -37,6 +39,7 @@ fn offer_document<P: Postings, F: Fn(u32, u32, u64, u64) -> Fraction, L: Ledger>
     id: u32,
     first: &mut Contenders<Entry<Window>>,
     squares: &mut Steps<L>,
+    squared: &mut u64,
 ) -> Result<(), SegFault>
     requires rule { Computes F.pre F.post rule.now.kind rule.now.f }
     requires id { id < length (P.documents part.old) }
@@ -48,13 +51,16 @@ fn offer_document<P: Postings, F: Fn(u32, u32, u64, u64) -> Fraction, L: Ledger>
         → HoldsFirst rule.now.kind (map (λ plug. meaning plug) plugs.old) (map filter_tree filters.now) (network_tree network.now) (docs ++ document_at (P.documents part.old) id ∷ []) most first.new) }
     ensures windows { OnOk result (KeepsWindows (network_tree network.now) (document_at (P.documents part.old) id ∷ []) first.old first.new) }
     ensures cost { P.sound part.old → squares.new ≤ squares.old + early_cost (network_tree network.now) (length (candidates rule.now.kind (map (λ plug. meaning plug) plugs.old) (map filter_tree filters.now) (network_tree network.now) (document_at (P.documents part.old) id ∷ []))) }
+    ensures squared { OnOk result (RiseAlike squares.old squares.new squared.old squared.new) }
     ensures stay { map (λ plug. meaning plug) plugs.new ≡ map (λ plug. meaning plug) plugs.old }
     ensures honest { P.sound part.old → IfErr result IsOutside }
     ensures store { result ≡ Err SegFault.Store → Rose (P.faults part.old) (P.faults part.new) }
 {
     let mut rows = Vec::new(alloc);
     score_document(alloc, filters, network, rule, plugs, part, id, &mut rows)?;
+    let count = rows.len();
     offer_rows(alloc, network, rows, first, squares)?;
+    count_early(network, count, squared);
     Ok(())
 }
 
@@ -72,6 +78,7 @@ pub fn pass_document<P: Postings, F: Fn(u32, u32, u64, u64) -> Fraction, L: Ledg
     id: u32,
     first: &mut Contenders<Entry<Window>>,
     squares: &mut Steps<L>,
+    squared: &mut u64,
 ) -> Result<u64, SegFault>
     requires rule { Computes F.pre F.post rule.now.kind rule.now.f }
     requires id { id < length (P.documents part.old) }
@@ -88,6 +95,7 @@ pub fn pass_document<P: Postings, F: Fn(u32, u32, u64, u64) -> Fraction, L: Ledg
         → SpendsWithin rule.now.kind (map (λ plug. meaning plug) plugs.old) (map filter_tree filters.now) (network_tree network.now) (unmarked (take id (P.documents part.old)) marks.now) (unmarked (take (id + 1) (P.documents part.old)) marks.now) 0 0 squares.old squares.new }
     ensures docs { IfOk result (λ docs. live_ids marks.now (id + 1) ≡ live_ids marks.now id + docs) }
     ensures one { IfOk result (λ docs. docs ≤ 1) }
+    ensures squared { OnOk result (RiseAlike squares.old squares.new squared.old squared.new) }
     ensures stay { map (λ plug. meaning plug) plugs.new ≡ map (λ plug. meaning plug) plugs.old }
     ensures honest { P.sound part.old → IfErr result IsOutside }
     ensures store { result ≡ Err SegFault.Store → Rose (P.faults part.old) (P.faults part.new) }
@@ -99,7 +107,7 @@ pub fn pass_document<P: Postings, F: Fn(u32, u32, u64, u64) -> Fraction, L: Ledg
         return Ok(1);
     }
     offer_document(
-        alloc, filters, network, rule, plugs, part, id, first, squares,
+        alloc, filters, network, rule, plugs, part, id, first, squares, squared,
     )?;
     Ok(1)
 }

@@ -23,6 +23,7 @@ fn early_of<L: Ledger>(
     requires { length row.fractions ≡ length (network_tree network.now).leaves }
     ensures entry { IfOk result (λ x. x ≡ early_of (network_tree network.now) row) }
     ensures cost { squares.new ≤ squares.old + early_cost (network_tree network.now) 1 }
+    ensures exact { OnOk result (squares.new ≡ squares.old + early_cost (network_tree network.now) 1) }
 {
     let Row {
         docno,
@@ -52,6 +53,7 @@ pub fn offer_rows<L: Ledger>(
     ensures most { first.new.most ≡ first.old.most }
     ensures scale { first.new.scale ≡ first.old.scale }
     ensures cost { squares.new ≤ squares.old + early_cost (network_tree network.now) (length rows.items) }
+    ensures exact { OnOk result (squares.new ≡ squares.old + early_cost (network_tree network.now) (length rows.items)) }
     ensures offered { OnOk result ((all : List (Entry Window)) → WereOffered all first.old → WereOffered (map (early_of (network_tree network.now)) rows.items ++ all) first.new) }
     ensures among { OnOk result (AreAmong (first.new.held ++ first.new.near) (map (early_of (network_tree network.now)) rows.items ++ (first.old.held ++ first.old.near))) }
 {

@@ -15,6 +15,7 @@ mod place;
 mod ranges;
 mod search;
 mod snapshots;
+mod spent;
 mod terms;
 mod unseen;
 mod window;

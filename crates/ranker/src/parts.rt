@@ -11,13 +11,15 @@ ghost use Rattle.disk_index.specs.Snapshots.{unmarked};
 ghost use Rattle.ranker.specs.Blocks.{OpensWithin, opened_of};
 ghost use Rattle.ranker.specs.First.{Advances, SpendsWithin, counted};
 ghost use Rattle.ranker.specs.Passed.{IsAhead, IsKnown, IsPassed, asked_of, is_clear, live_ranges, ranges_of};
+ghost use Rattle.ranker.specs.Spent.{RiseAlike};
 ghost use Rattle.ranker.specs.Unbeaten.{Holds, Passes, Spends, live_to, sought, stretch, work_of, work_to};
 ghost use Rattle.ranker.specs.Windows.{KeepsWindows};
 
 use crate::ahead::{ahead_of, masked};
-use crate::bound::{bounded, is_beaten};
+use crate::bound::{bounded, is_absent, is_beaten};
 use crate::documents::pass_document;
 use crate::place::{Ahead, Passed};
+use crate::spent::{Spent, count_more};
 use crate::unseen::{pass_dead, pass_unseen};
 use crate::window::Window;
 use belief_nodes::{BeliefNode, Network};
@@ -45,6 +47,7 @@ fn pass_masked<P: TermMasks, F: Fn(u32, u32, u64, u64) -> Fraction, L: Ledger>(
     most: u64,
     first: &mut Contenders<Entry<Window>>,
     squares: &mut Steps<L>,
+    squared: &mut u64,
 ) -> Result<Passed, SegFault>
     requires rule { Computes F.pre F.post rule.now.kind rule.now.f }
     requires id { id < length (P.documents part.old) }
@@ -65,6 +68,7 @@ fn pass_masked<P: TermMasks, F: Fn(u32, u32, u64, u64) -> Fraction, L: Ledger>(
     ensures back { IfOk result (λ to. id ≤ to.id) }
     ensures inside { IfOk result (λ to. to.id ≤ ahead.end) }
     ensures same { IfOk result (λ to. to.ahead ≡ ahead) }
+    ensures squared { OnOk result (RiseAlike squares.old squares.new squared.old squared.new) }
     ensures stay { map (λ plug. meaning plug) plugs.new ≡ map (λ plug. meaning plug) plugs.old }
     ensures honest { P.sound part.old → IfErr result IsOutside }
     ensures store { result ≡ Err SegFault.Store → Rose (P.faults part.old) (P.faults part.new) }
@@ -85,6 +89,7 @@ fn pass_masked<P: TermMasks, F: Fn(u32, u32, u64, u64) -> Fraction, L: Ledger>(
             at,
             first,
             squares,
+            squared,
         )?;
         docs += passed;
         at += 1;
@@ -112,6 +117,7 @@ fn pass_open<P: TermMasks, F: Fn(u32, u32, u64, u64) -> Fraction, L: Ledger>(
     most: u64,
     first: &mut Contenders<Entry<Window>>,
     squares: &mut Steps<L>,
+    squared: &mut u64,
 ) -> Result<Passed, SegFault>
     requires rule { Computes F.pre F.post rule.now.kind rule.now.f }
     requires id { id < length (P.documents part.old) }
@@ -131,6 +137,7 @@ fn pass_open<P: TermMasks, F: Fn(u32, u32, u64, u64) -> Fraction, L: Ledger>(
     ensures passed { IfOk result (IsPassed marks.now id most) }
     ensures forward { IfOk result (λ to. 0 < most → id < to.id) }
     ensures inside { IfOk result (λ to. to.id ≤ ahead.end) }
+    ensures squared { OnOk result (RiseAlike squares.old squares.new squared.old squared.new) }
     ensures stay { map (λ plug. meaning plug) plugs.new ≡ map (λ plug. meaning plug) plugs.old }
     ensures honest { P.sound part.old → IfErr result IsOutside }
     ensures store { result ≡ Err SegFault.Store → Rose (P.faults part.old) (P.faults part.new) }
@@ -140,7 +147,7 @@ fn pass_open<P: TermMasks, F: Fn(u32, u32, u64, u64) -> Fraction, L: Ledger>(
         return Ok(pass_unseen(marks, open, id, most));
     }
     pass_masked(
-        alloc, filters, network, rule, plugs, part, marks, id, open, most, first, squares,
+        alloc, filters, network, rule, plugs, part, marks, id, open, most, first, squares, squared,
     )
 }
 
@@ -162,6 +169,7 @@ fn pass_opened<P: OpensRanges, F: Fn(u32, u32, u64, u64) -> Fraction, L: Ledger,
     first: &mut Contenders<Entry<Window>>,
     squares: &mut Steps<L>,
     blocks: &mut Steps<B>,
+    spent: &mut Spent,
 ) -> Result<Passed, SegFault>
     requires rule { Computes F.pre F.post rule.now.kind rule.now.f }
     requires id { id < length (P.documents part.old) }
@@ -181,6 +189,8 @@ fn pass_opened<P: OpensRanges, F: Fn(u32, u32, u64, u64) -> Fraction, L: Ledger,
     ensures passed { IfOk result (IsPassed marks.now id most) }
     ensures forward { IfOk result (λ to. 0 < most → id < to.id) }
     ensures inside { IfOk result (λ to. to.id ≤ ahead.end) }
+    ensures squared { OnOk result (RiseAlike squares.old squares.new spent.old.squared spent.new.squared) }
+    ensures counted { OnOk result (RiseAlike blocks.old blocks.new spent.old.opened spent.new.opened) }
     ensures stay { map (λ plug. meaning plug) plugs.new ≡ map (λ plug. meaning plug) plugs.old }
     ensures honest { P.sound part.old → IfErr result IsOutside }
     ensures store { result ≡ Err SegFault.Store → Rose (P.faults part.old) (P.faults part.new) }
@@ -188,10 +198,12 @@ fn pass_opened<P: OpensRanges, F: Fn(u32, u32, u64, u64) -> Fraction, L: Ledger,
     ensures none { P.present part.old ≡ id / 64 → blocks.new ≡ blocks.old }
     ensures cost { blocks.new ≤ blocks.old + length terms.now }
 {
-    part.open_range(alloc, terms, id / 64, blocks)?;
+    let count = part.open_range(alloc, terms, id / 64, blocks)?;
+    count_more(&mut spent.opened, count as u64);
+    let squared = &mut spent.squared;
     pass_open(
         alloc, filters, network, rule, plugs, part, marks, tables, number, id, ahead, most, first,
-        squares,
+        squares, squared,
     )
 }
 
@@ -215,6 +227,7 @@ fn pass_on<P: OpensRanges, F: Fn(u32, u32, u64, u64) -> Fraction, L: Ledger, B: 
     first: &mut Contenders<Entry<Window>>,
     squares: &mut Steps<L>,
     blocks: &mut Steps<B>,
+    spent: &mut Spent,
 ) -> Result<Passed, SegFault>
     requires rule { Computes F.pre F.post rule.now.kind rule.now.f }
     requires id { id < length (P.documents part.old) }
@@ -233,6 +246,8 @@ fn pass_on<P: OpensRanges, F: Fn(u32, u32, u64, u64) -> Fraction, L: Ledger, B: 
         IsKnown rule.now.kind (map (λ plug. meaning plug) plugs.old) (map filter_tree filters.now) (network_tree network.now) tables.now number (P.documents part.old) to.id to.ahead) }
     ensures passed { IfOk result (IsPassed marks.now id most) }
     ensures forward { IfOk result (λ to. 0 < most → id < to.id) }
+    ensures squared { OnOk result (RiseAlike squares.old squares.new spent.old.squared spent.new.squared) }
+    ensures counted { OnOk result (RiseAlike blocks.old blocks.new spent.old.opened spent.new.opened) }
     ensures stay { map (λ plug. meaning plug) plugs.new ≡ map (λ plug. meaning plug) plugs.old }
     ensures honest { P.sound part.old → IfErr result IsOutside }
     ensures store { result ≡ Err SegFault.Store → Rose (P.faults part.old) (P.faults part.new) }
@@ -242,21 +257,23 @@ fn pass_on<P: OpensRanges, F: Fn(u32, u32, u64, u64) -> Fraction, L: Ledger, B: 
     ensures few { blocks.new ≤ blocks.old + length terms.now }
 {
     let found = ahead_of(filters, network, part, id, ahead);
-    if found.is_clear() {
+    if found.is_clear() || is_absent(tables, number, id / 64) {
         return Ok(pass_unseen(marks, found, id, most));
     }
     if marks.is_marked(id) {
         return Ok(pass_dead(marks, found, id));
     }
+    let squared = &mut spent.squared;
     let known = bounded(
-        alloc, network, rule, plugs, part, tables, number, id, found, first, squares,
+        alloc, network, rule, plugs, part, tables, number, id, found, first, squares, squared,
     )?;
     if is_beaten(first, known.bound) {
+        count_more(&mut spent.passed, u64::from(found.bound.is_none()));
         return Ok(pass_unseen(marks, known, id, most));
     }
     pass_opened(
         alloc, filters, network, rule, plugs, part, marks, tables, number, id, known, terms, most,
-        first, squares, blocks,
+        first, squares, blocks, spent,
     )
 }
 
@@ -278,6 +295,7 @@ pub fn pass_part<P: OpensRanges, F: Fn(u32, u32, u64, u64) -> Fraction, L: Ledge
     first: &mut Contenders<Entry<Window>>,
     squares: &mut Steps<L>,
     blocks: &mut Steps<B>,
+    spent: &mut Spent,
 ) -> Result<Passed, SegFault>
     requires rule { Computes F.pre F.post rule.now.kind rule.now.f }
     requires id { id ≤ length (P.documents part.old) }
@@ -296,6 +314,8 @@ pub fn pass_part<P: OpensRanges, F: Fn(u32, u32, u64, u64) -> Fraction, L: Ledge
         IsKnown rule.now.kind (map (λ plug. meaning plug) plugs.old) (map filter_tree filters.now) (network_tree network.now) tables.now number (P.documents part.old) to.id to.ahead) }
     ensures passed { IfOk result (IsPassed marks.now id most) }
     ensures end { IfOk result (λ to. to.docs < most → to.id ≡ length marks.now) }
+    ensures squared { OnOk result (RiseAlike squares.old squares.new spent.old.squared spent.new.squared) }
+    ensures counted { OnOk result (RiseAlike blocks.old blocks.new spent.old.opened spent.new.opened) }
     ensures stay { map (λ plug. meaning plug) plugs.new ≡ map (λ plug. meaning plug) plugs.old }
     ensures honest { P.sound part.old → IfErr result IsOutside }
     ensures store { result ≡ Err SegFault.Store → Rose (P.faults part.old) (P.faults part.new) }
@@ -326,6 +346,7 @@ pub fn pass_part<P: OpensRanges, F: Fn(u32, u32, u64, u64) -> Fraction, L: Ledge
             first,
             squares,
             blocks,
+            spent,
         )?;
         docs += to.docs;
         at = to.id;

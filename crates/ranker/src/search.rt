@@ -15,6 +15,7 @@ use crate::advance::{advance, first_held};
 use crate::bare::bare_to;
 use crate::held::Held;
 use crate::place::{Ahead, Place};
+use crate::spent::Spent;
 use crate::terms::query_terms;
 use belief_nodes::{BeliefNode, Network};
 use disk_index::{BlockCache, Snapshot};
@@ -44,6 +45,7 @@ pub struct Search {
     at: Place,
     bare_to: u64,
     held: Held,
+    spent: Spent,
     usable: bool,
     ghost shown: { is_range (network_tree network).range ≡ true },
     ghost fits: { FitDocuments (outlines_of (part_at snapshot at.part).source) blocks } by { Prim.hlevel props },
@@ -73,7 +75,8 @@ impl Search {
     ghost use Rattle.range_masks.specs.Held.{AreAnswersOf};
     ghost use Rattle.ranker.specs.Blocks.{OpensWithin, query_words};
     ghost use Rattle.ranker.specs.Passed.{ranges_in};
-    ghost use Rattle.ranker.specs.Searches.{AreTold, IsAnswerOf, IsSameSearch, IsTaken, filters_of, met_by, opened_by, searched, spent_by, told_by, unbeaten_by, whole_cost};
+    ghost use Rattle.ranker.specs.Searches.{AreTold, IsAnswerOf, IsSameSearch, IsTaken, StaysWithin, filters_of, met_by, opened_by, searched, spent_by, told_by, unbeaten_by, whole_cost};
+    ghost use Rattle.ranker.specs.Spent.{RiseAlike};
     ghost use Rattle.ranker.specs.Windows.{AreWindows};
 
     /// A search over the documents of a snapshot that has passed none yet, for at most so many results. The statistics are those of
@@ -95,6 +98,7 @@ impl Search {
         ensures most { IfOk result (λ s. s.most ≡ most) }
         ensures credit { IfOk result (λ s. s.at.credit ≡ 0) }
         ensures usable { IfOk result (λ s. s.usable ≡ true) }
+        ensures spent { IfOk result (λ s. (kind : RuleKind) (priors : List Prior) (told : Option Files) → StaysWithin kind priors told s) }
         ensures tables { IfOk result (λ s. s.tables.items ≡ tables.items) }
         ensures terms { IfOk result (λ s. AreDistinct (query_words (filters_of s) (network_tree s.network).leaves) s.terms) }
         ensures blocks { IfOk result (λ s. (docs : List Document) → AreAnswersOf docs s.blocks) }
@@ -121,6 +125,7 @@ impl Search {
             },
             bare_to: 0,
             held,
+            spent: Spent::nothing(),
             usable: true,
         })
     }
@@ -155,6 +160,9 @@ impl Search {
         ensures taken { AreBacked (T.files store.old) self.old.snapshot → IsCacheBacked (T.files store.old) cache.old → OnOk result
             (IsTaken rule.now.kind (map (λ plug. meaning plug) plugs.old) (T.files store.old) self.old
             → IsTaken rule.now.kind (map (λ plug. meaning plug) plugs.old) (T.files store.old) self.new) }
+        ensures spent { AreBacked (T.files store.old) self.old.snapshot → IsCacheBacked (T.files store.old) cache.old → OnOk result
+            (IsTaken rule.now.kind (map (λ plug. meaning plug) plugs.old) (T.files store.old) self.old → StaysWithin rule.now.kind (map (λ plug. meaning plug) plugs.old) (T.files store.old) self.old
+            → StaysWithin rule.now.kind (map (λ plug. meaning plug) plugs.old) (T.files store.old) self.new) }
         ensures credit { OnOk result ((told : Option Files) → self.new.at.credit ≡ min (self.old.at.credit + docs) (length (searched told self.old))) }
         ensures done { IfOk result (λ done. (told : Option Files) → done ≡ (self.new.at.credit == length (searched told self.old))) }
         ensures same { IsSameSearch self.old self.new }
@@ -186,6 +194,10 @@ impl Search {
         // Also where it answers an error.
         ensures opens { OpensWithin (length self.old.terms) (opened_by self.old) (ranges_in self.old.snapshot) blocks.old blocks.new }
         ensures few { blocks.new ≤ blocks.old + length self.old.terms * docs }
+
+        // The numbers that it keeps rise by as much as the counters.
+        ensures squared { OnOk result (RiseAlike squares.old squares.new self.old.spent.squared self.new.spent.squared) }
+        ensures counted { OnOk result (RiseAlike blocks.old blocks.new self.old.spent.opened self.new.spent.opened) }
     {
         self.usable = false;
         advance(
@@ -206,6 +218,7 @@ impl Search {
             &mut self.held,
             squares,
             blocks,
+            &mut self.spent,
         )?;
         self.bare_to = bare_to(self.snapshot.parts(), &self.at, self.live_count);
         self.usable = true;
@@ -236,6 +249,9 @@ impl Search {
         ensures taken { AreBacked (T.files store.old) self.old.snapshot → IsCacheBacked (T.files store.old) cache.old → OnOk result
             (IsTaken rule.now.kind (map (λ plug. meaning plug) plugs.old) (T.files store.old) self.old
             → IsTaken rule.now.kind (map (λ plug. meaning plug) plugs.old) (T.files store.old) self.new) }
+        ensures spent { AreBacked (T.files store.old) self.old.snapshot → IsCacheBacked (T.files store.old) cache.old → OnOk result
+            (IsTaken rule.now.kind (map (λ plug. meaning plug) plugs.old) (T.files store.old) self.old → StaysWithin rule.now.kind (map (λ plug. meaning plug) plugs.old) (T.files store.old) self.old
+            → StaysWithin rule.now.kind (map (λ plug. meaning plug) plugs.old) (T.files store.old) self.new) }
         ensures credit { OnOk result ((told : Option Files) → self.new.at.credit ≡ min (self.old.at.credit + docs) (length (searched told self.old))) }
         ensures done { IfOk result (λ done. (told : Option Files) → done ≡ (self.new.at.credit == length (searched told self.old))) }
         ensures same { IsSameSearch self.old self.new }
@@ -279,6 +295,9 @@ impl Search {
         ensures taken { AreBacked (T.files store.old) self.old.snapshot → IsCacheBacked (T.files store.old) cache.old → OnOk result
             (IsTaken rule.now.kind (map (λ plug. meaning plug) plugs.old) (T.files store.old) self.old
             → IsTaken rule.now.kind (map (λ plug. meaning plug) plugs.old) (T.files store.old) self.new) }
+        ensures spent { AreBacked (T.files store.old) self.old.snapshot → IsCacheBacked (T.files store.old) cache.old → OnOk result
+            (IsTaken rule.now.kind (map (λ plug. meaning plug) plugs.old) (T.files store.old) self.old → StaysWithin rule.now.kind (map (λ plug. meaning plug) plugs.old) (T.files store.old) self.old
+            → StaysWithin rule.now.kind (map (λ plug. meaning plug) plugs.old) (T.files store.old) self.new) }
         ensures credit { OnOk result ((told : Option Files) → self.new.at.credit ≡ min (self.old.at.credit + docs) (length (searched told self.old))) }
         ensures done { IfOk result (λ done. (told : Option Files) → done ≡ (self.new.at.credit == length (searched told self.old))) }
         ensures same { IsSameSearch self.old self.new }
@@ -330,6 +349,27 @@ impl Search {
         ensures { result ≡ self.now.at.credit }
     {
         self.at.credit
+    }
+
+    /// How many squarings it has done.
+    pub fn squared(&self) -> u64
+        ensures { result ≡ self.now.spent.squared }
+    {
+        self.spent.squared
+    }
+
+    /// How many blocks it has opened.
+    pub fn opened(&self) -> u64
+        ensures { result ≡ self.now.spent.opened }
+    {
+        self.spent.opened
+    }
+
+    /// How many ranges it has passed over since their bounds were beaten.
+    pub fn passed(&self) -> u64
+        ensures { result ≡ self.now.spent.passed }
+    {
+        self.spent.passed
     }
 
     /// The snapshot that is searched.

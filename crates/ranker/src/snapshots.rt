@@ -14,11 +14,13 @@ ghost use Rattle.disk_index.specs.Snapshots.{AreBacked, IsFileAmong, IsSnapshot,
 ghost use Rattle.range_masks.specs.Held.{AreAnswersOf, FitDocuments};
 ghost use Rattle.ranker.specs.Blocks.{AreReadAt, AreReadBy, OpensWithin, opened_at, opened_of};
 ghost use Rattle.ranker.specs.Passed.{IsAheadAt, IsKnown, IsPassed, IsPlace, behind, part_at, passed, ranges_in, ranges_of};
+ghost use Rattle.ranker.specs.Spent.{RiseAlike};
 ghost use Rattle.ranker.specs.Unbeaten.{Holds, Passes, Spends, live_to, sought, stretch, work_at, work_in, work_of, work_to};
 ghost use Rattle.ranker.specs.Windows.{KeepsWindows};
 
 use crate::parts::pass_part;
 use crate::place::{Ahead, Passed, Place};
+use crate::spent::Spent;
 use crate::window::Window;
 use belief_nodes::{BeliefNode, Network};
 use bounded_keys::{Contenders, Entry};
@@ -51,6 +53,7 @@ fn pass_marked<T: Store, F: Fn(u32, u32, u64, u64) -> Fraction, L: Ledger, B: Le
     first: &mut Contenders<Entry<Window>>,
     squares: &mut Steps<L>,
     blocks: &mut Steps<B>,
+    spent: &mut Spent,
 ) -> Result<Passed, SegFault>
     requires rule { Computes F.pre F.post rule.now.kind rule.now.f }
     requires id { id ≤ size marked.now.source }
@@ -75,6 +78,8 @@ fn pass_marked<T: Store, F: Fn(u32, u32, u64, u64) -> Fraction, L: Ledger, B: Le
     ensures passed { IfOk result (IsPassed marked.now.marks id most) }
     ensures end { IfOk result (λ to. to.docs < most → to.id ≡ size marked.now.source) }
     ensures whole { length marked.now.marks ≡ size marked.now.source }
+    ensures squared { OnOk result (RiseAlike squares.old squares.new spent.old.squared spent.new.squared) }
+    ensures counted { OnOk result (RiseAlike blocks.old blocks.new spent.old.opened spent.new.opened) }
     ensures stay { map (λ plug. meaning plug) plugs.new ≡ map (λ plug. meaning plug) plugs.old }
     ensures honest { IsPartBacked (T.files store.old) marked.now.source → AreReadBy (T.files store.old) (reads (T.files store.old) marked.now.source) cache.old held.old → IfErr result IsOutside }
     ensures cache { CacheKeeps (T.files store.old) (IsFileOf marked.now.source) cache.old cache.new }
@@ -104,6 +109,7 @@ fn pass_marked<T: Store, F: Fn(u32, u32, u64, u64) -> Fraction, L: Ledger, B: Le
         first,
         squares,
         blocks,
+        spent,
     )
 }
 
@@ -160,6 +166,7 @@ fn pass_next<T: Store, F: Fn(u32, u32, u64, u64) -> Fraction, L: Ledger, B: Ledg
     first: &mut Contenders<Entry<Window>>,
     squares: &mut Steps<L>,
     blocks: &mut Steps<B>,
+    spent: &mut Spent,
 ) -> Result<u64, SegFault>
     requires rule { Computes F.pre F.post rule.now.kind rule.now.f }
     requires shown { is_range (network_tree network.now).range ≡ true }
@@ -182,6 +189,8 @@ fn pass_next<T: Store, F: Fn(u32, u32, u64, u64) -> Fraction, L: Ledger, B: Ledg
     ensures place { IsPlace parts.now at.new }
     ensures docs { IfOk result (λ docs. (at.new.credit ≡ at.old.credit + docs) × (docs ≤ most)) }
     ensures next { IfOk result (λ docs. at.new.part ≡ (if nat_lt docs most then at.old.part + 1 else at.old.part)) }
+    ensures squared { OnOk result (RiseAlike squares.old squares.new spent.old.squared spent.new.squared) }
+    ensures counted { OnOk result (RiseAlike blocks.old blocks.new spent.old.opened spent.new.opened) }
     ensures stay { map (λ plug. meaning plug) plugs.new ≡ map (λ plug. meaning plug) plugs.old }
     ensures honest { AreBacked (T.files store.old) parts.now → AreReadAt (T.files store.old) parts.now at.old cache.old held.old → IfErr result IsOutside }
     ensures cache { CacheKeeps (T.files store.old) (IsFileAmong parts.now) cache.old cache.new }
@@ -196,7 +205,7 @@ fn pass_next<T: Store, F: Fn(u32, u32, u64, u64) -> Fraction, L: Ledger, B: Ledg
     let marked = &parts[at.part];
     let to = pass_marked(
         alloc, filters, network, rule, plugs, marked, store, cache, held, tables, at.part, at.id,
-        at.ahead, terms, most, first, squares, blocks,
+        at.ahead, terms, most, first, squares, blocks, spent,
     )?;
     keep_blocks(alloc, held, to, most);
     *at = place_behind(*at, to, most);
@@ -221,6 +230,7 @@ pub fn pass_parts<T: Store, F: Fn(u32, u32, u64, u64) -> Fraction, L: Ledger, B:
     first: &mut Contenders<Entry<Window>>,
     squares: &mut Steps<L>,
     blocks: &mut Steps<B>,
+    spent: &mut Spent,
 ) -> Result<(), SegFault>
     requires rule { Computes F.pre F.post rule.now.kind rule.now.f }
     requires shown { is_range (network_tree network.now).range ≡ true }
@@ -241,6 +251,8 @@ pub fn pass_parts<T: Store, F: Fn(u32, u32, u64, u64) -> Fraction, L: Ledger, B:
         (IsAheadAt rule.now.kind (map (λ plug. meaning plug) plugs.old) (map filter_tree filters.now) (network_tree network.now) tables.now (T.files store.old) parts.now at.new) }
     ensures place { IsPlace parts.now at.new }
     ensures credit { OnOk result ((told : Option Files) → at.new.credit ≡ min (at.old.credit + docs) (length (live told parts.now))) }
+    ensures squared { OnOk result (RiseAlike squares.old squares.new spent.old.squared spent.new.squared) }
+    ensures counted { OnOk result (RiseAlike blocks.old blocks.new spent.old.opened spent.new.opened) }
     ensures stay { map (λ plug. meaning plug) plugs.new ≡ map (λ plug. meaning plug) plugs.old }
     ensures honest { AreBacked (T.files store.old) parts.now → AreReadAt (T.files store.old) parts.now at.old cache.old held.old → IfErr result IsOutside }
     ensures cache { CacheKeeps (T.files store.old) (IsFileAmong parts.now) cache.old cache.new }
@@ -255,7 +267,7 @@ pub fn pass_parts<T: Store, F: Fn(u32, u32, u64, u64) -> Fraction, L: Ledger, B:
     while left > 0 && at.part < parts.len() {
         let passed = pass_next(
             alloc, filters, network, rule, plugs, parts, store, cache, held, tables, at, terms,
-            left, first, squares, blocks,
+            left, first, squares, blocks, spent,
         )?;
         left -= passed;
     }

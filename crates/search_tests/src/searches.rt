@@ -85,29 +85,37 @@ fn passes(alloc: Global, search: &mut Search, opened: &mut Opened, docs: u64) ->
     false
 }
 
-/// How many blocks of files a search opens, and how many there are at most: one of each of its terms in so many ranges.
-#[derive(Clone, Copy)]
-pub struct Blocks {
-    pub opened: usize,
-    pub most: usize,
+/// What a search spends, by the numbers that it keeps: ranges that it passes over, blocks that it opens, squarings. Beside it how many
+/// blocks its cache holds at the end, and how many terms and leaves the query has.
+#[derive(Clone, Copy, Debug)]
+pub struct Spending {
+    pub passed: u64,
+    pub opened: u64,
+    pub squared: u64,
+    pub held: usize,
+    pub terms: usize,
+    pub leaves: usize,
 }
 
-/// The blocks that a query opens, by what its cache holds at the end; nothing where a call fails.
-pub fn blocks_of(
+/// What a query spends with an empty cache; nothing where a call fails.
+pub fn spending_of(
     alloc: Global,
     opened: &mut Opened,
     text: &str,
     wanted: Wanted,
-    ranges: usize,
-) -> Option<Blocks> {
+) -> Option<Spending> {
     let mut search = begin(alloc, opened, text, wanted)?;
     opened.cache = cache_of(alloc, 1000)?;
     if !passes(alloc, &mut search, opened, wanted.docs) {
         return None;
     }
-    Some(Blocks {
-        opened: opened.cache.len(),
-        most: search.terms().len().checked_mul(ranges)?,
+    Some(Spending {
+        passed: search.passed(),
+        opened: search.opened(),
+        squared: search.squared(),
+        held: opened.cache.len(),
+        terms: search.terms().len(),
+        leaves: search.stats().len(),
     })
 }
 

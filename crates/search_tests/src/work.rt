@@ -1,65 +1,135 @@
-// How many blocks searches open, with tables of the ranges and without.
+// What searches spend, with tables of the ranges and without, against what they may spend at most.
 ghost use Rattle.std.specs.Prelude.{◌<◌};
 
 use crate::opened::Opened;
-use crate::searches::{Blocks, Wanted, blocks_of};
+use crate::searches::{Spending, Wanted, found, spending_of};
 use crate::skipping::{QUERIES, collection, opened_of};
 use std::alloc::Global;
 
-/// How many ranges the two parts in files of a collection have: 400 documents each.
-const RANGES: usize = 14;
+/// More candidates than any of these collections has.
+const ALL: u32 = 100_000;
 
-/// What the queries open together.
-#[derive(Clone, Copy, Debug)]
+/// What queries spend together, for ten results and in steps of seven, where their searches have tables of the ranges: of so many ranges
+/// they pass over some, open some blocks, and do some squarings. Beside the last two is what they may spend at most.
+#[derive(Clone, Copy, Debug, PartialEq, Eq)]
 struct Row {
-    skipping: usize,
-    passing: usize,
-    most: usize,
+    ranges: u64,
+    passed: u64,
+    opened: u64,
+    most_opened: u64,
+    squared: u64,
+    most_squared: u64,
 }
 
-/// The blocks of a query for ten results, in steps of seven.
-fn blocks(alloc: Global, opened: &mut Opened, text: &str, skips: bool) -> Option<Blocks> {
+/// The rows of the five shapes: documents that are alike, lengths and words in no order, documents that grow, words that come early, and
+/// words that are rare.
+static ROWS: [Row; 5] = [NOTHING; 5];
+
+const NOTHING: Row = Row {
+    ranges: 0,
+    passed: 0,
+    opened: 0,
+    most_opened: 0,
+    squared: 0,
+    most_squared: 0,
+};
+
+impl Row {
+    /// Both together.
+    fn with(self, other: Row) -> Option<Row> {
+        Some(Row {
+            ranges: self.ranges.checked_add(other.ranges)?,
+            passed: self.passed.checked_add(other.passed)?,
+            opened: self.opened.checked_add(other.opened)?,
+            most_opened: self.most_opened.checked_add(other.most_opened)?,
+            squared: self.squared.checked_add(other.squared)?,
+            most_squared: self.most_squared.checked_add(other.most_squared)?,
+        })
+    }
+
+    /// Whether no more is spent than may be.
+    fn is_within(self) -> bool {
+        self.passed <= self.ranges
+            && self.opened <= self.most_opened
+            && self.squared <= self.most_squared
+    }
+}
+
+/// How many ranges of 64 ids the parts of a snapshot have. Each has a live document.
+fn ranges_of(opened: &Opened) -> u64 {
+    let parts = opened.snapshot.parts();
+    parts
+        .iter()
+        .map(|part| u64::from(part.part().docs().div_ceil(64)))
+        .fold(0, |sum: u64, count| sum.saturating_add(count))
+}
+
+fn spending(alloc: Global, opened: &mut Opened, text: &str, skips: bool) -> Option<Spending> {
     let wanted = Wanted {
         most: 10,
         docs: 7,
         skips,
     };
-    blocks_of(alloc, opened, text, wanted, RANGES)
+    spending_of(alloc, opened, text, wanted)
 }
 
-/// With what a query opens; nothing where a call fails, or where more is opened than may be.
-fn with_query(alloc: Global, row: Row, opened: &mut Opened, text: &str) -> Option<Row> {
-    let passing = blocks(alloc, opened, text, false)?;
-    let skipping = blocks(alloc, opened, text, true)?;
-    if skipping.opened > passing.opened || passing.opened > passing.most {
+/// How many candidates a query has.
+fn candidates(alloc: Global, opened: &mut Opened, text: &str) -> Option<u64> {
+    let wanted = Wanted {
+        most: ALL,
+        docs: 10_000,
+        skips: false,
+    };
+    Some(found(alloc, opened, text, wanted)?.len() as u64)
+}
+
+/// Twelve squarings a leaf of so many candidates and ranges.
+fn early(leaves: usize, count: u64) -> Option<u64> {
+    count.checked_mul(leaves as u64)?.checked_mul(12)
+}
+
+/// What a query spends; nothing where a call fails, or where the numbers aren't those of what is seen from outside: the blocks that are
+/// held at the end, and, without tables, twelve squarings a leaf of each candidate.
+fn row_of(alloc: Global, opened: &mut Opened, text: &str) -> Option<Row> {
+    let ranges = ranges_of(opened);
+    let count = candidates(alloc, opened, text)?;
+    let passing = spending(alloc, opened, text, false)?;
+    let skipping = spending(alloc, opened, text, true)?;
+    let leaves = skipping.leaves;
+    let late = passing.squared.checked_sub(early(leaves, count)?)?;
+    let is_told = passing.passed == 0
+        && passing.opened == passing.held as u64
+        && skipping.opened == skipping.held as u64
+        && skipping.opened <= passing.opened;
+    if !is_told {
         return None;
     }
+    let left = ranges.checked_sub(skipping.passed)?;
     Some(Row {
-        skipping: row.skipping.checked_add(skipping.opened)?,
-        passing: row.passing.checked_add(passing.opened)?,
-        most: row.most.checked_add(passing.most)?,
+        ranges,
+        passed: skipping.passed,
+        opened: skipping.opened,
+        most_opened: left.checked_mul(skipping.terms as u64)?,
+        squared: skipping.squared,
+        most_squared: early(leaves, ranges.checked_add(count)?)?.checked_add(late)?,
     })
 }
 
-/// With what all queries open over the collection of a number.
+/// With what all queries spend over the collection of a number.
 fn with_collection(alloc: Global, row: Row, number: u8) -> Option<Row> {
     let mut row = row;
     let mut opened = opened_of(alloc, collection(number))?;
     for text in &QUERIES {
-        row = with_query(alloc, row, &mut opened, text)?;
+        row = row.with(row_of(alloc, &mut opened, text)?)?;
     }
     Some(row)
 }
 
-/// What is opened over the four collections of each of the five shapes.
-fn row_of(alloc: Global, shape: u8) -> Option<Row>
+/// What all queries spend over the four collections of a shape.
+fn row_of_shape(alloc: Global, shape: u8) -> Option<Row>
     requires { shape < 5 }
 {
-    let mut row = Row {
-        skipping: 0,
-        passing: 0,
-        most: 0,
-    };
+    let mut row = NOTHING;
     for round in 0..4u8 {
         row = with_collection(alloc, row, 1 + shape + 5 * round)?;
     }
@@ -67,14 +137,10 @@ fn row_of(alloc: Global, shape: u8) -> Option<Row>
 }
 
 #[test]
-fn skipping_opens_no_more(rt: HostRuntime) {
-    let mut skipped = 0usize;
+fn no_more_than_may_be(rt: HostRuntime) {
     for shape in 0..5u8 {
-        let row = row_of(rt.alloc(), shape);
-        assert!(rt; row.is_some(), "{shape}");
-        if let Some(row) = row {
-            skipped = skipped.saturating_add(row.passing.saturating_sub(row.skipping));
-        }
+        let row = row_of_shape(rt.alloc(), shape);
+        assert!(rt; row.is_some_and(|row| row.is_within()), "{shape} {row:?}");
+        assert!(rt; row == Some(ROWS[shape as usize]), "{shape} {row:?}");
     }
-    assert!(rt; skipped > 0, "nothing is skipped");
 }

@@ -29,7 +29,7 @@ loop-row-preserved g c =
       spent =
           let long : length c.loop-row.rows.items ≡ length rest + 1 = ap length popped ∙ length-append rest (row ∷ []) in
           let before = c.loop-row.invariant.spent in
-          let one = c.early_of.ensures.cost in
+          let one = c.in_ok-entry.ensures.exact in
           let sum = cost-sum network (length rest) 1 in
           let was : early_cost network (length c.loop-row.rows.items) ≡ early_cost network (length rest + 1) = ap (early_cost network) long in
           omega (arith, before, one, sum, was);

@@ -1,4 +1,4 @@
-use Rattle.std.proofs.Common.{◌≡◌, ◌≤◌, ◌+◌, ◌++◌, All, List, length, map}
+use Rattle.std.proofs.Common.{◌≡◌, ◌+◌, ◌++◌, All, List, length, map}
 use Rattle.belief_nodes.specs.Network.{network_tree}
 use Rattle.bounded_keys.specs.Kept.{AreAmong}
 use Rattle.bounded_keys.specs.declared.entry.Entry.{Entry}
@@ -11,7 +11,7 @@ abbrev pub invariant-loop-row : goal.invariant-loop-row
 invariant-loop-row g l = record {
   most : l.first.most ≡ l.fn.first.most;
   scale : l.first.scale ≡ l.fn.first.scale;
-  spent : l.squares + early_cost (network_tree l.network) (length l.rows.items) ≤ l.fn.squares + early_cost (network_tree l.network) (length l.fn.rows.items);
+  spent : l.squares + early_cost (network_tree l.network) (length l.rows.items) ≡ l.fn.squares + early_cost (network_tree l.network) (length l.fn.rows.items);
   each : All (λ (row : Row). length row.fractions ≡ length (network_tree l.network).leaves) l.rows.items;
   offered : (all : List (Entry Window)) → WereOffered all l.fn.first
       → (taken : List Row) × (l.fn.rows.items ≡ l.rows.items ++ taken) × WereOffered (map (early_of (network_tree l.network)) taken ++ all) l.first;

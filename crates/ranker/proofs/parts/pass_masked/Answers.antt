@@ -11,6 +11,7 @@ use Rattle.ranker.specs.Passed.{bit_of}
 use Rattle.ranker.specs.Windows.{KeepsWindows}
 use Rattle.ranker.proofs.AheadLemmas.{IsAhead-on}
 use Rattle.ranker.proofs.PassedLemmas.{Advances-read, Advances-same, Advances-then}
+use Rattle.ranker.proofs.SpentLemmas.{rise-same, rise-then}
 use Rattle.ranker.proofs.WindowLemmas.{KeepsWindows-same, KeepsWindows-then}
 use Rattle.ranker.proofs.WithinLemmas.{cost-to, within-more, within-then, within-to}
 use Rattle.ranker.proofs.parts.pass_masked.Goals as goal
@@ -25,6 +26,7 @@ loop-at-init g c = record {
   from = omega arith;
   inside = omega (arith, c.requires.id, c.requires.end, c.docs.ensures);
   few = omega arith;
+  squared = rise-same _ _;
 }
 
 pub loop-at-preserved : goal.loop-at-preserved
@@ -58,6 +60,7 @@ loop-at-preserved g c =
       from = omega (arith, c.loop-at.invariant.from, c.in_ok-passed.ensures.one);
       inside = omega (arith, c.loop-at-test.true);
       few = omega (arith, c.loop-at.invariant.few, c.loop-at-test.true, c.in_ok-passed.ensures.one);
+      squared = rise-then _ _ _ _ _ _ c.loop-at.invariant.squared c.in_ok-passed.ensures.squared;
     }
 
 pub returns-after-loop-at-clause-passed : goal.returns-after-loop-at-clause-passed

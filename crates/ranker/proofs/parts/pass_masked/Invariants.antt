@@ -5,6 +5,7 @@ use Rattle.belief_nodes.specs.Network.{network_tree}
 use Rattle.disk_index.specs.Snapshots.{unmarked}
 use Rattle.ranker.specs.First.{Advances, counted}
 use Rattle.ranker.specs.Passed.{IsAhead, live_ids}
+use Rattle.ranker.specs.Spent.{RiseAlike}
 use Rattle.ranker.specs.Windows.{KeepsWindows}
 use Rattle.ranker.proofs.parts.pass_masked.Given as goal
 
@@ -19,6 +20,7 @@ invariant-loop-at g l = record {
   from : l.id + l.docs ≤ l.at;
   inside : l.at ≤ l.end;
   few : l.docs ≤ l.most;
+  squared : RiseAlike l.fn.squares l.squares l.fn.squared l.squared;
 }
 
 abbrev pub decreases-loop-at : goal.decreases-loop-at

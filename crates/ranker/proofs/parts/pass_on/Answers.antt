@@ -1,19 +1,21 @@
-use Rattle.std.proofs.Common.{◌≡◌, ◌<◌, ◌≤◌, ◌+◌, ◌/◌, false, length, map, take, ap, sym, subst, ◌∙◌, arith}
+use Rattle.std.proofs.Common.{◌≡◌, ◌<◌, ◌≤◌, ◌+◌, ◌/◌, ℕ, false, length, map, take, ap, sym, subst, ◌∙◌, arith}
+use Rattle.ri_base.specs.Collection.{document_at}
 use Rattle.ri_base.specs.Query.{filter_tree}
 use Rattle.belief_nodes.specs.Network.{network_tree}
 use Rattle.disk_index.specs.Snapshots.{unmarked}
 use Rattle.ranker.specs.Blocks.{opened_of}
-use Rattle.ranker.specs.First.{Advances, counted}
+use Rattle.ranker.specs.First.{Advances, Counted, counted}
 use Rattle.ranker.specs.Passed.{IsKnown, asked_of, is_clear, live_ranges, ranges_of}
 use Rattle.ranker.specs.Unbeaten.{Holds, live_to, sought, stretch}
-use Rattle.ranker.proofs.AheadLemmas.{IsKnown-found, IsKnown-on, bare}
+use Rattle.ranker.proofs.AheadLemmas.{IsKnown-found, IsKnown-on, absent-here, bare}
 use Rattle.ranker.proofs.AskedLemmas.{asked-all, asked-found, asked-on, asks-all, asks-bounded, asks-same, asks-then, live-here}
 use Rattle.ranker.proofs.OpeningLemmas.{each-passed, opened-le, opened-on, opens-one, opens-passed, opens-same}
-use Rattle.ranker.proofs.PassedLemmas.{Advances-bare, Advances-beaten, Advances-dead}
-use Rattle.ranker.proofs.UnbeatenLemmas.{is-unbeaten}
+use Rattle.ranker.proofs.PassedLemmas.{Advances-beaten, Advances-by-each, Advances-dead, PassesBy, passes_absent, passes_unseen}
+use Rattle.ranker.proofs.UnbeatenLemmas.{is-unbeaten, left-by}
 use Rattle.ranker.proofs.WindowLemmas.{KeepsWindows-same}
 use Rattle.ranker.proofs.WorkLemmas.{Passes-by, Passes-over, Spends-none, Spends-over, asks-up}
 use Rattle.ranker.proofs.parts.pass_on.Goals as goal
+use Rattle.ranker.proofs.parts.pass_on.Goals.{then-is_clear-via-else-is_clear+then-is_absent, then-is_clear-via-then-is_clear}
 
 -- ---- no document may have candidates
 
@@ -37,11 +39,18 @@ returns-then-is_clear-clause-first g c = λ sound known before count some.
     let to = c.pass_unseen.result in
     let inside = c.pass_unseen.ensures.passed.inside in
     let within = c.pass_unseen.ensures.inside in
-    let clear = sym c.is_clear.ensures ∙ c.if-is_clear.true in
     let on = asked-on marks id to.id found to.ahead c.pass_unseen.ensures.back c.pass_unseen.ensures.same in
+    let few : Counted = counted c.args.first.now c.args.squares.now 0 in
+    let by : (i : ℕ) → id ≤ i → i < to.id → PassesBy kind priors filters network few (document_at docs i) =
+    elim c.then-is_clear.branch [
+      | then-is_clear-via-then-is_clear w ↦ (λ i low high. passes_unseen kind priors filters network few (document_at docs i)
+          (bare filters network.leaves docs id found (sym c.is_clear.ensures ∙ w.if-is_clear.true) foundly.may i low (omega (arith, high, within))))
+      | then-is_clear-via-else-is_clear+then-is_absent w ↦ (λ i low high. passes_absent kind priors filters network few (document_at docs i)
+          (absent-here kind priors filters network tables number docs id i found foundly.span (sym c.is_clear.ensures ∙ w.if-is_clear.false) low (omega (arith, high, within))
+          (w.is_absent.ensures.absent w.if-is_absent.true network docs (omega (arith, c.requires.id)) known.told)))
+    ] in
     Passes-by s m (length c.args.terms.now) id to.id ahead to.ahead (g.P.OpensRanges.present c.args.part.now) c.args.first.now c.args.squares.now c.args.squares.now c.args.blocks.now c.pass_unseen.ensures.back
-    (Advances-bare kind priors filters network docs marks (counted c.args.first.now c.args.squares.now 0) id to.id c.pass_unseen.ensures.back (omega (arith, inside, c.requires.marks)) c.requires.marks
-    (λ i low high. bare filters network.leaves docs id found clear foundly.may i low (omega (arith, high, within)))).step
+    (Advances-by-each kind priors filters network docs marks few id to.id c.pass_unseen.ensures.back (omega (arith, inside, c.requires.marks)) c.requires.marks by).step
     (asks-same network (asked_of marks id ahead) (asked_of marks to.id to.ahead) c.args.squares.now (omega (arith, asked, on)))
 
 pub returns-then-is_clear-clause-ahead : goal.returns-then-is_clear-clause-ahead
@@ -291,7 +300,7 @@ returns-clause-first g c = λ sound known before count.
     (asks-bounded network marks (length docs) id found now c.args.squares.now c.bounded.new.squares c.in_ok-known.ensures.asked c.in_ok-known.ensures.end c.ahead_of-found.ensures.some (sym c.is_clear.ensures ∙ c.if-is_clear.false) live c.bounded.ensures.cost foundly.span) in
     let some_ahead : id < now.end = omega (arith, c.ahead_of-found.ensures.some, c.in_ok-known.ensures.end) in
     let found_unbeaten = λ (held : Holds s (live_to m id) c.args.first.now).
-    is-unbeaten s m id c.args.first.now now.bound held (λ n is. bounded.key n id is (omega arith) some_ahead) (c.is_beaten.ensures.unbeaten c.if-is_beaten.false) c.in_ok-known.ensures.unbound in
+    is-unbeaten s m id c.args.first.now now.bound held (λ n is. bounded.key n id is (omega arith) some_ahead) (c.is_beaten.ensures.unbeaten c.if-is_beaten.false) (λ none. left-by (c.is_absent.ensures.told c.if-is_absent.false) (c.in_ok-known.ensures.unbound none)) in
     let read : is_clear now.mask ≡ false = ap is_clear c.in_ok-known.ensures.mask ∙ sym c.is_clear.ensures ∙ c.if-is_clear.false in
     Passes-over s m id ahead now (g.P.OpensRanges.present c.args.part.now) (g.P.OpensRanges.present c.pass_opened.new.part) c.args.first.now c.pass_opened.new.first c.args.squares.now c.bounded.new.squares c.pass_opened.new.squares c.args.blocks.now c.pass_opened.new.blocks (length c.args.terms.now) c.requires.marks c.requires.id bounded.span.inside (bounded.span.short read) asks live found_unbeaten c.pass_opened.ensures.none c.pass_opened.ensures.cost
     c.pass_opened.result c.args.most c.pass_opened.ensures.forward c.pass_opened.ensures.inside c.pass_opened.ensures.present (c.pass_opened.ensures.first sound bounded)
@@ -338,7 +347,7 @@ returns-clause-within g c = λ sound known before count.
     (asks-bounded network marks (length docs) id found now c.args.squares.now c.bounded.new.squares c.in_ok-known.ensures.asked c.in_ok-known.ensures.end c.ahead_of-found.ensures.some (sym c.is_clear.ensures ∙ c.if-is_clear.false) live c.bounded.ensures.cost foundly.span) in
     let some_ahead : id < now.end = omega (arith, c.ahead_of-found.ensures.some, c.in_ok-known.ensures.end) in
     let found_unbeaten = λ (held : Holds s (live_to m id) c.args.first.now).
-    is-unbeaten s m id c.args.first.now now.bound held (λ n is. bounded.key n id is (omega arith) some_ahead) (c.is_beaten.ensures.unbeaten c.if-is_beaten.false) c.in_ok-known.ensures.unbound in
+    is-unbeaten s m id c.args.first.now now.bound held (λ n is. bounded.key n id is (omega arith) some_ahead) (c.is_beaten.ensures.unbeaten c.if-is_beaten.false) (λ none. left-by (c.is_absent.ensures.told c.if-is_absent.false) (c.in_ok-known.ensures.unbound none)) in
     let read : is_clear now.mask ≡ false = ap is_clear c.in_ok-known.ensures.mask ∙ sym c.is_clear.ensures ∙ c.if-is_clear.false in
     Spends-over s m id ahead now (g.P.OpensRanges.present c.args.part.now) (g.P.OpensRanges.present c.pass_opened.new.part) c.args.first.now c.pass_opened.new.first c.args.squares.now c.bounded.new.squares c.pass_opened.new.squares c.args.blocks.now c.pass_opened.new.blocks (length c.args.terms.now) c.requires.marks c.requires.id bounded.span.inside (bounded.span.short read) asks live found_unbeaten c.pass_opened.ensures.none c.pass_opened.ensures.cost
     (omega (arith, some_ahead)) (c.pass_opened.ensures.within sound bounded)

@@ -65,10 +65,10 @@ returns-clause-windows g c = rw c.open_range.ensures.keeps.documents_stay at c.p
 pub returns-clause-present : goal.returns-clause-present
 returns-clause-present g c =
     let stays = g.met.P.OpensRanges.present_stays _ _ c.pass_open.ensures.keeps.stays_quiet in
-    on-ok c.pass_open.result (g.P.OpensRanges.present c.pass_open.new.part ≡ c.args.id / 64) (stays ∙ c.in_ok-open_range.ensures.present)
+    on-ok c.pass_open.result (g.P.OpensRanges.present c.pass_open.new.part ≡ c.args.id / 64) (stays ∙ c.in_ok-count.ensures.present)
 
-pub returns-in_err-open_range-clause-within : goal.returns-in_err-open_range-clause-within
-returns-in_err-open_range-clause-within g c = λ sound known.
+pub returns-in_err-count-clause-within : goal.returns-in_err-count-clause-within
+returns-in_err-count-clause-within g c = λ sound known.
     let kind = c.args.rule.now.kind in
     let priors = map (λ b. (goal.BeliefNode-dyn g (b.vtable, b.value)).meaning b.value) c.args.plugs.now in
     let filters = map filter_tree c.args.filters.now in

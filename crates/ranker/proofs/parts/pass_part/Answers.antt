@@ -11,6 +11,7 @@ use Rattle.ranker.specs.Windows.{KeepsWindows}
 use Rattle.ranker.proofs.AheadLemmas.{IsKnown-priors, IsKnown-read}
 use Rattle.ranker.proofs.AskedLemmas.{asked-all}
 use Rattle.ranker.proofs.OpeningLemmas.{opened-le, opens-more, opens-same, opens-then, times-more, times-sum}
+use Rattle.ranker.proofs.SpentLemmas.{rise-same, rise-then}
 use Rattle.ranker.proofs.WindowLemmas.{KeepsWindows-same, KeepsWindows-then}
 use Rattle.ranker.proofs.WorkLemmas.{Passes-read, Passes-same, Passes-then, Spends-read, Spends-then, Spends-whole}
 use Rattle.ranker.proofs.parts.pass_part.Goals as goal
@@ -27,6 +28,8 @@ loop-at-init g c = record {
   few = omega arith;
   opened = opens-same _ _ _ _ (omega arith);
   each = omega arith;
+  squared = rise-same _ _;
+  counted = rise-same _ _;
 }
 
 pub loop-at-preserved : goal.loop-at-preserved
@@ -72,6 +75,8 @@ loop-at-preserved g c =
       few = omega (arith, c.loop-at.invariant.few, passed.few);
       opened = opens-then (length c.args.terms.now) _ _ _ _ _ _ c.loop-at.invariant.opened (c.in_ok-to.ensures.opened left);
       each = let sum = times-sum (length c.args.terms.now) c.loop-at.docs to.docs in let more = c.in_ok-to.ensures.each left in omega (arith, sum, more, c.loop-at.invariant.each);
+      squared = rise-then _ _ _ _ _ _ c.loop-at.invariant.squared c.in_ok-to.ensures.squared;
+      counted = rise-then _ _ _ _ _ _ c.loop-at.invariant.counted c.in_ok-to.ensures.counted;
     }
 
 pub returns-after-loop-at-clause-passed : goal.returns-after-loop-at-clause-passed

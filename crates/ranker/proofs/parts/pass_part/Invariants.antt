@@ -6,6 +6,7 @@ use Rattle.belief_nodes.specs.Network.{network_tree}
 use Rattle.disk_index.specs.Snapshots.{unmarked}
 use Rattle.ranker.specs.Blocks.{OpensWithin, opened_of}
 use Rattle.ranker.specs.Passed.{IsKnown, live_ids}
+use Rattle.ranker.specs.Spent.{RiseAlike}
 use Rattle.ranker.specs.Unbeaten.{Passes, live_to, sought, stretch, work_to}
 use Rattle.ranker.specs.Windows.{KeepsWindows}
 use Rattle.ranker.proofs.parts.pass_part.Given as goal
@@ -25,6 +26,8 @@ invariant-loop-at g l = record {
   few : l.docs ≤ l.most;
   opened : OpensWithin (length l.terms) (opened_of (length l.marks) (g.P.OpensRanges.present l.fn.part) l.id) (opened_of (length l.marks) (g.P.OpensRanges.present l.part) l.at) l.fn.blocks l.blocks;
   each : l.blocks ≤ l.fn.blocks + length l.terms * l.docs;
+  squared : RiseAlike l.fn.squares l.squares l.fn.spent.squared l.spent.squared;
+  counted : RiseAlike l.fn.blocks l.blocks l.fn.spent.opened l.spent.opened;
 }
 
 abbrev pub decreases-loop-at : goal.decreases-loop-at

@@ -12,6 +12,7 @@ use Rattle.ranker.specs.Windows.{KeepsWindows}
 use Rattle.ranker.proofs.AskedLemmas.{asked-le}
 use Rattle.ranker.proofs.OpeningLemmas.{opened-all, opens-more, opens-same, opens-then, times-sum}
 use Rattle.ranker.proofs.PlaceLemmas.{IsAheadAt-later, credit-min}
+use Rattle.ranker.proofs.SpentLemmas.{rise-same, rise-then}
 use Rattle.ranker.proofs.WindowLemmas.{KeepsWindows-same, KeepsWindows-then}
 use Rattle.ranker.proofs.WorkLemmas.{Passes-later, Passes-same, Passes-then, Spends-all, Spends-later, Spends-then}
 use Rattle.ranker.proofs.snapshots.pass_parts.Goals as goal
@@ -31,6 +32,8 @@ loop-left-init g c = record {
   cache = CacheKeeps-same (g.T.Store.files c.args.store.now) (IsFileAmong c.args.parts.now) c.args.cache.now;
   quiet = IsQuiet-same g.T.Store.files g.T.Store.layers g.T.Store.clock g.T.Store.since g.T.Store.longest g.T.Store.held g.T.Store.faults c.args.store.now;
   later = omega arith;
+  squared = rise-same _ _;
+  counted = rise-same _ _;
 }
 
 pub loop-left-preserved : goal.loop-left-preserved
@@ -84,6 +87,8 @@ loop-left-preserved g c =
       cache = CacheKeeps-after told here (IsFileAmong parts) c.args.cache.now c.loop-left.cache c.pass_next.new.cache same inv.cache c.pass_next.ensures.cache;
       quiet = IsQuiet-then g.T.Store.files g.T.Store.layers g.T.Store.clock g.T.Store.since g.T.Store.longest g.T.Store.held g.T.Store.faults c.args.store.now c.loop-left.store c.pass_next.new.store inv.quiet c.pass_next.ensures.quiet;
       later = omega (arith, inv.later, c.pass_next.ensures.later);
+      squared = rise-then _ _ _ _ _ _ inv.squared c.in_ok-passed.ensures.squared;
+      counted = rise-then _ _ _ _ _ _ inv.counted c.in_ok-passed.ensures.counted;
     }
 
 pub returns-in_err-passed-clause-honest : goal.returns-in_err-passed-clause-honest

@@ -8,6 +8,7 @@ use Rattle.disk_index.specs.Snapshots.{AreBacked, IsFileAmong, live}
 use Rattle.range_masks.specs.Held.{FitDocuments}
 use Rattle.ranker.specs.Blocks.{AreReadAt, OpensWithin, opened_at}
 use Rattle.ranker.specs.Passed.{IsAheadAt, IsPlace, part_at, passed}
+use Rattle.ranker.specs.Spent.{RiseAlike}
 use Rattle.ranker.specs.Unbeaten.{Passes, sought, work_at}
 use Rattle.ranker.specs.Windows.{KeepsWindows}
 use Rattle.ranker.proofs.snapshots.pass_parts.Given as goal
@@ -32,6 +33,8 @@ invariant-loop-left g l = record {
   cache : CacheKeeps (g.T.Store.files l.fn.store) (IsFileAmong l.parts) l.fn.cache l.cache;
   quiet : IsQuiet g.T.Store.files g.T.Store.layers g.T.Store.clock g.T.Store.since g.T.Store.longest g.T.Store.held l.fn.store l.store;
   later : g.T.Store.faults l.fn.store ≤ g.T.Store.faults l.store;
+  squared : RiseAlike l.fn.squares l.squares l.fn.spent.squared l.spent.squared;
+  counted : RiseAlike l.fn.blocks l.blocks l.fn.spent.opened l.spent.opened;
 }
 
 abbrev pub decreases-loop-left : goal.decreases-loop-left

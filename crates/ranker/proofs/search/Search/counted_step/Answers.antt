@@ -1,6 +1,7 @@
 use Rattle.std.proofs.Common.{refl, ap, sym, ◌∙◌, None, nat_lt}
 use Rattle.std.proofs.Math.Logic.{∥∥₁_map}
 use Rattle.std.proofs.lemmas.Result.{err_from_is_err_and}
+use Rattle.ranker.proofs.SpentLemmas.{rise-within}
 use Rattle.ranker.proofs.search.Search.counted_step.Goals as goal
 
 pub advance-requires-clause-open : goal.advance-requires-clause-open
@@ -71,3 +72,12 @@ returns-clause-meets g c = λ backed cached h.
 pub returns-in_err-advance-clause-meets : goal.returns-in_err-advance-clause-meets
 returns-in_err-advance-clause-meets g c = λ backed cached h.
     (rw c.as_slice.ensures at (rw c.deref.ensures.value at (rw c.deref-2.ensures.value at (rw c.parts.ensures.parts at c.advance.ensures.meets)))) backed (record { cache = cached; held = h.blocks }) h.ahead c.args.self.now.most h.held
+
+pub returns-clause-spent : goal.returns-clause-spent
+returns-clause-spent g c = λ backed cached h within.
+    let squares = (rw c.deref.ensures.value at (rw c.deref-2.ensures.value at (rw c.parts.ensures.parts at c.in_ok-advance.ensures.squares))) backed (record { cache = cached; held = h.blocks }) h.ahead c.args.self.now.most h.held in
+    let blocks = (rw c.as_slice.ensures at (rw c.deref.ensures.value at (rw c.deref-2.ensures.value at (rw c.parts.ensures.parts at c.in_ok-advance.ensures.met)))) backed (record { cache = cached; held = h.blocks }) h.ahead c.args.self.now.most h.held in
+    record {
+      squares = rise-within _ _ _ _ _ _ c.in_ok-advance.ensures.squared squares within.squares;
+      blocks = rise-within _ _ _ _ _ _ c.in_ok-advance.ensures.counted blocks within.blocks;
+    }

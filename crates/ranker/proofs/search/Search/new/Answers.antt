@@ -1,8 +1,9 @@
-use Rattle.std.proofs.Common.{nat_lt, refl, ap, sym, ◌∙◌, arith}
+use Rattle.std.proofs.Common.{◌≡◌, nat_lt, refl, ap, sym, ◌∙◌, arith}
 use Rattle.ri_base.specs.Query.{is_range}
 use Rattle.belief_nodes.specs.Network.{NetworkTree, network_tree}
 use Rattle.ranker.specs.First.{scale_of}
 use Rattle.ranker.specs.Passed.{nothing_known}
+use Rattle.ranker.specs.declared.spent.Spent.{Spent}
 use Rattle.ranker.proofs.AheadLemmas.{IsKnown-nothing, IsKnown-on}
 use Rattle.ranker.proofs.search.Search.new.Goals as goal
 
@@ -24,3 +25,9 @@ invariant_of-result c = record {
   entries = λ usable. c.first_held-held.ensures.entries (network_tree c.in_ok-network.network) (c.args.checked.kept.whole ∙ ap (λ (n : NetworkTree). scale_of n) (sym c.in_ok-network.ensures));
   windows = λ usable told. ∣ c.first_held-held.ensures.windows _ _ ∣₁;
 }
+
+pub returns-clause-spent : goal.returns-clause-spent
+returns-clause-spent c = λ kind priors told.
+    let squared : c.nothing-3.result.squared ≡ 0 = ap (λ (n : Spent). n.squared) c.nothing-3.ensures in
+    let opened : c.nothing-3.result.opened ≡ 0 = ap (λ (n : Spent). n.opened) c.nothing-3.ensures in
+    record { squares = omega (arith, squared); blocks = omega (arith, opened) }

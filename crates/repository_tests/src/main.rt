@@ -1,4 +1,4 @@
-//! Tests of repositories, called as their users call them.
+//! Tests of repositories, called as their users call them. The program itself does nothing.
 #![tactic(auto)]
 
 #[cfg(test)]
@@ -15,3 +15,5 @@ mod stays;
 mod stops;
 #[cfg(test)]
 mod together;
+
+fn main() {}

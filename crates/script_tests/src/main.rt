@@ -1,5 +1,5 @@
 //! Tests of what a session script, the lines of docnos and the rows of a prior are read as, and of the events of a generated
-//! collection.
+//! collection. The program itself does nothing.
 #![tactic(auto)]
 
 #[cfg(test)]
@@ -16,3 +16,5 @@ mod priors;
 mod shown;
 #[cfg(test)]
 mod table;
+
+fn main() {}

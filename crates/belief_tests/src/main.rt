@@ -1,4 +1,4 @@
-//! Tests of passages, beliefs, priors, logarithms, scores and explained results that were worked out by hand or computed elsewhere.
+//! Tests of passages, beliefs, priors, logarithms, scores and explained results that were worked out by hand or computed elsewhere. The program itself does nothing.
 #![tactic(auto)]
 
 #[cfg(test)]
@@ -13,3 +13,5 @@ mod logarithms;
 mod priors;
 #[cfg(test)]
 mod scores;
+
+fn main() {}

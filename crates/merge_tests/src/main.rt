@@ -1,4 +1,4 @@
-//! Tests of merges in turns, called as their users call them.
+//! Tests of merges in turns, called as their users call them. The program itself does nothing.
 #![tactic(auto)]
 
 #[cfg(test)]
@@ -11,3 +11,5 @@ mod job;
 mod parts;
 #[cfg(test)]
 mod turns;
+
+fn main() {}

@@ -1,4 +1,4 @@
-//! Tests of a desk, called as its users call it.
+//! Tests of a desk, called as its users call it. The program itself does nothing.
 #![tactic(auto)]
 
 #[cfg(test)]
@@ -21,3 +21,5 @@ mod rows;
 mod session;
 #[cfg(test)]
 mod stops;
+
+fn main() {}

@@ -1,4 +1,4 @@
-//! Tests of the files of a repository, called as their users call them.
+//! Tests of the files of a repository, called as their users call them. The program itself does nothing.
 #![tactic(auto)]
 
 #[cfg(test)]
@@ -15,3 +15,5 @@ mod sections;
 mod segments;
 #[cfg(test)]
 mod written;
+
+fn main() {}

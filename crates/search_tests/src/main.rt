@@ -1,4 +1,4 @@
-//! Tests of searches in steps and of sums over snapshots, called as their users call them.
+//! Tests of searches in steps and of sums over snapshots, called as their users call them. The program itself does nothing.
 #![tactic(auto)]
 
 #[cfg(test)]
@@ -23,3 +23,5 @@ mod stats;
 mod sums;
 #[cfg(test)]
 mod work;
+
+fn main() {}

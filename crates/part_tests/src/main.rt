@@ -1,4 +1,4 @@
-//! Tests of parts on disk, called as their users call them.
+//! Tests of parts on disk, called as their users call them. The program itself does nothing.
 #![tactic(auto)]
 
 #[cfg(test)]
@@ -9,3 +9,5 @@ mod failing;
 mod places;
 #[cfg(test)]
 mod segment;
+
+fn main() {}

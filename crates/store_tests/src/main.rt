@@ -1,4 +1,4 @@
-//! Tests of the stores, of the front of a source and of ends over std, called as their users call them.
+//! Tests of the stores, of the front of a source and of ends over std, called as their users call them. The program itself does nothing.
 #![tactic(auto)]
 
 #[cfg(test)]
@@ -13,3 +13,5 @@ mod fronts;
 mod memory;
 #[cfg(test)]
 mod pages;
+
+fn main() {}

@@ -1,5 +1,5 @@
 //! Tests of the TREC text that is read, of the words and documents that are made of it, and of the
-//! words of the command line.
+//! words of the command line. The program itself does nothing.
 #![tactic(auto)]
 
 #[cfg(test)]
@@ -12,3 +12,5 @@ mod pieces;
 mod reading;
 #[cfg(test)]
 mod words;
+
+fn main() {}

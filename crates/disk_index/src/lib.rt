@@ -27,5 +27,5 @@ pub use name::{as_text, segment_name, write_hex};
 pub use part::Part;
 pub use presence::{next_in_memory, term_postings};
 pub use reader::PartReader;
-pub use reading::store_fault;
+pub use reading::{file_length, read_bytes, store_fault};
 pub use snapshot::{Snapshot, fits_snapshot};

@@ -26,8 +26,8 @@ pub fn store_fault(fault: OutFault) -> SegFault
     }
 }
 
-/// How many bytes the file of the segment has.
-pub(crate) fn file_length<T: Store>(store: &mut T, number: u64) -> Result<u64, SegFault>
+/// How many bytes the file of the segment has. `Missing` where there is none.
+pub fn file_length<T: Store>(store: &mut T, number: u64) -> Result<u64, SegFault>
     ensures length { (f : Files) → T.files store.old ≡ Some f → IfOk result (λ n. n ≡ length (file_of f number)) }
     ensures fault { (f : Files) → T.files store.old ≡ Some f → IfErr result (IsReadFault f number) }
     ensures quiet { IsQuiet T.files T.layers T.clock T.since T.longest T.held store.old store.new }
@@ -62,8 +62,8 @@ fn fill<T: Store>(store: &mut T, number: u64, at: u64, buf: &mut [u8]) -> Result
     }
 }
 
-/// The file's bytes from a place on, so many, or as many as there are.
-pub(crate) fn read_bytes<T: Store>(
+/// The bytes of the file of the segment from a place on, so many, or as many as there are. `Missing` where there are fewer, and no such file.
+pub fn read_bytes<T: Store>(
     alloc: Global,
     store: &mut T,
     number: u64,

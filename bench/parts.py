@@ -31,8 +31,8 @@ than 1,000 results of 1,000 the row only says what they take, since the program 
 few ranges have no document that may be among the first 10 by what is known of the range, or none: there the tables are made for little
 or for nothing.
 
-A row of memory has how much more the peak is of a search for 10,000 results than of one for 10, for each result more and each leaf of
-the query. The search is the first of its process.
+A row of memory has how much more the peak is of a search for thousands of results than of one for 10, for each result more and each
+leaf of the query. The search is the first of its process. The numbers of results stand on both sides of those at which its list is moved.
 
 The status is 1 where a row is beyond its bound, or where the program reads or says something else than it must.
 """
@@ -63,7 +63,7 @@ SEARCHED = {"absent": 0.1, f"w{RARE}": 3, ALL_TENTHS: 60}
 STEPS, SEARCH_EXPONENT = 1.3, 0.3
 MANY, TEN, HALF = 1000, 10, 0.5
 DEARER, TABLES = 1.1, 0.1
-HELD, MOST_HELD = 200, 10_000
+HELD, MOST_HELD = 200, (5_000, 9_000, 10_000, 12_000, 20_000)
 
 
 @dataclass(frozen=True)
@@ -322,17 +322,22 @@ class Table:
 
     def held(self, documents):
         """What a search holds for each result and leaf."""
-        folder, most = self.made("held"), min(MOST_HELD, documents)
+        folder = self.made("held")
         (folder / NAME).write_bytes(segment(documents, shaped_tokens(SHAPES["mixed"], 1))[0])
         for leaves in (1, len(TENTHS)):
             query = " ".join(f"w{word}" for word in TENTHS[:leaves])
-            few, many = (self.peak(query, folder, documents, results) for results in (TEN, most))
-            each = (many - few) / (most - TEN) / leaves
-            cells = (
-                f"peak {few / MEGA:5.2f} MB for {TEN}, {many / MEGA:5.2f} MB for {most}",
-                self.bounded(f"{each:4.0f} bytes a result and leaf", each <= HELD, f"at most {HELD}"),
-            )
-            print(f"{'memory, ' + query:<24}", "   ".join(cells), flush=True)
+            few = self.peak(query, folder, documents, TEN)
+            for most in sorted({min(most, documents) for most in MOST_HELD}):
+                self.held_for(query, leaves, few, most, self.peak(query, folder, documents, most))
+
+    def held_for(self, query, leaves, few, most, many):
+        """A row of what a search for so many results holds beyond one for ten."""
+        each = (many - few) / (most - TEN) / leaves
+        cells = (
+            f"peak {few / MEGA:5.2f} MB for {TEN}, {many / MEGA:5.2f} MB for {most:6}",
+            self.bounded(f"{each:4.0f} bytes a result and leaf", each <= HELD, f"at most {HELD}"),
+        )
+        print(f"{'memory, ' + query:<24}", "   ".join(cells), flush=True)
 
     def usual_words(self, size):
         spread, each = COLLECTIONS["usual words"]

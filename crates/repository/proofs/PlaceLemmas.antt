@@ -1,21 +1,28 @@
 -- Where a document stands in the file of its segment: what stands behind it is counted from the end.
-use Rattle.std.proofs.Common.{◌≡◌, ◌≤◌, ◌+◌, ◌*◌, ℕ, List, [], ◌∷◌, ◌++◌, length, map, take, drop, Option, Some, None, Result, Ok, Err, refl, ap, subst, ◌∙◌, arith}
+use Rattle.std.proofs.Common.{◌≡◌, ◌≤◌, ◌+◌, ◌*◌, ℕ, List, [], ◌∷◌, ◌++◌, length, map, take, drop, Option, Result, Ok, Err, refl, ap, subst, ◌∙◌, arith}
 use Rattle.std.specs.Prelude.{IfOk, sum_by}
 use Rattle.std.specs.Int.{w16, w32, to_le_bytes}
 use Rattle.std.specs.List.{flat_map}
-use Rattle.std.specs.Option.{IfSome, option_map, unwrap_or}
+use Rattle.std.specs.Option.{unwrap_or}
 use Rattle.std.proofs.lemmas.List.{length-append, length-map}
 use Rattle.std.proofs.lemmas.List.Concat.{flat_map-cons}
 use Rattle.std.proofs.lemmas.List.Sums.{sum_by-cons, sum_by-take-drop}
 use Rattle.ri_base.specs.Spelling.{spelled_text}
+use Rattle.ri_base.specs.Faults.{IsOutside}
 use Rattle.ri_base.specs.declared.seg_fault.SegFault.{SegFault}
+use Rattle.ri_base.specs.declared.seg_fault.SegFault.TheVariants.{Malformed, Missing, Store, Memory}
+use Rattle.ri_base.proofs.Codec.{IsBytes}
 use Rattle.store_ends.specs.Files.{Files}
 use Rattle.seg_codec.specs.Documents.{names_in_order}
+use Rattle.seg_codec.specs.Headers.{header}
 use Rattle.seg_codec.specs.Whole.{ArePlaced}
-use Rattle.seg_codec.specs.Spelling.{documents_bytes, numbered, spelled_entry, spelled_row, spelled_rows}
+use Rattle.seg_codec.specs.Spelling.{documents_bytes, header_bytes, numbered, spelled_entry, spelled_row, spelled_rows}
 use Rattle.seg_codec.specs.declared.documents.Entry.{Entry}
 use Rattle.seg_codec.specs.declared.documents.Row.{Row}
 use Rattle.seg_codec.specs.declared.header.Header.{Header}
+use Rattle.seg_codec.proofs.HeaderLaws.{header_takes}
+use Rattle.disk_index.specs.Blocks.{IsReadFault, file_of}
+use Rattle.disk_index.specs.Opening.{header_in}
 use Rattle.repository.specs.Places.{bytes_of, document_place}
 
 -- ---- how many bytes stand there
@@ -53,17 +60,20 @@ place_at es id =
     let all = length-append (flat_map spelled_text ns) (flat_map (spelled_entry ns) es) in
     omega (arith, front, all, entries-length ns (take id es), entries-length ns es, sum_by-take-drop bytes_of es id)
 
--- ---- what a store answers of a file
+-- ---- a file with a header
 
-pub told_size : (told : Option Files) (f : Files) (name other : List ℕ) (n : Option ℕ) → told ≡ Some f → name ≡ other → IfSome told (λ (f : Files). n ≡ option_map length (f name)) → unwrap_or n 0 ≡ length (unwrap_or (f other) [])
-told_size None f name other n is same h = absurd cc
-told_size (Some g) f name other n is same h =
-    let here : n ≡ option_map length (f other) = subst (λ (o : Option Files). IfSome o (λ (f : Files). n ≡ option_map length (f name))) is h ∙ ap (λ (l : List ℕ). option_map length (f l)) same in
-    ap (λ (o : Option ℕ). unwrap_or o 0) here ∙ by (f other)
-  where
-    by : (o : Option (List ℕ)) → unwrap_or (option_map length o) 0 ≡ length (unwrap_or o [])
-    by None = refl
-    by (Some file) = refl
+-- why it can't be read isn't that there is none
+pub headed-outside : (f : Files) (number docs : ℕ) (h : Header) (e : SegFault) → header_in (file_of f number) docs ≡ Ok h → IsReadFault f number e → IsOutside e
+headed-outside f number docs h (Malformed file part place) is fault = fault
+headed-outside f number docs h (Missing file) is fault =
+    let nothing : file_of f number ≡ [] = ap (λ (o : Option (List ℕ)). unwrap_or o []) fault.1 in
+    let here : header docs 0 [] ≡ Ok h = subst (λ (l : List ℕ). header_in l docs ≡ Ok h) nothing is in
+    let bytes : IsBytes [] = record { small = λ i. omega arith } in
+    let same : [] ≡ header_bytes h = (header_takes docs 0 [] h bytes here).0 in
+    let none : 0 ≡ 64 = ap length same in
+    absurd (omega (arith, none))
+headed-outside f number docs h Store is fault = tt
+headed-outside f number docs h Memory is fault = tt
 
 -- ---- where the parts stand
 

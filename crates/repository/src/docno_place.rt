@@ -1,5 +1,5 @@
 // Where a document stands in the file of a segment.
-ghost use Rattle.std.specs.Prelude.{◌≡◌, ◌≤◌, ◌<◌, ◌+◌, ◌^◌, ◌≢◌, List, Some, Ok, Err, IfOk, IfErr, drop, length, sum_by, take};
+ghost use Rattle.std.specs.Prelude.{◌≡◌, ◌≤◌, ◌<◌, ◌+◌, ◌^◌, ◌≢◌, ℕ, List, Some, Ok, Err, IfOk, IfErr, drop, length, sum_by, take};
 ghost use Rattle.ri_base.specs.Faults.{IsOutside};
 ghost use Rattle.ri_base.specs.Keeps.{Rose};
 ghost use Rattle.store_ends.specs.Files.{Files, IsQuiet};
@@ -14,7 +14,7 @@ ghost use Rattle.disk_index.specs.Snapshots.{Marked};
 ghost use Rattle.repository.specs.Opening.{IsEntryOpened};
 ghost use Rattle.repository.specs.Places.{bytes_of, document_place};
 
-use disk_index::{as_text, segment_name, store_fault};
+use disk_index::{file_length, read_bytes};
 use manifest::SegEntry;
 use ri_base::{FileName, SegFault};
 use seg_codec::{Documents, Entry, Header, read_documents, read_header};
@@ -28,60 +28,6 @@ const ENTRY_BYTES: usize = 7;
 
 const FIELD_BYTES: usize = 10;
 
-/// How many bytes the file of the segment has. There are none where there is no such file.
-fn segment_length<T: Store>(store: &mut T, number: u64) -> Result<u64, SegFault>
-    ensures length { (f : Files) → T.files store.old ≡ Some f → IfOk result (λ n. n ≡ length (file_of f number)) }
-    ensures outside { IfErr result IsOutside }
-    ensures quiet { IsQuiet T.files T.layers T.clock T.since T.longest T.held store.old store.new }
-    ensures later { T.faults store.old ≤ T.faults store.new }
-    ensures store { result ≡ Err SegFault.Store → Rose (T.faults store.old) (T.faults store.new) }
-    ensures none { result ≢ Err SegFault.Store → T.faults store.new ≡ T.faults store.old }
-{
-    let name = segment_name(number);
-    match store.len(as_text(&name)) {
-        Ok(length) => Ok(length.unwrap_or(0)),
-        Err(fault) => Err(store_fault(fault)),
-    }
-}
-
-/// Fills the buffer with the file's bytes from a place on, as many as there are and as have room.
-fn fill<T: Store>(store: &mut T, number: u64, at: u64, buf: &mut [u8]) -> Result<usize, SegFault>
-    ensures bound { IfOk result (λ n. n ≤ length buf.old) }
-    ensures bytes { (f : Files) → T.files store.old ≡ Some f → IfOk result (λ n. take n buf.new ≡ take (length buf.old) (drop at (file_of f number))) }
-    ensures outside { IfErr result IsOutside }
-    ensures quiet { IsQuiet T.files T.layers T.clock T.since T.longest T.held store.old store.new }
-    ensures later { T.faults store.old ≤ T.faults store.new }
-    ensures store { result ≡ Err SegFault.Store → Rose (T.faults store.old) (T.faults store.new) }
-    ensures none { result ≢ Err SegFault.Store → T.faults store.new ≡ T.faults store.old }
-{
-    let name = segment_name(number);
-    match store.read_at(as_text(&name), at, buf) {
-        Ok(count) => Ok(count),
-        Err(fault) => Err(store_fault(fault)),
-    }
-}
-
-/// The file's bytes from a place on, so many, or as many as there are.
-fn segment_bytes<T: Store>(
-    alloc: Global,
-    store: &mut T,
-    number: u64,
-    at: u64,
-    count: usize,
-) -> Result<Vec<u8>, SegFault>
-    ensures bytes { (f : Files) → T.files store.old ≡ Some f → IfOk result (λ b. b.items ≡ take count (drop at (file_of f number))) }
-    ensures outside { IfErr result IsOutside }
-    ensures quiet { IsQuiet T.files T.layers T.clock T.since T.longest T.held store.old store.new }
-    ensures later { T.faults store.old ≤ T.faults store.new }
-    ensures store { result ≡ Err SegFault.Store → Rose (T.faults store.old) (T.faults store.new) }
-    ensures none { result ≢ Err SegFault.Store → T.faults store.new ≡ T.faults store.old }
-{
-    let mut bytes = vec![in alloc; 0u8; count]?;
-    let read = fill(store, number, at, &mut bytes)?;
-    bytes.truncate(read);
-    Ok(bytes)
-}
-
 /// The header of the entry's segment, which was read before.
 fn header_of<T: Store>(alloc: Global, store: &mut T, entry: &SegEntry) -> Result<Header, SegFault>
     ensures first { IfOk result (λ h. h.documents_at ≡ 64) }
@@ -93,8 +39,8 @@ fn header_of<T: Store>(alloc: Global, store: &mut T, entry: &SegEntry) -> Result
     ensures store { result ≡ Err SegFault.Store → Rose (T.faults store.old) (T.faults store.new) }
     ensures none { result ≢ Err SegFault.Store → T.faults store.new ≡ T.faults store.old }
 {
-    let size = segment_length(store, entry.number)?;
-    let bytes = segment_bytes(alloc, store, entry.number, 0, HEADER_BYTES)?;
+    let size = file_length(store, entry.number)?;
+    let bytes = read_bytes(alloc, store, entry.number, 0, HEADER_BYTES)?;
     read_header(&bytes, FileName::Segment(entry.number), entry.docs, size)
 }
 
@@ -152,14 +98,15 @@ fn place_behind<T: Store>(
     requires order { header.now.documents_at ≤ header.now.dictionary_at }
     ensures place { (f : Files) (es : List Entry) → T.files store.old ≡ Some f → documents header.now (documents_in (file_of f number) header.now) ≡ Ok es
         → IfOk result (λ place. place ≡ document_place es id) }
-    ensures outside { (f : Files) (es : List Entry) → T.files store.old ≡ Some f → documents header.now (documents_in (file_of f number) header.now) ≡ Ok es → IfErr result IsOutside }
+    ensures outside { (f : Files) (docs : ℕ) (es : List Entry) → T.files store.old ≡ Some f → header_in (file_of f number) docs ≡ Ok header.now
+        → documents header.now (documents_in (file_of f number) header.now) ≡ Ok es → IfErr result IsOutside }
     ensures quiet { IsQuiet T.files T.layers T.clock T.since T.longest T.held store.old store.new }
     ensures later { T.faults store.old ≤ T.faults store.new }
     ensures store { result ≡ Err SegFault.Store → Rose (T.faults store.old) (T.faults store.new) }
     ensures none { result ≢ Err SegFault.Store → T.faults store.new ≡ T.faults store.old }
 {
     let count = (header.dictionary_at - header.documents_at) as usize;
-    let bytes = segment_bytes(alloc, store, number, header.documents_at, count)?;
+    let bytes = read_bytes(alloc, store, number, header.documents_at, count)?;
     let documents = read_documents(alloc, &bytes, FileName::Segment(number), header)?;
     Ok(place_within(&bytes, &documents, id))
 }

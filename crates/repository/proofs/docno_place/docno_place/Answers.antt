@@ -5,7 +5,7 @@ use Rattle.seg_codec.specs.Documents.{documents}
 use Rattle.seg_codec.specs.declared.documents.Entry.{Entry}
 use Rattle.seg_codec.specs.declared.header.Header.{Header}
 use Rattle.disk_index.specs.Blocks.{file_of}
-use Rattle.disk_index.specs.Opening.{documents_in}
+use Rattle.disk_index.specs.Opening.{documents_in, header_in}
 use Rattle.disk_index.specs.Parts.{outlines_of}
 use Rattle.repository.specs.Places.{document_place}
 use Rattle.repository.proofs.docno_place.docno_place.Goals as goal
@@ -29,4 +29,5 @@ returns-clause-outside g c = λ f m told opened.
     let o = opened.opened f refl in
     let same = c.in_ok-header.ensures.found f o.head told o.header_is in
     let read = subst (λ (h : Header). documents h (documents_in (file_of f c.args.entry.now.number) h) ≡ Ok opened.kept.outlines) (sym same) o.outlines_are in
-    c.place_behind.ensures.outside f opened.kept.outlines (c.in_ok-header.ensures.quiet.same_files ∙ told) read
+    let here = subst (λ (h : Header). header_in (file_of f c.args.entry.now.number) c.args.entry.now.docs ≡ Ok h) (sym same) o.header_is in
+    c.place_behind.ensures.outside f c.args.entry.now.docs opened.kept.outlines (c.in_ok-header.ensures.quiet.same_files ∙ told) here read

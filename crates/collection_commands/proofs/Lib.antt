@@ -9,3 +9,4 @@ pub mod Following
 pub mod PriorLemmas
 pub mod RowLemmas
 pub mod StaleLemmas
+pub mod StepLemmas

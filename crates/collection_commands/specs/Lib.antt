@@ -6,3 +6,4 @@ pub mod Flushing
 pub mod Merging
 pub mod PriorSetting
 pub mod RowRefusals
+pub mod Steps

@@ -1,5 +1,5 @@
 -- What `prior` does: the rows of an input become those of the prior of a name.
-use Rattle.std.specs.Prelude.{◌≡◌, ◌⊎◌, ℕ, Bool, not, ◌&&◌, List, [], ◌∷◌, ◌++◌, codes, length, map, nat_le, if◌then◌else◌, Option, None, Some}
+use Rattle.std.specs.Prelude.{◌≡◌, ◌⊎◌, ℕ, Bool, true, false, not, ◌&&◌, List, [], ◌∷◌, ◌++◌, codes, length, map, nat_le, if◌then◌else◌, Option, None, Some}
 use Rattle.std.specs.Fmt.{decimal}
 use Rattle.std.specs.List.{list_any}
 use Rattle.std.specs.List.Sorted.{IsPermutation}
@@ -17,9 +17,10 @@ use Rattle.prior_lines.specs.Rows.{Kept, prior_row, prior_rows, refusals}
 use Rattle.refusals.specs.Lines.{refusal_piece}
 use Rattle.refusals.specs.declared.refusal.Refusal.{Refusal}
 use Rattle.refusals.specs.declared.refusal.Refusal.TheVariants.{Fixed, PriorsFull}
-use Rattle.repository.specs.Priors.{is_same, with_prior}
+use Rattle.repository.specs.Priors.{AreStored, is_full, is_same, with_prior}
 use Rattle.repository.specs.RealLimits.{StandsFor}
 use Rattle.repository.specs.Stands.{Collection, Prior}
+use Rattle.repository.specs.States.{State}
 use Rattle.collection_commands.specs.RowRefusals.{row_pieces}
 
 -- the rows that are kept, by rising docno
@@ -50,6 +51,13 @@ setting_pieces c name table = with_flush (with_prior c name table) (told_piece (
 -- what is written of the input, and then the prior has its rows
 abbrev pub set_pieces : Collection → List ℕ → List ℕ → PriorTable → List (Piece Collection)
 set_pieces c name bytes table = unflushed (row_pieces (refusals bytes)) ++ setting_pieces c name table
+
+-- The rows of a prior of this name may be set: it isn't that of the lengths, and there is room for it.
+pub record MaySet (s : State) (name : List ℕ) : Type 0 where
+  pub usable : s.usable ≡ true
+  pub stored : AreStored s
+  pub named : is_same name length_name ≡ false
+  pub room : is_full s.priors name ≡ false
 
 -- what is written of a name that is refused
 abbrev pub name_pieces : Refusal → List (Piece Collection)

@@ -9,6 +9,7 @@ ghost use Rattle.repository.specs.Stands.{Collection};
 ghost use Rattle.repository.specs.Writes.{AreGone};
 ghost use Rattle.collection_commands.specs.Ahead.{IsAhead};
 ghost use Rattle.collection_commands.specs.Flushing.{flush_pieces};
+ghost use Rattle.collection_commands.specs.Steps.{CountsFault, Does};
 
 use crate::flushed::flushed_reply;
 use crate::sweeping::sweep;
@@ -26,23 +27,14 @@ fn flush_and_tell<K: Sink, T: Store>(
     store: &mut T,
 ) -> Result<(), CommandFault>
     requires usable { repository.old.usable ≡ true }
-    ensures finished { (kept c : Collection) → IsAhead (T.files store.old) repository.old kept c
-        → OnOk result (Finished StandsFor kept (flush_pieces c) (K.taken sink.old) (K.taken sink.new) (T.files store.new)) }
-    ensures broken { (kept c : Collection) → IsAhead (T.files store.old) repository.old kept c
-        → IfErr result (λ fault. IsBrokenBy fault StandsFor kept (flush_pieces c) (K.taken sink.old) (K.taken sink.new) (T.files store.new)) }
-    ensures stops { (kept c : Collection) → IsAhead (T.files store.old) repository.old kept c
-        → Leaves (T.since store.old) (T.since store.new) (StandsAlong StandsFor kept (flush_pieces c)) }
+    ensures does { Does (T.files store.old) repository.old flush_pieces result (K.taken sink.old) (K.taken sink.new) (T.files store.new) (T.since store.old) (T.since store.new) }
     ensures ahead { (kept c : Collection) → IsAhead (T.files store.old) repository.old kept c → OnOk result (IsAhead (T.files store.new) repository.new c c) }
     ensures stale { OnOk result (repository.new.stale ≡ repository.old.stale) }
     ensures usable { OnOk result (repository.new.usable ≡ true) }
     ensures only { IfErr result IsChangeFault }
     ensures goes_on { GoesOn T.layers T.clock T.longest T.held store.old store.new }
-    ensures write { IsErrOf result CommandFault.Write → Rose (K.faults sink.old) (K.faults sink.new) }
-    ensures store { IsErrOf result CommandFault.Store → Rose (T.faults store.old) (T.faults store.new) }
-    ensures write_later { K.faults sink.old ≤ K.faults sink.new }
-    ensures store_later { T.faults store.old ≤ T.faults store.new }
-    ensures write_same { result ≢ Err CommandFault.Write → K.faults sink.new ≡ K.faults sink.old }
-    ensures store_same { result ≢ Err CommandFault.Store → T.faults store.new ≡ T.faults store.old }
+    ensures write { CountsFault CommandFault.Write result (K.faults sink.old) (K.faults sink.new) }
+    ensures store { CountsFault CommandFault.Store result (T.faults store.old) (T.faults store.new) }
 {
     match repository.flush(alloc, store) {
         Ok(()) => {}

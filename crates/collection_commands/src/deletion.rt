@@ -1,13 +1,13 @@
 // A line of the input of `delete`.
-ghost use Rattle.std.specs.Prelude.{◌≡◌, ◌≤◌, ◌∷◌, [], true, IfErr, IfOk, IsErrOf, OnOk, Option};
-ghost use Rattle.ri_ends.specs.Causes.{Rose};
+ghost use Rattle.std.specs.Prelude.{◌≡◌, ◌∷◌, [], true, IfErr, IfOk, IsErrOf, OnOk, Option};
 ghost use Rattle.store_ends.specs.Files.{Files};
-ghost use Rattle.command_pieces.specs.Faults.{IsCut, StaysUnless};
+ghost use Rattle.command_pieces.specs.Faults.{IsCut};
 ghost use Rattle.command_pieces.specs.Written.{AllWritten};
 ghost use Rattle.docno_lines.specs.declared.docno.DocnoLine.{DocnoLine};
 ghost use Rattle.repository.specs.Stands.{Collection};
 ghost use Rattle.repository.specs.States.{IsBacked, ReadsAs};
 ghost use Rattle.collection_commands.specs.Deletions.{behind_line, deleted_text, line_piece};
+ghost use Rattle.collection_commands.specs.Steps.{CountsFault};
 
 use command_pieces::{Fault, Reply};
 use docno_lines::DocnoLine;
@@ -74,9 +74,7 @@ pub fn write_line<K: Sink>(
     ensures limits { repository.new.held.limits ≡ repository.old.held.limits }
     ensures usable { repository.new.usable ≡ true }
     ensures no_read { IsErrOf result Fault.Read → ⊥ }
-    ensures later { K.faults sink.old ≤ K.faults sink.new }
-    ensures cause { IsErrOf result Fault.Write → Rose (K.faults sink.old) (K.faults sink.new) }
-    ensures same { StaysUnless Fault.Write result (K.faults sink.old) (K.faults sink.new) }
+    ensures write { CountsFault Fault.Write result (K.faults sink.old) (K.faults sink.new) }
 {
     let Ok(reply) = take_line(alloc, repository, line) else {
         return Err(Fault::Memory);

@@ -10,6 +10,7 @@ ghost use Rattle.repository.specs.Stands.{Collection};
 ghost use Rattle.repository.specs.States.{ReadsAs};
 ghost use Rattle.collection_commands.specs.Ahead.{IsAhead};
 ghost use Rattle.collection_commands.specs.Merging.{IsMergeFault, merge_pieces, merged_piece, merged_text};
+ghost use Rattle.collection_commands.specs.Steps.{CountsFault, Does};
 
 use crate::sweeping::sweep;
 use command_pieces::{CommandFault, Reply};
@@ -45,24 +46,17 @@ fn merge_and_tell<K: Sink, T: Store>(
 ) -> Result<(), CommandFault>
     requires usable { repository.old.usable ≡ true }
     requires none { repository.old.merge ≡ None }
-    ensures finished { (c : Collection) → IsAhead (T.files store.old) repository.old c c
-        → OnOk result (Finished StandsFor c (merge_pieces c) (K.taken sink.old) (K.taken sink.new) (T.files store.new)) }
-    ensures broken { (c : Collection) → IsAhead (T.files store.old) repository.old c c
-        → IfErr result (λ fault. IsBrokenBy fault StandsFor c (merge_pieces c) (K.taken sink.old) (K.taken sink.new) (T.files store.new)) }
-    ensures stops { (c : Collection) → IsAhead (T.files store.old) repository.old c c
-        → Leaves (T.since store.old) (T.since store.new) (StandsAlong StandsFor c (merge_pieces c)) }
-    ensures ahead { (c : Collection) → IsAhead (T.files store.old) repository.old c c → OnOk result (IsAhead (T.files store.new) repository.new (without_dead c) (without_dead c)) }
+    ensures does { Does (T.files store.old) repository.old merge_pieces result (K.taken sink.old) (K.taken sink.new) (T.files store.new) (T.since store.old) (T.since store.new) }
+    ensures ahead { (kept c : Collection) → IsAhead (T.files store.old) repository.old kept c → OnOk result (IsAhead (T.files store.new) repository.new (without_dead c) (without_dead c)) }
     ensures only { IfErr result IsMergeFault }
 
     // Damage is found before anything is written.
     ensures damage { IfErr result (λ fault. IsDamage fault → IsQuiet T.files T.layers T.clock T.since T.longest T.held store.old store.new × (sink.new ≡ sink.old)) }
     ensures usable { OnOk result (repository.new.usable ≡ true) }
     ensures goes_on { GoesOn T.layers T.clock T.longest T.held store.old store.new }
-    ensures write { IsErrOf result CommandFault.Write → Rose (K.faults sink.old) (K.faults sink.new) }
+    ensures write { CountsFault CommandFault.Write result (K.faults sink.old) (K.faults sink.new) }
     ensures store { IsErrOf result CommandFault.Store → Rose (T.faults store.old) (T.faults store.new) }
-    ensures write_later { K.faults sink.old ≤ K.faults sink.new }
     ensures store_later { T.faults store.old ≤ T.faults store.new }
-    ensures write_same { result ≢ Err CommandFault.Write → K.faults sink.new ≡ K.faults sink.old }
 {
     match merge_whole(alloc, repository, store) {
         Ok(()) => {}

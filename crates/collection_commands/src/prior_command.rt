@@ -1,16 +1,17 @@
 // The command `prior` on a repository that is open.
-ghost use Rattle.std.specs.Prelude.{◌≡◌, ◌≤◌, ◌≢◌, [], true, false, None, IfErr, IfOk, IfSome, IsErrOf, IsSome, OnOk, Option, Err};
+ghost use Rattle.std.specs.Prelude.{◌≡◌, ◌≤◌, ◌≢◌, [], true, None, IfErr, IfOk, IfSome, IsErrOf, IsSome, OnOk, Option, Err};
 ghost use Rattle.ri_ends.specs.Causes.{Rose};
 ghost use Rattle.store_ends.specs.Files.{Files, GoesOn};
 ghost use Rattle.command_pieces.specs.CommandFaults.{IsBrokenBy, IsChangeFault, IsItemsFault};
 ghost use Rattle.command_pieces.specs.Pieces.{Finished};
 ghost use Rattle.manifest.specs.Entries.{length_name};
-ghost use Rattle.repository.specs.Priors.{AreStored, is_full, is_same};
+ghost use Rattle.repository.specs.Priors.{AreStored, is_same};
 ghost use Rattle.repository.specs.RealLimits.{StandsFor};
 ghost use Rattle.repository.specs.Stands.{Collection};
 ghost use Rattle.repository.specs.Writes.{AreGone};
 ghost use Rattle.collection_commands.specs.Ahead.{IsAhead};
-ghost use Rattle.collection_commands.specs.PriorSetting.{IsPriorBroken, IsPriorDone, PriorStops, name_pieces, name_refusal};
+ghost use Rattle.collection_commands.specs.PriorSetting.{IsPriorBroken, IsPriorDone, MaySet, PriorStops, name_pieces, name_refusal};
+ghost use Rattle.collection_commands.specs.Steps.{CountsFault};
 
 use crate::prior_setting::set_rows;
 use crate::rows::write_rows;
@@ -38,10 +39,8 @@ fn refuse<K: Sink>(alloc: Global, refusal: &Refusal, sink: &mut K) -> Result<boo
     ensures broken { (c : Collection) (told : Option Files) → StandsFor c told
         → IfErr result (λ fault. IsBrokenBy fault StandsFor c (name_pieces refusal.now) (K.taken sink.old) (K.taken sink.new) told) }
     ensures only { IfErr result IsChangeFault }
-    ensures write { IsErrOf result CommandFault.Write → Rose (K.faults sink.old) (K.faults sink.new) }
+    ensures write { CountsFault CommandFault.Write result (K.faults sink.old) (K.faults sink.new) }
     ensures no_store { IsErrOf result CommandFault.Store → ⊥ }
-    ensures write_later { K.faults sink.old ≤ K.faults sink.new }
-    ensures write_same { result ≢ Err CommandFault.Write → K.faults sink.new ≡ K.faults sink.old }
 {
     let Ok(reply) = reply_of(alloc, refusal) else {
         return Err(CommandFault::Memory);
@@ -61,10 +60,7 @@ fn take_rows<S: Source, K: Sink, T: Store>(
     sink: &mut K,
     store: &mut T,
 ) -> Result<bool, CommandFault>
-    requires usable { repository.old.usable ≡ true }
-    requires stored { AreStored repository.old }
-    requires named { is_same name length_name ≡ false }
-    requires room { is_full repository.old.priors name ≡ false }
+    requires settable { MaySet repository.old name }
     ensures finished { (c : Collection) → IsAhead (T.files store.old) repository.old c c
         → IfOk result (λ refused. IfSome (S.left source.old) (λ bytes. IsPriorDone None refused c name bytes (K.taken sink.old) (K.taken sink.new) (T.files store.new))) }
     ensures broken { (c : Collection) → IsAhead (T.files store.old) repository.old c c
@@ -77,15 +73,9 @@ fn take_rows<S: Source, K: Sink, T: Store>(
     ensures goes_on { GoesOn T.layers T.clock T.longest T.held store.old store.new }
     ensures layers { S.layers source.new ≡ S.layers source.old }
     ensures held { S.held source.new ≡ S.held source.old }
-    ensures read { IsErrOf result CommandFault.Read → Rose (S.faults source.old) (S.faults source.new) }
-    ensures write { IsErrOf result CommandFault.Write → Rose (K.faults sink.old) (K.faults sink.new) }
-    ensures store { IsErrOf result CommandFault.Store → Rose (T.faults store.old) (T.faults store.new) }
-    ensures read_later { S.faults source.old ≤ S.faults source.new }
-    ensures write_later { K.faults sink.old ≤ K.faults sink.new }
-    ensures store_later { T.faults store.old ≤ T.faults store.new }
-    ensures read_same { result ≢ Err CommandFault.Read → S.faults source.new ≡ S.faults source.old }
-    ensures write_same { result ≢ Err CommandFault.Write → K.faults sink.new ≡ K.faults sink.old }
-    ensures store_same { result ≢ Err CommandFault.Store → T.faults store.new ≡ T.faults store.old }
+    ensures read { CountsFault CommandFault.Read result (S.faults source.old) (S.faults source.new) }
+    ensures write { CountsFault CommandFault.Write result (K.faults sink.old) (K.faults sink.new) }
+    ensures store { CountsFault CommandFault.Store result (T.faults store.old) (T.faults store.new) }
 {
     let (kept, refused) = match read_rows(alloc, source) {
         Ok(found) => found,

@@ -1,17 +1,14 @@
 // The rows of a prior are set, over a store.
-ghost use Rattle.std.specs.Prelude.{◌≡◌, ◌≤◌, ◌≢◌, [], true, false, IfErr, IfOk, IsErrOf, OnOk, Err};
-ghost use Rattle.ri_ends.specs.Causes.{Rose};
-ghost use Rattle.store_ends.specs.Files.{GoesOn, Leaves};
-ghost use Rattle.command_pieces.specs.CommandFaults.{IsBrokenBy, IsChangeFault};
-ghost use Rattle.command_pieces.specs.Pieces.{Finished, StandsAlong};
-ghost use Rattle.manifest.specs.Entries.{length_name};
-ghost use Rattle.repository.specs.Priors.{AreStored, is_full, is_same, number_named, with_prior};
-ghost use Rattle.repository.specs.RealLimits.{StandsFor};
+ghost use Rattle.std.specs.Prelude.{◌≡◌, [], true, IfErr, IfOk, OnOk};
+ghost use Rattle.store_ends.specs.Files.{GoesOn};
+ghost use Rattle.command_pieces.specs.CommandFaults.{IsChangeFault};
+ghost use Rattle.repository.specs.Priors.{number_named, with_prior};
 ghost use Rattle.repository.specs.Stale.{with_old};
 ghost use Rattle.repository.specs.Stands.{Collection};
 ghost use Rattle.repository.specs.Writes.{AreGone};
 ghost use Rattle.collection_commands.specs.Ahead.{IsAhead};
-ghost use Rattle.collection_commands.specs.PriorSetting.{prior_text, setting_pieces};
+ghost use Rattle.collection_commands.specs.PriorSetting.{MaySet, prior_text, setting_pieces};
+ghost use Rattle.collection_commands.specs.Steps.{CountsFault, Does};
 
 use crate::sweeping::sweep;
 use command_pieces::{CommandFault, Reply};
@@ -43,28 +40,16 @@ fn set_and_tell<K: Sink, T: Store>(
     sink: &mut K,
     store: &mut T,
 ) -> Result<(), CommandFault>
-    requires usable { repository.old.usable ≡ true }
-    requires stored { AreStored repository.old }
-    requires named { is_same name length_name ≡ false }
-    requires room { is_full repository.old.priors name ≡ false }
-    ensures finished { (c : Collection) → IsAhead (T.files store.old) repository.old c c
-        → OnOk result (Finished StandsFor c (setting_pieces c name rows.now) (K.taken sink.old) (K.taken sink.new) (T.files store.new)) }
-    ensures broken { (c : Collection) → IsAhead (T.files store.old) repository.old c c
-        → IfErr result (λ fault. IsBrokenBy fault StandsFor c (setting_pieces c name rows.now) (K.taken sink.old) (K.taken sink.new) (T.files store.new)) }
-    ensures stops { (c : Collection) → IsAhead (T.files store.old) repository.old c c
-        → Leaves (T.since store.old) (T.since store.new) (StandsAlong StandsFor c (setting_pieces c name rows.now)) }
-    ensures ahead { (c : Collection) → IsAhead (T.files store.old) repository.old c c
+    requires settable { MaySet repository.old name }
+    ensures does { Does (T.files store.old) repository.old (λ c. setting_pieces c name rows.now) result (K.taken sink.old) (K.taken sink.new) (T.files store.new) (T.since store.old) (T.since store.new) }
+    ensures ahead { (kept c : Collection) → IsAhead (T.files store.old) repository.old kept c
         → OnOk result (IsAhead (T.files store.new) repository.new (with_prior c name rows.now) (with_prior c name rows.now)) }
     ensures stale { OnOk result (repository.new.stale ≡ with_old repository.old.stale (number_named repository.old.priors name)) }
     ensures usable { OnOk result (repository.new.usable ≡ true) }
     ensures only { IfErr result IsChangeFault }
     ensures goes_on { GoesOn T.layers T.clock T.longest T.held store.old store.new }
-    ensures write { IsErrOf result CommandFault.Write → Rose (K.faults sink.old) (K.faults sink.new) }
-    ensures store { IsErrOf result CommandFault.Store → Rose (T.faults store.old) (T.faults store.new) }
-    ensures write_later { K.faults sink.old ≤ K.faults sink.new }
-    ensures store_later { T.faults store.old ≤ T.faults store.new }
-    ensures write_same { result ≢ Err CommandFault.Write → K.faults sink.new ≡ K.faults sink.old }
-    ensures store_same { result ≢ Err CommandFault.Store → T.faults store.new ≡ T.faults store.old }
+    ensures write { CountsFault CommandFault.Write result (K.faults sink.old) (K.faults sink.new) }
+    ensures store { CountsFault CommandFault.Store result (T.faults store.old) (T.faults store.new) }
 {
     let Ok(text) = prior_text(alloc, &name, rows.rows().len() as u64) else {
         return Err(CommandFault::Memory);
@@ -89,26 +74,14 @@ pub fn set_rows<K: Sink, T: Store>(
     sink: &mut K,
     store: &mut T,
 ) -> Result<(), CommandFault>
-    requires usable { repository.old.usable ≡ true }
-    requires stored { AreStored repository.old }
-    requires named { is_same name length_name ≡ false }
-    requires room { is_full repository.old.priors name ≡ false }
-    ensures finished { (c : Collection) → IsAhead (T.files store.old) repository.old c c
-        → OnOk result (Finished StandsFor c (setting_pieces c name rows.now) (K.taken sink.old) (K.taken sink.new) (T.files store.new)) }
-    ensures broken { (c : Collection) → IsAhead (T.files store.old) repository.old c c
-        → IfErr result (λ fault. IsBrokenBy fault StandsFor c (setting_pieces c name rows.now) (K.taken sink.old) (K.taken sink.new) (T.files store.new)) }
-    ensures stops { (c : Collection) → IsAhead (T.files store.old) repository.old c c
-        → Leaves (T.since store.old) (T.since store.new) (StandsAlong StandsFor c (setting_pieces c name rows.now)) }
+    requires settable { MaySet repository.old name }
+    ensures does { Does (T.files store.old) repository.old (λ c. setting_pieces c name rows.now) result (K.taken sink.old) (K.taken sink.new) (T.files store.new) (T.since store.old) (T.since store.new) }
     ensures swept { OnOk result (AreGone repository.old.stale (T.files store.new)) }
     ensures none_stale { OnOk result (repository.new.stale ≡ []) }
     ensures only { IfErr result IsChangeFault }
     ensures goes_on { GoesOn T.layers T.clock T.longest T.held store.old store.new }
-    ensures write { IsErrOf result CommandFault.Write → Rose (K.faults sink.old) (K.faults sink.new) }
-    ensures store { IsErrOf result CommandFault.Store → Rose (T.faults store.old) (T.faults store.new) }
-    ensures write_later { K.faults sink.old ≤ K.faults sink.new }
-    ensures store_later { T.faults store.old ≤ T.faults store.new }
-    ensures write_same { result ≢ Err CommandFault.Write → K.faults sink.new ≡ K.faults sink.old }
-    ensures store_same { result ≢ Err CommandFault.Store → T.faults store.new ≡ T.faults store.old }
+    ensures write { CountsFault CommandFault.Write result (K.faults sink.old) (K.faults sink.new) }
+    ensures store { CountsFault CommandFault.Store result (T.faults store.old) (T.faults store.new) }
 {
     match set_and_tell(alloc, repository, name, rows, sink, store) {
         Ok(()) => {}

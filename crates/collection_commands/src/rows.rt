@@ -1,9 +1,9 @@
 // What `prior` says of the lines of its input.
-ghost use Rattle.std.specs.Prelude.{◌≡◌, ◌≤◌, IfErr, IfOk, IsErrOf, OnOk};
-ghost use Rattle.ri_ends.specs.Causes.{Rose};
-ghost use Rattle.command_pieces.specs.Faults.{IsCut, StaysUnless};
+ghost use Rattle.std.specs.Prelude.{◌≡◌, IfErr, IfOk, IsErrOf, OnOk};
+ghost use Rattle.command_pieces.specs.Faults.{IsCut};
 ghost use Rattle.command_pieces.specs.Written.{AllWritten};
 ghost use Rattle.collection_commands.specs.RowRefusals.{row_piece, row_pieces, row_refusal};
+ghost use Rattle.collection_commands.specs.Steps.{CountsFault};
 
 use command_pieces::Fault;
 use prior_lines::RowLine;
@@ -32,9 +32,7 @@ fn write_row<K: Sink>(alloc: Global, line: &RowLine, sink: &mut K) -> Result<(),
     ensures finished { OnOk result (AllWritten (row_piece line.now) (K.taken sink.old) (K.taken sink.new)) }
     ensures broken { IfErr result (λ fault. IsCut fault (row_piece line.now) (K.taken sink.old) (K.taken sink.new)) }
     ensures no_read { IsErrOf result Fault.Read → ⊥ }
-    ensures later { K.faults sink.old ≤ K.faults sink.new }
-    ensures cause { IsErrOf result Fault.Write → Rose (K.faults sink.old) (K.faults sink.new) }
-    ensures same { StaysUnless Fault.Write result (K.faults sink.old) (K.faults sink.new) }
+    ensures write { CountsFault Fault.Write result (K.faults sink.old) (K.faults sink.new) }
 {
     let Ok(refusal) = row_refusal(alloc, line) else {
         return Err(Fault::Memory);
@@ -53,9 +51,7 @@ pub fn write_rows<K: Sink>(alloc: Global, lines: &[RowLine], sink: &mut K) -> Re
     ensures finished { OnOk result (AllWritten (row_pieces lines.now) (K.taken sink.old) (K.taken sink.new)) }
     ensures broken { IfErr result (λ fault. IsCut fault (row_pieces lines.now) (K.taken sink.old) (K.taken sink.new)) }
     ensures no_read { IsErrOf result Fault.Read → ⊥ }
-    ensures later { K.faults sink.old ≤ K.faults sink.new }
-    ensures cause { IsErrOf result Fault.Write → Rose (K.faults sink.old) (K.faults sink.new) }
-    ensures same { StaysUnless Fault.Write result (K.faults sink.old) (K.faults sink.new) }
+    ensures write { CountsFault Fault.Write result (K.faults sink.old) (K.faults sink.new) }
 {
     for line in lines {
         match write_row(alloc, line, sink) {

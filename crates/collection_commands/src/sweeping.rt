@@ -1,11 +1,11 @@
 // The sweep at the end of a command.
-ghost use Rattle.std.specs.Prelude.{◌≡◌, ◌≤◌, ◌⊎◌, ◌≢◌, [], true, IfErr, IsErrOf, OnOk, Err};
-ghost use Rattle.ri_ends.specs.Causes.{Rose};
+ghost use Rattle.std.specs.Prelude.{◌≡◌, ◌⊎◌, [], true, IfErr, OnOk};
 ghost use Rattle.store_ends.specs.Files.{GoesOn, Leaves};
 ghost use Rattle.repository.specs.RealLimits.{StandsFor};
 ghost use Rattle.repository.specs.Stands.{Collection};
 ghost use Rattle.repository.specs.Writes.{AreGone};
 ghost use Rattle.collection_commands.specs.Ahead.{IsAhead};
+ghost use Rattle.collection_commands.specs.Steps.{CountsFault};
 
 use command_pieces::CommandFault;
 use repository::Repository;
@@ -27,9 +27,7 @@ pub fn sweep<T: Store>(
     ensures none_stale { OnOk result (repository.new.stale ≡ []) }
     ensures only { IfErr result (λ fault. (fault ≡ CommandFault.Store) ⊎ (fault ≡ CommandFault.Memory)) }
     ensures goes_on { GoesOn T.layers T.clock T.longest T.held store.old store.new }
-    ensures store { IsErrOf result CommandFault.Store → Rose (T.faults store.old) (T.faults store.new) }
-    ensures store_later { T.faults store.old ≤ T.faults store.new }
-    ensures store_same { result ≢ Err CommandFault.Store → T.faults store.new ≡ T.faults store.old }
+    ensures store { CountsFault CommandFault.Store result (T.faults store.old) (T.faults store.new) }
 {
     match repository.sweep(alloc, store) {
         Ok(()) => Ok(()),

@@ -47,7 +47,7 @@ docnos-preserved g c =
         layers = search rules;
         held = search rules;
         read_same = c.in-Ok-Some.ensures.none (λ e. cc) ∙ inv.1.read_same;
-        write_same = done.same (λ e. cc) ∙ inv.1.write_same;
+        write_same = done.write.same (λ e. cc) ∙ inv.1.write_same;
       },
     )
 

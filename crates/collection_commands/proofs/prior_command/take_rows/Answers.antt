@@ -34,12 +34,12 @@ returns-in-Ok-set_rows-clause-finished g c = λ k ahead.
     let said = subst (λ (ls : List RowLine). IfSome (g.S.Source.left c.args.source.now) (λ bytes. ls ≡ refusals bytes)) (sym c.deref.ensures.value) c.in-Ok.ensures.refusals in
     let some = ap not c.is_empty.ensures ∙ ap (λ (n : ℕ). not (n == 0)) (sym c.deref.ensures.len) in
     set-done k c.args.name c.in-Ok-into_rows.rows c.deref.result.now _ _ _ _ _ _ _ (table-of _ c.in-Ok-into_rows.rows _ c.in-Ok.ensures.rows made.rest made.rows made.form) said some c.in-Ok-write_rows.ensures.finished ahead.stands
-    (c.in-Ok-set_rows.ensures.finished k ahead)
+    (c.in-Ok-set_rows.ensures.does.finished k k ahead)
 
 pub returns-in-Ok-set_rows-clause-stops : goal.returns-in-Ok-set_rows-clause-stops
 returns-in-Ok-set_rows-clause-stops g c = λ k ahead.
     let made = c.in-Ok-into_rows.ensures in
-    set-stops k c.args.name c.in-Ok-into_rows.rows c.in-Ok.found.1.items _ _ _ (table-of _ c.in-Ok-into_rows.rows _ c.in-Ok.ensures.rows made.rest made.rows made.form) (c.set_rows.ensures.stops k ahead)
+    set-stops k c.args.name c.in-Ok-into_rows.rows c.in-Ok.found.1.items _ _ _ (table-of _ c.in-Ok-into_rows.rows _ c.in-Ok.ensures.rows made.rest made.rows made.form) (c.set_rows.ensures.does.stops k k ahead)
 
 -- the rows can't be set
 
@@ -48,9 +48,9 @@ returns-clause-broken g c = λ k ahead.
     let made = c.in-Ok-into_rows.ensures in
     let said = subst (λ (ls : List RowLine). IfSome (g.S.Source.left c.args.source.now) (λ bytes. ls ≡ refusals bytes)) (sym c.deref.ensures.value) c.in-Ok.ensures.refusals in
     set-broken k c.args.name c.in-Ok-into_rows.rows c.deref.result.now _ _ _ _ _ _ _ (table-of _ c.in-Ok-into_rows.rows _ c.in-Ok.ensures.rows made.rest made.rows made.form) said c.in-Err-set_rows.ensures.only c.in-Ok-write_rows.ensures.finished
-    ahead.stands (c.in-Err-set_rows.ensures.broken k ahead)
+    ahead.stands (c.in-Err-set_rows.ensures.does.broken k k ahead)
 
 pub returns-clause-stops : goal.returns-clause-stops
 returns-clause-stops g c = λ k ahead.
     let made = c.in-Ok-into_rows.ensures in
-    set-stops k c.args.name c.in-Ok-into_rows.rows c.in-Ok.found.1.items _ _ _ (table-of _ c.in-Ok-into_rows.rows _ c.in-Ok.ensures.rows made.rest made.rows made.form) (c.set_rows.ensures.stops k ahead)
+    set-stops k c.args.name c.in-Ok-into_rows.rows c.in-Ok.found.1.items _ _ _ (table-of _ c.in-Ok-into_rows.rows _ c.in-Ok.ensures.rows made.rest made.rows made.form) (c.set_rows.ensures.does.stops k k ahead)

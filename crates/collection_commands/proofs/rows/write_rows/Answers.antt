@@ -8,8 +8,8 @@ loop-line-init g c = record { written = rows-start c.args.lines.now _; later = o
 pub loop-line-preserved : goal.loop-line-preserved
 loop-line-preserved g c = record {
   written = rows-more c.args.lines.now c.loop-line.line-index c.line-item.result _ _ _ c.loop-line-test.true c.line-item.is c.loop-line.invariant.written c.in-Ok.ensures.finished;
-  later = omega (arith, c.loop-line.invariant.later, c.write_row.ensures.later);
-  same = c.in-Ok.ensures.same (λ e. cc) ∙ c.loop-line.invariant.same;
+  later = omega (arith, c.loop-line.invariant.later, c.write_row.ensures.write.later);
+  same = c.in-Ok.ensures.write.same (λ e. cc) ∙ c.loop-line.invariant.same;
 }
 
 pub returns-clause-finished : goal.returns-clause-finished

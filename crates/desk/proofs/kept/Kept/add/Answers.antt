@@ -66,7 +66,7 @@ returns-clause-keeps c = record {
   form = search rules;
   kind = ap (λ (x : Keeps). x.kind) c.self.view_is;
   unchanged =
-    let view = seen c.self.inside in
-    if-ok-all c.not_added.result (λ (r : Reply). StaysIfRefused r c.args.self.now (with_repository view c.add.new.self)) (λ r. stays-same r c.args.self.now (with_repository view c.add.new.self) (ap (with_repository view) c.in-Err.ensures.kept ∙ c.self.view_is));
+      let view = seen c.self.inside in
+      if-ok-all c.not_added.result (λ (r : Reply). StaysIfRefused r c.args.self.now (with_repository view c.add.new.self)) (λ r. stays-same r c.args.self.now (with_repository view c.add.new.self) (ap (with_repository view) c.in-Err.ensures.kept ∙ c.self.view_is));
   usable = search rules;
 }

@@ -63,8 +63,8 @@ returns-then-is_err-clause-keeps c = record {
   form = tt;
   kind = ap (λ (x : Keeps). x.kind) c.self.view_is;
   unchanged =
-    let view = seen c.self.inside in
-    let was : is_err c.delete.result ≡ true = sym c.is_err.ensures.value ∙ c.if-is_err.true in
-    ap (with_repository view) (err-of c.delete.result (c.delete.new.self ≡ view.repository) was c.delete.ensures.kept) ∙ c.self.view_is;
+      let view = seen c.self.inside in
+      let was : is_err c.delete.result ≡ true = sym c.is_err.ensures.value ∙ c.if-is_err.true in
+      ap (with_repository view) (err-of c.delete.result (c.delete.new.self ≡ view.repository) was c.delete.ensures.kept) ∙ c.self.view_is;
   usable = search rules;
 }

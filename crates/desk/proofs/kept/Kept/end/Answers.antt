@@ -12,35 +12,35 @@ pub returns-in_err-flush-clause-files : goal.returns-in_err-flush-clause-files
 returns-in_err-flush-clause-files g c = record {
   done = search rules;
   now = λ kept backed stands.
-    let view = seen c.self.inside in
-    broken-now g.T.Store.files g.T.Store.clock g.T.Store.since c.args.store.now view c.args.self.now c.drop_merge.new.self kept c.self.view_is c.drop_merge.ensures backed stands c.flush.new.store c.flush.ensures.writes (g.met.T.Store.honest c.flush.new.store) (g.met.T.Store.still c.args.store.now) c.flush.ensures.goes_on.later;
+      let view = seen c.self.inside in
+      broken-now g.T.Store.files g.T.Store.clock g.T.Store.since c.args.store.now view c.args.self.now c.drop_merge.new.self kept c.self.view_is c.drop_merge.ensures backed stands c.flush.new.store c.flush.ensures.writes (g.met.T.Store.honest c.flush.new.store) (g.met.T.Store.still c.args.store.now) c.flush.ensures.goes_on.later;
   stops = λ kept backed stands.
-    let view = seen c.self.inside in
-    broken-stops g.T.Store.files g.T.Store.clock g.T.Store.since c.args.store.now view c.args.self.now c.drop_merge.new.self kept c.self.view_is c.drop_merge.ensures backed stands c.flush.new.store c.flush.ensures.writes;
+      let view = seen c.self.inside in
+      broken-stops g.T.Store.files g.T.Store.clock g.T.Store.since c.args.store.now view c.args.self.now c.drop_merge.new.self kept c.self.view_is c.drop_merge.ensures backed stands c.flush.new.store c.flush.ensures.writes;
 }
 
 pub returns-in_err-sweep-clause-files : goal.returns-in_err-sweep-clause-files
 returns-in_err-sweep-clause-files g c = record {
   done = search rules;
   now = λ kept backed stands.
-    let view = seen c.self.inside in
-    swept-now g.T.Store.files g.T.Store.clock g.T.Store.since c.args.store.now view c.args.self.now c.drop_merge.new.self kept c.self.view_is c.drop_merge.ensures backed stands c.flush.new.store c.flush.ensures.writes c.flush.new.self c.in_ok-flush.ensures.wrote c.in_ok-flush.ensures.saved c.sweep.new.store c.sweep.ensures.writes (g.met.T.Store.honest c.sweep.new.store) (g.met.T.Store.still c.flush.new.store) c.sweep.ensures.goes_on.later;
+      let view = seen c.self.inside in
+      swept-now g.T.Store.files g.T.Store.clock g.T.Store.since c.args.store.now view c.args.self.now c.drop_merge.new.self kept c.self.view_is c.drop_merge.ensures backed stands c.flush.new.store c.flush.ensures.writes c.flush.new.self c.in_ok-flush.ensures.wrote c.in_ok-flush.ensures.saved c.sweep.new.store c.sweep.ensures.writes (g.met.T.Store.honest c.sweep.new.store) (g.met.T.Store.still c.flush.new.store) c.sweep.ensures.goes_on.later;
   stops = λ kept backed stands.
-    let view = seen c.self.inside in
-    swept-stops g.T.Store.files g.T.Store.clock g.T.Store.since c.args.store.now view c.args.self.now c.drop_merge.new.self kept c.self.view_is c.drop_merge.ensures backed stands c.flush.new.store c.flush.ensures.writes c.flush.new.self c.in_ok-flush.ensures.wrote c.in_ok-flush.ensures.saved c.sweep.new.store c.sweep.ensures.writes;
+      let view = seen c.self.inside in
+      swept-stops g.T.Store.files g.T.Store.clock g.T.Store.since c.args.store.now view c.args.self.now c.drop_merge.new.self kept c.self.view_is c.drop_merge.ensures backed stands c.flush.new.store c.flush.ensures.writes c.flush.new.self c.in_ok-flush.ensures.wrote c.in_ok-flush.ensures.saved c.sweep.new.store c.sweep.ensures.writes;
 }
 
 pub returns-clause-files : goal.returns-clause-files
 returns-clause-files g c = record {
   done = λ kept backed stands.
-    let view = seen c.self.inside in
-    end-kept (g.T.Store.files c.args.store.now) (g.T.Store.files c.flush.new.store) (g.T.Store.files c.sweep.new.store) view c.args.self.now c.drop_merge.new.self c.flush.new.self c.sweep.new.self c.self.view_is c.drop_merge.ensures c.in_ok-flush.ensures.wrote c.in_ok-flush.ensures.saved c.in_ok-sweep.ensures.wrote c.in_ok-sweep.ensures.saved kept backed;
+      let view = seen c.self.inside in
+      end-kept (g.T.Store.files c.args.store.now) (g.T.Store.files c.flush.new.store) (g.T.Store.files c.sweep.new.store) view c.args.self.now c.drop_merge.new.self c.flush.new.self c.sweep.new.self c.self.view_is c.drop_merge.ensures c.in_ok-flush.ensures.wrote c.in_ok-flush.ensures.saved c.in_ok-sweep.ensures.wrote c.in_ok-sweep.ensures.saved kept backed;
   now = λ kept backed stands.
-    let view = seen c.self.inside in
-    swept-now g.T.Store.files g.T.Store.clock g.T.Store.since c.args.store.now view c.args.self.now c.drop_merge.new.self kept c.self.view_is c.drop_merge.ensures backed stands c.flush.new.store c.flush.ensures.writes c.flush.new.self c.in_ok-flush.ensures.wrote c.in_ok-flush.ensures.saved c.sweep.new.store c.sweep.ensures.writes (g.met.T.Store.honest c.sweep.new.store) (g.met.T.Store.still c.flush.new.store) c.sweep.ensures.goes_on.later;
+      let view = seen c.self.inside in
+      swept-now g.T.Store.files g.T.Store.clock g.T.Store.since c.args.store.now view c.args.self.now c.drop_merge.new.self kept c.self.view_is c.drop_merge.ensures backed stands c.flush.new.store c.flush.ensures.writes c.flush.new.self c.in_ok-flush.ensures.wrote c.in_ok-flush.ensures.saved c.sweep.new.store c.sweep.ensures.writes (g.met.T.Store.honest c.sweep.new.store) (g.met.T.Store.still c.flush.new.store) c.sweep.ensures.goes_on.later;
   stops = λ kept backed stands.
-    let view = seen c.self.inside in
-    swept-stops g.T.Store.files g.T.Store.clock g.T.Store.since c.args.store.now view c.args.self.now c.drop_merge.new.self kept c.self.view_is c.drop_merge.ensures backed stands c.flush.new.store c.flush.ensures.writes c.flush.new.self c.in_ok-flush.ensures.wrote c.in_ok-flush.ensures.saved c.sweep.new.store c.sweep.ensures.writes;
+      let view = seen c.self.inside in
+      swept-stops g.T.Store.files g.T.Store.clock g.T.Store.since c.args.store.now view c.args.self.now c.drop_merge.new.self kept c.self.view_is c.drop_merge.ensures backed stands c.flush.new.store c.flush.ensures.writes c.flush.new.self c.in_ok-flush.ensures.wrote c.in_ok-flush.ensures.saved c.sweep.new.store c.sweep.ensures.writes;
 }
 
 pub returns-clause-steps : goal.returns-clause-steps

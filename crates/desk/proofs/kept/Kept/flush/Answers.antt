@@ -23,10 +23,10 @@ returns-in_err-flush-clause-files g c = record {
 pub returns-clause-files : goal.returns-clause-files
 returns-clause-files g c = record {
   done = λ kept backed stands.
-    let view = seen c.self.inside in
-    of-now (g.T.Store.files c.args.store.now) view c.args.self.now (λ (x : Keeps). Stands x.repository.held.limits (g.T.Store.files c.flush.new.store) (kept_behind kept (step (state_of (g.T.Store.files c.args.store.now) x) event.Flush))) c.self.view_is
-    (λ b. subst (λ (k : Collection). Stands view.repository.held.limits (g.T.Store.files c.flush.new.store) k) (sym (kept-flushed kept (state_of (g.T.Store.files c.args.store.now) view)))
-    (flush-stands (g.T.Store.files c.args.store.now) (g.T.Store.files c.flush.new.store) view c.flush.new.self b c.flush.ensures.writes.others c.in_ok-flush.ensures.wrote c.in_ok-flush.ensures.merging c.in_ok-flush.ensures.saved)) backed;
+      let view = seen c.self.inside in
+      of-now (g.T.Store.files c.args.store.now) view c.args.self.now (λ (x : Keeps). Stands x.repository.held.limits (g.T.Store.files c.flush.new.store) (kept_behind kept (step (state_of (g.T.Store.files c.args.store.now) x) event.Flush))) c.self.view_is
+      (λ b. subst (λ (k : Collection). Stands view.repository.held.limits (g.T.Store.files c.flush.new.store) k) (sym (kept-flushed kept (state_of (g.T.Store.files c.args.store.now) view)))
+      (flush-stands (g.T.Store.files c.args.store.now) (g.T.Store.files c.flush.new.store) view c.flush.new.self b c.flush.ensures.writes.others c.in_ok-flush.ensures.wrote c.in_ok-flush.ensures.merging c.in_ok-flush.ensures.saved)) backed;
   now = flushed-now g.T.Store.files g.T.Store.clock g.T.Store.since c.args.store.now c.flush.new.store (seen c.self.inside) c.args.self.now c.self.view_is c.flush.ensures.writes (g.met.T.Store.honest c.flush.new.store) (g.met.T.Store.still c.args.store.now) c.flush.ensures.goes_on.later;
   stops = flushed-stops g.T.Store.files g.T.Store.clock g.T.Store.since c.args.store.now c.flush.new.store (seen c.self.inside) c.args.self.now c.self.view_is c.flush.ensures.writes;
 }

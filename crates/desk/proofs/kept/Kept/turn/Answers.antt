@@ -33,9 +33,9 @@ returns-then-not-merge_open-clause-refuses g c = λ told.
 pub returns-then-not-merge_open-clause-files : goal.returns-then-not-merge_open-clause-files
 returns-then-not-merge_open-clause-files g c = record {
   done = λ kept backed stands.
-    let view = seen c.self.inside in
-    let none : is_some view.repository.merge ≡ false = sym c.merge_open.ensures ∙ c.if-not-merge_open.true in
-    nomerge-kept (g.T.Store.files c.args.store.now) view c.args.self.now c.args.docs kept c.self.view_is none stands;
+      let view = seen c.self.inside in
+      let none : is_some view.repository.merge ≡ false = sym c.merge_open.ensures ∙ c.if-not-merge_open.true in
+      nomerge-kept (g.T.Store.files c.args.store.now) view c.args.self.now c.args.docs kept c.self.view_is none stands;
   now = λ kept backed stands. inl stands;
   stops = λ kept backed stands. Leaves-same (g.T.Store.since c.args.store.now) _;
 }
@@ -50,9 +50,9 @@ returns-in_err-turned-clause-files g c = record {
 pub returns-clause-files : goal.returns-clause-files
 returns-clause-files g c = record {
   done = λ kept backed stands.
-    let view = seen c.self.inside in
-    turn-kept (g.T.Store.files c.args.store.now) (g.T.Store.files c.merge_turn.new.store) view c.args.self.now c.args.docs c.merge_turn.new.self c.merge_turn.new.cache c.live_count.result c.self.view_is
-    (same-below g.T.Store.files g.T.Store.layers g.T.Store.clock g.T.Store.since g.T.Store.longest g.T.Store.held c.args.store.now c.merge_turn.new.store view.repository.merge c.args.docs c.merge_turn.ensures.quiet) c.in_ok-turned.turned c.in_ok-turned.ensures.turned c.in_ok-turned.ensures.state c.in_ok-turned.ensures.over kept backed stands;
+      let view = seen c.self.inside in
+      turn-kept (g.T.Store.files c.args.store.now) (g.T.Store.files c.merge_turn.new.store) view c.args.self.now c.args.docs c.merge_turn.new.self c.merge_turn.new.cache c.live_count.result c.self.view_is
+      (same-below g.T.Store.files g.T.Store.layers g.T.Store.clock g.T.Store.since g.T.Store.longest g.T.Store.held c.args.store.now c.merge_turn.new.store view.repository.merge c.args.docs c.merge_turn.ensures.quiet) c.in_ok-turned.turned c.in_ok-turned.ensures.turned c.in_ok-turned.ensures.state c.in_ok-turned.ensures.over kept backed stands;
   now = turned-now g.T.Store.files g.T.Store.layers g.T.Store.clock g.T.Store.since g.T.Store.longest g.T.Store.held c.args.store.now c.merge_turn.new.store (seen c.self.inside) c.args.self.now c.args.docs c.self.view_is (sym c.merge_open.ensures ∙ c.if-not-merge_open.false) c.merge_turn.ensures.quiet c.merge_turn.ensures.stay c.merge_turn.ensures.stops (g.met.T.Store.honest c.merge_turn.new.store) (g.met.T.Store.still c.args.store.now) c.merge_turn.ensures.goes_on.later;
   stops = turned-stops g.T.Store.files g.T.Store.layers g.T.Store.clock g.T.Store.since g.T.Store.longest g.T.Store.held c.args.store.now c.merge_turn.new.store (seen c.self.inside) c.args.self.now c.args.docs c.self.view_is (sym c.merge_open.ensures ∙ c.if-not-merge_open.false) c.merge_turn.ensures.quiet c.merge_turn.ensures.stay c.merge_turn.ensures.stops;
 }
@@ -62,9 +62,9 @@ returns-clause-keeps g c = record {
   form = subst IsReply (sym c.turned_reply.ensures) (turn-form c.in_ok-turned.turned c.live_count.result);
   kind = ap (λ (x : Keeps). x.kind) c.self.view_is;
   unchanged =
-    let s = c.self.inside in
-    let behind : Keeps = record { repository = c.merge_turn.new.self; kind = s.kind; queries = s.queries.items; counts = s.counts; cache = c.merge_turn.new.cache; usable = s.usable } in
-    subst (λ (x : Reply). StaysIfRefused x c.args.self.now behind) (sym c.turned_reply.ensures) (turn-stays c.in_ok-turned.turned c.live_count.result c.args.self.now behind);
+      let s = c.self.inside in
+      let behind : Keeps = record { repository = c.merge_turn.new.self; kind = s.kind; queries = s.queries.items; counts = s.counts; cache = c.merge_turn.new.cache; usable = s.usable } in
+      subst (λ (x : Reply). StaysIfRefused x c.args.self.now behind) (sym c.turned_reply.ensures) (turn-stays c.in_ok-turned.turned c.live_count.result c.args.self.now behind);
   usable = search rules;
 }
 

@@ -17,6 +17,7 @@ pub mod SkippedLemmas
 pub mod SkippingLemmas
 pub mod SpentLemmas
 pub mod SquaresLemmas
+pub mod TakingLemmas
 pub mod TermLemmas
 pub mod UnbeatenLemmas
 pub mod WindowLemmas

@@ -1,10 +1,11 @@
 -- How many blocks of a range are opened.
-use Rattle.std.proofs.Common.{◌≡◌, ◌<◌, ◌≤◌, ℕ, zero, suc, ◌+◌, ◌-◌, ◌*◌, ◌/◌, ◌==◌, nat_lt, if◌then◌else◌, Bool, true, false, List, [], ◌∷◌, Result, Ok, Err, IfOk, OnOk, length, take, get_or, refl, ap, arith}
+use Rattle.std.proofs.Common.{◌≡◌, ◌<◌, ◌≤◌, ℕ, zero, suc, ◌+◌, ◌-◌, ◌*◌, ◌/◌, ◌==◌, nat_lt, if◌then◌else◌, Bool, true, false, List, [], ◌∷◌, Result, Ok, Err, IfOk, IsErrAnd, OnOk, length, take, get_or, refl, sym, ap, subst, arith}
 use Rattle.std.proofs.lemmas.Bool.{eqb-false, eqb-true}
 use Rattle.std.proofs.lemmas.Bool.Decides.{nat_tests}
 use Rattle.disk_index.specs.Parts.{size}
 use Rattle.disk_index.specs.Snapshots.{Marked}
 use Rattle.ranker.specs.Blocks.{OpensWithin, opened_at, opened_if, opened_of}
+use Rattle.ranker.specs.Going.{OpensAt, OpensIn}
 use Rattle.ranker.specs.Passed.{IsPassed, behind, live_ids, nothing_known, part_at, ranges_in, ranges_of}
 use Rattle.ranker.specs.declared.place.Passed.{Passed}
 use Rattle.ranker.specs.declared.place.Place.{Place}
@@ -93,12 +94,54 @@ pub on-ok : {T E : Type 0} (r : Result T E) (A : Type 0) → A → OnOk r A
 on-ok (Ok x) A a = a
 on-ok (Err e) A a = tt
 
-pub opens-passed : {E : Type 0} (t all p q id most a b : ℕ) (passed : Result Passed E) → id < all → IfOk passed (λ to. 0 < most → id < to.id) → OnOk passed (q ≡ id / 64) → (p ≡ id / 64 → b ≡ a) → b ≤ a + t
-    → IfOk passed (λ to. 0 < most → OpensWithin t (opened_of all p id) (opened_of all q to.id) a b)
-opens-passed t all p q id most a b (Ok to) inside forward is none cost = λ any.
-    let up = forward any in
-    opens-one t all p id (opened_of all q to.id) a b (last all q id to.id inside (omega (arith, up)) is) none cost
-opens-passed t all p q id most a b (Err e) inside forward is none cost = tt
+-- ---- what it comes to in a part, where documents are passed and where they aren't
+
+-- nothing is opened
+pub OpensIn-none : {E : Type 0} (terms size id range a most : ℕ) (to : Passed) → id ≤ to.id → OpensIn {E = E} terms size id range range a a most (Ok to)
+OpensIn-none terms size id range a most to up = record {
+  opened = opens-same terms (opened_of size range id) (opened_of size range to.id) a (opened-on size range id to.id up);
+  opens = opens-same terms (opened_of size range id) (ranges_of size) a (opened-le size range id);
+  few = omega arith;
+}
+
+pub OpensIn-failed : {E : Type 0} (Q : E → Type 0) (terms size id range a most : ℕ) (result : Result Passed E) → IsErrAnd result Q → OpensIn terms size id range range a a most result
+OpensIn-failed Q terms size id range a most (Ok to) failed = absurd failed
+OpensIn-failed Q terms size id range a most (Err e) failed = record { opened = tt; opens = opens-same terms (opened_of size range id) (ranges_of size) a (opened-le size range id); few = omega arith }
+
+-- this range is opened, unless it is
+opened-one : {E : Type 0} (terms size p q id a b : ℕ) (result : Result Passed E) → id < size → IfOk result (λ to. id ≤ to.id) → OnOk result (q ≡ id / 64) → (p ≡ id / 64 → b ≡ a) → b ≤ a + terms
+    → IfOk result (λ to. OpensWithin terms (opened_of size p id) (opened_of size q to.id) a b)
+opened-one terms size p q id a b (Ok to) inside back is none cost = opens-one terms size p id (opened_of size q to.id) a b (last size q id to.id inside back is) none cost
+opened-one terms size p q id a b (Err e) inside back is none cost = tt
+
+pub OpensIn-one : {E : Type 0} (terms size p q id a b : ℕ) (result : Result Passed E) → id < size → IfOk result (λ to. id ≤ to.id) → OnOk result (q ≡ id / 64) → (p ≡ id / 64 → b ≡ a) → b ≤ a + terms → OpensIn terms size id p q a b terms result
+OpensIn-one terms size p q id a b result inside back is none cost = record {
+  opened = opened-one terms size p q id a b result inside back is none cost;
+  opens = opens-one terms size p id (ranges_of size) a b (omega (arith, inside)) none cost;
+  few = cost;
+}
+
+-- behind so many documents
+pub OpensIn-passed : {E : Type 0} (terms size id range own a b docs most : ℕ) (to : Passed) → OpensWithin terms (opened_of size range id) (opened_of size own to.id) a b → b ≤ a + terms * docs → docs ≤ most → OpensIn {E = E} terms size id range own a b (terms * most) (Ok to)
+OpensIn-passed terms size id range own a b docs most to opened each le = record {
+  opened = opened;
+  opens = opens-more terms (opened_of size range id) (opened_of size own to.id) (ranges_of size) a b opened (opened-le size own to.id);
+  few = let more = times-more terms docs most le in omega (arith, more, each);
+}
+
+-- where those behind them aren't passed
+pub OpensIn-broken : {E R : Type 0} (Q : E → Type 0) (terms size id range mid own a b d docs most at : ℕ) (inner : Result Passed R) (result : Result Passed E) → IsErrAnd result Q → OpensWithin terms (opened_of size range id) (opened_of size mid at) a b → b ≤ a + terms * docs → docs < most
+    → OpensIn terms size at mid own b d terms inner → OpensIn terms size id range own a d (terms * most) result
+OpensIn-broken Q terms size id range mid own a b d docs most at inner (Ok to) failed opened each lt h = absurd failed
+OpensIn-broken Q terms size id range mid own a b d docs most at inner (Err e) failed opened each lt h = record {
+  opened = tt;
+  opens = opens-then terms (opened_of size range id) (opened_of size mid at) (ranges_of size) a b d opened h.opens;
+  few =
+      let sum = times-sum terms docs 1 in
+      let more = times-more terms (docs + 1) most (omega (arith, lt)) in
+      let one = h.few in
+      omega (arith, sum, more, each, one);
+}
 
 -- ---- live documents
 
@@ -150,3 +193,52 @@ opened-behind parts at to most range now lt same = by (nat_lt to.docs most) refl
         let all : most ≤ to.docs = grind (arith, nat_tests) in
         let is = ap (λ r. opened_of (size (part_at parts at.part).source) r to.id) (same all) in
         omega (arith, is)
+
+-- ---- what it comes to in parts
+
+-- nothing is opened
+pub OpensAt-none : {R E : Type 0} (terms : ℕ) (parts : List Marked) (at : Place) (range a most : ℕ) (x : R) → OpensAt {E = E} terms parts at at range range a a most (Ok x)
+OpensAt-none terms parts at range a most x = record { opened = opens-same terms (opened_at parts at range) (opened_at parts at range) a (omega arith); opens = opens-same terms (opened_at parts at range) (ranges_in parts) a (opened-all parts at range); few = omega arith }
+
+-- at a place
+pub OpensAt-passed : {R E : Type 0} (terms : ℕ) (parts : List Marked) (at to : Place) (range own a b most : ℕ) (x : R) → OpensWithin terms (opened_at parts at range) (opened_at parts to own) a b → b ≤ a + most → OpensAt {E = E} terms parts at to range own a b most (Ok x)
+OpensAt-passed terms parts at to range own a b most x opened few = record {
+  opened = opened;
+  opens = opens-more terms (opened_at parts at range) (opened_at parts to own) (ranges_in parts) a b opened (opened-all parts to own);
+  few = few;
+}
+
+-- where the documents behind it aren't passed
+pub OpensAt-broken : {R U E V : Type 0} (Q : E → Type 0) (terms : ℕ) (parts : List Marked) (at mid to : Place) (range between own a b d left most : ℕ) (inner : Result U V) (result : Result R E) → IsErrAnd result Q → OpensWithin terms (opened_at parts at range) (opened_at parts mid between) a b
+    → b + left ≤ a + most → OpensAt terms parts mid to between own b d left inner → OpensAt terms parts at to range own a d most result
+OpensAt-broken Q terms parts at mid to range between own a b d left most inner (Ok x) failed opened few h = absurd failed
+OpensAt-broken Q terms parts at mid to range between own a b d left most inner (Err e) failed opened few h = record {
+  opened = tt;
+  opens = opens-then terms (opened_at parts at range) (opened_at parts mid between) (ranges_in parts) a b d opened h.opens;
+  few = let more = h.few in omega (arith, few, more);
+}
+
+-- documents of the part of a place: behind them, and where they aren't passed
+module _ (terms : ℕ) (parts : List Marked) (at : Place) (m : Marked) (is : part_at parts at.part ≡ m) where
+  opens-own : (range a b : ℕ) → OpensWithin terms (opened_of (size m.source) range at.id) (ranges_of (size m.source)) a b → OpensWithin terms (opened_at parts at range) (ranges_in parts) a b
+  opens-own range a b h =
+      opens-further terms (ranges_in (take at.part parts)) (opened_of (size (part_at parts at.part).source) range at.id) (ranges_of (size (part_at parts at.part).source)) (ranges_in parts) a b
+      (subst (λ (p : Marked). OpensWithin terms (opened_of (size p.source) range at.id) (ranges_of (size p.source)) a b) (sym is) h) (ranges-front parts at.part)
+
+  pub OpensAt-failed : {R E V : Type 0} (Q : E → Type 0) (range own a b most : ℕ) (inner : Result Passed V) (result : Result R E) → IsErrAnd result Q → OpensIn terms (size m.source) at.id range own a b most inner → OpensAt terms parts at at range own a b most result
+  OpensAt-failed Q range own a b most inner (Ok x) failed h = absurd failed
+  OpensAt-failed Q range own a b most inner (Err e) failed h = record { opened = tt; opens = opens-own range a b h.opens; few = h.few }
+
+  pub OpensAt-behind : {R E V : Type 0} (range mid own a b docs most : ℕ) (to : Passed) (x : R) → at.part < length parts → (docs ≤ to.docs → own ≡ mid) → OpensIn {E = V} terms (size m.source) at.id range mid a b most (Ok to)
+      → OpensAt {E = E} terms parts at (behind at to docs) range own a b most (Ok x)
+  OpensAt-behind range mid own a b docs most to x lt same h = record {
+    opened = opens-further terms (ranges_in (take at.part parts)) (opened_of (size (part_at parts at.part).source) range at.id) (opened_of (size (part_at parts at.part).source) mid to.id) (opened_at parts (behind at to docs) own) a b
+        (subst (λ (p : Marked). OpensWithin terms (opened_of (size p.source) range at.id) (opened_of (size p.source) mid to.id) a b) (sym is) h.opened) (opened-behind parts at to docs mid own lt same);
+    opens = opens-own range a b h.opens;
+    few = h.few;
+  }
+
+-- whatever becomes of it, for the same calls
+pub OpensAt-else : {R U E V : Type 0} (Q : E → Type 0) (terms : ℕ) (parts : List Marked) (at to : Place) (range own a b most : ℕ) (inner : Result U V) (result : Result R E) → IsErrAnd result Q → OpensAt terms parts at to range own a b most inner → OpensAt terms parts at to range own a b most result
+OpensAt-else Q terms parts at to range own a b most inner (Ok x) failed h = absurd failed
+OpensAt-else Q terms parts at to range own a b most inner (Err e) failed h = record { opened = tt; opens = h.opens; few = h.few }

@@ -1,15 +1,17 @@
 -- The blocks that a reader of a part is lent.
-use Rattle.std.proofs.Common.{◌≡◌, ◌≤◌, ◌<◌, ℕ, ◌+◌, nat_lt, if◌then◌else◌, Bool, true, false, List, Option, refl, sym, subst, arith}
+use Rattle.std.proofs.Common.{◌≡◌, ◌≤◌, ◌<◌, ℕ, ◌+◌, nat_lt, if◌then◌else◌, Bool, true, false, List, Option, get_or, length, refl, sym, subst, arith}
 use Rattle.std.proofs.lemmas.Bool.Decides.{nat_tests}
 use Rattle.ri_base.specs.Documents.{Document}
 use Rattle.store_ends.specs.Files.{Files}
 use Rattle.disk_index.specs.Cache.{IsCacheBacked, KeptBlock}
-use Rattle.disk_index.specs.Parts.{IsPartBacked, Source, outlines_of, reads}
-use Rattle.disk_index.specs.Snapshots.{Marked}
-use Rattle.disk_index.proofs.AmongLemmas.{docs-of, sound-of}
+use Rattle.disk_index.specs.Parts.{IsFileOf, IsPartBacked, Source, outlines_of, reads}
+use Rattle.disk_index.specs.QuietLaws.{CacheKeeps-after, CacheKeeps-same, IsQuiet-same, IsQuiet-then}
+use Rattle.disk_index.specs.Snapshots.{AreBacked, IsFileAmong, Marked}
+use Rattle.disk_index.proofs.AmongLemmas.{backed-at, blocks-among, docs-of, sound-of}
 use Rattle.range_masks.specs.Held.{AreAnswersOf, FitDocuments, Held}
 use Rattle.ranker.specs.Blocks.{AreReadAt, AreReadBy}
 use Rattle.ranker.specs.Passed.{behind, nothing_known, part_at}
+use Rattle.ranker.specs.Reading.{OnlyReads}
 use Rattle.ranker.specs.Searches.{told_by}
 use Rattle.ranker.specs.declared.place.Passed.{Passed}
 use Rattle.ranker.specs.declared.place.Place.{Place}
@@ -72,3 +74,59 @@ module _ (parts : List Marked) (at : Place) (to : Passed) (most : ℕ) (m : Mark
 -- what is read in a part of the number of a place
 pub read-at : (told : Option Files) (parts : List Marked) (at : Place) (m : Marked) (kept : List KeptBlock) (held : Held) → part_at parts at.part ≡ m → AreReadAt told parts at kept held → AreReadBy told (reads told m.source) kept held
 read-at told parts at m kept held is read = subst (λ (p : Marked). AreReadBy told (reads told p.source) kept held) is read
+
+-- ---- what reading leaves, over several calls
+
+module _ {S : Type 0} (files : S → Option Files) (layers : S → Option (List Files)) (clock : S → ℕ) (since : S → ℕ → Files → Type 0) (longest : S → ℕ) (held : S → List ℕ) (faults : S → ℕ) where
+  module _ (IsOwn : ℕ → Type 0) (AreOwn : Option Files → Type 0) where
+    abbrev Reads : Source → Source → S → S → List KeptBlock → List KeptBlock → Held → Held → Type 0
+    Reads p q s t c d was now = OnlyReads files layers clock since longest held faults IsOwn AreOwn p q s t c d was now
+
+    pub reads-same : (p : Source) (s : S) (c : List KeptBlock) (was : Held) → FitDocuments (outlines_of p) was → Reads p p s s c c was was
+    reads-same p s c was fits = record {
+      quiet = IsQuiet-same files layers clock since longest held faults s;
+      later = omega arith;
+      cache = CacheKeeps-same (files s) IsOwn c;
+      fits = fits;
+      read = λ backed read. read;
+    }
+
+    -- what is read stays so by the files as they are now
+    pub reads-blocks : (p q : Source) (s t : S) (c d : List KeptBlock) (was now : Held) → Reads p q s t c d was now → AreOwn (files s) → AreReadBy (files s) (reads (files s) p) c was → AreReadBy (files t) (reads (files t) q) d now
+    reads-blocks p q s t c d was now h backed read = subst (λ (f : Option Files). AreReadBy f (reads f q) d now) (sym h.quiet.same_files) (h.read backed read)
+
+    pub reads-then : (p q r : Source) (s t u : S) (c d e : List KeptBlock) (was mid now : Held) → Reads p q s t c d was mid → Reads q r t u d e mid now → Reads p r s u c e was now
+    reads-then p q r s t u c d e was mid now first second =
+        let same : files t ≡ files s = first.quiet.same_files in
+        record {
+          quiet = IsQuiet-then files layers clock since longest held faults s t u first.quiet second.quiet;
+          later = let a = first.later in let b = second.later in omega (arith, a, b);
+          cache = CacheKeeps-after (files s) (files t) IsOwn c d e same first.cache second.cache;
+          fits = second.fits;
+          read = λ backed read. subst (λ (f : Option Files). AreReadBy f (reads f r) e now) same (second.read (subst AreOwn (sym same) backed) (reads-blocks p q s t c d was mid first backed read));
+        }
+
+  -- a part among others
+  module _ (parts : List Marked) (i : ℕ) (m : Marked) (inside : i < length parts) (at : m ≡ get_or parts i m) (is : part_at parts i ≡ m) where
+    pub reads-among : (s t : S) (c d : List KeptBlock) (was now : Held) → OnlyReads files layers clock since longest held faults (IsFileOf m.source) (λ told. IsPartBacked told m.source) m.source m.source s t c d was now
+        → OnlyReads files layers clock since longest held faults (IsFileAmong parts) (λ told. AreBacked told parts) (part_at parts i).source (part_at parts i).source s t c d was now
+    reads-among s t c d was now h = record {
+      quiet = h.quiet;
+      later = h.later;
+      cache = blocks-among parts i m inside at (files s) c d h.cache;
+      fits = subst (λ (p : Marked). FitDocuments (outlines_of p.source) now) (sym is) h.fits;
+      read = λ backed. subst (λ (p : Marked). AreReadBy (files s) (reads (files s) p.source) c was → AreReadBy (files s) (reads (files s) p.source) d now) (sym is) (h.read (backed-at parts i m inside at (files s) backed));
+    }
+
+  -- up to the place behind documents of its part
+  module _ (parts : List Marked) (at : Place) (to : Passed) (most : ℕ) (mid now : Held) (same : most ≤ to.docs → now ≡ mid) where
+    pub reads-behind : (s t : S) (c d : List KeptBlock) (was : Held) → (to.docs < most → (source : Source) → FitDocuments (outlines_of source) now) → (to.docs < most → (docs : List Document) → AreAnswersOf docs now)
+        → OnlyReads files layers clock since longest held faults (IsFileAmong parts) (λ told. AreBacked told parts) (part_at parts at.part).source (part_at parts at.part).source s t c d was mid
+        → OnlyReads files layers clock since longest held faults (IsFileAmong parts) (λ told. AreBacked told parts) (part_at parts at.part).source (part_at parts (behind at to most).part).source s t c d was now
+    reads-behind s t c d was none answers h = record {
+      quiet = h.quiet;
+      later = h.later;
+      cache = h.cache;
+      fits = fits-behind parts at to most (part_at parts at.part) refl mid now same none h.fits;
+      read = λ backed read. read-behind parts at to most (part_at parts at.part) refl mid now same (files s) d answers (h.read backed read);
+    }

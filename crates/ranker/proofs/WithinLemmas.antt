@@ -52,6 +52,10 @@ module _ (kind : RuleKind) (priors : List Prior) (filters : List FilterTree) (ne
   pub cost-to : (docs : List Document) (marks : List Bool) (i j : ℕ) → i ≤ j → cost (unmarked (take i docs) marks) ≤ cost (unmarked (take j docs) marks)
   cost-to docs marks i j le = subst (λ (ds : List Document). cost (unmarked ds marks) ≤ cost (unmarked (take j docs) marks)) (take-take docs i j le) (cost-take (take j docs) marks i)
 
+  pub within-up : (docs : List Document) (marks : List Bool) (i j k a b : ℕ) → j ≤ k → Within (unmarked (take i docs) marks) (unmarked (take j docs) marks) 0 0 a b → Within (unmarked (take i docs) marks) (unmarked (take k docs) marks) 0 0 a b
+  within-up docs marks i j k a b le h =
+      within-more (unmarked (take i docs) marks) (unmarked (take j docs) marks) (unmarked (take k docs) marks) 0 0 0 a b h (cost-to docs marks j k le) (omega arith)
+
   -- those before a place
   pub cost-passed : (told : Option Files) (parts : List Marked) (at : Place) → cost (passed told parts at) ≤ cost (live told parts)
   cost-passed told parts at = let h = live-front told parts at.part at.id in cost-front kind priors filters network (passed told parts at) h.0 (live told parts) h.1

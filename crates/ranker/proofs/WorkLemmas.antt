@@ -1,5 +1,5 @@
 -- What is held and spent while documents are passed.
-use Rattle.std.proofs.Common.{◌≡◌, ◌<◌, ◌≤◌, ℕ, zero, suc, ◌+◌, ◌-◌, ◌*◌, ◌/◌, nat_lt, if◌then◌else◌, Bool, true, false, List, [], ◌∷◌, ◌++◌, Option, Result, Ok, Err, IfOk, OnOk, length, take, refl, sym, ap, subst, ◌∙◌, arith}
+use Rattle.std.proofs.Common.{◌≡◌, ◌<◌, ◌≤◌, ℕ, zero, suc, ◌+◌, ◌-◌, ◌*◌, ◌/◌, nat_lt, if◌then◌else◌, Bool, true, false, List, [], ◌∷◌, ◌++◌, Option, Result, Ok, Err, IfOk, IsErrAnd, OnOk, length, take, refl, sym, ap, subst, ◌∙◌, arith}
 use Rattle.std.proofs.lemmas.Bool.Decides.{nat_tests}
 use Rattle.ri_base.specs.Documents.{Document}
 use Rattle.store_ends.specs.Files.{Files}
@@ -10,15 +10,16 @@ use Rattle.disk_index.specs.Snapshots.{Marked, live, unmarked}
 use Rattle.disk_index.proofs.RebuiltLemmas.{reads-length}
 use Rattle.ranker.specs.Blocks.{OpensWithin}
 use Rattle.ranker.specs.First.{Advances, AsksWithin, HoldsFirst, KeptEntries, SpendsWithin, counted, early_cost}
-use Rattle.ranker.specs.Passed.{IsPlace, asked_at, asked_of, behind, has_live, layout, layout_in, live_ranges, nothing_known, part_at, passed, ranges_of}
+use Rattle.ranker.specs.Going.{IsAheadBy, IsKnownIn, PassesAt, PassesIn, ScoresIn, Tally, tally}
+use Rattle.ranker.specs.Passed.{IsPassed, IsPlace, asked_at, asked_of, behind, has_live, layout, layout_in, live_ranges, nothing_known, part_at, passed, ranges_of}
 use Rattle.ranker.specs.Unbeaten.{Holds, Passes, Sought, Spends, Stretch, Work, candidate_count, come_to, early_at, is_unbeaten, live_to, met_at, scored, scored_in, sought, stretch, stretch_at, unbeaten, unbeaten_in, work_at, work_in, work_of, work_to}
 use Rattle.ranker.specs.declared.place.Ahead.{Ahead}
 use Rattle.ranker.specs.declared.place.Passed.{Passed}
 use Rattle.ranker.specs.declared.place.Place.{Place}
-use Rattle.ranker.proofs.AskedLemmas.{asks-then, layout-front}
+use Rattle.ranker.proofs.AskedLemmas.{asked-all, asked-behind, asked-le, asks-then, layout-front}
 use Rattle.ranker.proofs.OpeningLemmas.{opens-further, opens-more, opens-then}
 use Rattle.ranker.proofs.PassedLemmas.{cost-more, cost-sum}
-use Rattle.ranker.proofs.PlaceLemmas.{before-next}
+use Rattle.ranker.proofs.PlaceLemmas.{IsAheadAt-behind, before-next}
 use Rattle.ranker.proofs.UnbeatenLemmas.{come-here, come-on, opens-none, opens-range, rises, scored-more, scored-over, unbeaten-le}
 
 -- ---- squarings of bounds and of candidates
@@ -96,6 +97,46 @@ module _ (s : Sought) (m : Stretch) where
       let all : Spends s.network terms (work_to s m id ahead range a b) (work_of s m a b) = Spends-none terms id ahead range a a b inside (let more = cost-more s.network (asked_of m.marks id ahead) (live_ranges m.marks (ranges_of (length m.docs))) asked in omega (arith, more)) in
       Spends-then s.network terms was (work_to s m id ahead range a b) (work_of s m a b) h all
 
+  -- ---- what it comes to, where it is done and where it isn't
+
+  -- documents that change nothing of what is held
+  pub PassesIn-by : {E : Type 0} (terms id : ℕ) (ahead : Ahead) (range : ℕ) (kept : KeptEntries) (a b blocks : ℕ) (to : Passed) → id ≤ to.id → id ≤ length m.docs
+      → ((before : List Document) (most : ℕ) → HoldsFirst s.kind s.priors s.filters s.network (before ++ unmarked (take id m.docs) m.marks) most kept → HoldsFirst s.kind s.priors s.filters s.network (before ++ unmarked (take to.id m.docs) m.marks) most kept)
+      → AsksWithin s.network (asked_of m.marks id ahead) (asked_of m.marks to.id to.ahead) a b → IsKnownIn s m to.id to.ahead → PassesIn {E = E} s terms m id ahead kept kept (tally range a blocks) (tally range b blocks) (Ok to)
+  PassesIn-by terms id ahead range kept a b blocks to up inside step asks known = record {
+    first = Passes-by terms id to.id ahead to.ahead range kept a b blocks up step asks;
+    known = known;
+    within = λ held. Spends-none terms id ahead range a b blocks inside
+        (asks-up s.network (asked_of m.marks id ahead) (asked_of m.marks to.id to.ahead) (live_ranges m.marks (ranges_of (length m.docs))) a b asks (asked-all m.marks (length m.docs) to.id to.ahead known.span));
+  }
+
+  -- no bound is told
+  pub PassesIn-none : {E : Type 0} (Q : E → Type 0) (terms id : ℕ) (ahead : Ahead) (range : ℕ) (kept : KeptEntries) (a b blocks : ℕ) (result : Result Passed E) → IsErrAnd result Q → id ≤ length m.docs
+      → AsksWithin s.network (asked_of m.marks id ahead) (live_ranges m.marks (ranges_of (length m.docs))) a b → PassesIn s terms m id ahead kept kept (tally range a blocks) (tally range b blocks) result
+  PassesIn-none Q terms id ahead range kept a b blocks (Ok to) failed inside asks = absurd failed
+  PassesIn-none Q terms id ahead range kept a b blocks (Err e) failed inside asks = record { first = tt; known = tt; within = λ held. Spends-none terms id ahead range a b blocks inside asks }
+
+  -- behind documents that were passed
+  pub PassesIn-passed : {E : Type 0} (terms id : ℕ) (ahead : Ahead) (kept next : KeptEntries) (was now : Tally) (to : Passed) → to.id ≤ length m.docs
+      → Passes s terms (live_to m id) (live_to m to.id) kept next (work_to s m id ahead was.range was.squares was.blocks) (work_to s m to.id to.ahead now.range now.squares now.blocks) → IsKnownIn s m to.id to.ahead
+      → PassesIn {E = E} s terms m id ahead kept next was now (Ok to)
+  PassesIn-passed terms id ahead kept next was now to inside passes known = record {
+    first = passes;
+    known = known;
+    within = λ held. Spends-whole terms (work_to s m id ahead was.range was.squares was.blocks) to.id to.ahead now.range now.squares now.blocks inside (asked-all m.marks (length m.docs) to.id to.ahead known.span) (passes.spends held);
+  }
+
+  -- where those behind them aren't
+  pub PassesIn-broken : {E R : Type 0} (Q : E → Type 0) (terms id : ℕ) (ahead : Ahead) (kept half next : KeptEntries) (was mid now : Tally) (at : ℕ) (later : Ahead) (inner : Result Passed R) (result : Result Passed E) → IsErrAnd result Q
+      → Passes s terms (live_to m id) (live_to m at) kept half (work_to s m id ahead was.range was.squares was.blocks) (work_to s m at later mid.range mid.squares mid.blocks) → PassesIn s terms m at later half next mid now inner
+      → PassesIn s terms m id ahead kept next was now result
+  PassesIn-broken Q terms id ahead kept half next was mid now at later inner (Ok to) failed passes h = absurd failed
+  PassesIn-broken Q terms id ahead kept half next was mid now at later inner (Err e) failed passes h = record {
+    first = tt;
+    known = tt;
+    within = λ held. Spends-then s.network terms (work_to s m id ahead was.range was.squares was.blocks) (work_to s m at later mid.range mid.squares mid.blocks) (work_of s m now.squares now.blocks) (passes.spends held) (h.within (passes.step held));
+  }
+
   -- documents of a range that can't be passed
   module _ (id : ℕ) (ahead now : Ahead) (range own : ℕ) (kept next : KeptEntries) (a b d blocks more terms : ℕ) (whole : length m.marks ≡ length m.docs) (inside : id < length m.docs) (end : now.end ≤ length m.docs) (short : now.end ≤ 64 * (id / 64 + 1))
       (asks : AsksWithin s.network (asked_of m.marks id ahead) (asked_of m.marks id now) a b) (live : has_live m.marks (id / 64) ≡ true)
@@ -106,13 +147,12 @@ module _ (s : Sought) (m : Stretch) where
         scored-over s m (to - id) id to (omega (arith, up)) (omega (arith, within, end)) whole
         (λ i low high. let same : i / 64 ≡ id / 64 = omega (arith, low, high, within, short) in ap (is_unbeaten s m) same ∙ is)
 
-    pub Passes-over : {E : Type 0} (passed : Result Passed E) (most : ℕ) → IfOk passed (λ to. 0 < most → id < to.id) → IfOk passed (λ to. to.id ≤ now.end) → OnOk passed (own ≡ id / 64)
+    Passes-over : {E : Type 0} (passed : Result Passed E) → IfOk passed (λ to. id ≤ to.id) → IfOk passed (λ to. to.id ≤ now.end) → OnOk passed (own ≡ id / 64)
         → IfOk passed (λ to. Advances s.kind s.priors s.filters s.network (unmarked (take id m.docs) m.marks) (unmarked (take to.id m.docs) m.marks) (counted kept b (asked_of m.marks id now)) (counted next d (asked_of m.marks to.id to.ahead)))
-        → IfOk passed (λ to. 0 < most → Passes s terms (live_to m id) (live_to m to.id) kept next (work_to s m id ahead range a blocks) (work_to s m to.id to.ahead own d more))
-    Passes-over (Err e) most forward within is on = tt
-    Passes-over (Ok to) most forward within is on = λ some.
-        let past = forward some in
-        let up : id ≤ to.id = omega (arith, past) in
+        → IfOk passed (λ to. Passes s terms (live_to m id) (live_to m to.id) kept next (work_to s m id ahead range a blocks) (work_to s m to.id to.ahead own d more))
+    Passes-over (Err e) back within is on = tt
+    Passes-over (Ok to) back within is on =
+        let up : id ≤ to.id = back in
         record {
           step = λ h. on.step m.before s.most h;
           spends = λ h. record {
@@ -123,7 +163,7 @@ module _ (s : Sought) (m : Stretch) where
         }
 
     -- whatever is answered
-    pub Spends-over : id ≤ now.end
+    Spends-over : id ≤ now.end
         → SpendsWithin s.kind s.priors s.filters s.network (unmarked (take id m.docs) m.marks) (unmarked (take now.end m.docs) m.marks) (asked_of m.marks id now) (live_ranges m.marks (ranges_of (length m.docs))) b d
         → Holds s (live_to m id) kept → Spends s.network terms (work_to s m id ahead range a blocks) (work_of s m d more)
     Spends-over up spent h = record {
@@ -134,20 +174,16 @@ module _ (s : Sought) (m : Stretch) where
       blocks = opens-range s m terms range id (ranges_of (length m.marks)) blocks more live (found h) (omega (arith, inside, whole)) none cost;
     }
 
+    pub PassesIn-over : {E : Type 0} (result : Result Passed E) → id ≤ now.end → IfOk result (λ to. id ≤ to.id) → IfOk result (λ to. to.id ≤ now.end) → OnOk result (own ≡ id / 64) → ScoresIn s m id now kept next b d result
+        → PassesIn s terms m id ahead kept next (tally range a blocks) (tally own d more) result
+    PassesIn-over result up back within is h = record { first = Passes-over result back within is h.first; known = h.known; within = Spends-over up h.within }
+
 -- ---- by what was read, and what the priors told, before
 
-module _ (told priors : List Prior) (read docs : List Document) (stay : told ≡ priors) (same : read ≡ docs) (of : List Prior → Sought) (m : List Document → Stretch) (terms : ℕ) (kept : KeptEntries) where
-  pub Passes-read : (i j : ℕ) (next : KeptEntries) (was now : Sought → Stretch → Work) → Passes (of told) terms (live_to (m read) i) (live_to (m read) j) kept next (was (of told) (m read)) (now (of told) (m read))
-      → Passes (of priors) terms (live_to (m docs) i) (live_to (m docs) j) kept next (was (of priors) (m docs)) (now (of priors) (m docs))
-  Passes-read i j next was now h =
-      subst (λ (ds : List Document). Passes (of priors) terms (live_to (m ds) i) (live_to (m ds) j) kept next (was (of priors) (m ds)) (now (of priors) (m ds))) same
-      (subst (λ (ps : List Prior). Passes (of ps) terms (live_to (m read) i) (live_to (m read) j) kept next (was (of ps) (m read)) (now (of ps) (m read))) stay h)
-
-  pub Spends-read : (i : ℕ) (was now : Sought → Stretch → Work) → (Holds (of told) (live_to (m read) i) kept → Spends (of told).network terms (was (of told) (m read)) (now (of told) (m read)))
-      → Holds (of priors) (live_to (m docs) i) kept → Spends (of priors).network terms (was (of priors) (m docs)) (now (of priors) (m docs))
-  Spends-read i was now h =
-      subst (λ (ds : List Document). Holds (of priors) (live_to (m ds) i) kept → Spends (of priors).network terms (was (of priors) (m ds)) (now (of priors) (m ds))) same
-      (subst (λ (ps : List Prior). Holds (of ps) (live_to (m read) i) kept → Spends (of ps).network terms (was (of ps) (m read)) (now (of ps) (m read))) stay h)
+pub PassesIn-read : {E : Type 0} (told priors : List Prior) (read docs : List Document) (stay : told ≡ priors) (same : read ≡ docs) (of : List Prior → Sought) (m : List Document → Stretch) (terms id : ℕ) (ahead : Ahead) (kept next : KeptEntries) (was now : Tally)
+    (result : Result Passed E) → PassesIn (of told) terms (m read) id ahead kept next was now result → PassesIn (of priors) terms (m docs) id ahead kept next was now result
+PassesIn-read told priors read docs stay same of m terms id ahead kept next was now result h =
+    subst (λ (ds : List Document). PassesIn (of priors) terms (m ds) id ahead kept next was now result) same (subst (λ (ps : List Prior). PassesIn (of ps) terms (m read) id ahead kept next was now result) stay h)
 
 -- ---- in parts
 
@@ -303,16 +339,65 @@ module _ (s : Sought) (told : Option Files) (parts : List Marked) where
           blocks = opens-more terms was.opened (met_at s told parts at range) (unbeaten_in s told parts (length parts)) was.blocks y h.blocks (met-all range place);
         }
 
--- by the files as they were, and what the priors told, before
-module _ (was priors : List Prior) (here told : Option Files) (stay : was ≡ priors) (same : here ≡ told) (of : List Prior → Sought) (parts : List Marked) (terms : ℕ) (kept : KeptEntries) where
-  pub Passes-later : (a b : Place) (next : KeptEntries) (work now : Sought → Option Files → Work) → Passes (of was) terms (passed here parts a) (passed here parts b) kept next (work (of was) here) (now (of was) here)
-      → Passes (of priors) terms (passed told parts a) (passed told parts b) kept next (work (of priors) told) (now (of priors) told)
-  Passes-later a b next work now h =
-      subst (λ (f : Option Files). Passes (of priors) terms (passed f parts a) (passed f parts b) kept next (work (of priors) f) (now (of priors) f)) same
-      (subst (λ (ps : List Prior). Passes (of ps) terms (passed here parts a) (passed here parts b) kept next (work (of ps) here) (now (of ps) here)) stay h)
+-- ---- what it comes to in parts
 
-  pub Spends-later : (a : Place) (work now : Sought → Option Files → Work) → (Holds (of was) (passed here parts a) kept → Spends (of was).network terms (work (of was) here) (now (of was) here))
-      → Holds (of priors) (passed told parts a) kept → Spends (of priors).network terms (work (of priors) told) (now (of priors) told)
-  Spends-later a work now h =
-      subst (λ (f : Option Files). Holds (of priors) (passed f parts a) kept → Spends (of priors).network terms (work (of priors) f) (now (of priors) f)) same
-      (subst (λ (ps : List Prior). Holds (of ps) (passed here parts a) kept → Spends (of ps).network terms (work (of ps) here) (now (of ps) here)) stay h)
+module _ (s : Sought) (terms : ℕ) (told : Option Files) (parts : List Marked) (at : Place) where
+  -- at a place
+  pub PassesAt-passed : {R E : Type 0} (to : Place) (kept next : KeptEntries) (was now : Tally) (x : R) → IsPlace parts to → Passes s terms (passed told parts at) (passed told parts to) kept next (work_at s told parts at was.range was.squares was.blocks) (work_at s told parts to now.range now.squares now.blocks)
+      → IsAheadBy s told parts to → PassesAt {E = E} s terms told parts at to kept next was now (Ok x)
+  PassesAt-passed to kept next was now x place passes known = record {
+    first = passes;
+    known = known;
+    within = λ held. Spends-all s told parts to terms (work_at s told parts at was.range was.squares was.blocks) now.range now.squares now.blocks place (asked-le told parts to known.here.span) (passes.spends held);
+  }
+
+  -- where the documents behind it aren't passed
+  pub PassesAt-broken : {R U E V : Type 0} (Q : E → Type 0) (mid to : Place) (kept half next : KeptEntries) (was between now : Tally) (inner : Result U V) (result : Result R E) → IsErrAnd result Q
+      → Passes s terms (passed told parts at) (passed told parts mid) kept half (work_at s told parts at was.range was.squares was.blocks) (work_at s told parts mid between.range between.squares between.blocks)
+      → PassesAt s terms told parts mid to half next between now inner → PassesAt s terms told parts at to kept next was now result
+  PassesAt-broken Q mid to kept half next was between now inner (Ok x) failed passes h = absurd failed
+  PassesAt-broken Q mid to kept half next was between now inner (Err e) failed passes h = record {
+    first = tt;
+    known = tt;
+    within = λ held. Spends-then s.network terms (work_at s told parts at was.range was.squares was.blocks) (work_at s told parts mid between.range between.squares between.blocks) (work_in s told parts now.squares now.blocks) (passes.spends held) (h.within (passes.step held));
+  }
+
+-- documents of the part of a place: behind them, and where they aren't passed
+module _ (s : Sought) (terms : ℕ) (told : Option Files) (parts : List Marked) (at : Place) (m : Marked) (is : part_at parts at.part ≡ m) (lt : at.part < length parts) (ahead : IsAheadBy s told parts at) where
+  abbrev own : Marked → Stretch
+  own p = stretch at.part (live told (take at.part parts)) (reads told p.source) p.marks
+
+  pub known-own : IsKnownIn s (own m) at.id at.ahead
+  known-own = subst (λ (p : Marked). IsKnownIn s (own p) at.id at.ahead) is ahead.here
+
+  within-own : {E : Type 0} (kept next : KeptEntries) (was now : Tally) (result : Result Passed E) → PassesIn s terms (own m) at.id at.ahead kept next was now result
+      → Holds s (passed told parts at) kept → Spends s.network terms (work_at s told parts at was.range was.squares was.blocks) (work_in s told parts now.squares now.blocks)
+  within-own kept next was now result h held =
+      Spends-part s told parts at terms was.range was.squares now.squares was.blocks now.blocks lt
+      (subst (λ (p : Marked). Holds s (live_to (own p) at.id) kept → Spends s.network terms (work_to s (own p) at.id at.ahead was.range was.squares was.blocks) (work_of s (own p) now.squares now.blocks)) (sym is) h.within held)
+
+  pub PassesAt-failed : {R E V : Type 0} (Q : E → Type 0) (kept next : KeptEntries) (was now : Tally) (inner : Result Passed V) (result : Result R E) → IsErrAnd result Q → PassesIn s terms (own m) at.id at.ahead kept next was now inner → PassesAt s terms told parts at at kept next was now result
+  PassesAt-failed Q kept next was now inner (Ok x) failed h = absurd failed
+  PassesAt-failed Q kept next was now inner (Err e) failed h = record { first = tt; known = tt; within = within-own kept next was now inner h }
+
+  pub PassesAt-behind : {R E V : Type 0} (kept next : KeptEntries) (was now : Tally) (own_range : ℕ) (to : Passed) (most : ℕ) (x : R) → length m.marks ≡ size m.source → IsPassed m.marks at.id most to → (to.docs < most → to.id ≡ size m.source) → (most ≤ to.docs → own_range ≡ now.range)
+      → PassesIn {E = V} s terms (own m) at.id at.ahead kept next was now (Ok to) → PassesAt {E = E} s terms told parts at (behind at to most) kept next was (tally own_range now.squares now.blocks) (Ok x)
+  PassesAt-behind kept next was now own_range to most x whole passes end same h =
+      let inside = passes.inside in
+      let size_is : size (part_at parts at.part).source ≡ size m.source = ap (λ (p : Marked). size p.source) is in
+      let all = asked-all m.marks (length (reads told m.source)) to.id to.ahead h.known.span in
+      let layout_is : live_ranges m.marks (ranges_of (length (reads told m.source))) ≡ layout_in m = ap (λ n. live_ranges m.marks (ranges_of n)) (reads-length told m.source) in
+      let below : asked_of m.marks to.id to.ahead ≤ layout_in m = omega (arith, all, layout_is) in
+      let asked = asked-behind parts at to most lt (subst (λ (p : Marked). asked_of p.marks to.id to.ahead ≤ layout_in p) (sym is) below) in
+      record {
+        first = Passes-behind s told parts at to most lt (omega (arith, inside, size_is, whole)) terms was.range now.range own_range kept next was.squares now.squares was.blocks now.blocks (subst (λ (p : Marked). to.docs < most → to.id ≡ size p.source) (sym is) end) same asked
+            (subst (λ (p : Marked). Passes s terms (live_to (own p) at.id) (live_to (own p) to.id) kept next (work_to s (own p) at.id at.ahead was.range was.squares was.blocks) (work_to s (own p) to.id to.ahead now.range now.squares now.blocks)) (sym is) h.first);
+        known = IsAheadAt-behind s.kind s.priors s.filters s.network s.tables told parts at to most m is ahead.each h.known;
+        within = within-own kept next was now (Ok to) h;
+      }
+
+-- by the files as they were, and what the priors told, before
+pub PassesAt-later : {R E : Type 0} (was priors : List Prior) (here told : Option Files) (stay : was ≡ priors) (same : here ≡ told) (of : List Prior → Sought) (terms : ℕ) (parts : List Marked) (at to : Place) (kept next : KeptEntries) (before now : Tally) (result : Result R E)
+    → PassesAt (of was) terms here parts at to kept next before now result → PassesAt (of priors) terms told parts at to kept next before now result
+PassesAt-later was priors here told stay same of terms parts at to kept next before now result h =
+    subst (λ (f : Option Files). PassesAt (of priors) terms f parts at to kept next before now result) same (subst (λ (ps : List Prior). PassesAt (of ps) terms here parts at to kept next before now result) stay h)

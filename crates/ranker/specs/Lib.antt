@@ -1,10 +1,12 @@
 pub mod Blocks
 pub mod First
+pub mod Going
 pub mod Held
 pub mod Least
 pub mod Passed
 pub mod RangeKeys
 pub mod Ranking
+pub mod Reading
 pub mod Searches
 pub mod Spent
 pub mod Squares

@@ -1,5 +1,5 @@
 -- What a search keeps between its steps.
-use Rattle.std.specs.Prelude.{◌≡◌, ◌≤◌, ◌*◌, ℕ, false, List, Option, length, map}
+use Rattle.std.specs.Prelude.{◌≡◌, ◌≤◌, ◌+◌, ◌*◌, ℕ, false, List, Option, length, map}
 use Rattle.ri_base.specs.Documents.{Document}
 use Rattle.ri_base.specs.Query.{FilterTree, filter_tree}
 use Rattle.ri_base.specs.declared.hit.Hit.{Hit}
@@ -13,7 +13,7 @@ use Rattle.disk_index.specs.Snapshots.{live}
 use Rattle.document_scoring.specs.Candidates.{candidates}
 use Rattle.ranker.specs.Held.{IsHeld, is_open}
 use Rattle.range_masks.specs.Held.{AreAnswersOf}
-use Rattle.ranker.specs.Blocks.{opened_at}
+use Rattle.ranker.specs.Blocks.{OpensWithin, opened_at}
 use Rattle.ranker.specs.Passed.{IsAheadAt, IsTold, part_at, passed}
 use Rattle.ranker.specs.Ranking.{IsAnswerBy}
 use Rattle.ranker.specs.Squares.{spent}
@@ -82,3 +82,29 @@ pub record StaysWithin (kind : RuleKind) (priors : List Prior) (told : Option Fi
 -- of how many ranges of its parts it has opened the blocks, at most
 abbrev pub opened_by : Search → ℕ
 opened_by s = opened_at s.snapshot s.at s.blocks.range
+
+-- ---- what a step changes
+
+-- where what was taken was so before, it is so now
+abbrev pub StaysTaken : RuleKind → List Prior → Option Files → Search → Search → Type 0
+StaysTaken kind priors told old new = IsTaken kind priors told old → IsTaken kind priors told new
+
+-- and the numbers that are kept stay within what was come to
+abbrev pub StaysSpent : RuleKind → List Prior → Option Files → Search → Search → Type 0
+StaysSpent kind priors told old new = IsTaken kind priors told old → StaysWithin kind priors told old → StaysWithin kind priors told new
+
+-- no more squarings were done than what was spent rose by
+abbrev pub SpendsTo : RuleKind → List Prior → Option Files → Search → Search → ℕ → ℕ → Type 0
+SpendsTo kind priors told old new before now = IsTaken kind priors told old → now + spent_by kind priors told old ≤ before + spent_by kind priors told new
+
+-- than are left to the whole
+abbrev pub SpendsAtMost : RuleKind → List Prior → Option Files → Search → ℕ → ℕ → Type 0
+SpendsAtMost kind priors told old before now = IsTaken kind priors told old → now + spent_by kind priors told old ≤ before + whole_cost kind priors told old
+
+-- no more blocks were opened than one of each term in each range more that it couldn't pass
+abbrev pub MeetsTo : RuleKind → List Prior → Option Files → Search → Search → ℕ → ℕ → Type 0
+MeetsTo kind priors told old new before now = IsTaken kind priors told old → OpensWithin (length old.terms) (met_by kind priors told old) (met_by kind priors told new) before now
+
+-- in each that is left
+abbrev pub MeetsAtMost : RuleKind → List Prior → Option Files → Search → ℕ → ℕ → Type 0
+MeetsAtMost kind priors told old before now = IsTaken kind priors told old → OpensWithin (length old.terms) (met_by kind priors told old) (unbeaten_by kind priors told old) before now

@@ -4,24 +4,23 @@ ghost use Rattle.ri_base.specs.Documents.{Document};
 ghost use Rattle.ri_base.specs.Faults.{IsOutside};
 ghost use Rattle.ri_base.specs.Keeps.{Rose};
 ghost use Rattle.ri_base.specs.Query.{FilterTree, filter_tree, is_range};
-ghost use Rattle.store_ends.specs.Files.{Files, IsQuiet};
+ghost use Rattle.store_ends.specs.Files.{Files};
 ghost use Rattle.smoothing.specs.Fractions.{Computes};
 ghost use Rattle.smoothing.specs.declared.rule.RuleKind.{RuleKind};
 ghost use Rattle.belief_nodes.specs.Leaves.{HasPrior};
 ghost use Rattle.belief_nodes.specs.Network.{NetworkTree, network_tree};
 ghost use Rattle.belief_nodes.specs.Priors.{Prior};
-ghost use Rattle.disk_index.specs.Cache.{CacheKeeps};
 ghost use Rattle.disk_index.specs.Parts.{outlines_of};
 ghost use Rattle.disk_index.specs.Snapshots.{AreBacked, IsFileAmong, IsSnapshot, live};
-ghost use Rattle.document_scoring.specs.Candidates.{candidates};
 ghost use Rattle.range_masks.specs.Held.{FitDocuments};
-ghost use Rattle.ranker.specs.Blocks.{AreReadAt, OpensWithin, opened_at};
+ghost use Rattle.ranker.specs.Blocks.{AreReadAt};
 ghost use Rattle.ranker.specs.First.{scale_of};
+ghost use Rattle.ranker.specs.Going.{IsAheadBy, IsHeldBy, OpensAt, TakesAt, tally};
 ghost use Rattle.ranker.specs.Held.{HoldsEntries, IsHeld, is_open};
-ghost use Rattle.ranker.specs.Passed.{IsAheadAt, IsPlace, part_at, passed, ranges_in};
+ghost use Rattle.ranker.specs.Passed.{IsPlace, part_at, passed};
+ghost use Rattle.ranker.specs.Reading.{OnlyReads};
 ghost use Rattle.ranker.specs.Spent.{RiseAlike};
-ghost use Rattle.ranker.specs.Squares.{spent};
-ghost use Rattle.ranker.specs.Unbeaten.{early_at, early_in, met_at, sought, unbeaten_in};
+ghost use Rattle.ranker.specs.Unbeaten.{sought};
 ghost use Rattle.ranker.specs.Windows.{HasWindows};
 
 use crate::held::Held;
@@ -71,27 +70,11 @@ pub fn advance<T: Store, F: Fn(u32, u32, u64, u64) -> Fraction, L: Ledger, B: Le
     requires open { is_open held.old ≡ nat_lt at.old.credit count }
     requires entries { HoldsEntries (network_tree network.now) held.old }
     requires fits { FitDocuments (outlines_of (part_at parts.now at.old.part).source) read.old }
-    ensures fits { FitDocuments (outlines_of (part_at parts.now at.new.part).source) read.new }
-    ensures read { AreBacked (T.files store.old) parts.now → AreReadAt (T.files store.old) parts.now at.old cache.old read.old → AreReadAt (T.files store.old) parts.now at.new cache.new read.new }
-    ensures ahead { AreBacked (T.files store.old) parts.now → AreReadAt (T.files store.old) parts.now at.old cache.old read.old → IsAheadAt rule.now.kind (map (λ plug. meaning plug) plugs.old) (map filter_tree filters.now) (network_tree network.now) tables.now (T.files store.old) parts.now at.old → OnOk result
-        (IsAheadAt rule.now.kind (map (λ plug. meaning plug) plugs.old) (map filter_tree filters.now) (network_tree network.now) tables.now (T.files store.old) parts.now at.new) }
-    ensures taken { AreBacked (T.files store.old) parts.now → AreReadAt (T.files store.old) parts.now at.old cache.old read.old → IsAheadAt rule.now.kind (map (λ plug. meaning plug) plugs.old) (map filter_tree filters.now) (network_tree network.now) tables.now (T.files store.old) parts.now at.old → OnOk result ((most : ℕ)
-        → IsHeld rule.now.kind (map (λ plug. meaning plug) plugs.old) (map filter_tree filters.now) (network_tree network.now) (passed (T.files store.old) parts.now at.old) most held.old
-        → IsHeld rule.now.kind (map (λ plug. meaning plug) plugs.old) (map filter_tree filters.now) (network_tree network.now) (passed (T.files store.old) parts.now at.new) most held.new) }
-    ensures squares { AreBacked (T.files store.old) parts.now → AreReadAt (T.files store.old) parts.now at.old cache.old read.old → IsAheadAt rule.now.kind (map (λ plug. meaning plug) plugs.old) (map filter_tree filters.now) (network_tree network.now) tables.now (T.files store.old) parts.now at.old → OnOk result ((most : ℕ)
-        → IsHeld rule.now.kind (map (λ plug. meaning plug) plugs.old) (map filter_tree filters.now) (network_tree network.now) (passed (T.files store.old) parts.now at.old) most held.old
-        → squares.new + spent (network_tree network.now) most (is_open held.old) (early_at (sought rule.now.kind (map (λ plug. meaning plug) plugs.old) (map filter_tree filters.now) (network_tree network.now) tables.now most) (T.files store.old) parts.now at.old) (candidates rule.now.kind (map (λ plug. meaning plug) plugs.old) (map filter_tree filters.now) (network_tree network.now) (passed (T.files store.old) parts.now at.old))
-        ≤ squares.old + spent (network_tree network.now) most (is_open held.new) (early_at (sought rule.now.kind (map (λ plug. meaning plug) plugs.old) (map filter_tree filters.now) (network_tree network.now) tables.now most) (T.files store.old) parts.now at.new) (candidates rule.now.kind (map (λ plug. meaning plug) plugs.old) (map filter_tree filters.now) (network_tree network.now) (passed (T.files store.old) parts.now at.new))) }
-    ensures within { AreBacked (T.files store.old) parts.now → AreReadAt (T.files store.old) parts.now at.old cache.old read.old → IsAheadAt rule.now.kind (map (λ plug. meaning plug) plugs.old) (map filter_tree filters.now) (network_tree network.now) tables.now (T.files store.old) parts.now at.old → (most : ℕ)
-        → IsHeld rule.now.kind (map (λ plug. meaning plug) plugs.old) (map filter_tree filters.now) (network_tree network.now) (passed (T.files store.old) parts.now at.old) most held.old
-        → squares.new + spent (network_tree network.now) most (is_open held.old) (early_at (sought rule.now.kind (map (λ plug. meaning plug) plugs.old) (map filter_tree filters.now) (network_tree network.now) tables.now most) (T.files store.old) parts.now at.old) (candidates rule.now.kind (map (λ plug. meaning plug) plugs.old) (map filter_tree filters.now) (network_tree network.now) (passed (T.files store.old) parts.now at.old))
-        ≤ squares.old + spent (network_tree network.now) most false (early_in (sought rule.now.kind (map (λ plug. meaning plug) plugs.old) (map filter_tree filters.now) (network_tree network.now) tables.now most) (T.files store.old) parts.now) (candidates rule.now.kind (map (λ plug. meaning plug) plugs.old) (map filter_tree filters.now) (network_tree network.now) (live (T.files store.old) parts.now)) }
-    ensures met { AreBacked (T.files store.old) parts.now → AreReadAt (T.files store.old) parts.now at.old cache.old read.old → IsAheadAt rule.now.kind (map (λ plug. meaning plug) plugs.old) (map filter_tree filters.now) (network_tree network.now) tables.now (T.files store.old) parts.now at.old → OnOk result ((most : ℕ)
-        → IsHeld rule.now.kind (map (λ plug. meaning plug) plugs.old) (map filter_tree filters.now) (network_tree network.now) (passed (T.files store.old) parts.now at.old) most held.old
-        → OpensWithin (length terms.now) (met_at (sought rule.now.kind (map (λ plug. meaning plug) plugs.old) (map filter_tree filters.now) (network_tree network.now) tables.now most) (T.files store.old) parts.now at.old read.old.range) (met_at (sought rule.now.kind (map (λ plug. meaning plug) plugs.old) (map filter_tree filters.now) (network_tree network.now) tables.now most) (T.files store.old) parts.now at.new read.new.range) blocks.old blocks.new) }
-    ensures meets { AreBacked (T.files store.old) parts.now → AreReadAt (T.files store.old) parts.now at.old cache.old read.old → IsAheadAt rule.now.kind (map (λ plug. meaning plug) plugs.old) (map filter_tree filters.now) (network_tree network.now) tables.now (T.files store.old) parts.now at.old → (most : ℕ)
-        → IsHeld rule.now.kind (map (λ plug. meaning plug) plugs.old) (map filter_tree filters.now) (network_tree network.now) (passed (T.files store.old) parts.now at.old) most held.old
-        → OpensWithin (length terms.now) (met_at (sought rule.now.kind (map (λ plug. meaning plug) plugs.old) (map filter_tree filters.now) (network_tree network.now) tables.now most) (T.files store.old) parts.now at.old read.old.range) (unbeaten_in (sought rule.now.kind (map (λ plug. meaning plug) plugs.old) (map filter_tree filters.now) (network_tree network.now) tables.now most) (T.files store.old) parts.now (length parts.now)) blocks.old blocks.new }
+    ensures reads { OnlyReads T.files T.layers T.clock T.since T.longest T.held T.faults (IsFileAmong parts.now) (λ told. AreBacked told parts.now) (part_at parts.now at.old.part).source (part_at parts.now at.new.part).source store.old store.new cache.old cache.new read.old read.new }
+    ensures takes { AreBacked (T.files store.old) parts.now → AreReadAt (T.files store.old) parts.now at.old cache.old read.old → (most : ℕ) →
+        let s = sought rule.now.kind (map (λ plug. meaning plug) plugs.old) (map filter_tree filters.now) (network_tree network.now) tables.now most in
+        IsAheadBy s (T.files store.old) parts.now at.old → IsHeldBy s (passed (T.files store.old) parts.now at.old) held.old
+        → TakesAt s (length terms.now) (T.files store.old) parts.now at.old at.new held.old held.new (tally read.old.range squares.old blocks.old) (tally read.new.range squares.new blocks.new) result }
     ensures windows { OnOk result ((told : Option Files) (most : ℕ)
         → HasWindows (live told parts.now) (length (network_tree network.now).leaves) most held.old → HasWindows (live told parts.now) (length (network_tree network.now).leaves) most held.new) }
     ensures entries { OnOk result (HoldsEntries (network_tree network.now) held.new) }
@@ -102,13 +85,8 @@ pub fn advance<T: Store, F: Fn(u32, u32, u64, u64) -> Fraction, L: Ledger, B: Le
     ensures counted { OnOk result (RiseAlike blocks.old blocks.new numbers.old.opened numbers.new.opened) }
     ensures stay { map (λ plug. meaning plug) plugs.new ≡ map (λ plug. meaning plug) plugs.old }
     ensures honest { AreBacked (T.files store.old) parts.now → AreReadAt (T.files store.old) parts.now at.old cache.old read.old → IfErr result IsOutside }
-    ensures cache { CacheKeeps (T.files store.old) (IsFileAmong parts.now) cache.old cache.new }
-    ensures quiet { IsQuiet T.files T.layers T.clock T.since T.longest T.held store.old store.new }
-    ensures later { T.faults store.old ≤ T.faults store.new }
     ensures store { result ≡ Err SegFault.Store → Rose (T.faults store.old) (T.faults store.new) }
-    ensures opened { OnOk result (OpensWithin (length terms.now) (opened_at parts.now at.old read.old.range) (opened_at parts.now at.new read.new.range) blocks.old blocks.new) }
-    ensures opens { OpensWithin (length terms.now) (opened_at parts.now at.old read.old.range) (ranges_in parts.now) blocks.old blocks.new }
-    ensures few { blocks.new ≤ blocks.old + length terms.now * docs }
+    ensures blocks { OpensAt (length terms.now) parts.now at.old at.new read.old.range read.new.range blocks.old blocks.new (length terms.now * docs) result }
 {
     let Held::Open(first) = held else {
         return Ok(());

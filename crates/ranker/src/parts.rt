@@ -8,11 +8,11 @@ ghost use Rattle.smoothing.specs.Fractions.{Computes};
 ghost use Rattle.belief_nodes.specs.Leaves.{HasPrior};
 ghost use Rattle.belief_nodes.specs.Network.{network_tree};
 ghost use Rattle.disk_index.specs.Snapshots.{unmarked};
-ghost use Rattle.ranker.specs.Blocks.{OpensWithin, opened_of};
 ghost use Rattle.ranker.specs.First.{Advances, SpendsWithin, counted};
-ghost use Rattle.ranker.specs.Passed.{IsAhead, IsKnown, IsPassed, asked_of, is_clear, live_ranges, ranges_of};
+ghost use Rattle.ranker.specs.Going.{IsKnownIn, OpensIn, PassesIn, ScoresIn, tally};
+ghost use Rattle.ranker.specs.Passed.{IsAhead, IsPassed, is_clear};
 ghost use Rattle.ranker.specs.Spent.{RiseAlike};
-ghost use Rattle.ranker.specs.Unbeaten.{Holds, Passes, Spends, live_to, sought, stretch, work_of, work_to};
+ghost use Rattle.ranker.specs.Unbeaten.{sought, stretch};
 ghost use Rattle.ranker.specs.Windows.{KeepsWindows};
 
 use crate::ahead::{ahead_of, masked};
@@ -77,19 +77,9 @@ fn pass_masked<P: TermMasks, F: Fn(u32, u32, u64, u64) -> Fraction, L: Ledger>(
     let mut at = id;
     let mut docs = 0;
     while at < end && docs < most {
+        let may = ahead.may_have(at);
         let passed = pass_document(
-            alloc,
-            filters,
-            network,
-            rule,
-            plugs,
-            part,
-            marks,
-            ahead.may_have(at),
-            at,
-            first,
-            squares,
-            squared,
+            alloc, filters, network, rule, plugs, part, marks, may, at, first, squares, squared,
         )?;
         docs += passed;
         at += 1;
@@ -127,15 +117,13 @@ fn pass_open<P: TermMasks, F: Fn(u32, u32, u64, u64) -> Fraction, L: Ledger>(
     requires some { id < ahead.end }
     requires open { is_clear ahead.mask ≡ false }
     ensures keeps { Keeps P.documents P.faults P.sound P.quiet part.old part.new }
-    ensures first { P.sound part.old → IsKnown rule.now.kind (map (λ plug. meaning plug) plugs.old) (map filter_tree filters.now) (network_tree network.now) tables.now number (P.documents part.old) id ahead → IfOk result (λ to.
-        Advances rule.now.kind (map (λ plug. meaning plug) plugs.old) (map filter_tree filters.now) (network_tree network.now) (unmarked (take id (P.documents part.old)) marks.now) (unmarked (take to.id (P.documents part.old)) marks.now) (counted first.old squares.old (asked_of marks.now id ahead)) (counted first.new squares.new (asked_of marks.now to.id to.ahead))) }
-    ensures within { P.sound part.old → IsKnown rule.now.kind (map (λ plug. meaning plug) plugs.old) (map filter_tree filters.now) (network_tree network.now) tables.now number (P.documents part.old) id ahead
-        → SpendsWithin rule.now.kind (map (λ plug. meaning plug) plugs.old) (map filter_tree filters.now) (network_tree network.now) (unmarked (take id (P.documents part.old)) marks.now) (unmarked (take ahead.end (P.documents part.old)) marks.now) (asked_of marks.now id ahead) (live_ranges marks.now (ranges_of (length (P.documents part.old)))) squares.old squares.new }
+    ensures work { P.sound part.old → (before : List Document) (count : ℕ) →
+        let s = sought rule.now.kind (map (λ plug. meaning plug) plugs.old) (map filter_tree filters.now) (network_tree network.now) tables.now count in let m = stretch number before (P.documents part.old) marks.now in
+        IsKnownIn s m id ahead → ScoresIn s m id ahead first.old first.new squares.old squares.new result }
     ensures windows { OnOk result (KeepsWindows (network_tree network.now) (unmarked (P.documents part.old) marks.now) first.old first.new) }
-    ensures ahead { P.sound part.old → IsKnown rule.now.kind (map (λ plug. meaning plug) plugs.old) (map filter_tree filters.now) (network_tree network.now) tables.now number (P.documents part.old) id ahead → IfOk result (λ to.
-        IsKnown rule.now.kind (map (λ plug. meaning plug) plugs.old) (map filter_tree filters.now) (network_tree network.now) tables.now number (P.documents part.old) to.id to.ahead) }
     ensures passed { IfOk result (IsPassed marks.now id most) }
     ensures forward { IfOk result (λ to. 0 < most → id < to.id) }
+    ensures back { IfOk result (λ to. id ≤ to.id) }
     ensures inside { IfOk result (λ to. to.id ≤ ahead.end) }
     ensures squared { OnOk result (RiseAlike squares.old squares.new squared.old squared.new) }
     ensures stay { map (λ plug. meaning plug) plugs.new ≡ map (λ plug. meaning plug) plugs.old }
@@ -179,15 +167,13 @@ fn pass_opened<P: OpensRanges, F: Fn(u32, u32, u64, u64) -> Fraction, L: Ledger,
     requires some { id < ahead.end }
     requires open { is_clear ahead.mask ≡ false }
     ensures keeps { Keeps P.documents P.faults P.sound P.calm part.old part.new }
-    ensures first { P.sound part.old → IsKnown rule.now.kind (map (λ plug. meaning plug) plugs.old) (map filter_tree filters.now) (network_tree network.now) tables.now number (P.documents part.old) id ahead → IfOk result (λ to.
-        Advances rule.now.kind (map (λ plug. meaning plug) plugs.old) (map filter_tree filters.now) (network_tree network.now) (unmarked (take id (P.documents part.old)) marks.now) (unmarked (take to.id (P.documents part.old)) marks.now) (counted first.old squares.old (asked_of marks.now id ahead)) (counted first.new squares.new (asked_of marks.now to.id to.ahead))) }
-    ensures within { P.sound part.old → IsKnown rule.now.kind (map (λ plug. meaning plug) plugs.old) (map filter_tree filters.now) (network_tree network.now) tables.now number (P.documents part.old) id ahead
-        → SpendsWithin rule.now.kind (map (λ plug. meaning plug) plugs.old) (map filter_tree filters.now) (network_tree network.now) (unmarked (take id (P.documents part.old)) marks.now) (unmarked (take ahead.end (P.documents part.old)) marks.now) (asked_of marks.now id ahead) (live_ranges marks.now (ranges_of (length (P.documents part.old)))) squares.old squares.new }
+    ensures work { P.sound part.old → (before : List Document) (count : ℕ) →
+        let s = sought rule.now.kind (map (λ plug. meaning plug) plugs.old) (map filter_tree filters.now) (network_tree network.now) tables.now count in let m = stretch number before (P.documents part.old) marks.now in
+        IsKnownIn s m id ahead → ScoresIn s m id ahead first.old first.new squares.old squares.new result }
     ensures windows { OnOk result (KeepsWindows (network_tree network.now) (unmarked (P.documents part.old) marks.now) first.old first.new) }
-    ensures ahead { P.sound part.old → IsKnown rule.now.kind (map (λ plug. meaning plug) plugs.old) (map filter_tree filters.now) (network_tree network.now) tables.now number (P.documents part.old) id ahead → IfOk result (λ to.
-        IsKnown rule.now.kind (map (λ plug. meaning plug) plugs.old) (map filter_tree filters.now) (network_tree network.now) tables.now number (P.documents part.old) to.id to.ahead) }
     ensures passed { IfOk result (IsPassed marks.now id most) }
     ensures forward { IfOk result (λ to. 0 < most → id < to.id) }
+    ensures back { IfOk result (λ to. id ≤ to.id) }
     ensures inside { IfOk result (λ to. to.id ≤ ahead.end) }
     ensures squared { OnOk result (RiseAlike squares.old squares.new spent.old.squared spent.new.squared) }
     ensures counted { OnOk result (RiseAlike blocks.old blocks.new spent.old.opened spent.new.opened) }
@@ -235,15 +221,10 @@ fn pass_on<P: OpensRanges, F: Fn(u32, u32, u64, u64) -> Fraction, L: Ledger, B: 
     requires shown { is_range (network_tree network.now).range ≡ true }
     requires plugs { All (HasPrior (length plugs.old)) (network_tree network.now).leaves }
     ensures keeps { Keeps P.documents P.faults P.sound P.calm part.old part.new }
-    ensures first { P.sound part.old → IsKnown rule.now.kind (map (λ plug. meaning plug) plugs.old) (map filter_tree filters.now) (network_tree network.now) tables.now number (P.documents part.old) id ahead → (before : List Document) (count : ℕ) → IfOk result (λ to. 0 < most →
+    ensures work { P.sound part.old → (before : List Document) (count : ℕ) →
         let s = sought rule.now.kind (map (λ plug. meaning plug) plugs.old) (map filter_tree filters.now) (network_tree network.now) tables.now count in let m = stretch number before (P.documents part.old) marks.now in
-        Passes s (length terms.now) (live_to m id) (live_to m to.id) first.old first.new (work_to s m id ahead (P.present part.old) squares.old blocks.old) (work_to s m to.id to.ahead (P.present part.new) squares.new blocks.new)) }
-    ensures within { P.sound part.old → IsKnown rule.now.kind (map (λ plug. meaning plug) plugs.old) (map filter_tree filters.now) (network_tree network.now) tables.now number (P.documents part.old) id ahead → (before : List Document) (count : ℕ) →
-        let s = sought rule.now.kind (map (λ plug. meaning plug) plugs.old) (map filter_tree filters.now) (network_tree network.now) tables.now count in let m = stretch number before (P.documents part.old) marks.now in
-        Holds s (live_to m id) first.old → Spends s.network (length terms.now) (work_to s m id ahead (P.present part.old) squares.old blocks.old) (work_of s m squares.new blocks.new) }
+        IsKnownIn s m id ahead → PassesIn s (length terms.now) m id ahead first.old first.new (tally (P.present part.old) squares.old blocks.old) (tally (P.present part.new) squares.new blocks.new) result }
     ensures windows { OnOk result (KeepsWindows (network_tree network.now) (unmarked (P.documents part.old) marks.now) first.old first.new) }
-    ensures ahead { P.sound part.old → IsKnown rule.now.kind (map (λ plug. meaning plug) plugs.old) (map filter_tree filters.now) (network_tree network.now) tables.now number (P.documents part.old) id ahead → IfOk result (λ to.
-        IsKnown rule.now.kind (map (λ plug. meaning plug) plugs.old) (map filter_tree filters.now) (network_tree network.now) tables.now number (P.documents part.old) to.id to.ahead) }
     ensures passed { IfOk result (IsPassed marks.now id most) }
     ensures forward { IfOk result (λ to. 0 < most → id < to.id) }
     ensures squared { OnOk result (RiseAlike squares.old squares.new spent.old.squared spent.new.squared) }
@@ -251,10 +232,8 @@ fn pass_on<P: OpensRanges, F: Fn(u32, u32, u64, u64) -> Fraction, L: Ledger, B: 
     ensures stay { map (λ plug. meaning plug) plugs.new ≡ map (λ plug. meaning plug) plugs.old }
     ensures honest { P.sound part.old → IfErr result IsOutside }
     ensures store { result ≡ Err SegFault.Store → Rose (P.faults part.old) (P.faults part.new) }
-    ensures opened { IfOk result (λ to. 0 < most → OpensWithin (length terms.now) (opened_of (length marks.now) (P.present part.old) id) (opened_of (length marks.now) (P.present part.new) to.id) blocks.old blocks.new) }
-    ensures opens { OpensWithin (length terms.now) (opened_of (length marks.now) (P.present part.old) id) (ranges_of (length marks.now)) blocks.old blocks.new }
+    ensures blocks { OpensIn (length terms.now) (length marks.now) id (P.present part.old) (P.present part.new) blocks.old blocks.new (length terms.now) result }
     ensures each { IfOk result (λ to. 0 < most → blocks.new ≤ blocks.old + length terms.now * to.docs) }
-    ensures few { blocks.new ≤ blocks.old + length terms.now }
 {
     let found = ahead_of(filters, network, part, id, ahead);
     if found.is_clear() || is_absent(tables, number, id / 64) {
@@ -303,15 +282,10 @@ pub fn pass_part<P: OpensRanges, F: Fn(u32, u32, u64, u64) -> Fraction, L: Ledge
     requires shown { is_range (network_tree network.now).range ≡ true }
     requires plugs { All (HasPrior (length plugs.old)) (network_tree network.now).leaves }
     ensures keeps { Keeps P.documents P.faults P.sound P.calm part.old part.new }
-    ensures first { P.sound part.old → IsKnown rule.now.kind (map (λ plug. meaning plug) plugs.old) (map filter_tree filters.now) (network_tree network.now) tables.now number (P.documents part.old) id ahead → (before : List Document) (count : ℕ) → IfOk result (λ to.
+    ensures work { P.sound part.old → (before : List Document) (count : ℕ) →
         let s = sought rule.now.kind (map (λ plug. meaning plug) plugs.old) (map filter_tree filters.now) (network_tree network.now) tables.now count in let m = stretch number before (P.documents part.old) marks.now in
-        Passes s (length terms.now) (live_to m id) (live_to m to.id) first.old first.new (work_to s m id ahead (P.present part.old) squares.old blocks.old) (work_to s m to.id to.ahead (P.present part.new) squares.new blocks.new)) }
-    ensures within { P.sound part.old → IsKnown rule.now.kind (map (λ plug. meaning plug) plugs.old) (map filter_tree filters.now) (network_tree network.now) tables.now number (P.documents part.old) id ahead → (before : List Document) (count : ℕ) →
-        let s = sought rule.now.kind (map (λ plug. meaning plug) plugs.old) (map filter_tree filters.now) (network_tree network.now) tables.now count in let m = stretch number before (P.documents part.old) marks.now in
-        Holds s (live_to m id) first.old → Spends s.network (length terms.now) (work_to s m id ahead (P.present part.old) squares.old blocks.old) (work_of s m squares.new blocks.new) }
+        IsKnownIn s m id ahead → PassesIn s (length terms.now) m id ahead first.old first.new (tally (P.present part.old) squares.old blocks.old) (tally (P.present part.new) squares.new blocks.new) result }
     ensures windows { OnOk result (KeepsWindows (network_tree network.now) (unmarked (P.documents part.old) marks.now) first.old first.new) }
-    ensures ahead { P.sound part.old → IsKnown rule.now.kind (map (λ plug. meaning plug) plugs.old) (map filter_tree filters.now) (network_tree network.now) tables.now number (P.documents part.old) id ahead → IfOk result (λ to.
-        IsKnown rule.now.kind (map (λ plug. meaning plug) plugs.old) (map filter_tree filters.now) (network_tree network.now) tables.now number (P.documents part.old) to.id to.ahead) }
     ensures passed { IfOk result (IsPassed marks.now id most) }
     ensures end { IfOk result (λ to. to.docs < most → to.id ≡ length marks.now) }
     ensures squared { OnOk result (RiseAlike squares.old squares.new spent.old.squared spent.new.squared) }
@@ -319,34 +293,18 @@ pub fn pass_part<P: OpensRanges, F: Fn(u32, u32, u64, u64) -> Fraction, L: Ledge
     ensures stay { map (λ plug. meaning plug) plugs.new ≡ map (λ plug. meaning plug) plugs.old }
     ensures honest { P.sound part.old → IfErr result IsOutside }
     ensures store { result ≡ Err SegFault.Store → Rose (P.faults part.old) (P.faults part.new) }
-    ensures opened { IfOk result (λ to. OpensWithin (length terms.now) (opened_of (length marks.now) (P.present part.old) id) (opened_of (length marks.now) (P.present part.new) to.id) blocks.old blocks.new) }
-    ensures opens { OpensWithin (length terms.now) (opened_of (length marks.now) (P.present part.old) id) (ranges_of (length marks.now)) blocks.old blocks.new }
+    ensures blocks { OpensIn (length terms.now) (length marks.now) id (P.present part.old) (P.present part.new) blocks.old blocks.new (length terms.now * most) result }
     ensures each { IfOk result (λ to. blocks.new ≤ blocks.old + length terms.now * to.docs) }
-    ensures few { blocks.new ≤ blocks.old + length terms.now * most }
 {
     let size = part.docs();
     let mut at = id;
     let mut docs = 0;
     let mut known = ahead;
     while at < size && docs < most {
+        let left = most - docs;
         let to = pass_on(
-            alloc,
-            filters,
-            network,
-            rule,
-            plugs,
-            part,
-            marks,
-            tables,
-            number,
-            at,
-            known,
-            terms,
-            most - docs,
-            first,
-            squares,
-            blocks,
-            spent,
+            alloc, filters, network, rule, plugs, part, marks, tables, number, at, known, terms,
+            left, first, squares, blocks, spent,
         )?;
         docs += to.docs;
         at = to.id;

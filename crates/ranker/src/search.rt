@@ -75,7 +75,7 @@ impl Search {
     ghost use Rattle.range_masks.specs.Held.{AreAnswersOf};
     ghost use Rattle.ranker.specs.Blocks.{OpensWithin, query_words};
     ghost use Rattle.ranker.specs.Passed.{ranges_in};
-    ghost use Rattle.ranker.specs.Searches.{AreTold, IsAnswerOf, IsSameSearch, IsTaken, StaysWithin, filters_of, met_by, opened_by, searched, spent_by, told_by, unbeaten_by, whole_cost};
+    ghost use Rattle.ranker.specs.Searches.{AreTold, IsAnswerOf, IsSameSearch, IsTaken, MeetsAtMost, MeetsTo, SpendsAtMost, SpendsTo, StaysSpent, StaysTaken, StaysWithin, filters_of, opened_by, searched, told_by};
     ghost use Rattle.ranker.specs.Spent.{RiseAlike};
     ghost use Rattle.ranker.specs.Windows.{AreWindows};
 
@@ -157,12 +157,8 @@ impl Search {
         requires usable { self.old.usable ≡ true }
         requires rule { Computes F.pre F.post rule.now.kind rule.now.f }
         requires plugs { All (HasPrior (length plugs.old)) (network_tree self.old.network).leaves }
-        ensures taken { AreBacked (T.files store.old) self.old.snapshot → IsCacheBacked (T.files store.old) cache.old → OnOk result
-            (IsTaken rule.now.kind (map (λ plug. meaning plug) plugs.old) (T.files store.old) self.old
-            → IsTaken rule.now.kind (map (λ plug. meaning plug) plugs.old) (T.files store.old) self.new) }
-        ensures spent { AreBacked (T.files store.old) self.old.snapshot → IsCacheBacked (T.files store.old) cache.old → OnOk result
-            (IsTaken rule.now.kind (map (λ plug. meaning plug) plugs.old) (T.files store.old) self.old → StaysWithin rule.now.kind (map (λ plug. meaning plug) plugs.old) (T.files store.old) self.old
-            → StaysWithin rule.now.kind (map (λ plug. meaning plug) plugs.old) (T.files store.old) self.new) }
+        ensures taken { AreBacked (T.files store.old) self.old.snapshot → IsCacheBacked (T.files store.old) cache.old → OnOk result (StaysTaken rule.now.kind (map (λ plug. meaning plug) plugs.old) (T.files store.old) self.old self.new) }
+        ensures spent { AreBacked (T.files store.old) self.old.snapshot → IsCacheBacked (T.files store.old) cache.old → OnOk result (StaysSpent rule.now.kind (map (λ plug. meaning plug) plugs.old) (T.files store.old) self.old self.new) }
         ensures credit { OnOk result ((told : Option Files) → self.new.at.credit ≡ min (self.old.at.credit + docs) (length (searched told self.old))) }
         ensures done { IfOk result (λ done. (told : Option Files) → done ≡ (self.new.at.credit == length (searched told self.old))) }
         ensures same { IsSameSearch self.old self.new }
@@ -173,22 +169,15 @@ impl Search {
         ensures quiet { IsQuiet T.files T.layers T.clock T.since T.longest T.held store.old store.new }
         ensures later { T.faults store.old ≤ T.faults store.new }
         ensures store { result ≡ Err SegFault.Store → Rose (T.faults store.old) (T.faults store.new) }
-        ensures squares { AreBacked (T.files store.old) self.old.snapshot → IsCacheBacked (T.files store.old) cache.old → OnOk result
-            (IsTaken rule.now.kind (map (λ plug. meaning plug) plugs.old) (T.files store.old) self.old
-            → squares.new + spent_by rule.now.kind (map (λ plug. meaning plug) plugs.old) (T.files store.old) self.old
-            ≤ squares.old + spent_by rule.now.kind (map (λ plug. meaning plug) plugs.old) (T.files store.old) self.new) }
+        ensures squares { AreBacked (T.files store.old) self.old.snapshot → IsCacheBacked (T.files store.old) cache.old → OnOk result (SpendsTo rule.now.kind (map (λ plug. meaning plug) plugs.old) (T.files store.old) self.old self.new squares.old squares.new) }
 
         // Also where it answers an error.
-        ensures within { AreBacked (T.files store.old) self.old.snapshot → IsCacheBacked (T.files store.old) cache.old → IsTaken rule.now.kind (map (λ plug. meaning plug) plugs.old) (T.files store.old) self.old
-            → squares.new + spent_by rule.now.kind (map (λ plug. meaning plug) plugs.old) (T.files store.old) self.old ≤ squares.old + whole_cost rule.now.kind (map (λ plug. meaning plug) plugs.old) (T.files store.old) self.old }
+        ensures within { AreBacked (T.files store.old) self.old.snapshot → IsCacheBacked (T.files store.old) cache.old → SpendsAtMost rule.now.kind (map (λ plug. meaning plug) plugs.old) (T.files store.old) self.old squares.old squares.new }
         ensures terms { self.new.terms ≡ self.old.terms }
-        ensures met { AreBacked (T.files store.old) self.old.snapshot → IsCacheBacked (T.files store.old) cache.old → OnOk result
-            (IsTaken rule.now.kind (map (λ plug. meaning plug) plugs.old) (T.files store.old) self.old
-            → OpensWithin (length self.old.terms) (met_by rule.now.kind (map (λ plug. meaning plug) plugs.old) (T.files store.old) self.old) (met_by rule.now.kind (map (λ plug. meaning plug) plugs.old) (T.files store.old) self.new) blocks.old blocks.new) }
+        ensures met { AreBacked (T.files store.old) self.old.snapshot → IsCacheBacked (T.files store.old) cache.old → OnOk result (MeetsTo rule.now.kind (map (λ plug. meaning plug) plugs.old) (T.files store.old) self.old self.new blocks.old blocks.new) }
 
         // Also where it answers an error.
-        ensures meets { AreBacked (T.files store.old) self.old.snapshot → IsCacheBacked (T.files store.old) cache.old → IsTaken rule.now.kind (map (λ plug. meaning plug) plugs.old) (T.files store.old) self.old
-            → OpensWithin (length self.old.terms) (met_by rule.now.kind (map (λ plug. meaning plug) plugs.old) (T.files store.old) self.old) (unbeaten_by rule.now.kind (map (λ plug. meaning plug) plugs.old) (T.files store.old) self.old) blocks.old blocks.new }
+        ensures meets { AreBacked (T.files store.old) self.old.snapshot → IsCacheBacked (T.files store.old) cache.old → MeetsAtMost rule.now.kind (map (λ plug. meaning plug) plugs.old) (T.files store.old) self.old blocks.old blocks.new }
         ensures opened { OnOk result (OpensWithin (length self.old.terms) (opened_by self.old) (opened_by self.new) blocks.old blocks.new) }
 
         // Also where it answers an error.
@@ -246,12 +235,8 @@ impl Search {
         requires usable { self.old.usable ≡ true }
         requires rule { Computes F.pre F.post rule.now.kind rule.now.f }
         requires plugs { All (HasPrior (length plugs.old)) (network_tree self.old.network).leaves }
-        ensures taken { AreBacked (T.files store.old) self.old.snapshot → IsCacheBacked (T.files store.old) cache.old → OnOk result
-            (IsTaken rule.now.kind (map (λ plug. meaning plug) plugs.old) (T.files store.old) self.old
-            → IsTaken rule.now.kind (map (λ plug. meaning plug) plugs.old) (T.files store.old) self.new) }
-        ensures spent { AreBacked (T.files store.old) self.old.snapshot → IsCacheBacked (T.files store.old) cache.old → OnOk result
-            (IsTaken rule.now.kind (map (λ plug. meaning plug) plugs.old) (T.files store.old) self.old → StaysWithin rule.now.kind (map (λ plug. meaning plug) plugs.old) (T.files store.old) self.old
-            → StaysWithin rule.now.kind (map (λ plug. meaning plug) plugs.old) (T.files store.old) self.new) }
+        ensures taken { AreBacked (T.files store.old) self.old.snapshot → IsCacheBacked (T.files store.old) cache.old → OnOk result (StaysTaken rule.now.kind (map (λ plug. meaning plug) plugs.old) (T.files store.old) self.old self.new) }
+        ensures spent { AreBacked (T.files store.old) self.old.snapshot → IsCacheBacked (T.files store.old) cache.old → OnOk result (StaysSpent rule.now.kind (map (λ plug. meaning plug) plugs.old) (T.files store.old) self.old self.new) }
         ensures credit { OnOk result ((told : Option Files) → self.new.at.credit ≡ min (self.old.at.credit + docs) (length (searched told self.old))) }
         ensures done { IfOk result (λ done. (told : Option Files) → done ≡ (self.new.at.credit == length (searched told self.old))) }
         ensures same { IsSameSearch self.old self.new }
@@ -292,12 +277,8 @@ impl Search {
         requires usable { self.old.usable ≡ true }
         requires rule { Computes F.pre F.post rule.now.kind rule.now.f }
         requires plugs { All (HasPrior (length plugs.old)) (network_tree self.old.network).leaves }
-        ensures taken { AreBacked (T.files store.old) self.old.snapshot → IsCacheBacked (T.files store.old) cache.old → OnOk result
-            (IsTaken rule.now.kind (map (λ plug. meaning plug) plugs.old) (T.files store.old) self.old
-            → IsTaken rule.now.kind (map (λ plug. meaning plug) plugs.old) (T.files store.old) self.new) }
-        ensures spent { AreBacked (T.files store.old) self.old.snapshot → IsCacheBacked (T.files store.old) cache.old → OnOk result
-            (IsTaken rule.now.kind (map (λ plug. meaning plug) plugs.old) (T.files store.old) self.old → StaysWithin rule.now.kind (map (λ plug. meaning plug) plugs.old) (T.files store.old) self.old
-            → StaysWithin rule.now.kind (map (λ plug. meaning plug) plugs.old) (T.files store.old) self.new) }
+        ensures taken { AreBacked (T.files store.old) self.old.snapshot → IsCacheBacked (T.files store.old) cache.old → OnOk result (StaysTaken rule.now.kind (map (λ plug. meaning plug) plugs.old) (T.files store.old) self.old self.new) }
+        ensures spent { AreBacked (T.files store.old) self.old.snapshot → IsCacheBacked (T.files store.old) cache.old → OnOk result (StaysSpent rule.now.kind (map (λ plug. meaning plug) plugs.old) (T.files store.old) self.old self.new) }
         ensures credit { OnOk result ((told : Option Files) → self.new.at.credit ≡ min (self.old.at.credit + docs) (length (searched told self.old))) }
         ensures done { IfOk result (λ done. (told : Option Files) → done ≡ (self.new.at.credit == length (searched told self.old))) }
         ensures same { IsSameSearch self.old self.new }

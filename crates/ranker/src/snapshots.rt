@@ -4,18 +4,19 @@ ghost use Rattle.ri_base.specs.Documents.{Document};
 ghost use Rattle.ri_base.specs.Faults.{IsOutside};
 ghost use Rattle.ri_base.specs.Keeps.{Rose};
 ghost use Rattle.ri_base.specs.Query.{filter_tree, is_range};
-ghost use Rattle.store_ends.specs.Files.{Files, IsQuiet};
+ghost use Rattle.store_ends.specs.Files.{Files};
 ghost use Rattle.smoothing.specs.Fractions.{Computes};
 ghost use Rattle.belief_nodes.specs.Leaves.{HasPrior};
 ghost use Rattle.belief_nodes.specs.Network.{network_tree};
-ghost use Rattle.disk_index.specs.Cache.{CacheKeeps};
 ghost use Rattle.disk_index.specs.Parts.{IsFileOf, IsPartBacked, Source, outlines_of, reads, size};
 ghost use Rattle.disk_index.specs.Snapshots.{AreBacked, IsFileAmong, IsSnapshot, live, live_in};
 ghost use Rattle.range_masks.specs.Held.{AreAnswersOf, FitDocuments};
-ghost use Rattle.ranker.specs.Blocks.{AreReadAt, AreReadBy, OpensWithin, opened_at, opened_of};
-ghost use Rattle.ranker.specs.Passed.{IsAheadAt, IsKnown, IsPassed, IsPlace, behind, part_at, passed, ranges_in, ranges_of};
+ghost use Rattle.ranker.specs.Blocks.{AreReadAt, AreReadBy};
+ghost use Rattle.ranker.specs.Going.{IsAheadBy, IsKnownIn, OpensAt, OpensIn, PassesAt, PassesIn, tally};
+ghost use Rattle.ranker.specs.Passed.{IsPassed, IsPlace, behind, part_at};
+ghost use Rattle.ranker.specs.Reading.{OnlyReads};
 ghost use Rattle.ranker.specs.Spent.{RiseAlike};
-ghost use Rattle.ranker.specs.Unbeaten.{Holds, Passes, Spends, live_to, sought, stretch, work_at, work_in, work_of, work_to};
+ghost use Rattle.ranker.specs.Unbeaten.{sought, stretch};
 ghost use Rattle.ranker.specs.Windows.{KeepsWindows};
 
 use crate::parts::pass_part;
@@ -60,21 +61,11 @@ fn pass_marked<T: Store, F: Fn(u32, u32, u64, u64) -> Fraction, L: Ledger, B: Le
     requires shown { is_range (network_tree network.now).range ≡ true }
     requires plugs { All (HasPrior (length plugs.old)) (network_tree network.now).leaves }
     requires fits { FitDocuments (outlines_of marked.now.source) held.old }
-    ensures fits { FitDocuments (outlines_of marked.now.source) held.new }
-    ensures read { IsPartBacked (T.files store.old) marked.now.source → AreReadBy (T.files store.old) (reads (T.files store.old) marked.now.source) cache.old held.old
-        → AreReadBy (T.files store.old) (reads (T.files store.old) marked.now.source) cache.new held.new }
-    ensures first { IsPartBacked (T.files store.old) marked.now.source → AreReadBy (T.files store.old) (reads (T.files store.old) marked.now.source) cache.old held.old
-        → IsKnown rule.now.kind (map (λ plug. meaning plug) plugs.old) (map filter_tree filters.now) (network_tree network.now) tables.now number (reads (T.files store.old) marked.now.source) id ahead → (before : List Document) (count : ℕ) → IfOk result (λ to.
+    ensures reads { OnlyReads T.files T.layers T.clock T.since T.longest T.held T.faults (IsFileOf marked.now.source) (λ told. IsPartBacked told marked.now.source) marked.now.source marked.now.source store.old store.new cache.old cache.new held.old held.new }
+    ensures work { IsPartBacked (T.files store.old) marked.now.source → AreReadBy (T.files store.old) (reads (T.files store.old) marked.now.source) cache.old held.old → (before : List Document) (count : ℕ) →
         let s = sought rule.now.kind (map (λ plug. meaning plug) plugs.old) (map filter_tree filters.now) (network_tree network.now) tables.now count in let m = stretch number before (reads (T.files store.old) marked.now.source) marked.now.marks in
-        Passes s (length terms.now) (live_to m id) (live_to m to.id) first.old first.new (work_to s m id ahead held.old.range squares.old blocks.old) (work_to s m to.id to.ahead held.new.range squares.new blocks.new)) }
-    ensures within { IsPartBacked (T.files store.old) marked.now.source → AreReadBy (T.files store.old) (reads (T.files store.old) marked.now.source) cache.old held.old
-        → IsKnown rule.now.kind (map (λ plug. meaning plug) plugs.old) (map filter_tree filters.now) (network_tree network.now) tables.now number (reads (T.files store.old) marked.now.source) id ahead → (before : List Document) (count : ℕ) →
-        let s = sought rule.now.kind (map (λ plug. meaning plug) plugs.old) (map filter_tree filters.now) (network_tree network.now) tables.now count in let m = stretch number before (reads (T.files store.old) marked.now.source) marked.now.marks in
-        Holds s (live_to m id) first.old → Spends s.network (length terms.now) (work_to s m id ahead held.old.range squares.old blocks.old) (work_of s m squares.new blocks.new) }
+        IsKnownIn s m id ahead → PassesIn s (length terms.now) m id ahead first.old first.new (tally held.old.range squares.old blocks.old) (tally held.new.range squares.new blocks.new) result }
     ensures windows { OnOk result (KeepsWindows (network_tree network.now) (live_in (T.files store.old) marked.now) first.old first.new) }
-    ensures ahead { IsPartBacked (T.files store.old) marked.now.source → AreReadBy (T.files store.old) (reads (T.files store.old) marked.now.source) cache.old held.old
-        → IsKnown rule.now.kind (map (λ plug. meaning plug) plugs.old) (map filter_tree filters.now) (network_tree network.now) tables.now number (reads (T.files store.old) marked.now.source) id ahead → IfOk result (λ to.
-        IsKnown rule.now.kind (map (λ plug. meaning plug) plugs.old) (map filter_tree filters.now) (network_tree network.now) tables.now number (reads (T.files store.old) marked.now.source) to.id to.ahead) }
     ensures passed { IfOk result (IsPassed marked.now.marks id most) }
     ensures end { IfOk result (λ to. to.docs < most → to.id ≡ size marked.now.source) }
     ensures whole { length marked.now.marks ≡ size marked.now.source }
@@ -82,34 +73,15 @@ fn pass_marked<T: Store, F: Fn(u32, u32, u64, u64) -> Fraction, L: Ledger, B: Le
     ensures counted { OnOk result (RiseAlike blocks.old blocks.new spent.old.opened spent.new.opened) }
     ensures stay { map (λ plug. meaning plug) plugs.new ≡ map (λ plug. meaning plug) plugs.old }
     ensures honest { IsPartBacked (T.files store.old) marked.now.source → AreReadBy (T.files store.old) (reads (T.files store.old) marked.now.source) cache.old held.old → IfErr result IsOutside }
-    ensures cache { CacheKeeps (T.files store.old) (IsFileOf marked.now.source) cache.old cache.new }
-    ensures quiet { IsQuiet T.files T.layers T.clock T.since T.longest T.held store.old store.new }
-    ensures later { T.faults store.old ≤ T.faults store.new }
     ensures store { result ≡ Err SegFault.Store → Rose (T.faults store.old) (T.faults store.new) }
-    ensures opened { IfOk result (λ to. OpensWithin (length terms.now) (opened_of (size marked.now.source) held.old.range id) (opened_of (size marked.now.source) held.new.range to.id) blocks.old blocks.new) }
-    ensures opens { OpensWithin (length terms.now) (opened_of (size marked.now.source) held.old.range id) (ranges_of (size marked.now.source)) blocks.old blocks.new }
+    ensures blocks { OpensIn (length terms.now) (size marked.now.source) id held.old.range held.new.range blocks.old blocks.new (length terms.now * most) result }
     ensures each { IfOk result (λ to. blocks.new ≤ blocks.old + length terms.now * to.docs) }
-    ensures few { blocks.new ≤ blocks.old + length terms.now * most }
 {
-    let mut reader = OpeningReader::new(marked.part(), held, store, cache);
+    let marks = marked.marks();
+    let mut own = OpeningReader::new(marked.part(), held, store, cache);
     pass_part(
-        alloc,
-        filters,
-        network,
-        rule,
-        plugs,
-        &mut reader,
-        marked.marks(),
-        tables,
-        number,
-        id,
-        ahead,
-        terms,
-        most,
-        first,
-        squares,
-        blocks,
-        spent,
+        alloc, filters, network, rule, plugs, &mut own, marks, tables, number, id, ahead, terms,
+        most, first, squares, blocks, spent,
     )
 }
 
@@ -175,17 +147,11 @@ fn pass_next<T: Store, F: Fn(u32, u32, u64, u64) -> Fraction, L: Ledger, B: Ledg
     requires place { IsPlace parts.now at.old }
     requires some { at.old.part < length parts.now }
     requires fits { FitDocuments (outlines_of (part_at parts.now at.old.part).source) held.old }
-    ensures fits { FitDocuments (outlines_of (part_at parts.now at.new.part).source) held.new }
-    ensures read { AreBacked (T.files store.old) parts.now → AreReadAt (T.files store.old) parts.now at.old cache.old held.old → AreReadAt (T.files store.old) parts.now at.new cache.new held.new }
-    ensures first { AreBacked (T.files store.old) parts.now → AreReadAt (T.files store.old) parts.now at.old cache.old held.old → IsAheadAt rule.now.kind (map (λ plug. meaning plug) plugs.old) (map filter_tree filters.now) (network_tree network.now) tables.now (T.files store.old) parts.now at.old → (count : ℕ) → OnOk result
-        (let s = sought rule.now.kind (map (λ plug. meaning plug) plugs.old) (map filter_tree filters.now) (network_tree network.now) tables.now count in
-        Passes s (length terms.now) (passed (T.files store.old) parts.now at.old) (passed (T.files store.old) parts.now at.new) first.old first.new (work_at s (T.files store.old) parts.now at.old held.old.range squares.old blocks.old) (work_at s (T.files store.old) parts.now at.new held.new.range squares.new blocks.new)) }
-    ensures within { AreBacked (T.files store.old) parts.now → AreReadAt (T.files store.old) parts.now at.old cache.old held.old → IsAheadAt rule.now.kind (map (λ plug. meaning plug) plugs.old) (map filter_tree filters.now) (network_tree network.now) tables.now (T.files store.old) parts.now at.old → (count : ℕ) →
+    ensures reads { OnlyReads T.files T.layers T.clock T.since T.longest T.held T.faults (IsFileAmong parts.now) (λ told. AreBacked told parts.now) (part_at parts.now at.old.part).source (part_at parts.now at.new.part).source store.old store.new cache.old cache.new held.old held.new }
+    ensures work { AreBacked (T.files store.old) parts.now → AreReadAt (T.files store.old) parts.now at.old cache.old held.old → (count : ℕ) →
         let s = sought rule.now.kind (map (λ plug. meaning plug) plugs.old) (map filter_tree filters.now) (network_tree network.now) tables.now count in
-        Holds s (passed (T.files store.old) parts.now at.old) first.old → Spends s.network (length terms.now) (work_at s (T.files store.old) parts.now at.old held.old.range squares.old blocks.old) (work_in s (T.files store.old) parts.now squares.new blocks.new) }
+        IsAheadBy s (T.files store.old) parts.now at.old → PassesAt s (length terms.now) (T.files store.old) parts.now at.old at.new first.old first.new (tally held.old.range squares.old blocks.old) (tally held.new.range squares.new blocks.new) result }
     ensures windows { OnOk result (KeepsWindows (network_tree network.now) (live (T.files store.old) parts.now) first.old first.new) }
-    ensures ahead { AreBacked (T.files store.old) parts.now → AreReadAt (T.files store.old) parts.now at.old cache.old held.old → IsAheadAt rule.now.kind (map (λ plug. meaning plug) plugs.old) (map filter_tree filters.now) (network_tree network.now) tables.now (T.files store.old) parts.now at.old → OnOk result
-        (IsAheadAt rule.now.kind (map (λ plug. meaning plug) plugs.old) (map filter_tree filters.now) (network_tree network.now) tables.now (T.files store.old) parts.now at.new) }
     ensures place { IsPlace parts.now at.new }
     ensures docs { IfOk result (λ docs. (at.new.credit ≡ at.old.credit + docs) × (docs ≤ most)) }
     ensures next { IfOk result (λ docs. at.new.part ≡ (if nat_lt docs most then at.old.part + 1 else at.old.part)) }
@@ -193,14 +159,9 @@ fn pass_next<T: Store, F: Fn(u32, u32, u64, u64) -> Fraction, L: Ledger, B: Ledg
     ensures counted { OnOk result (RiseAlike blocks.old blocks.new spent.old.opened spent.new.opened) }
     ensures stay { map (λ plug. meaning plug) plugs.new ≡ map (λ plug. meaning plug) plugs.old }
     ensures honest { AreBacked (T.files store.old) parts.now → AreReadAt (T.files store.old) parts.now at.old cache.old held.old → IfErr result IsOutside }
-    ensures cache { CacheKeeps (T.files store.old) (IsFileAmong parts.now) cache.old cache.new }
-    ensures quiet { IsQuiet T.files T.layers T.clock T.since T.longest T.held store.old store.new }
-    ensures later { T.faults store.old ≤ T.faults store.new }
     ensures store { result ≡ Err SegFault.Store → Rose (T.faults store.old) (T.faults store.new) }
-    ensures opened { OnOk result (OpensWithin (length terms.now) (opened_at parts.now at.old held.old.range) (opened_at parts.now at.new held.new.range) blocks.old blocks.new) }
-    ensures opens { OpensWithin (length terms.now) (opened_at parts.now at.old held.old.range) (ranges_in parts.now) blocks.old blocks.new }
+    ensures blocks { OpensAt (length terms.now) parts.now at.old at.new held.old.range held.new.range blocks.old blocks.new (length terms.now * most) result }
     ensures each { IfOk result (λ docs. blocks.new ≤ blocks.old + length terms.now * docs) }
-    ensures few { blocks.new ≤ blocks.old + length terms.now * most }
 {
     let marked = &parts[at.part];
     let to = pass_marked(
@@ -238,30 +199,19 @@ pub fn pass_parts<T: Store, F: Fn(u32, u32, u64, u64) -> Fraction, L: Ledger, B:
     requires few { IsSnapshot parts.now }
     requires place { IsPlace parts.now at.old }
     requires fits { FitDocuments (outlines_of (part_at parts.now at.old.part).source) held.old }
-    ensures fits { FitDocuments (outlines_of (part_at parts.now at.new.part).source) held.new }
-    ensures read { AreBacked (T.files store.old) parts.now → AreReadAt (T.files store.old) parts.now at.old cache.old held.old → AreReadAt (T.files store.old) parts.now at.new cache.new held.new }
-    ensures first { AreBacked (T.files store.old) parts.now → AreReadAt (T.files store.old) parts.now at.old cache.old held.old → IsAheadAt rule.now.kind (map (λ plug. meaning plug) plugs.old) (map filter_tree filters.now) (network_tree network.now) tables.now (T.files store.old) parts.now at.old → (count : ℕ) → OnOk result
-        (let s = sought rule.now.kind (map (λ plug. meaning plug) plugs.old) (map filter_tree filters.now) (network_tree network.now) tables.now count in
-        Passes s (length terms.now) (passed (T.files store.old) parts.now at.old) (passed (T.files store.old) parts.now at.new) first.old first.new (work_at s (T.files store.old) parts.now at.old held.old.range squares.old blocks.old) (work_at s (T.files store.old) parts.now at.new held.new.range squares.new blocks.new)) }
-    ensures within { AreBacked (T.files store.old) parts.now → AreReadAt (T.files store.old) parts.now at.old cache.old held.old → IsAheadAt rule.now.kind (map (λ plug. meaning plug) plugs.old) (map filter_tree filters.now) (network_tree network.now) tables.now (T.files store.old) parts.now at.old → (count : ℕ) →
+    ensures reads { OnlyReads T.files T.layers T.clock T.since T.longest T.held T.faults (IsFileAmong parts.now) (λ told. AreBacked told parts.now) (part_at parts.now at.old.part).source (part_at parts.now at.new.part).source store.old store.new cache.old cache.new held.old held.new }
+    ensures work { AreBacked (T.files store.old) parts.now → AreReadAt (T.files store.old) parts.now at.old cache.old held.old → (count : ℕ) →
         let s = sought rule.now.kind (map (λ plug. meaning plug) plugs.old) (map filter_tree filters.now) (network_tree network.now) tables.now count in
-        Holds s (passed (T.files store.old) parts.now at.old) first.old → Spends s.network (length terms.now) (work_at s (T.files store.old) parts.now at.old held.old.range squares.old blocks.old) (work_in s (T.files store.old) parts.now squares.new blocks.new) }
+        IsAheadBy s (T.files store.old) parts.now at.old → PassesAt s (length terms.now) (T.files store.old) parts.now at.old at.new first.old first.new (tally held.old.range squares.old blocks.old) (tally held.new.range squares.new blocks.new) result }
     ensures windows { OnOk result (KeepsWindows (network_tree network.now) (live (T.files store.old) parts.now) first.old first.new) }
-    ensures ahead { AreBacked (T.files store.old) parts.now → AreReadAt (T.files store.old) parts.now at.old cache.old held.old → IsAheadAt rule.now.kind (map (λ plug. meaning plug) plugs.old) (map filter_tree filters.now) (network_tree network.now) tables.now (T.files store.old) parts.now at.old → OnOk result
-        (IsAheadAt rule.now.kind (map (λ plug. meaning plug) plugs.old) (map filter_tree filters.now) (network_tree network.now) tables.now (T.files store.old) parts.now at.new) }
     ensures place { IsPlace parts.now at.new }
     ensures credit { OnOk result ((told : Option Files) → at.new.credit ≡ min (at.old.credit + docs) (length (live told parts.now))) }
     ensures squared { OnOk result (RiseAlike squares.old squares.new spent.old.squared spent.new.squared) }
     ensures counted { OnOk result (RiseAlike blocks.old blocks.new spent.old.opened spent.new.opened) }
     ensures stay { map (λ plug. meaning plug) plugs.new ≡ map (λ plug. meaning plug) plugs.old }
     ensures honest { AreBacked (T.files store.old) parts.now → AreReadAt (T.files store.old) parts.now at.old cache.old held.old → IfErr result IsOutside }
-    ensures cache { CacheKeeps (T.files store.old) (IsFileAmong parts.now) cache.old cache.new }
-    ensures quiet { IsQuiet T.files T.layers T.clock T.since T.longest T.held store.old store.new }
-    ensures later { T.faults store.old ≤ T.faults store.new }
     ensures store { result ≡ Err SegFault.Store → Rose (T.faults store.old) (T.faults store.new) }
-    ensures opened { OnOk result (OpensWithin (length terms.now) (opened_at parts.now at.old held.old.range) (opened_at parts.now at.new held.new.range) blocks.old blocks.new) }
-    ensures opens { OpensWithin (length terms.now) (opened_at parts.now at.old held.old.range) (ranges_in parts.now) blocks.old blocks.new }
-    ensures few { blocks.new ≤ blocks.old + length terms.now * docs }
+    ensures blocks { OpensAt (length terms.now) parts.now at.old at.new held.old.range held.new.range blocks.old blocks.new (length terms.now * docs) result }
 {
     let mut left = docs;
     while left > 0 && at.part < parts.len() {

@@ -1,4 +1,4 @@
-use Rattle.std.proofs.Common.{◌≡◌, ◌≤◌, ◌+◌, false, cond, List, map, take, refl, ap, sym, subst, ◌∙◌, arith}
+use Rattle.std.proofs.Common.{◌≡◌, ◌≤◌, ◌+◌, ℕ, false, cond, List, map, take, refl, ap, sym, subst, ◌∙◌, arith}
 use Rattle.ri_base.specs.Collection.{document_at}
 use Rattle.ri_base.specs.Documents.{Document}
 use Rattle.ri_base.specs.Query.{filter_tree}
@@ -6,15 +6,17 @@ use Rattle.belief_nodes.specs.Network.{network_tree}
 use Rattle.disk_index.specs.Snapshots.{unmarked}
 use Rattle.extent_lists.proofs.KeepsLemmas.{Keeps-then}
 use Rattle.range_masks.specs.May.{query_may}
-use Rattle.ranker.specs.First.{counted}
+use Rattle.ranker.specs.First.{SpendsWithin, counted}
 use Rattle.ranker.specs.Passed.{bit_of}
 use Rattle.ranker.specs.Windows.{KeepsWindows}
 use Rattle.ranker.proofs.AheadLemmas.{IsAhead-on}
 use Rattle.ranker.proofs.PassedLemmas.{Advances-read, Advances-same, Advances-then}
 use Rattle.ranker.proofs.SpentLemmas.{rise-same, rise-then}
 use Rattle.ranker.proofs.WindowLemmas.{KeepsWindows-same, KeepsWindows-then}
-use Rattle.ranker.proofs.WithinLemmas.{cost-to, within-more, within-then, within-to}
+use Rattle.ranker.proofs.WithinLemmas.{within-then, within-to, within-up}
+use Rattle.ranker.proofs.parts.pass_masked.Given as given
 use Rattle.ranker.proofs.parts.pass_masked.Goals as goal
+use Rattle.ranker.proofs.parts.pass_masked.Goals.{Start}
 
 pub loop-at-init : goal.loop-at-init
 loop-at-init g c = record {
@@ -47,9 +49,9 @@ loop-at-preserved g c =
       keeps = Keeps-then _ _ _ _ g.met.P.Postings.quiet_then _ _ _ keeps c.pass_document.ensures.keeps;
       stay = c.pass_document.ensures.stay ∙ c.loop-at.invariant.stay;
       so_far = λ sound known.
-          let none : c.may_have.result ≡ false → query_may filters network.leaves (document_at read at) ≡ false =
+          let none : c.may_have-may.result ≡ false → query_may filters network.leaves (document_at read at) ≡ false =
           λ clear.
-          let bit : bit_of c.args.ahead.mask at ≡ 0 = sym c.may_have.ensures ∙ ap (λ b. cond b 1 0) clear in
+          let bit : bit_of c.args.ahead.mask at ≡ 0 = sym c.may_have-may.ensures ∙ ap (λ b. cond b 1 0) clear in
           subst (λ (ds : List Document). query_may filters network.leaves (document_at ds at) ≡ false) (sym keeps.documents_stay) (known.none at low (omega (arith, test)) bit) in
           Advances-then kind priors filters network (unmarked (take c.args.id docs) marks) (unmarked (take at docs) marks) (unmarked (take (at + 1) docs) marks) (counted c.args.first.now c.args.squares.now 0) (counted c.loop-at.first c.loop-at.squares 0) (counted c.pass_document.new.first c.pass_document.new.squares 0)
           (c.loop-at.invariant.so_far sound known)
@@ -89,27 +91,24 @@ returns-else-docs-most-clause-ahead g c = λ sound known.
 
 -- ---- squarings
 
+-- no more than those up to an id were done, and so no more than those up to the end of what is known
+abbrev Within : (g : given.Over) → Start g → ℕ → ℕ → Type 0
+Within g c to b =
+    SpendsWithin c.args.rule.now.kind (map (λ b. (goal.BeliefNode-dyn g (b.vtable, b.value)).meaning b.value) c.args.plugs.now) (map filter_tree c.args.filters.now) (network_tree c.args.network.now)
+    (unmarked (take c.args.id (g.P.Postings.documents c.args.part.now)) c.args.marks.now) (unmarked (take to (g.P.Postings.documents c.args.part.now)) c.args.marks.now) 0 0 c.args.squares.now b
+
+to_end : (g : given.Over) (c : Start g) (to b : ℕ) → to ≤ c.args.ahead.end → Within g c to b → Within g c c.args.ahead.end b
+to_end g c to b le =
+    within-up c.args.rule.now.kind (map (λ b. (goal.BeliefNode-dyn g (b.vtable, b.value)).meaning b.value) c.args.plugs.now) (map filter_tree c.args.filters.now) (network_tree c.args.network.now)
+    (g.P.Postings.documents c.args.part.now) c.args.marks.now c.args.id to c.args.ahead.end c.args.squares.now b le
+
 pub returns-after-loop-at-clause-within : goal.returns-after-loop-at-clause-within
 returns-after-loop-at-clause-within g c = λ sound known.
-    let kind = c.args.rule.now.kind in
-    let priors = map (λ b. (goal.BeliefNode-dyn g (b.vtable, b.value)).meaning b.value) c.args.plugs.now in
-    let filters = map filter_tree c.args.filters.now in
-    let network = network_tree c.args.network.now in
-    let docs = g.P.Postings.documents c.args.part.now in
-    let marks = c.args.marks.now in
-    within-more kind priors filters network (unmarked (take c.args.id docs) marks) (unmarked (take c.loop-at.at docs) marks) (unmarked (take c.args.ahead.end docs) marks) 0 0 0 c.args.squares.now c.loop-at.squares (c.loop-at.invariant.so_far sound known).cost
-    (cost-to kind priors filters network docs marks c.loop-at.at c.args.ahead.end (omega (arith, c.loop-at.invariant.inside))) (omega arith)
+    to_end g (goal.at.returns-after-loop-at-clause-within g c).Start c.loop-at.at c.loop-at.squares (omega (arith, c.loop-at.invariant.inside)) (c.loop-at.invariant.so_far sound known).cost
 
 pub returns-else-docs-most-clause-within : goal.returns-else-docs-most-clause-within
 returns-else-docs-most-clause-within g c = λ sound known.
-    let kind = c.args.rule.now.kind in
-    let priors = map (λ b. (goal.BeliefNode-dyn g (b.vtable, b.value)).meaning b.value) c.args.plugs.now in
-    let filters = map filter_tree c.args.filters.now in
-    let network = network_tree c.args.network.now in
-    let docs = g.P.Postings.documents c.args.part.now in
-    let marks = c.args.marks.now in
-    within-more kind priors filters network (unmarked (take c.args.id docs) marks) (unmarked (take c.loop-at.at docs) marks) (unmarked (take c.args.ahead.end docs) marks) 0 0 0 c.args.squares.now c.loop-at.squares (c.loop-at.invariant.so_far sound known).cost
-    (cost-to kind priors filters network docs marks c.loop-at.at c.args.ahead.end (omega (arith, c.loop-at.invariant.inside))) (omega arith)
+    to_end g (goal.at.returns-else-docs-most-clause-within g c).Start c.loop-at.at c.loop-at.squares (omega (arith, c.loop-at.invariant.inside)) (c.loop-at.invariant.so_far sound known).cost
 
 pub returns-in_err-passed-clause-within : goal.returns-in_err-passed-clause-within
 returns-in_err-passed-clause-within g c = λ sound known.
@@ -125,12 +124,11 @@ returns-in_err-passed-clause-within g c = λ sound known.
     let started = c.loop-at.invariant.from in
     let low : c.args.id ≤ at = omega (arith, started) in
     let test = c.loop-at-test.true in
-    let none : c.may_have.result ≡ false → query_may filters network.leaves (document_at read at) ≡ false =
+    let none : c.may_have-may.result ≡ false → query_may filters network.leaves (document_at read at) ≡ false =
     λ clear.
-    let bit : bit_of c.args.ahead.mask at ≡ 0 = sym c.may_have.ensures ∙ ap (λ b. cond b 1 0) clear in
+    let bit : bit_of c.args.ahead.mask at ≡ 0 = sym c.may_have-may.ensures ∙ ap (λ b. cond b 1 0) clear in
     subst (λ (ds : List Document). query_may filters network.leaves (document_at ds at) ≡ false) (sym keeps.documents_stay) (known.none at low (omega (arith, test)) bit) in
     let next = within-to kind _ priors filters network read docs marks at (at + 1) c.loop-at.squares c.pass_document.new.squares c.loop-at.invariant.stay keeps.documents_stay (c.pass_document.ensures.within (keeps.sound_stays sound) none) in
-    within-more kind priors filters network (unmarked (take c.args.id docs) marks) (unmarked (take (at + 1) docs) marks) (unmarked (take c.args.ahead.end docs) marks) 0 0 0 c.args.squares.now c.pass_document.new.squares
+    to_end g (goal.at.returns-in_err-passed-clause-within g c).Start (at + 1) c.pass_document.new.squares (omega (arith, test))
     (within-then kind priors filters network (unmarked (take c.args.id docs) marks) (unmarked (take at docs) marks) (unmarked (take (at + 1) docs) marks) 0 0 0 c.args.squares.now c.loop-at.squares c.pass_document.new.squares
     (c.loop-at.invariant.so_far sound known).cost next)
-    (cost-to kind priors filters network docs marks (at + 1) c.args.ahead.end (omega (arith, test))) (omega arith)

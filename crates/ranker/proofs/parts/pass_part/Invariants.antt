@@ -5,7 +5,8 @@ use Rattle.ri_base.specs.Query.{filter_tree}
 use Rattle.belief_nodes.specs.Network.{network_tree}
 use Rattle.disk_index.specs.Snapshots.{unmarked}
 use Rattle.ranker.specs.Blocks.{OpensWithin, opened_of}
-use Rattle.ranker.specs.Passed.{IsKnown, live_ids}
+use Rattle.ranker.specs.Going.{IsKnownIn}
+use Rattle.ranker.specs.Passed.{live_ids}
 use Rattle.ranker.specs.Spent.{RiseAlike}
 use Rattle.ranker.specs.Unbeaten.{Passes, live_to, sought, stretch, work_to}
 use Rattle.ranker.specs.Windows.{KeepsWindows}
@@ -15,11 +16,10 @@ abbrev pub invariant-loop-at : goal.invariant-loop-at
 invariant-loop-at g l = record {
   keeps : Keeps g.P.Postings.documents g.P.Postings.faults g.P.Postings.sound g.P.OpensRanges.calm l.fn.part l.part;
   stay : map (λ b. (goal.BeliefNode-dyn g (b.vtable, b.value)).meaning b.value) l.plugs ≡ map (λ b. (goal.BeliefNode-dyn g (b.vtable, b.value)).meaning b.value) l.fn.plugs;
-  so_far : g.P.Postings.sound l.fn.part → IsKnown l.rule.kind (map (λ b. (goal.BeliefNode-dyn g (b.vtable, b.value)).meaning b.value) l.fn.plugs) (map filter_tree l.filters) (network_tree l.network) l.tables l.number (g.P.Postings.documents l.fn.part) l.id l.fn.ahead
-      → (before : List Document) (count : ℕ) → Passes (sought l.rule.kind (map (λ b. (goal.BeliefNode-dyn g (b.vtable, b.value)).meaning b.value) l.fn.plugs) (map filter_tree l.filters) (network_tree l.network) l.tables count) (length l.terms) (live_to (stretch l.number before (g.P.Postings.documents l.fn.part) l.marks) l.id) (live_to (stretch l.number before (g.P.Postings.documents l.fn.part) l.marks) l.at) l.fn.first l.first
+  so_far : g.P.Postings.sound l.fn.part → (before : List Document) (count : ℕ) → IsKnownIn (sought l.rule.kind (map (λ b. (goal.BeliefNode-dyn g (b.vtable, b.value)).meaning b.value) l.fn.plugs) (map filter_tree l.filters) (network_tree l.network) l.tables count) (stretch l.number before (g.P.Postings.documents l.fn.part) l.marks) l.id l.fn.ahead
+      → Passes (sought l.rule.kind (map (λ b. (goal.BeliefNode-dyn g (b.vtable, b.value)).meaning b.value) l.fn.plugs) (map filter_tree l.filters) (network_tree l.network) l.tables count) (length l.terms) (live_to (stretch l.number before (g.P.Postings.documents l.fn.part) l.marks) l.id) (live_to (stretch l.number before (g.P.Postings.documents l.fn.part) l.marks) l.at) l.fn.first l.first
       (work_to (sought l.rule.kind (map (λ b. (goal.BeliefNode-dyn g (b.vtable, b.value)).meaning b.value) l.fn.plugs) (map filter_tree l.filters) (network_tree l.network) l.tables count) (stretch l.number before (g.P.Postings.documents l.fn.part) l.marks) l.id l.fn.ahead (g.P.OpensRanges.present l.fn.part) l.fn.squares l.fn.blocks) (work_to (sought l.rule.kind (map (λ b. (goal.BeliefNode-dyn g (b.vtable, b.value)).meaning b.value) l.fn.plugs) (map filter_tree l.filters) (network_tree l.network) l.tables count) (stretch l.number before (g.P.Postings.documents l.fn.part) l.marks) l.at l.known (g.P.OpensRanges.present l.part) l.squares l.blocks);
-  ahead : g.P.Postings.sound l.fn.part → IsKnown l.rule.kind (map (λ b. (goal.BeliefNode-dyn g (b.vtable, b.value)).meaning b.value) l.fn.plugs) (map filter_tree l.filters) (network_tree l.network) l.tables l.number (g.P.Postings.documents l.fn.part) l.id l.fn.ahead
-      → IsKnown l.rule.kind (map (λ b. (goal.BeliefNode-dyn g (b.vtable, b.value)).meaning b.value) l.fn.plugs) (map filter_tree l.filters) (network_tree l.network) l.tables l.number (g.P.Postings.documents l.fn.part) l.at l.known;
+  ahead : g.P.Postings.sound l.fn.part → (before : List Document) (count : ℕ) → IsKnownIn (sought l.rule.kind (map (λ b. (goal.BeliefNode-dyn g (b.vtable, b.value)).meaning b.value) l.fn.plugs) (map filter_tree l.filters) (network_tree l.network) l.tables count) (stretch l.number before (g.P.Postings.documents l.fn.part) l.marks) l.id l.fn.ahead → IsKnownIn (sought l.rule.kind (map (λ b. (goal.BeliefNode-dyn g (b.vtable, b.value)).meaning b.value) l.fn.plugs) (map filter_tree l.filters) (network_tree l.network) l.tables count) (stretch l.number before (g.P.Postings.documents l.fn.part) l.marks) l.at l.known;
   windows : KeepsWindows (network_tree l.network) (unmarked (g.P.Postings.documents l.fn.part) l.marks) l.fn.first l.first;
   ids : live_ids l.marks l.at ≡ live_ids l.marks l.id + l.docs;
   inside : l.at ≤ l.size;

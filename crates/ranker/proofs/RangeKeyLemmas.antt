@@ -1,6 +1,6 @@
 -- The bounds of a range have one key, however their fractions are written.
-use Rattle.std.proofs.Common.{◌≡◌, ◌<◌, ◌≤◌, ◌*◌, ℕ, zero, suc, true, false, is_some, List, [], ◌∷◌, Option, None, Some, Result, Ok, Err, IfOk, length, map, zip, slice_get, refl, sym, ap, subst, ◌∙◌, arith}
-use Rattle.std.specs.List.{All, AllZip}
+use Rattle.std.proofs.Common.{◌≡◌, ◌<◌, ◌≤◌, ◌*◌, ℕ, zero, suc, true, false, is_some, List, [], ◌∷◌, Option, None, Some, Result, Ok, Err, IfOk, length, map, slice_get, refl, sym, ap, subst, ◌∙◌, arith}
+use Rattle.std.specs.List.{All}
 use Rattle.std.specs.Option.{option_map_or}
 use Rattle.std.proofs.lemmas.Bool.{false≢true}
 use Rattle.std.proofs.lemmas.List.Elements.{All-cons, All-contains, All-head, All-nil, All-tail}
@@ -15,7 +15,7 @@ use Rattle.query_check.specs.Leaves.{LeafTree, extents, prior}
 use Rattle.belief_nodes.specs.Keys.{digits_at}
 use Rattle.belief_nodes.specs.Network.{NetworkTree}
 use Rattle.belief_nodes.specs.Order.{IsSame}
-use Rattle.belief_nodes.specs.Priors.{IsGreatestOf, IsPrior, Prior, no_prior, prior_at, prior_fractions}
+use Rattle.belief_nodes.specs.Priors.{IsGreatestOf, IsPrior, Prior, prior_at, prior_fractions}
 use Rattle.belief_nodes.specs.Products.{greatest_of}
 use Rattle.belief_nodes.proofs.Greatest.{greatest_is}
 use Rattle.belief_nodes.proofs.Same.{digits_same}

@@ -21,7 +21,6 @@ use Rattle.range_masks.specs.May.{filter_may, filters_may, leaf_may, may, query_
 use Rattle.range_masks.proofs.MayLemmas.{both, may-Ext}
 use Rattle.document_scoring.specs.Candidates.{candidate, candidates, document_candidates, found_windows, has_some, occurs, passes}
 use Rattle.document_scoring.specs.Counts.{count_in}
-use Rattle.document_scoring.specs.Rows.{Adds}
 use Rattle.range_bounds.specs.Tables.{IsAbsent}
 use Rattle.ranker.specs.First.{HoldsFirst, KeptEntries}
 use Rattle.ranker.proofs.RankingLemmas.{HoldsFirst-more}

@@ -12,7 +12,7 @@ use Rattle.ranker.specs.Blocks.{OpensWithin}
 use Rattle.ranker.specs.First.{Advances, AsksWithin, HoldsFirst, KeptEntries, SpendsWithin, counted, early_cost}
 use Rattle.ranker.specs.Going.{IsAheadBy, IsKnownIn, PassesAt, PassesIn, ScoresIn, Tally, tally}
 use Rattle.ranker.specs.Passed.{IsPassed, IsPlace, asked_at, asked_of, behind, has_live, layout, layout_in, live_ranges, nothing_known, part_at, passed, ranges_of}
-use Rattle.ranker.specs.Unbeaten.{Holds, Passes, Sought, Spends, Stretch, Work, candidate_count, come_to, early_at, is_unbeaten, live_to, met_at, scored, scored_in, sought, stretch, stretch_at, unbeaten, unbeaten_in, work_at, work_in, work_of, work_to}
+use Rattle.ranker.specs.Unbeaten.{Holds, Passes, Sought, Spends, Stretch, Work, candidate_count, come_to, early_at, is_unbeaten, live_to, met_at, scored, scored_in, stretch, stretch_at, unbeaten, unbeaten_in, work_at, work_in, work_of, work_to}
 use Rattle.ranker.specs.declared.place.Ahead.{Ahead}
 use Rattle.ranker.specs.declared.place.Passed.{Passed}
 use Rattle.ranker.specs.declared.place.Place.{Place}

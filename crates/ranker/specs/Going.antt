@@ -1,5 +1,5 @@
 -- What it comes to where documents are passed: in a range, in a part, and in parts one behind the other.
-use Rattle.std.specs.Prelude.{◌≤◌, ◌+◌, ◌*◌, ℕ, false, List, Option, Result, IfOk, OnOk, length, take}
+use Rattle.std.specs.Prelude.{◌≤◌, ◌+◌, ℕ, false, List, Option, Result, IfOk, OnOk, length, take}
 use Rattle.ri_base.specs.Documents.{Document}
 use Rattle.store_ends.specs.Files.{Files}
 use Rattle.disk_index.specs.Snapshots.{Marked, live, unmarked}

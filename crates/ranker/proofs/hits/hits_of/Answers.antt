@@ -1,4 +1,4 @@
-use Rattle.std.proofs.Common.{rules, ◌≡◌, [], ◌∷◌, ◌++◌, append_assoc, append-nil, List, map, ap, arith, refl, sym, ◌∙◌}
+use Rattle.std.proofs.Common.{rules, ◌≡◌, [], ◌∷◌, ◌++◌, append_assoc, append-nil, List, map, ap, arith, sym, ◌∙◌}
 use Rattle.std.specs.Prelude.{reverse}
 use Rattle.std.proofs.lemmas.List.{map-append, nil_from_length, reverse-append, reverse-reverse}
 use Rattle.bounded_keys.specs.declared.entry.Settled.{Settled}

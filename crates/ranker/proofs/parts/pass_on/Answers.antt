@@ -1,4 +1,4 @@
-use Rattle.std.proofs.Common.{◌≡◌, ◌<◌, ◌≤◌, ◌+◌, ◌/◌, ℕ, true, false, List, length, map, take, ap, sym, subst, ◌∙◌, arith}
+use Rattle.std.proofs.Common.{◌≡◌, ◌<◌, ◌≤◌, ◌/◌, ℕ, true, false, List, length, map, take, ap, sym, subst, ◌∙◌, arith}
 use Rattle.ri_base.specs.Collection.{document_at}
 use Rattle.ri_base.specs.Documents.{Document}
 use Rattle.ri_base.specs.Query.{filter_tree}
@@ -9,7 +9,7 @@ use Rattle.ranker.specs.Going.{IsKnownIn}
 use Rattle.ranker.specs.Passed.{IsSpan, asked_of, has_live, is_clear, live_ranges, ranges_of}
 use Rattle.ranker.specs.Unbeaten.{Holds, Sought, Stretch, live_to, sought, stretch}
 use Rattle.ranker.proofs.AheadLemmas.{IsKnown-found, IsKnown-on, absent-here, bare}
-use Rattle.ranker.proofs.AskedLemmas.{asked-all, asked-found, asked-on, asks-all, asks-bounded, asks-same, asks-then, live-here}
+use Rattle.ranker.proofs.AskedLemmas.{asked-found, asked-on, asks-all, asks-bounded, asks-same, asks-then, live-here}
 use Rattle.ranker.proofs.OpeningLemmas.{OpensIn-failed, OpensIn-none, OpensIn-one, each-passed}
 use Rattle.ranker.proofs.PassedLemmas.{Advances-beaten, Advances-by-each, Advances-dead, PassesBy, passes_absent, passes_unseen}
 use Rattle.ranker.proofs.UnbeatenLemmas.{is-unbeaten, left-by}

@@ -1,4 +1,4 @@
-use Rattle.std.proofs.Common.{◌≡◌, ◌<◌, ◌≤◌, ◌+◌, ◌*◌, ℕ, Ok, length, map, take, ap, sym, subst, ◌∙◌, arith}
+use Rattle.std.proofs.Common.{◌≡◌, ◌*◌, ℕ, Ok, length, map, take, ap, sym, subst, ◌∙◌, arith}
 use Rattle.std.proofs.lemmas.Result.{err_from_is_err_and}
 use Rattle.ri_base.specs.Query.{filter_tree}
 use Rattle.ri_base.specs.declared.seg_fault.SegFault.{SegFault}
@@ -7,7 +7,7 @@ use Rattle.disk_index.specs.Parts.{IsPartBacked, outlines_of, size}
 use Rattle.disk_index.specs.Snapshots.{AreBacked, IsFileAmong, Marked, live, live_in}
 use Rattle.disk_index.proofs.AmongLemmas.{backed-at}
 use Rattle.range_masks.specs.Held.{FitDocuments, Held}
-use Rattle.ranker.specs.Going.{IsAheadBy, OpensAt, PassesAt, tally}
+use Rattle.ranker.specs.Going.{OpensAt, PassesAt, tally}
 use Rattle.ranker.specs.Passed.{IsPlace, behind, part_at}
 use Rattle.ranker.specs.Reading.{OnlyReads}
 use Rattle.ranker.specs.Unbeaten.{Sought, sought}

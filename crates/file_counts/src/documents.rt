@@ -1,10 +1,10 @@
 // Documents that are made by their numbers, and their inversion.
-ghost use Rattle.std.specs.Prelude.{◌<◌, ◌≤◌, length, IfOk, OnOk};
+ghost use Rattle.std.specs.Prelude.{◌<◌, ◌≤◌, length, IfSome};
+ghost use Rattle.std.specs.Bool.{OnTrue};
 ghost use Rattle.ri_base.specs.Collection.{name_count};
 ghost use Rattle.ri_base.specs.Documents.{AreFields};
 ghost use Rattle.ri_base.specs.declared.limits.TheConstants.{MAX_PART_DOCS, MAX_PART_NAMES};
 
-use anyhow::{Context, Result, bail};
 use memory_index::MemIndex;
 use ri_base::limits::{MAX_HELD_TOKENS, MAX_PART_DOCS, MAX_PART_NAMES};
 use ri_base::{Doc, Docno, FieldSpan, Name, Sealed, Spans, Term, Terms};
@@ -32,72 +32,84 @@ fn word_number(state: u64, spread: u64) -> u64 {
     first.wrapping_add(behind)
 }
 
-fn term_of(alloc: Global, number: u64) -> Result<Term> {
-    let text = format!(in alloc; "w{number}")?;
-    Ok(Term::new(alloc, text.as_bytes())?.context("no term")?)
+fn term_of(alloc: Global, number: u64) -> Option<Term> {
+    let text = format!(in alloc; "w{number}").ok()?;
+    Term::new(alloc, text.as_bytes()).ok()?
 }
 
-fn terms_of(alloc: Global, seed: u64, spread: u64) -> Result<Terms> {
-    let mut terms = Terms::with_capacity(alloc, TOKENS as usize)?;
+fn terms_of(alloc: Global, seed: u64, spread: u64) -> Option<Terms> {
+    let mut terms = Terms::with_capacity(alloc, TOKENS as usize).ok()?;
     let mut state = seed;
     for _ in 0..TOKENS {
         state = next(state);
-        terms.push(term_of(alloc, word_number(state, spread))?)?;
+        terms
+            .push(term_of(alloc, word_number(state, spread))?)
+            .ok()?;
     }
-    Ok(terms)
+    Some(terms)
 }
 
 /// One field of all tokens, of which there are so many.
-fn text_field(alloc: Global, tokens: u32) -> Result<Spans>
+fn text_field(alloc: Global, tokens: u32) -> Option<Spans>
     requires { 0 < tokens }
-    ensures { IfOk result (AreFields tokens) }
+    ensures { IfSome result (AreFields tokens) }
 {
-    let name = Name::new(alloc, b"text")?.context("no name")?;
+    let name = Name::new(alloc, b"text").ok()??;
     let mut fields = Vec::new(alloc);
-    fields.push(FieldSpan::new(name, 0, tokens))?;
-    Ok(Spans::of(fields))
+    fields.push(FieldSpan::new(name, 0, tokens)).ok()?;
+    Some(Spans::of(fields))
 }
 
-fn doc_of(alloc: Global, number: u32, spread: u64) -> Result<Doc> {
-    let docno = format!(in alloc; "DOC-{number}")?;
-    let docno = Docno::new(alloc, docno.as_bytes())?.context("no docno")?;
+fn docno_of(alloc: Global, number: u32) -> Option<Docno> {
+    let text = format!(in alloc; "DOC-{number}").ok()?;
+    Docno::new(alloc, text.as_bytes()).ok()?
+}
+
+fn doc_of(alloc: Global, number: u32, spread: u64) -> Option<Doc> {
     let tokens = terms_of(alloc, u64::from(number), spread)?;
     let count = tokens.len();
     if count == 0 || count > 1000 {
-        bail!("another number of tokens");
+        return None;
     }
     let fields = text_field(alloc, count as u32)?;
-    Ok(Doc::new(alloc, docno, tokens, fields)?)
+    let docno = docno_of(alloc, number)?;
+    Doc::new(alloc, docno, tokens, fields).ok()
 }
 
-fn put(alloc: Global, index: &mut MemIndex, doc: &Doc) -> Result<()>
-    ensures { OnOk result (name_count index.new.documents ≤ MAX_PART_NAMES) }
+/// Whether the index has taken the document.
+fn put(alloc: Global, index: &mut MemIndex, doc: &Doc) -> bool
+    ensures { OnTrue result (name_count index.new.documents ≤ MAX_PART_NAMES) }
 {
     if index.token_count() + u64::from(doc.len()) > MAX_HELD_TOKENS
         || index.names_with(doc) > MAX_PART_NAMES as u64
     {
-        bail!("too much for one segment");
+        return false;
     }
-    match index.add(alloc, doc) {
-        Ok(_) => Ok(()),
-        Err(_) => bail!("not added"),
+    index.add(alloc, doc).is_ok()
+}
+
+fn put_number(alloc: Global, index: &mut MemIndex, number: u32, spread: u64) -> bool
+    ensures { OnTrue result (name_count index.new.documents ≤ MAX_PART_NAMES) }
+{
+    match doc_of(alloc, number, spread) {
+        Some(doc) => put(alloc, index, &doc),
+        None => false,
     }
 }
 
 /// The inversion of so many documents.
-pub fn sealed_of(alloc: Global, documents: u32, spread: u64) -> Result<Sealed>
-    ensures few { IfOk result (λ s. length s ≤ MAX_PART_DOCS) }
-    ensures named { IfOk result (λ s. name_count s ≤ MAX_PART_NAMES) }
+pub fn sealed_of(alloc: Global, documents: u32, spread: u64) -> Option<Sealed>
+    ensures few { IfSome result (λ s. length s ≤ MAX_PART_DOCS) }
+    ensures named { IfSome result (λ s. name_count s ≤ MAX_PART_NAMES) }
 {
-    let mut index = MemIndex::new(alloc, MAX_PART_DOCS as u32)?;
+    let mut index = MemIndex::new(alloc, MAX_PART_DOCS as u32).ok()?;
     for number in 0..documents {
-        put(alloc, &mut index, &doc_of(alloc, number, spread)?)?;
+        if !put_number(alloc, &mut index, number, spread) {
+            return None;
+        }
     }
     if index.len() as usize > MAX_PART_DOCS {
-        bail!("too many documents");
+        return None;
     }
-    match index.seal(alloc) {
-        Ok(sealed) => Ok(sealed),
-        Err(_) => bail!("not sealed"),
-    }
+    index.seal(alloc).ok()
 }

@@ -1,5 +1,4 @@
 // A segment that is opened, and what is counted over its documents.
-use anyhow::{Result, bail};
 use counts::Counts;
 use deletion_list::DelList;
 use disk_index::{BlockCache, DiskIndex, MarkedPart, Part, Snapshot, fits_snapshot};
@@ -7,7 +6,7 @@ use query_check::LeafKind;
 use range_bounds::RangeTable;
 use range_tables::tables;
 use ri_base::{ExtentExpr, LeafStats, Name};
-use std::alloc::{AllocError, Global};
+use std::alloc::Global;
 use std::num::NonZeroUsize;
 use std::rc::Rc;
 use store_ends::Store;
@@ -16,35 +15,35 @@ use store_ends::Store;
 const SLOTS: usize = 4096;
 
 /// The segment 1 of so many documents.
-fn open<T: Store>(alloc: Global, store: &mut T, docs: u32) -> Result<DiskIndex> {
-    Ok(DiskIndex::open(alloc, store, 1, docs)?)
+fn open<T: Store>(alloc: Global, store: &mut T, docs: u32) -> Option<DiskIndex> {
+    DiskIndex::open(alloc, store, 1, docs).ok()
 }
 
 /// How many documents it has once it is opened.
-pub fn docs_once_open<T: Store>(alloc: Global, store: &mut T, docs: u32) -> Result<u32> {
+pub fn docs_once_open<T: Store>(alloc: Global, store: &mut T, docs: u32) -> Option<u32> {
     let index = open(alloc, store, docs)?;
-    Ok(index.docs())
+    Some(index.docs())
 }
 
 /// The part without marks.
-fn unmarked(alloc: Global, part: Part) -> Result<MarkedPart> {
-    let marks = DelList::new(alloc, part.docs())?;
-    Ok(MarkedPart::new(part, marks))
+fn unmarked(alloc: Global, part: Part) -> Option<MarkedPart> {
+    let marks = DelList::new(alloc, part.docs()).ok()?;
+    Some(MarkedPart::new(part, marks))
 }
 
-fn part_of(alloc: Global, index: DiskIndex) -> Result<MarkedPart> {
-    let index = Rc::new(alloc, index).map_err(AllocError::from)?;
+fn part_of(alloc: Global, index: DiskIndex) -> Option<MarkedPart> {
+    let index = Rc::new(alloc, index).ok()?;
     unmarked(alloc, Part::Disk(index))
 }
 
-fn snapshot_of(alloc: Global, parts: &[MarkedPart]) -> Result<Snapshot> {
+fn snapshot_of(alloc: Global, parts: &[MarkedPart]) -> Option<Snapshot> {
     if !fits_snapshot(parts) {
-        bail!("too many documents");
+        return None;
     }
-    Ok(Snapshot::of(alloc, parts)?)
+    Snapshot::of(alloc, parts).ok()
 }
 
-fn snapshot<T: Store>(alloc: Global, store: &mut T, docs: u32) -> Result<Snapshot> {
+fn snapshot<T: Store>(alloc: Global, store: &mut T, docs: u32) -> Option<Snapshot> {
     let index = open(alloc, store, docs)?;
     let parts = [part_of(alloc, index)?];
     snapshot_of(alloc, &parts)
@@ -60,12 +59,12 @@ pub struct Counted {
 
 impl Counted {
     /// Of the segment 1 of so many documents. Nothing is kept yet.
-    pub fn new<T: Store>(alloc: Global, store: &mut T, docs: u32) -> Result<Counted> {
+    pub fn new<T: Store>(alloc: Global, store: &mut T, docs: u32) -> Option<Counted> {
         let slots = NonZeroUsize::new(SLOTS).unwrap_or(NonZeroUsize::MIN);
         let snapshot = snapshot(alloc, store, docs)?;
-        let sums = Counts::new(alloc, slots)?;
-        let blocks = BlockCache::new(alloc, slots)?;
-        Ok(Counted {
+        let sums = Counts::new(alloc, slots).ok()?;
+        let blocks = BlockCache::new(alloc, slots).ok()?;
+        Some(Counted {
             snapshot,
             sums,
             blocks,
@@ -79,13 +78,12 @@ impl Counted {
         store: &mut T,
         expr: &ExtentExpr,
         context: Option<&Name>,
-    ) -> Result<LeafStats> {
+    ) -> Option<LeafStats> {
         let snapshot = &self.snapshot;
         let blocks = &mut self.blocks;
-        Ok(
-            self.sums
-                .leaf(alloc, expr, context, snapshot, 0, store, blocks)?,
-        )
+        self.sums
+            .leaf(alloc, expr, context, snapshot, 0, store, blocks)
+            .ok()
     }
 
     /// The tables of the ranges of its parts for these leaves.
@@ -94,14 +92,14 @@ impl Counted {
         alloc: Global,
         store: &mut T,
         leaves: &[LeafKind],
-    ) -> Result<Vec<RangeTable>> {
+    ) -> Option<Vec<RangeTable>> {
         let parts = self.snapshot.parts();
-        Ok(tables(alloc, leaves, parts, store, &mut self.blocks)?)
+        tables(alloc, leaves, parts, store, &mut self.blocks).ok()
     }
 
     /// The same snapshot once more.
-    pub fn shared(&self, alloc: Global) -> Result<Snapshot> {
-        Ok(Snapshot::of(alloc, self.snapshot.parts())?)
+    pub fn shared(&self, alloc: Global) -> Option<Snapshot> {
+        Snapshot::of(alloc, self.snapshot.parts()).ok()
     }
 
     /// The blocks that are kept.

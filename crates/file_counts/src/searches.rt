@@ -1,5 +1,5 @@
 // Queries that are searched for over a segment that is open.
-ghost use Rattle.std.specs.Prelude.{◌≡◌, All, IfOk};
+ghost use Rattle.std.specs.Prelude.{◌≡◌, All, IfSome};
 ghost use Rattle.ri_base.specs.Ratio.{ratio_of};
 ghost use Rattle.smoothing.specs.Counts.{AreCounts};
 ghost use Rattle.smoothing.specs.Fractions.{Computes, dirichlet};
@@ -9,7 +9,6 @@ ghost use Rattle.belief_nodes.specs.Network.{network_tree};
 use crate::parts::Counted;
 use crate::queries::query;
 use crate::sums::all_stats;
-use anyhow::{Result, bail};
 use disk_index::BlockCache;
 use ranker::Search;
 use ri_base::{Fraction, Hits};
@@ -33,8 +32,8 @@ fn begin<T: Store>(
     text: &str,
     wanted: Wanted,
     store: &mut T,
-) -> Result<Search>
-    ensures { IfOk result (λ s. All (HasPrior 0) (network_tree s.network).leaves) }
+) -> Option<Search>
+    ensures { IfSome result (λ s. All (HasPrior 0) (network_tree s.network).leaves) }
 {
     let checked = query(alloc, text)?;
     let stats = all_stats(alloc, counted, &checked.leaves, store)?;
@@ -44,7 +43,7 @@ fn begin<T: Store>(
         Vec::new(alloc)
     };
     let snapshot = counted.shared(alloc)?;
-    Ok(Search::new(alloc, snapshot, checked, &stats, tables, wanted.most)?)
+    Search::new(alloc, snapshot, checked, &stats, tables, wanted.most).ok()
 }
 
 /// Passes so many documents, and tells whether all are passed by now. No prior is asked for.
@@ -55,29 +54,26 @@ fn step<T: Store, F: Fn(u32, u32, u64, u64) -> Fraction>(
     rule: &Rule<F>,
     store: &mut T,
     cache: &mut BlockCache,
-) -> Result<bool>
+) -> Option<bool>
     requires rule { Computes F.pre F.post rule.now.kind rule.now.f }
     requires priors { All (HasPrior 0) (network_tree search.old.network).leaves }
     ensures priors { All (HasPrior 0) (network_tree search.new.network).leaves }
 {
     if !search.usable() {
-        bail!("a search that can't go on");
+        return None;
     }
-    Ok(search.step(alloc, docs, rule, &mut [], store, cache)?)
+    search.step(alloc, docs, rule, &mut [], store, cache).ok()
 }
 
 /// The results of a search that is at its end.
-pub fn results(search: &Search) -> Result<&Hits> {
+pub fn results(search: &Search) -> Option<&Hits> {
     if !search.usable() {
-        bail!("a search that can't go on");
+        return None;
     }
-    match search.results() {
-        Some(hits) => Ok(hits),
-        None => bail!("no results"),
-    }
+    search.results()
 }
 
-/// Brings the search to its end, by steps of so many documents.
+/// Whether the search comes to its end, by steps of so many documents.
 fn go_through<T: Store, F: Fn(u32, u32, u64, u64) -> Fraction>(
     alloc: Global,
     search: &mut Search,
@@ -85,16 +81,18 @@ fn go_through<T: Store, F: Fn(u32, u32, u64, u64) -> Fraction>(
     rule: &Rule<F>,
     store: &mut T,
     cache: &mut BlockCache,
-) -> Result<()>
+) -> bool
     requires rule { Computes F.pre F.post rule.now.kind rule.now.f }
     requires priors { All (HasPrior 0) (network_tree search.old.network).leaves }
 {
     for _ in 0..10_000_000u32 {
-        if step(alloc, search, docs, rule, store, cache)? {
-            return Ok(());
+        match step(alloc, search, docs, rule, store, cache) {
+            Some(true) => return true,
+            Some(false) => {}
+            None => return false,
         }
     }
-    bail!("too many steps")
+    false
 }
 
 /// The search for a query at its end.
@@ -104,7 +102,7 @@ pub fn searched<T: Store>(
     text: &str,
     wanted: Wanted,
     store: &mut T,
-) -> Result<Search> {
+) -> Option<Search> {
     let rule = Rule::new(
         RuleKind::Dirichlet { mu: 2500 },
         |tf, len, cf, total| -> Fraction
@@ -113,13 +111,10 @@ pub fn searched<T: Store>(
         { dirichlet_fraction(2500, tf, len, cf, total) },
     );
     let mut search = begin(alloc, counted, text, wanted, store)?;
-    go_through(
-        alloc,
-        &mut search,
-        wanted.docs,
-        &rule,
-        store,
-        counted.blocks(),
-    )?;
-    Ok(search)
+    let blocks = counted.blocks();
+    if go_through(alloc, &mut search, wanted.docs, &rule, store, blocks) {
+        Some(search)
+    } else {
+        None
+    }
 }

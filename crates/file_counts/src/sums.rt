@@ -1,22 +1,21 @@
 // How often the leaves of a query occur.
-ghost use Rattle.std.specs.Prelude.{◌≡◌, length, All, IfOk};
+ghost use Rattle.std.specs.Prelude.{◌≡◌, length, All, IfSome};
 ghost use Rattle.belief_nodes.specs.Leaves.{AreLeafStats};
 
 use crate::parts::Counted;
-use anyhow::{Result, bail};
 use query_check::LeafKind;
 use ri_base::LeafStats;
 use std::alloc::Global;
 use store_ends::Store;
 
 /// The sums of a leaf, where they are in their range.
-fn bounded(stats: LeafStats) -> Result<LeafStats>
-    ensures { IfOk result (λ s. AreLeafStats s) }
+fn bounded(stats: LeafStats) -> Option<LeafStats>
+    ensures { IfSome result (λ s. AreLeafStats s) }
 {
     if stats.cf > stats.total || stats.total > 1 << 29 {
-        bail!("too many words");
+        return None;
     }
-    Ok(stats)
+    Some(stats)
 }
 
 fn stats_of<T: Store>(
@@ -24,8 +23,8 @@ fn stats_of<T: Store>(
     counted: &mut Counted,
     leaf: &LeafKind,
     store: &mut T,
-) -> Result<LeafStats>
-    ensures { IfOk result (λ s. AreLeafStats s) }
+) -> Option<LeafStats>
+    ensures { IfSome result (λ s. AreLeafStats s) }
 {
     match leaf {
         LeafKind::Extents(expr, context) => {
@@ -41,14 +40,14 @@ pub fn all_stats<T: Store>(
     counted: &mut Counted,
     leaves: &[LeafKind],
     store: &mut T,
-) -> Result<Vec<LeafStats>>
-    ensures each { IfOk result (λ v. length v.items ≡ length leaves.now) }
-    ensures range { IfOk result (λ v. All (λ s. AreLeafStats s) v.items) }
+) -> Option<Vec<LeafStats>>
+    ensures each { IfSome result (λ v. length v.items ≡ length leaves.now) }
+    ensures range { IfSome result (λ v. All (λ s. AreLeafStats s) v.items) }
 {
-    let mut all = Vec::with_capacity(alloc, leaves.len())?;
+    let mut all = Vec::with_capacity(alloc, leaves.len()).ok()?;
     for leaf in leaves {
         let stats = stats_of(alloc, counted, leaf, store)?;
-        all.push(stats)?;
+        all.push(stats).ok()?;
     }
-    Ok(all)
+    Some(all)
 }

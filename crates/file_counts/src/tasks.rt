@@ -3,7 +3,6 @@ use crate::parts::Counted;
 use crate::queries::query;
 use crate::searches::{Wanted, results, searched};
 use crate::sums::all_stats;
-use anyhow::Result;
 use ri_base::{Hit, LeafStats};
 use std::alloc::Global;
 use store_ends::Store;
@@ -19,16 +18,20 @@ pub enum Task {
     Search(Wanted),
 }
 
+fn put_sums(text: &mut String, leaf: &LeafStats) -> Option<()> {
+    if !text.is_empty() {
+        text.push_str(", ").ok()?;
+    }
+    write!(text, "{} of {}", leaf.cf, leaf.total).ok()
+}
+
 /// How often each leaf occurs, and in how many words.
-fn sums_text(alloc: Global, stats: &[LeafStats]) -> Result<String> {
+fn sums_text(alloc: Global, stats: &[LeafStats]) -> Option<String> {
     let mut text = String::new(alloc);
     for leaf in stats {
-        if !text.is_empty() {
-            text.push_str(", ")?;
-        }
-        write!(text, "{} of {}", leaf.cf, leaf.total)?;
+        put_sums(&mut text, leaf)?;
     }
-    Ok(text)
+    Some(text)
 }
 
 fn count<T: Store>(
@@ -36,7 +39,7 @@ fn count<T: Store>(
     counted: &mut Counted,
     text: &str,
     store: &mut T,
-) -> Result<String> {
+) -> Option<String> {
     let checked = query(alloc, text)?;
     let stats = all_stats(alloc, counted, &checked.leaves, store)?;
     sums_text(alloc, &stats)
@@ -47,21 +50,19 @@ fn make_tables<T: Store>(
     counted: &mut Counted,
     text: &str,
     store: &mut T,
-) -> Result<String> {
+) -> Option<String> {
     let checked = query(alloc, text)?;
     let _stats = all_stats(alloc, counted, &checked.leaves, store)?;
     let tables = counted.tables(alloc, store, &checked.leaves)?;
-    Ok(format!(in alloc; "{} tables", tables.len())?)
+    format!(in alloc; "{} tables", tables.len()).ok()
 }
 
 /// How many hits there are, and the key of the last one.
-fn hits_text(alloc: Global, hits: &[Hit]) -> Result<String> {
-    let mut text = String::new(alloc);
+fn hits_text(alloc: Global, hits: &[Hit]) -> Option<String> {
     match hits.last() {
-        Some(hit) => write!(text, "{} results, keys up to {}", hits.len(), hit.key)?,
-        None => write!(text, "no results")?,
+        Some(hit) => { format!(in alloc; "{} results, keys up to {}", hits.len(), hit.key).ok() }
+        None => "no results".to_string(alloc).ok(),
     }
-    Ok(text)
 }
 
 /// What came of the task for this query.
@@ -71,7 +72,7 @@ pub fn answer<T: Store>(
     task: Task,
     text: &str,
     store: &mut T,
-) -> Result<String> {
+) -> Option<String> {
     match task {
         Task::Count => count(alloc, counted, text, store),
         Task::Table => make_tables(alloc, counted, text, store),

@@ -32,7 +32,7 @@ pub enum Deed {
 }
 
 /// What is answered.
-#[derive(Clone, Copy, PartialEq, Eq)]
+#[derive(Clone, Copy, PartialEq)]
 pub enum Told {
     Done,
     Repeated,
@@ -215,19 +215,19 @@ fn answer_to<S: Store>(
     }
 }
 
-/// How many of these rows are answered so, one behind the other.
-fn answered<S: Store>(
+/// Whether all these rows are answered so, one behind the other.
+fn answers<S: Store>(
     alloc: Global,
     store: &mut S,
     repository: &mut Repository,
     rows: &[Row],
-) -> usize {
-    for (i, (deed, wanted)) in rows.iter().enumerate() {
+) -> bool {
+    for (deed, wanted) in rows {
         if answer_to(alloc, store, repository, *deed) != *wanted {
-            return i;
+            return false;
         }
     }
-    rows.len()
+    true
 }
 
 fn first_belief(rows: &PriorRows) -> Option<(u64, u64)> {
@@ -247,45 +247,30 @@ fn seen<S: Store>(alloc: Global, store: &mut S, repository: &Repository) -> Opti
     Some((repository.live_count(), first_belief(&rows)))
 }
 
-/// Parts have two documents at most, and so many documents and tokens may be held, at most a hundred.
-pub fn limits_of(held_docs: u64, held_tokens: u64) -> Limits {
-    Limits {
-        part_docs: 2,
-        held_docs: held_docs.min(100),
-        held_tokens: held_tokens.min(100),
-    }
-}
-
 fn opened<S: Store>(alloc: Global, store: &mut S, limits: Limits) -> Option<Repository> {
     Repository::open(alloc, store, limits).ok()?
 }
 
-/// How many of these rows the repository of these files answers so; nothing where the files can't be opened.
-pub fn answered_by<S: Store>(
-    alloc: Global,
-    store: &mut S,
-    limits: Limits,
-    rows: &[Row],
-) -> Option<usize> {
-    let mut repository = opened(alloc, store, limits)?;
-    Some(answered(alloc, store, &mut repository, rows))
-}
-
-/// What is seen of the repository of these files behind these rows; nothing where one goes otherwise, or the files can't be opened.
-pub fn seen_within<S: Store>(
-    alloc: Global,
-    store: &mut S,
-    limits: Limits,
-    rows: &[Row],
-) -> Option<Seen> {
-    let mut repository = opened(alloc, store, limits)?;
-    if answered(alloc, store, &mut repository, rows) != rows.len() {
-        return None;
+/// Whether the repository of these files answers all these rows so.
+pub fn are_answered<S: Store>(alloc: Global, store: &mut S, limits: Limits, rows: &[Row]) -> bool {
+    match opened(alloc, store, limits) {
+        Some(mut repository) => answers(alloc, store, &mut repository, rows),
+        None => false,
     }
-    seen(alloc, store, &repository)
 }
 
-/// The same where a hundred documents and tokens may be held.
+/// What is seen of the repository of these files behind these rows; nothing where one goes otherwise, or the files can't be opened. Parts
+/// have two documents at most, and a hundred documents and tokens may be held.
 pub fn seen_behind<S: Store>(alloc: Global, store: &mut S, rows: &[Row]) -> Option<Seen> {
-    seen_within(alloc, store, limits_of(100, 100), rows)
+    let limits = Limits {
+        part_docs: 2,
+        held_docs: 100,
+        held_tokens: 100,
+    };
+    let mut repository = opened(alloc, store, limits)?;
+    if answers(alloc, store, &mut repository, rows) {
+        seen(alloc, store, &repository)
+    } else {
+        None
+    }
 }

@@ -13,7 +13,5 @@ mod sessions;
 mod stays;
 #[cfg(test)]
 mod stops;
-#[cfg(test)]
-mod together;
 
 fn main() {}

@@ -1,9 +1,9 @@
 // Documents between the lines of a script.
-ghost use Rattle.std.specs.Prelude.{◌≡◌, true, IfSome};
+ghost use Rattle.std.specs.Prelude.{◌≡◌, true, IfSome, OnSome};
 
-use crate::shown::{first_wrong, is_read_as};
+use crate::pieces::{Reading, first_wrong};
 use ri_ends::MemSource;
-use script_reader::{ScriptFault, ScriptReader};
+use script_reader::ScriptReader;
 use std::alloc::{AllocError, Global};
 
 /// Scripts with the bytes of an `add`, and their items. The bytes are cut by a refusal, by the end of the input, or not.
@@ -96,7 +96,7 @@ static ROWS: [(&[u8], &str); 27] = [
 
 #[test]
 fn documents_of_adds(rt: HostRuntime) {
-    assert_eq!(rt; first_wrong(rt.alloc(), &ROWS), None);
+    assert_eq!(rt; first_wrong(rt.alloc(), Reading::Script, &ROWS), None);
 }
 
 /// A source in pieces of ten bytes, whose read of this number fails.
@@ -113,125 +113,60 @@ fn reader_of(alloc: Global, source: MemSource) -> Option<ScriptReader<MemSource>
     ScriptReader::new(alloc, source).ok()
 }
 
-/// How many items are read before the end or a fault, ten at most, and the fault.
-fn read_items(reader: &mut ScriptReader<MemSource>) -> (usize, Option<ScriptFault>)
+/// Whether there is a further item; nothing where it can't be read.
+fn has_next(reader: &mut ScriptReader<MemSource>) -> Option<bool>
+    requires { reader.old.is_usable ≡ true }
+    ensures { OnSome result (reader.new.is_usable ≡ true) }
+{
+    match reader.next_item() {
+        Ok(item) => Some(item.is_some()),
+        Err(_) => None,
+    }
+}
+
+/// How many items are read before the end or a fault, ten at most, and whether there is a fault.
+fn read_items(reader: &mut ScriptReader<MemSource>) -> (usize, bool)
     requires { reader.old.is_usable ≡ true }
 {
     'items: for count in 0..10 {
-        match reader.next_item() {
-            Ok(Some(_)) => {}
-            Ok(None) => return (count, None),
-            Err(fault) => return (count, Some(fault)),
+        match has_next(reader) {
+            Some(true) => {}
+            Some(false) => return (count, false),
+            None => return (count, true),
         }
     }
-    (10, None)
+    (10, false)
 }
 
 /// The same where the read of this number fails.
-fn items_before(alloc: Global, read: u64) -> Option<(usize, Option<ScriptFault>)> {
+fn items_before(alloc: Global, read: u64) -> Option<(usize, bool)> {
     let mut reader = reader_of(alloc, failing(alloc, read).ok()?)?;
     Some(read_items(&mut reader))
 }
 
-/// A read that fails, and how many items stand before it: seven reads, of which the last finds the end.
-static READS: [(u64, usize, Option<ScriptFault>); 8] = [
-    (1, 0, Some(ScriptFault::Read)),
-    (2, 1, Some(ScriptFault::Read)),
-    (3, 1, Some(ScriptFault::Read)),
-    (4, 1, Some(ScriptFault::Read)),
-    (5, 1, Some(ScriptFault::Read)),
-    (6, 2, Some(ScriptFault::Read)),
-    (7, 3, Some(ScriptFault::Read)),
-    (8, 4, None),
+/// A read that is to fail, how many items stand before it, and whether it is made: seven are, of which the last finds the end.
+static READS: [(u64, usize, bool); 8] = [
+    (1, 0, true),
+    (2, 1, true),
+    (3, 1, true),
+    (4, 1, true),
+    (5, 1, true),
+    (6, 2, true),
+    (7, 3, true),
+    (8, 4, false),
 ];
+
+/// The first of these reads before which there are other items, if there is one.
+fn first_wrong_read(alloc: Global) -> Option<u64> {
+    for (read, count, fails) in &READS {
+        if items_before(alloc, *read) != Some((*count, *fails)) {
+            return Some(*read);
+        }
+    }
+    None
+}
 
 #[test]
 fn reads_that_fail(rt: HostRuntime) {
-    for (read, count, fault) in &READS {
-        let found = items_before(rt.alloc(), *read);
-        assert!(rt; found == Some((*count, *fault)), "at read {read}");
-    }
-}
-
-/// An `add` line, a document of so many of these words, and what stands behind it.
-fn add_of(
-    alloc: Global,
-    line: &[u8],
-    word: &[u8],
-    count: usize,
-    behind: &[u8],
-) -> Result<Vec<u8>, AllocError> {
-    let mut script = line.to_vec(alloc)?;
-    script.extend_from_slice(b"<DOC><DOCNO>d1</DOCNO>")?;
-    for _ in 0..count {
-        script.extend_from_slice(word)?;
-    }
-    script.extend_from_slice(b"</DOC>")?;
-    script.extend_from_slice(behind)?;
-    Ok(script)
-}
-
-/// The `add` line of a document, a word, how often it stands there, what stands behind the document, and the items.
-type Refused = (
-    &'static [u8],
-    &'static [u8],
-    usize,
-    &'static [u8],
-    &'static str,
-);
-
-/// Documents of a word or a field more than a document may have.
-static REFUSED: [Refused; 5] = [
-    (
-        b"add 2097182\n",
-        b"a ",
-        1_048_577,
-        b"end\nflush\n",
-        "TooManyTokens; end",
-    ),
-    (
-        b"add 2097183\n",
-        b"a ",
-        1_048_577,
-        b"\nflush\n",
-        "TooManyTokens; flush; end",
-    ),
-    (
-        b"add 524316\n",
-        b"<f>x</f>",
-        65_536,
-        b"end\nflush\n",
-        "TooManyFields; end",
-    ),
-    (
-        b"add 524318\n",
-        b"<f>x</f>",
-        65_536,
-        b"\nxflush\n",
-        "TooManyFields; NotADoc { at: 524317 }; flush; end",
-    ),
-    (
-        b"add 524317\n",
-        b"<f>x</f>",
-        65_536,
-        b"",
-        "TooManyFields; ShortAdd 0; end",
-    ),
-];
-
-fn is_refused(alloc: Global, row: &Refused, piece: usize) -> bool {
-    let (line, word, count, behind, wanted) = row;
-    match add_of(alloc, line, word, *count, behind) {
-        Ok(script) => is_read_as(alloc, script, piece, wanted),
-        Err(_) => false,
-    }
-}
-
-#[test]
-fn documents_with_too_much(rt: HostRuntime) {
-    for row in &REFUSED {
-        for piece in [1, 2, 3, 7, 100] {
-            assert!(rt; is_refused(rt.alloc(), row, piece), "in pieces of {piece}");
-        }
-    }
+    assert_eq!(rt; first_wrong_read(rt.alloc()), None);
 }

@@ -1,5 +1,4 @@
-//! Tests of what a session script, the lines of docnos and the rows of a prior are read as, and of the events of a generated
-//! collection. The program itself does nothing.
+//! Tests of what a session script, the lines of docnos and the rows of a prior are read as. The program itself does nothing.
 #![tactic(auto)]
 
 #[cfg(test)]
@@ -7,9 +6,9 @@ mod adds;
 #[cfg(test)]
 mod docnos;
 #[cfg(test)]
-mod generated;
-#[cfg(test)]
 mod lines;
+#[cfg(test)]
+mod pieces;
 #[cfg(test)]
 mod priors;
 #[cfg(test)]

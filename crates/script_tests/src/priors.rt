@@ -1,10 +1,10 @@
 // The rows of a prior, one on each line.
+use crate::pieces::{Reading, first_wrong};
 use crate::shown::{named, numbered, put, put_told};
 use prior_lines::{KeptRows, RowLine, read_rows};
 use ri_base::Fraction;
-use ri_base::limits::MAX_PRIOR_ROWS;
 use ri_ends::MemSource;
-use std::alloc::{AllocError, Global};
+use std::alloc::Global;
 
 fn put_read(out: &mut String, line: &RowLine) -> Option<()> {
     match line {
@@ -61,19 +61,10 @@ fn shown(alloc: Global, kept: KeptRows, refused: &[RowLine]) -> Option<String> {
     Some(out)
 }
 
-fn rows_of(alloc: Global, text: Vec<u8>, piece: usize) -> Option<String> {
+/// The same of a text that comes in pieces of so many bytes.
+pub fn rows_of(alloc: Global, text: Vec<u8>, piece: usize) -> Option<String> {
     let (kept, refused) = read(alloc, text, piece)?;
     shown(alloc, kept, &refused)
-}
-
-fn is_read_as(alloc: Global, text: &[u8], piece: usize, wanted: &str) -> bool {
-    let Ok(text) = text.to_vec(alloc) else {
-        return false;
-    };
-    match rows_of(alloc, text, piece) {
-        Some(found) => found.as_str() == wanted,
-        None => false,
-    }
 }
 
 static ROWS: [(&[u8], &str); 14] = [
@@ -125,86 +116,5 @@ static ROWS: [(&[u8], &str); 14] = [
 
 #[test]
 fn rows_of_lines(rt: HostRuntime) {
-    for (i, (text, wanted)) in ROWS.iter().enumerate() {
-        for piece in [1, 2, 3, 7, 100] {
-            let is_right = is_read_as(rt.alloc(), text, piece, wanted);
-            assert!(rt; is_right, "row {i} in pieces of {piece}");
-        }
-    }
-}
-
-/// A row of a docno of so many bytes, with white space before it so that the line has so many, and a second row.
-fn long_row(alloc: Global, docno: usize, line: usize) -> Result<Vec<u8>, AllocError> {
-    let white = line.saturating_sub(docno).saturating_sub(4);
-    let mut text = Vec::new(alloc);
-    text.resize(white, b' ')?;
-    text.resize(white.saturating_add(docno), b'x')?;
-    text.extend_from_slice(b" 1/2\r\nd 1/2")?;
-    Ok(text)
-}
-
-/// How many bytes the docno has and the line, how long the text is that tells what is read, and whether the line is too
-/// long.
-static LENGTHS: [(usize, usize, usize, bool); 4] = [
-    (255, 259, 268, false),
-    (256, 260, 17, false),
-    (255, 65536, 268, false),
-    (255, 65537, 22, true),
-];
-
-/// How long the text is that tells what is read, and whether the line is too long.
-fn outline(alloc: Global, text: Vec<u8>, piece: usize) -> Option<(usize, bool)> {
-    let found = rows_of(alloc, text, piece)?;
-    Some((found.len(), found.as_str().starts_with("LineTooLong 0; ")))
-}
-
-fn long_outline(alloc: Global, docno: usize, line: usize, piece: usize) -> Option<(usize, bool)> {
-    match long_row(alloc, docno, line) {
-        Ok(text) => outline(alloc, text, piece),
-        Err(_) => None,
-    }
-}
-
-#[test]
-fn long_rows(rt: HostRuntime) {
-    for (docno, line, length, is_too_long) in &LENGTHS {
-        for piece in [1, 2, 3, 7, 100, 1000] {
-            let found = long_outline(rt.alloc(), *docno, *line, piece);
-            assert!(rt;
-                found == Some((*length, *is_too_long)),
-                "{docno} and {line} in pieces of {piece}"
-            );
-        }
-    }
-}
-
-/// Rows of as many docnos as a prior may have, and then of a further docno, of one that has a row, and of the others.
-fn many_rows(alloc: Global) -> Option<Vec<u8>> {
-    let mut text = String::new(alloc);
-    for i in 0..MAX_PRIOR_ROWS {
-        writeln!(text, "{i} 1/2").ok()?;
-    }
-    text.push_str("x 1/2\n7 1/2\nx y\n* 1/3\n").ok()?;
-    Some(text.into_bytes())
-}
-
-fn are_refused_as(alloc: Global, refused: &[RowLine], wanted: &str) -> bool {
-    let mut out = String::new(alloc);
-    put_refusals(&mut out, refused).is_some() && out.as_str() == wanted
-}
-
-/// How many rows are kept of those, whether no further docno may have one, and whether there is one of all others; nothing where
-/// other lines are refused.
-fn many_kept(alloc: Global, wanted: &str) -> Option<(usize, bool, bool)> {
-    let (kept, refused) = read(alloc, many_rows(alloc)?, 65536)?;
-    if !are_refused_as(alloc, &refused, wanted) {
-        return None;
-    }
-    Some((kept.len(), kept.is_full(), kept.has_rest()))
-}
-
-#[test]
-fn as_many_rows_as_there_may_be(rt: HostRuntime) {
-    let refused = "TooManyRows 11471802; RepeatedRow 7; BadRow 11471814; ";
-    assert!(rt; many_kept(rt.alloc(), refused) == Some((MAX_PRIOR_ROWS, true, true)));
+    assert_eq!(rt; first_wrong(rt.alloc(), Reading::Rows, &ROWS), None);
 }

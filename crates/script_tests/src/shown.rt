@@ -3,7 +3,6 @@ use ri_ends::MemSource;
 use script_reader::{Item, Unread, read_items};
 use session_events::Event;
 use std::alloc::Global;
-use tokens::TokenRefusal;
 
 /// What is told of an item: a word, and a name, a number and a text where it has them.
 #[derive(Clone, Copy)]
@@ -122,20 +121,13 @@ fn kind_name(kind: Unread) -> &'static str {
     }
 }
 
-fn refusal_name(refusal: &TokenRefusal) -> &'static str {
-    match refusal {
-        TokenRefusal::TooManyTokens { .. } => "TooManyTokens",
-        _ => "TooManyFields",
-    }
-}
-
 /// Puts an item behind a text.
 fn put_item(out: &mut String, item: &Item) -> Option<()> {
     match item {
         Item::Event(event) => put_told(out, of_event(event)),
         Item::Unread { kind, place } => put_told(out, numbered(kind_name(*kind), *place)),
         Item::Trec(refusal) => write!(out, "{refusal:?}").ok(),
-        Item::Token(refusal) => put_told(out, alone(refusal_name(refusal))),
+        Item::Token(_) => put_told(out, alone("Token")),
     }
 }
 
@@ -157,42 +149,7 @@ fn read(alloc: Global, script: Vec<u8>, piece: usize) -> Option<Vec<Item>> {
 }
 
 /// The items of a script that comes in pieces of so many bytes, as text.
-fn items_of(alloc: Global, script: Vec<u8>, piece: usize) -> Option<String> {
+pub fn items_of(alloc: Global, script: Vec<u8>, piece: usize) -> Option<String> {
     let items = read(alloc, script, piece)?;
     shown(alloc, &items)
-}
-
-/// Whether the items of a script are these, where it comes in pieces of so many bytes.
-pub fn is_read_as(alloc: Global, script: Vec<u8>, piece: usize, wanted: &str) -> bool {
-    match items_of(alloc, script, piece) {
-        Some(found) => found.as_str() == wanted,
-        None => false,
-    }
-}
-
-fn is_copy_read_as(alloc: Global, script: &[u8], piece: usize, wanted: &str) -> bool {
-    match script.to_vec(alloc) {
-        Ok(script) => is_read_as(alloc, script, piece, wanted),
-        Err(_) => false,
-    }
-}
-
-/// Whether the items of a script are these, whatever the pieces of the source.
-fn is_right(alloc: Global, script: &[u8], wanted: &str) -> bool {
-    for piece in [1, 2, 3, 7, 100] {
-        if !is_copy_read_as(alloc, script, piece, wanted) {
-            return false;
-        }
-    }
-    true
-}
-
-/// The first of these scripts whose items are others, if one is.
-pub fn first_wrong(alloc: Global, rows: &[(&[u8], &str)]) -> Option<usize> {
-    for (i, (script, wanted)) in rows.iter().enumerate() {
-        if !is_right(alloc, script, wanted) {
-            return Some(i);
-        }
-    }
-    None
 }

@@ -1,5 +1,5 @@
 // Each row of the table of lines.
-use crate::shown::first_wrong;
+use crate::pieces::{Reading, first_wrong};
 
 /// Scripts and their items. The number of each line stands at both ends of its range and past it.
 static ROWS: [(&[u8], &str); 26] = [
@@ -75,5 +75,5 @@ static ROWS: [(&[u8], &str); 26] = [
 
 #[test]
 fn lines_of_the_table(rt: HostRuntime) {
-    assert_eq!(rt; first_wrong(rt.alloc(), &ROWS), None);
+    assert_eq!(rt; first_wrong(rt.alloc(), Reading::Script, &ROWS), None);
 }

@@ -19,13 +19,6 @@ enum Shape {
     Rare,
 }
 
-/// How many words a document has, and how many of sixteen of these are searched for, nearly.
-#[derive(Clone, Copy)]
-struct Measures {
-    words: u64,
-    share: u64,
-}
-
 /// The words that are searched for, as often as they come.
 static WORDS: [&str; 8] = ["a", "a", "a", "b", "b", "c", "c", "e"];
 
@@ -46,16 +39,16 @@ fn shape_of(number: u32) -> Shape {
     }
 }
 
-fn measures_of(shape: Shape, number: u32, state: u64) -> Measures {
+/// How many words a document has, and how many of sixteen of these are searched for, nearly.
+fn measures_of(shape: Shape, number: u32, state: u64) -> (u64, u64) {
     let place = number % 1000;
-    let (words, share) = match shape {
+    match shape {
         Shape::Alike => (9, 8),
         Shape::Mixed => (4 + (state >> 33) % 28, (state >> 40) % 8),
         Shape::Growing => (4 + u64::from(place / 32), 4),
         Shape::Early => (12, if place % 400 < 40 { 12 } else { 1 }),
         Shape::Rare => (20, if place % 50 == 7 { 14 } else { 0 }),
-    };
-    Measures { words, share }
+    }
 }
 
 /// What the words of a document are drawn by.
@@ -81,11 +74,11 @@ pub fn made_terms(alloc: Global, number: u32) -> Option<Terms>
 {
     let shape = shape_of(number);
     let mut state = seed_of(shape, number);
-    let measures = measures_of(shape, number, state);
+    let (words, share) = measures_of(shape, number, state);
     let mut terms = Terms::new(alloc);
-    for _ in 0..measures.words {
+    for _ in 0..words {
         state = next(state);
-        let text = word(state, measures.share);
+        let text = word(state, share);
         terms.push(Term::new(alloc, text.as_bytes()).ok()??).ok()?;
     }
     if terms.len() <= 100 {

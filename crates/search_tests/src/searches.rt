@@ -87,7 +87,7 @@ fn passes(alloc: Global, search: &mut Search, opened: &mut Opened, docs: u64) ->
 
 /// What a search spends, by the numbers that it keeps: ranges that it passes over, blocks that it opens, squarings. Beside it how many
 /// blocks its cache holds at the end, and how many terms and leaves the query has.
-#[derive(Clone, Copy, Debug)]
+#[derive(Clone, Copy)]
 pub struct Spending {
     pub passed: u64,
     pub opened: u64,

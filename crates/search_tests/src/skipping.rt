@@ -49,27 +49,51 @@ fn is_same_hit(one: &Hit, other: &Hit) -> bool {
 }
 
 fn are_same(these: &[Hit], others: &[Hit]) -> bool {
-    these.len() == others.len()
-        && these
-            .iter()
-            .zip(others)
-            .all(|(one, other)| is_same_hit(one, other))
+    if these.len() != others.len() {
+        return false;
+    }
+    for (one, other) in these.iter().zip(others) {
+        if !is_same_hit(one, other) {
+            return false;
+        }
+    }
+    true
+}
+
+/// Whether a query has these results where ranges are skipped, for at most so many and by steps of so many documents.
+fn finds(
+    alloc: Global,
+    opened: &mut Opened,
+    text: &str,
+    most: u32,
+    docs: u64,
+    hits: &[Hit],
+) -> bool {
+    let wanted = Wanted {
+        most,
+        docs,
+        skips: true,
+    };
+    match found(alloc, opened, text, wanted) {
+        Some(found) => are_same(hits, found.as_slice()),
+        None => false,
+    }
 }
 
 /// Whether a query has the same results where ranges are skipped, in one step and in steps of seven.
-fn is_same(alloc: Global, opened: &mut Opened, text: &str, most: u32) -> Option<bool> {
-    let mut wanted = Wanted {
+fn is_same(alloc: Global, opened: &mut Opened, text: &str, most: u32) -> bool {
+    let wanted = Wanted {
         most,
         docs: ALL,
         skips: false,
     };
-    let whole = found(alloc, opened, text, wanted)?;
-    wanted.skips = true;
-    let skipped = found(alloc, opened, text, wanted)?;
-    wanted.docs = 7;
-    let in_steps = found(alloc, opened, text, wanted)?;
-    let is_first = are_same(whole.as_slice(), skipped.as_slice());
-    Some(is_first && are_same(whole.as_slice(), in_steps.as_slice()))
+    match found(alloc, opened, text, wanted) {
+        Some(whole) => {
+            finds(alloc, opened, text, most, ALL, whole.as_slice())
+                && finds(alloc, opened, text, most, 7, whole.as_slice())
+        }
+        None => false,
+    }
 }
 
 /// What is opened of these documents, with room for all its blocks.
@@ -79,41 +103,47 @@ pub fn opened_of(alloc: Global, documents: Documents) -> Option<Opened> {
     Some(opened)
 }
 
-/// The first query with other results, if one has others, for at most so many; nothing where a call fails.
-fn first_other(
-    alloc: Global,
-    documents: Documents,
-    counts: &[u32],
-) -> Option<Option<&'static str>> {
-    let mut opened = opened_of(alloc, documents)?;
+/// Whether each query has the same results, for at most so many.
+fn are_all_same(alloc: Global, opened: &mut Opened, counts: &[u32]) -> bool {
     for text in &QUERIES {
         for most in counts {
-            if !is_same(alloc, &mut opened, text, *most)? {
-                return Some(Some(*text));
+            if !is_same(alloc, opened, text, *most) {
+                return false;
             }
         }
     }
-    Some(None)
+    true
+}
+
+/// The same over these documents.
+fn are_same_over(alloc: Global, documents: Documents, counts: &[u32]) -> bool {
+    match opened_of(alloc, documents) {
+        Some(mut opened) => are_all_same(alloc, &mut opened, counts),
+        None => false,
+    }
+}
+
+/// The first of these collections in which a query has other results, if there is one.
+fn first_other(alloc: Global, first: u8, last: u8, counts: &[u32]) -> Option<u8> {
+    for number in first..=last {
+        if !are_same_over(alloc, collection(number), counts) {
+            return Some(number);
+        }
+    }
+    None
 }
 
 #[test]
 fn in_each_shape(rt: HostRuntime) {
-    for number in 1..6 {
-        let other = first_other(rt.alloc(), collection(number), &[1, 10, 2000]);
-        assert!(rt; other == Some(None), "{number} {other:?}");
-    }
+    assert_eq!(rt; first_other(rt.alloc(), 1, 5, &[1, 10, 2000]), None);
 }
 
 #[test]
 fn in_more_collections(rt: HostRuntime) {
-    for number in 6..21 {
-        let other = first_other(rt.alloc(), collection(number), &[10]);
-        assert!(rt; other == Some(None), "{number} {other:?}");
-    }
+    assert_eq!(rt; first_other(rt.alloc(), 6, 20, &[10]), None);
 }
 
 #[test]
 fn where_bounds_are_equal(rt: HostRuntime) {
-    let other = first_other(rt.alloc(), EQUAL, &[1, 40, 86, 100]);
-    assert!(rt; other == Some(None), "{other:?}");
+    assert!(rt; are_same_over(rt.alloc(), EQUAL, &[1, 40, 86, 100]));
 }

@@ -1,7 +1,0 @@
-use Rattle.std.proofs.Common.{◌≤◌}
-use Rattle.ri_base.specs.Collection.{name_count}
-use Rattle.ri_base.specs.declared.limits.TheConstants.{MAX_PART_NAMES}
-use Rattle.merge_tests.proofs.parts.sealed.Given as goal
-
-abbrev pub invariant-loop-number : goal.invariant-loop-number
-invariant-loop-number l = name_count l.index.documents ≤ MAX_PART_NAMES

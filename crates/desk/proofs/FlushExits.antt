@@ -24,7 +24,7 @@ use Rattle.desk.specs.State.{collection_of}
 use Rattle.desk.specs.Step.{step}
 use Rattle.desk.proofs.Cases.{kept-flushed, step-flushed}
 use Rattle.desk.proofs.DocumentExits.{with_repository}
-use Rattle.desk.proofs.Exits.{exit, state-by}
+use Rattle.desk.proofs.Exits.{exit, of-now, state-by}
 use Rattle.desk.proofs.Keeping.{Cache-commit, Lists, Queries-commit, merge-condition, merge-kept, queries-same}
 use Rattle.desk.proofs.Reading.{priors-read, reads-state}
 use Rattle.desk.proofs.WritingLemmas.{either-now}
@@ -86,3 +86,16 @@ module _ {S : Type 0} (files : S → Option Files) (clock : S → ℕ) (since : 
       → IsEither d.repository.held.limits kept (kept_behind kept (step (state_of (files old) d) event.Flush)) (files new)
   flush-now honest still later =
       subst (λ (c : Collection). IsEither d.repository.held.limits kept c (files new)) (sym (kept-flushed kept (state_of (files old) d))) (stands-either honest still later)
+
+-- the same of a desk that is seen as another
+module _ {S : Type 0} (files : S → Option Files) (clock : S → ℕ) (since : S → ℕ → Files → Type 0) (old new : S) (d now : Keeps) (same : d ≡ now) (writes : Writes files since (IsUnlisted (listed_numbers d.repository)) (λ c. c) d.repository old new) where
+  pub flushed-stops : (kept : Collection) → IsDeskBacked (files old) now → Stands now.repository.held.limits (files old) kept → Leaves (since old) (since new) (IsEither now.repository.held.limits kept (kept_behind kept (step (state_of (files old) now) event.Flush)))
+  flushed-stops kept =
+      of-now (files old) d now (λ (x : Keeps). Stands x.repository.held.limits (files old) kept → Leaves (since old) (since new) (IsEither x.repository.held.limits kept (kept_behind kept (step (state_of (files old) x) event.Flush)))) same
+      (λ b standing. flush-stops files clock since old new d kept b writes standing)
+
+  pub flushed-now : ((t : ℕ) (f : Files) → t ≤ clock new → files new ≡ Some f → since new t f) → ((f : Files) → since old (clock old) f → files old ≡ Some f) → clock old ≤ clock new
+      → (kept : Collection) → IsDeskBacked (files old) now → Stands now.repository.held.limits (files old) kept → IsEither now.repository.held.limits kept (kept_behind kept (step (state_of (files old) now) event.Flush)) (files new)
+  flushed-now honest still later kept =
+      of-now (files old) d now (λ (x : Keeps). Stands x.repository.held.limits (files old) kept → IsEither x.repository.held.limits kept (kept_behind kept (step (state_of (files old) x) event.Flush)) (files new)) same
+      (λ b standing. flush-now files clock since old new d kept b writes standing honest still later)

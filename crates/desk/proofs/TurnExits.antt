@@ -150,6 +150,20 @@ module _ {S : Type 0} (files : S → Option Files) (clock : S → ℕ) (since : 
     turn-now = subst (λ (x : Keeps). IsEither x.repository.held.limits kept (kept_behind kept (step (state_of (files old) x) (event.Turn docs))) (files new)) same
         (now-by (nat_lt (length m.copied + docs) (size_of m)) refl)
 
+-- the same of all that the files may have stood for
+module _ {S : Type 0} (files : S → Option Files) (layers : S → Option (List Files)) (clock : S → ℕ) (since : S → ℕ → Files → Type 0) (longest : S → ℕ) (held : S → List ℕ) (old new : S) (d now : Keeps) (docs : ℕ) (same : d ≡ now)
+    (some : is_some d.repository.merge ≡ true) (quiet : IfSome d.repository.merge (λ m. length m.copied + docs < size_of m → IsQuiet files layers clock since longest held old new)) (stay : SameWhere (IsBeside (IsUnlisted (listed_numbers d.repository))) (files old) (files new))
+    (stops : (c k : Collection) → IsOpenMerging (files old) d.repository → IsCacheBacked (files old) d.cache → Stands d.repository.held.limits (files old) c → ReadsAs (files old) d.repository k
+    → Leaves (since old) (since new) (IsEither d.repository.held.limits c (without_dead_of d.repository.merge k))) where
+  pub turned-stops : (kept : Collection) → IsDeskBacked (files old) now → Stands now.repository.held.limits (files old) kept → Leaves (since old) (since new) (IsEither now.repository.held.limits kept (kept_behind kept (step (state_of (files old) now) (event.Turn docs))))
+  turned-stops kept backed stands =
+      turn-stops files clock since old new d now docs kept same some (same-below files layers clock since longest held old new d.repository.merge docs quiet) (none-below files layers clock since longest held old new d.repository.merge docs quiet) stay stops backed stands
+
+  pub turned-now : ((t : ℕ) (f : Files) → t ≤ clock new → files new ≡ Some f → since new t f) → ((f : Files) → since old (clock old) f → files old ≡ Some f) → clock old ≤ clock new
+      → (kept : Collection) → IsDeskBacked (files old) now → Stands now.repository.held.limits (files old) kept → IsEither now.repository.held.limits kept (kept_behind kept (step (state_of (files old) now) (event.Turn docs))) (files new)
+  turned-now honest still later kept backed stands =
+      turn-now files clock since old new d now docs kept same some (same-below files layers clock since longest held old new d.repository.merge docs quiet) (none-below files layers clock since longest held old new d.repository.merge docs quiet) stay stops backed stands honest still later
+
 -- a fault is none of the files
 pub turn-honest : (told : Option Files) (d now : Keeps) (why : SegFault) → d ≡ now → (IsOpenMerging told d.repository → IsCacheBacked told d.cache → IsOutside why) → IsDeskBacked told now → IsOutside why
 turn-honest told d now why same honest backed =

@@ -4,6 +4,7 @@ pub mod Asked
 pub mod Backed
 pub mod Codes
 pub mod Keeping
+pub mod Leaving
 pub mod Lines
 pub mod Orders
 pub mod Places

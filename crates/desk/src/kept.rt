@@ -1,24 +1,24 @@
 // What a desk keeps, and its calls: all but the function of its rule.
-ghost use Rattle.std.specs.Prelude.{◌≡◌, ◌≤◌, ◌&&◌, All, [], Option, Err, Ok, true, false, not, length, map, position, OnOk, IfOk, IfErr, IfSome};
+ghost use Rattle.std.specs.Prelude.{◌≡◌, ◌≤◌, ◌&&◌, All, [], Option, Err, Ok, true, false, length, map, position, OnOk, IfOk, IfErr, IfSome};
 ghost use Rattle.std.specs.Str.{bytes_eq};
 ghost use Rattle.ri_base.specs.Faults.{IsOutside};
 ghost use Rattle.ri_base.specs.Keeps.{Rose};
-ghost use Rattle.store_ends.specs.Files.{Files, GoesOn, IsQuiet, Leaves};
+ghost use Rattle.store_ends.specs.Files.{Files, GoesOn, IsQuiet};
 ghost use Rattle.session_events.specs.Events.{IsFrom1To, IsSessionEvent, is_end};
 ghost use Rattle.session_events.specs.declared.event.TheConstants.{MAX_RESULTS};
 ghost use Rattle.session_events.specs.declared.event.Event.TheVariants as event;
 ghost use Rattle.smoothing.specs.Fractions.{Computes};
 ghost use Rattle.query_check.specs.Answers.{whole_checked};
-ghost use Rattle.repository.specs.Stands.{Collection, Stands};
 ghost use Rattle.repository.specs.States.{IsBacked};
-ghost use Rattle.repository.specs.Writes.{AreGone, IsEither};
+ghost use Rattle.repository.specs.Writes.{AreGone};
 ghost use Rattle.desk.specs.Backed.{IsDeskBacked, IsMergeBacked, IsUsable, Steps, StepsTo, state_of, with_usable};
-ghost use Rattle.desk.specs.Points.{is_inside, kept_behind, may_write, needs_hits};
+ghost use Rattle.desk.specs.Leaving.{LeavesFiles, LeavesKept};
+ghost use Rattle.desk.specs.Points.{is_inside, may_write, needs_hits};
 ghost use Rattle.desk.specs.Queries.{priors_in};
 ghost use Rattle.desk.specs.Replying.{not_added, turned_reply};
 ghost use Rattle.desk.specs.Replied.{IsReply};
 ghost use Rattle.desk.specs.Orders.{IsTrueReply};
-ghost use Rattle.desk.specs.Keeping.{AsksFor, StaysIfRefused};
+ghost use Rattle.desk.specs.Keeping.{AsksFor};
 ghost use Rattle.desk.specs.Plugs.{ArePlugs};
 ghost use Rattle.desk.specs.Step.{open_step, step};
 ghost use Rattle.desk.specs.Told.{RefusesAs, reply_early, told_early};
@@ -177,19 +177,11 @@ impl Kept {
         ensures steps { IfOk result (λ reply. IsDeskBacked (T.files store.old) self.old → ArePlugs (priors_in (T.files store.old) self.old.repository.priors) (map (λ plug. meaning plug) plugs.old)
             → Steps event (T.files store.old) (T.files store.new) self.old self.new reply) }
         ensures order { IfOk result (λ reply. IsDeskBacked (T.files store.old) self.old → IsTrueReply (state_of (T.files store.old) self.old) event reply) }
-        ensures form { IfOk result IsReply }
         ensures refuses { needs_hits event ≡ false → IfOk result (λ reply. (told : Option Files) → RefusesAs reply (step (state_of told self.old) event).1) }
         ensures early { IfOk result (λ reply. (told : Option Files) → reply_early reply ≡ told_early (step (state_of told self.old) event).1) }
-        ensures done { OnOk result ((kept : Collection) → IsDeskBacked (T.files store.old) self.old → Stands self.old.repository.held.limits (T.files store.old) kept
-            → Stands self.old.repository.held.limits (T.files store.new) (kept_behind kept (step (state_of (T.files store.old) self.old) event))) }
-        ensures now { (kept : Collection) → IsDeskBacked (T.files store.old) self.old → Stands self.old.repository.held.limits (T.files store.old) kept
-            → IsEither self.old.repository.held.limits kept (kept_behind kept (step (state_of (T.files store.old) self.old) event)) (T.files store.new) }
-        ensures stops { (kept : Collection) → IsDeskBacked (T.files store.old) self.old → Stands self.old.repository.held.limits (T.files store.old) kept
-            → Leaves (T.since store.old) (T.since store.new) (IsEither self.old.repository.held.limits kept (kept_behind kept (step (state_of (T.files store.old) self.old) event))) }
+        ensures files { LeavesFiles event result (T.files store.old) (T.files store.new) (T.since store.old) (T.since store.new) self.old }
         ensures swept { is_end event ≡ true → OnOk result ((self.new.repository.stale ≡ []) × AreGone self.old.repository.stale (T.files store.new)) }
-        ensures kind { self.new.kind ≡ self.old.kind }
-        ensures unchanged { IfOk result (λ reply. StaysIfRefused reply self.old self.new) }
-        ensures usable { OnOk result (IsUsable self.new) }
+        ensures keeps { LeavesKept result self.old self.new }
         ensures inside { is_inside event ≡ true → IfErr result (λ fault. fault ≡ SegFault.Memory) }
         ensures quiet { may_write event ≡ false → IsQuiet T.files T.layers T.clock T.since T.longest T.held store.old store.new }
         ensures stay { map (λ plug. meaning plug) plugs.new ≡ map (λ plug. meaning plug) plugs.old }
@@ -222,12 +214,9 @@ impl Kept {
         ensures steps { IfOk result (λ reply. IsDeskBacked (T.files store.old) self.old → ArePlugs (priors_in (T.files store.old) self.old.repository.priors) (map (λ plug. meaning plug) plugs.old)
             → Steps event (T.files store.old) (T.files store.new) self.old self.new reply) }
         ensures order { IfOk result (λ reply. IsDeskBacked (T.files store.old) self.old → IsTrueReply (state_of (T.files store.old) self.old) event reply) }
-        ensures form { IfOk result IsReply }
         ensures refuses { needs_hits event ≡ false → IfOk result (λ reply. (told : Option Files) → RefusesAs reply (step (state_of told self.old) event).1) }
         ensures early { IfOk result (λ reply. (told : Option Files) → reply_early reply ≡ told_early (step (state_of told self.old) event).1) }
-        ensures kind { self.new.kind ≡ self.old.kind }
-        ensures unchanged { IfOk result (λ reply. StaysIfRefused reply self.old self.new) }
-        ensures usable { OnOk result (IsUsable self.new) }
+        ensures keeps { LeavesKept result self.old self.new }
         ensures inside { is_inside event ≡ true → IfErr result (λ fault. fault ≡ SegFault.Memory) }
         ensures quiet { IsQuiet T.files T.layers T.clock T.since T.longest T.held store.old store.new }
         ensures stay { map (λ plug. meaning plug) plugs.new ≡ map (λ plug. meaning plug) plugs.old }
@@ -247,12 +236,9 @@ impl Kept {
         requires inside { is_inside event ≡ true }
         ensures steps { IfOk result (λ reply. (told : Option Files) → IsDeskBacked told self.old → Steps event told told self.old self.new reply) }
         ensures order { IfOk result (λ reply. (told : Option Files) → IsDeskBacked told self.old → IsTrueReply (state_of told self.old) event reply) }
-        ensures form { IfOk result IsReply }
         ensures refuses { IfOk result (λ reply. (told : Option Files) → RefusesAs reply (step (state_of told self.old) event).1) }
         ensures memory { IfErr result (λ fault. fault ≡ SegFault.Memory) }
-        ensures kind { self.new.kind ≡ self.old.kind }
-        ensures unchanged { IfOk result (λ reply. StaysIfRefused reply self.old self.new) }
-        ensures usable { OnOk result (IsUsable self.new) }
+        ensures keeps { LeavesKept result self.old self.new }
     {
         match event {
             Event::Document(doc) => self.add(alloc, doc),
@@ -282,12 +268,9 @@ impl Kept {
         requires outside { is_inside event ≡ false }
         ensures steps { IfOk result (λ reply. IsDeskBacked (T.files store.old) self.old → ArePlugs (priors_in (T.files store.old) self.old.repository.priors) (map (λ plug. meaning plug) plugs.old)
             → Steps event (T.files store.old) (T.files store.new) self.old self.new reply) }
-        ensures form { IfOk result IsReply }
         ensures refuses { needs_hits event ≡ false → IfOk result (λ reply. (told : Option Files) → RefusesAs reply (step (state_of told self.old) event).1) }
         ensures early { IfOk result (λ reply. (told : Option Files) → reply_early reply ≡ told_early (step (state_of told self.old) event).1) }
-        ensures kind { self.new.kind ≡ self.old.kind }
-        ensures unchanged { IfOk result (λ reply. StaysIfRefused reply self.old self.new) }
-        ensures usable { OnOk result (IsUsable self.new) }
+        ensures keeps { LeavesKept result self.old self.new }
         ensures quiet { IsQuiet T.files T.layers T.clock T.since T.longest T.held store.old store.new }
         ensures stay { map (λ plug. meaning plug) plugs.new ≡ map (λ plug. meaning plug) plugs.old }
         ensures honest { IsDeskBacked (T.files store.old) self.old → IfErr result IsOutside }
@@ -313,18 +296,10 @@ impl Kept {
         requires usable { IsUsable self.old }
         requires writes { may_write event ≡ true }
         ensures steps { IfOk result (λ reply. IsDeskBacked (T.files store.old) self.old → Steps event (T.files store.old) (T.files store.new) self.old self.new reply) }
-        ensures form { IfOk result IsReply }
         ensures refuses { IfOk result (λ reply. (told : Option Files) → RefusesAs reply (step (state_of told self.old) event).1) }
-        ensures done { OnOk result ((kept : Collection) → IsDeskBacked (T.files store.old) self.old → Stands self.old.repository.held.limits (T.files store.old) kept
-            → Stands self.old.repository.held.limits (T.files store.new) (kept_behind kept (step (state_of (T.files store.old) self.old) event))) }
-        ensures now { (kept : Collection) → IsDeskBacked (T.files store.old) self.old → Stands self.old.repository.held.limits (T.files store.old) kept
-            → IsEither self.old.repository.held.limits kept (kept_behind kept (step (state_of (T.files store.old) self.old) event)) (T.files store.new) }
-        ensures stops { (kept : Collection) → IsDeskBacked (T.files store.old) self.old → Stands self.old.repository.held.limits (T.files store.old) kept
-            → Leaves (T.since store.old) (T.since store.new) (IsEither self.old.repository.held.limits kept (kept_behind kept (step (state_of (T.files store.old) self.old) event))) }
+        ensures files { LeavesFiles event result (T.files store.old) (T.files store.new) (T.since store.old) (T.since store.new) self.old }
         ensures swept { is_end event ≡ true → OnOk result ((self.new.repository.stale ≡ []) × AreGone self.old.repository.stale (T.files store.new)) }
-        ensures kind { self.new.kind ≡ self.old.kind }
-        ensures unchanged { IfOk result (λ reply. StaysIfRefused reply self.old self.new) }
-        ensures usable { OnOk result (IsUsable self.new) }
+        ensures keeps { LeavesKept result self.old self.new }
         ensures goes_on { GoesOn T.layers T.clock T.longest T.held store.old store.new }
         ensures honest { IsDeskBacked (T.files store.old) self.old → IfErr result IsOutside }
         ensures later { T.faults store.old ≤ T.faults store.new }
@@ -341,12 +316,9 @@ impl Kept {
     fn add(&mut self, alloc: Global, doc: Doc) -> Result<Reply, SegFault>
         requires usable { IsUsable self.old }
         ensures steps { IfOk result (λ reply. (told : Option Files) → IsDeskBacked told self.old → Steps (event.Document doc) told told self.old self.new reply) }
-        ensures form { IfOk result IsReply }
         ensures refuses { IfOk result (λ reply. (told : Option Files) → RefusesAs reply (step (state_of told self.old) (event.Document doc)).1) }
         ensures memory { IfErr result (λ fault. fault ≡ SegFault.Memory) }
-        ensures kind { self.new.kind ≡ self.old.kind }
-        ensures unchanged { IfOk result (λ reply. StaysIfRefused reply self.old self.new) }
-        ensures usable { OnOk result (IsUsable self.new) }
+        ensures keeps { LeavesKept result self.old self.new }
     {
         let docno = doc.docno().clone_in(alloc)?;
         match self.repository.add(alloc, &doc) {
@@ -358,11 +330,8 @@ impl Kept {
     fn delete(&mut self, docno: Docno) -> Reply
         requires usable { IsUsable self.old }
         ensures steps { (told : Option Files) → IsDeskBacked told self.old → Steps (event.Delete docno) told told self.old self.new result }
-        ensures form { IsReply result }
         ensures refuses { (told : Option Files) → RefusesAs result (step (state_of told self.old) (event.Delete docno)).1 }
-        ensures kind { self.new.kind ≡ self.old.kind }
-        ensures unchanged { StaysIfRefused result self.old self.new }
-        ensures usable { IsUsable self.new }
+        ensures keeps { LeavesKept (Ok result) self.old self.new }
     {
         if self.repository.delete(&docno).is_err() {
             return Reply::Refused(Refusal::NoSuchDoc(docno));
@@ -373,17 +342,9 @@ impl Kept {
     fn flush<T: Store>(&mut self, alloc: Global, store: &mut T) -> Result<Reply, SegFault>
         requires usable { IsUsable self.old }
         ensures steps { IfOk result (λ reply. IsDeskBacked (T.files store.old) self.old → Steps event.Flush (T.files store.old) (T.files store.new) self.old self.new reply) }
-        ensures form { IfOk result IsReply }
         ensures refuses { IfOk result (λ reply. (told : Option Files) → RefusesAs reply (step (state_of told self.old) event.Flush).1) }
-        ensures done { OnOk result ((kept : Collection) → IsDeskBacked (T.files store.old) self.old → Stands self.old.repository.held.limits (T.files store.old) kept
-            → Stands self.old.repository.held.limits (T.files store.new) (kept_behind kept (step (state_of (T.files store.old) self.old) event.Flush))) }
-        ensures now { (kept : Collection) → IsDeskBacked (T.files store.old) self.old → Stands self.old.repository.held.limits (T.files store.old) kept
-            → IsEither self.old.repository.held.limits kept (kept_behind kept (step (state_of (T.files store.old) self.old) event.Flush)) (T.files store.new) }
-        ensures stops { (kept : Collection) → IsDeskBacked (T.files store.old) self.old → Stands self.old.repository.held.limits (T.files store.old) kept
-            → Leaves (T.since store.old) (T.since store.new) (IsEither self.old.repository.held.limits kept (kept_behind kept (step (state_of (T.files store.old) self.old) event.Flush))) }
-        ensures kind { self.new.kind ≡ self.old.kind }
-        ensures unchanged { IfOk result (λ reply. StaysIfRefused reply self.old self.new) }
-        ensures usable { OnOk result (IsUsable self.new) }
+        ensures files { LeavesFiles event.Flush result (T.files store.old) (T.files store.new) (T.since store.old) (T.since store.new) self.old }
+        ensures keeps { LeavesKept result self.old self.new }
         ensures goes_on { GoesOn T.layers T.clock T.longest T.held store.old store.new }
         ensures honest { IsDeskBacked (T.files store.old) self.old → IfErr result IsOutside }
         ensures later { T.faults store.old ≤ T.faults store.new }
@@ -396,12 +357,9 @@ impl Kept {
     fn merge(&mut self, alloc: Global) -> Result<Reply, SegFault>
         requires usable { IsUsable self.old }
         ensures steps { IfOk result (λ reply. (told : Option Files) → IsDeskBacked told self.old → Steps event.Merge told told self.old self.new reply) }
-        ensures form { IfOk result IsReply }
         ensures refuses { IfOk result (λ reply. (told : Option Files) → RefusesAs reply (step (state_of told self.old) event.Merge).1) }
         ensures memory { IfErr result (λ fault. fault ≡ SegFault.Memory) }
-        ensures kind { self.new.kind ≡ self.old.kind }
-        ensures unchanged { IfOk result (λ reply. StaysIfRefused reply self.old self.new) }
-        ensures usable { OnOk result (IsUsable self.new) }
+        ensures keeps { LeavesKept result self.old self.new }
     {
         if self.repository.merge_open() {
             return Ok(Reply::Refused(Refusal::MergeOpen));
@@ -415,17 +373,9 @@ impl Kept {
     fn turn<T: Store>(&mut self, alloc: Global, docs: u64, store: &mut T) -> Result<Reply, SegFault>
         requires usable { IsUsable self.old }
         ensures steps { IfOk result (λ reply. IsDeskBacked (T.files store.old) self.old → Steps (event.Turn docs) (T.files store.old) (T.files store.new) self.old self.new reply) }
-        ensures form { IfOk result IsReply }
         ensures refuses { IfOk result (λ reply. (told : Option Files) → RefusesAs reply (step (state_of told self.old) (event.Turn docs)).1) }
-        ensures done { OnOk result ((kept : Collection) → IsDeskBacked (T.files store.old) self.old → Stands self.old.repository.held.limits (T.files store.old) kept
-            → Stands self.old.repository.held.limits (T.files store.new) (kept_behind kept (step (state_of (T.files store.old) self.old) (event.Turn docs)))) }
-        ensures now { (kept : Collection) → IsDeskBacked (T.files store.old) self.old → Stands self.old.repository.held.limits (T.files store.old) kept
-            → IsEither self.old.repository.held.limits kept (kept_behind kept (step (state_of (T.files store.old) self.old) (event.Turn docs))) (T.files store.new) }
-        ensures stops { (kept : Collection) → IsDeskBacked (T.files store.old) self.old → Stands self.old.repository.held.limits (T.files store.old) kept
-            → Leaves (T.since store.old) (T.since store.new) (IsEither self.old.repository.held.limits kept (kept_behind kept (step (state_of (T.files store.old) self.old) (event.Turn docs)))) }
-        ensures kind { self.new.kind ≡ self.old.kind }
-        ensures unchanged { IfOk result (λ reply. StaysIfRefused reply self.old self.new) }
-        ensures usable { OnOk result (IsUsable self.new) }
+        ensures files { LeavesFiles (event.Turn docs) result (T.files store.old) (T.files store.new) (T.since store.old) (T.since store.new) self.old }
+        ensures keeps { LeavesKept result self.old self.new }
         ensures goes_on { GoesOn T.layers T.clock T.longest T.held store.old store.new }
         ensures honest { IsDeskBacked (T.files store.old) self.old → IfErr result IsOutside }
         ensures later { T.faults store.old ≤ T.faults store.new }
@@ -452,10 +402,7 @@ impl Kept {
         requires form { IsSessionEvent (event.Open name k text.now) }
         ensures steps { IfOk result (λ reply. IsDeskBacked (T.files store.old) self.old → Steps (event.Open name k text.now) (T.files store.old) (T.files store.new) self.old self.new reply) }
         ensures refuses { IfOk result (λ reply. (told : Option Files) → RefusesAs reply (step (state_of told self.old) (event.Open name k text.now)).1) }
-        ensures form { IfOk result IsReply }
-        ensures kind { self.new.kind ≡ self.old.kind }
-        ensures unchanged { IfOk result (λ reply. StaysIfRefused reply self.old self.new) }
-        ensures usable { OnOk result (IsUsable self.new) }
+        ensures keeps { LeavesKept result self.old self.new }
         ensures quiet { IsQuiet T.files T.layers T.clock T.since T.longest T.held store.old store.new }
         ensures honest { IsDeskBacked (T.files store.old) self.old → IfErr result IsOutside }
         ensures later { T.faults store.old ≤ T.faults store.new }
@@ -483,10 +430,7 @@ impl Kept {
         requires asks { All (AsksFor (length self.old.repository.priors)) (whole_checked checked).leaves }
         ensures steps { IfOk result (λ reply. IsDeskBacked (T.files store.old) self.old → StepsTo (open_step (state_of (T.files store.old) self.old) name k (Ok (whole_checked checked))) (T.files store.new) self.new reply) }
         ensures refuses { IfOk result (λ reply. (told : Option Files) → RefusesAs reply (open_step (state_of told self.old) name k (Ok (whole_checked checked))).1) }
-        ensures form { IfOk result IsReply }
-        ensures kind { self.new.kind ≡ self.old.kind }
-        ensures unchanged { IfOk result (λ reply. StaysIfRefused reply self.old self.new) }
-        ensures usable { OnOk result (IsUsable self.new) }
+        ensures keeps { LeavesKept result self.old self.new }
         ensures quiet { IsQuiet T.files T.layers T.clock T.since T.longest T.held store.old store.new }
         ensures honest { IsDeskBacked (T.files store.old) self.old → IfErr result IsOutside }
         ensures later { T.faults store.old ≤ T.faults store.new }
@@ -535,10 +479,7 @@ impl Kept {
             → Steps (event.Step name docs) (T.files store.old) (T.files store.new) self.old self.new reply) }
         ensures refuses { IfOk result (λ reply. (told : Option Files) → RefusesAs reply (step (state_of told self.old) (event.Step name docs)).1) }
         ensures stay { map (λ plug. meaning plug) plugs.new ≡ map (λ plug. meaning plug) plugs.old }
-        ensures form { IfOk result IsReply }
-        ensures kind { self.new.kind ≡ self.old.kind }
-        ensures unchanged { IfOk result (λ reply. StaysIfRefused reply self.old self.new) }
-        ensures usable { OnOk result (IsUsable self.new) }
+        ensures keeps { LeavesKept result self.old self.new }
         ensures quiet { IsQuiet T.files T.layers T.clock T.since T.longest T.held store.old store.new }
         ensures honest { IsDeskBacked (T.files store.old) self.old → IfErr result IsOutside }
         ensures later { T.faults store.old ≤ T.faults store.new }
@@ -587,10 +528,7 @@ impl Kept {
         requires form { IsSessionEvent (event.Explain name rank) }
         ensures steps { IfOk result (λ reply. IsDeskBacked (T.files store.old) self.old → Steps (event.Explain name rank) (T.files store.old) (T.files store.new) self.old self.new reply) }
         ensures early { IfOk result (λ reply. (told : Option Files) → reply_early reply ≡ told_early (step (state_of told self.old) (event.Explain name rank)).1) }
-        ensures form { IfOk result IsReply }
-        ensures kind { self.new.kind ≡ self.old.kind }
-        ensures unchanged { IfOk result (λ reply. StaysIfRefused reply self.old self.new) }
-        ensures usable { OnOk result (IsUsable self.new) }
+        ensures keeps { LeavesKept result self.old self.new }
         ensures quiet { IsQuiet T.files T.layers T.clock T.since T.longest T.held store.old store.new }
         ensures honest { IsDeskBacked (T.files store.old) self.old → IfErr result IsOutside }
         ensures later { T.faults store.old ≤ T.faults store.new }
@@ -631,10 +569,7 @@ impl Kept {
         requires form { IsSessionEvent (event.Scan text.now) }
         ensures steps { IfOk result (λ reply. IsDeskBacked (T.files store.old) self.old → Steps (event.Scan text.now) (T.files store.old) (T.files store.new) self.old self.new reply) }
         ensures refuses { IfOk result (λ reply. (told : Option Files) → RefusesAs reply (step (state_of told self.old) (event.Scan text.now)).1) }
-        ensures form { IfOk result IsReply }
-        ensures kind { self.new.kind ≡ self.old.kind }
-        ensures unchanged { IfOk result (λ reply. StaysIfRefused reply self.old self.new) }
-        ensures usable { OnOk result (IsUsable self.new) }
+        ensures keeps { LeavesKept result self.old self.new }
         ensures quiet { IsQuiet T.files T.layers T.clock T.since T.longest T.held store.old store.new }
         ensures honest { IsDeskBacked (T.files store.old) self.old → IfErr result IsOutside }
         ensures later { T.faults store.old ≤ T.faults store.new }
@@ -654,10 +589,7 @@ impl Kept {
         requires usable { IsUsable self.old }
         ensures steps { (told : Option Files) → IsDeskBacked told self.old → Steps (event.Close name) told told self.old self.new result }
         ensures refuses { (told : Option Files) → RefusesAs result (step (state_of told self.old) (event.Close name)).1 }
-        ensures form { IsReply result }
-        ensures kind { self.new.kind ≡ self.old.kind }
-        ensures unchanged { StaysIfRefused result self.old self.new }
-        ensures usable { IsUsable self.new }
+        ensures keeps { LeavesKept (Ok result) self.old self.new }
     {
         match self.find(&name) {
             Some(place) => {
@@ -672,18 +604,10 @@ impl Kept {
     fn end<T: Store>(&mut self, alloc: Global, store: &mut T) -> Result<Reply, SegFault>
         requires usable { IsUsable self.old }
         ensures steps { IfOk result (λ reply. IsDeskBacked (T.files store.old) self.old → Steps event.End (T.files store.old) (T.files store.new) self.old self.new reply) }
-        ensures form { IfOk result IsReply }
         ensures refuses { IfOk result (λ reply. (told : Option Files) → RefusesAs reply (step (state_of told self.old) event.End).1) }
-        ensures done { OnOk result ((kept : Collection) → IsDeskBacked (T.files store.old) self.old → Stands self.old.repository.held.limits (T.files store.old) kept
-            → Stands self.old.repository.held.limits (T.files store.new) (kept_behind kept (step (state_of (T.files store.old) self.old) event.End))) }
-        ensures now { (kept : Collection) → IsDeskBacked (T.files store.old) self.old → Stands self.old.repository.held.limits (T.files store.old) kept
-            → IsEither self.old.repository.held.limits kept (kept_behind kept (step (state_of (T.files store.old) self.old) event.End)) (T.files store.new) }
-        ensures stops { (kept : Collection) → IsDeskBacked (T.files store.old) self.old → Stands self.old.repository.held.limits (T.files store.old) kept
-            → Leaves (T.since store.old) (T.since store.new) (IsEither self.old.repository.held.limits kept (kept_behind kept (step (state_of (T.files store.old) self.old) event.End))) }
+        ensures files { LeavesFiles event.End result (T.files store.old) (T.files store.new) (T.since store.old) (T.since store.new) self.old }
         ensures swept { OnOk result ((self.new.repository.stale ≡ []) × AreGone self.old.repository.stale (T.files store.new)) }
-        ensures kind { self.new.kind ≡ self.old.kind }
-        ensures unchanged { IfOk result (λ reply. StaysIfRefused reply self.old self.new) }
-        ensures usable { OnOk result (IsUsable self.new) }
+        ensures keeps { LeavesKept result self.old self.new }
         ensures goes_on { GoesOn T.layers T.clock T.longest T.held store.old store.new }
         ensures honest { IsDeskBacked (T.files store.old) self.old → IfErr result IsOutside }
         ensures later { T.faults store.old ≤ T.faults store.new }

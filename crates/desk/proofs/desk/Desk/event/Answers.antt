@@ -9,7 +9,7 @@ pub answer-requires-clause-kind : goal.answer-requires-clause-kind
 answer-requires-clause-kind g c = sym c.args.self.now.same_kind
 
 pub set_usable-requires : goal.set_usable-requires
-set_usable-requires g c = λ on. c.in-Ok.ensures.usable.0
+set_usable-requires g c = λ on. c.in-Ok.ensures.keeps.usable.0
 
 pub returns-in-Ok-clause-steps : goal.returns-in-Ok-clause-steps
 returns-in-Ok-clause-steps g c = λ backed plugs.
@@ -21,7 +21,7 @@ returns-in-Ok-clause-swept g c = λ last.
 
 pub returns-in-Ok-clause-unchanged : goal.returns-in-Ok-clause-unchanged
 returns-in-Ok-clause-unchanged g c =
-    let stays = stays-usable c.args.event c.args.self.now.kept c.answer.new.self c.in-Ok.reply c.requires.usable.0 (λ hits. c.in-Ok.ensures.refuses hits None) c.in-Ok.ensures.unchanged in
+    let stays = stays-usable c.args.event c.args.self.now.kept c.answer.new.self c.in-Ok.reply c.requires.usable.0 (λ hits. c.in-Ok.ensures.refuses hits None) c.in-Ok.ensures.keeps.unchanged in
     let same : StaysIfRefused c.in-Ok.reply c.args.self.now.kept (with_usable c.answer.new.self (not c.is_end-is_last.result)) =
     subst (λ (b : Bool). StaysIfRefused c.in-Ok.reply c.args.self.now.kept (with_usable c.answer.new.self (not b))) (sym c.is_end-is_last.ensures) stays in
     subst (λ (x : Keeps). StaysIfRefused c.in-Ok.reply c.args.self.now.kept x) (sym c.set_usable.ensures) same

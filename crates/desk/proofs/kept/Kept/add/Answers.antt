@@ -61,7 +61,12 @@ invariant_of-self-2 c = λ usable working.
     kept-repository s.repository c.add.new.self s.queries.items s.counts
     (priors-call c.add.result s.repository c.add.new.self (with_held s.repository (added s.repository.held c.args.doc)) c.add.ensures.added c.add.ensures.kept refl) (c.self.invariant usable (sym c.add.ensures.usable ∙ working))
 
-pub returns-clause-unchanged : goal.returns-clause-unchanged
-returns-clause-unchanged c =
-    let view = seen c.self.inside in
-    if-ok-all c.not_added.result (λ (r : Reply). StaysIfRefused r c.args.self.now (with_repository view c.add.new.self)) (λ r. stays-same r c.args.self.now (with_repository view c.add.new.self) (ap (with_repository view) c.in-Err.ensures.kept ∙ c.self.view_is))
+pub returns-clause-keeps : goal.returns-clause-keeps
+returns-clause-keeps c = record {
+  form = search rules;
+  kind = ap (λ (x : Keeps). x.kind) c.self.view_is;
+  unchanged =
+      let view = seen c.self.inside in
+      if-ok-all c.not_added.result (λ (r : Reply). StaysIfRefused r c.args.self.now (with_repository view c.add.new.self)) (λ r. stays-same r c.args.self.now (with_repository view c.add.new.self) (ap (with_repository view) c.in-Err.ensures.kept ∙ c.self.view_is));
+  usable = search rules;
+}

@@ -30,15 +30,13 @@ returns-then-may_write-clause-inside g c = λ within. absurd (writing-outside c.
 pub returns-then-may_write-clause-quiet : goal.returns-then-may_write-clause-quiet
 returns-then-may_write-clause-quiet g c = λ none. absurd (no-clash (may_write c.args.event) (sym c.may_write.ensures ∙ c.if-may_write.true) none)
 
-pub returns-clause-done : goal.returns-clause-done
-returns-clause-done g c = on-ok c.keeping.result ((kept : Collection) → IsDeskBacked (g.T.Store.files c.args.store.now) c.args.self.now → Stands c.args.self.now.repository.held.limits (g.T.Store.files c.args.store.now) kept → Stands c.args.self.now.repository.held.limits (g.T.Store.files c.keeping.new.store) (kept_behind kept (step (state_of (g.T.Store.files c.args.store.now) c.args.self.now) c.args.event)))
-    (λ kept backed stands. quiet-done g.T.Store.files g.T.Store.layers g.T.Store.clock g.T.Store.since g.T.Store.longest g.T.Store.held c.args.store.now c.keeping.new.store c.keeping.ensures.quiet c.args.self.now c.args.event kept (sym c.may_write.ensures ∙ c.if-may_write.false) stands)
-
-pub returns-clause-now : goal.returns-clause-now
-returns-clause-now g c = λ kept backed stands. quiet-now g.T.Store.files g.T.Store.layers g.T.Store.clock g.T.Store.since g.T.Store.longest g.T.Store.held c.args.store.now c.keeping.new.store c.keeping.ensures.quiet c.args.self.now c.args.event kept (sym c.may_write.ensures ∙ c.if-may_write.false) stands
-
-pub returns-clause-stops : goal.returns-clause-stops
-returns-clause-stops g c = λ kept backed stands. quiet-stops g.T.Store.files g.T.Store.layers g.T.Store.clock g.T.Store.since g.T.Store.longest g.T.Store.held c.args.store.now c.keeping.new.store c.keeping.ensures.quiet c.args.self.now c.args.event kept (sym c.may_write.ensures ∙ c.if-may_write.false)
+pub returns-clause-files : goal.returns-clause-files
+returns-clause-files g c = record {
+  done = on-ok c.keeping.result ((kept : Collection) → IsDeskBacked (g.T.Store.files c.args.store.now) c.args.self.now → Stands c.args.self.now.repository.held.limits (g.T.Store.files c.args.store.now) kept → Stands c.args.self.now.repository.held.limits (g.T.Store.files c.keeping.new.store) (kept_behind kept (step (state_of (g.T.Store.files c.args.store.now) c.args.self.now) c.args.event)))
+      (λ kept backed stands. quiet-done g.T.Store.files g.T.Store.layers g.T.Store.clock g.T.Store.since g.T.Store.longest g.T.Store.held c.args.store.now c.keeping.new.store c.keeping.ensures.quiet c.args.self.now c.args.event kept (sym c.may_write.ensures ∙ c.if-may_write.false) stands);
+  now = λ kept backed stands. quiet-now g.T.Store.files g.T.Store.layers g.T.Store.clock g.T.Store.since g.T.Store.longest g.T.Store.held c.args.store.now c.keeping.new.store c.keeping.ensures.quiet c.args.self.now c.args.event kept (sym c.may_write.ensures ∙ c.if-may_write.false) stands;
+  stops = λ kept backed stands. quiet-stops g.T.Store.files g.T.Store.layers g.T.Store.clock g.T.Store.since g.T.Store.longest g.T.Store.held c.args.store.now c.keeping.new.store c.keeping.ensures.quiet c.args.self.now c.args.event kept (sym c.may_write.ensures ∙ c.if-may_write.false);
+}
 
 pub returns-clause-swept : goal.returns-clause-swept
 returns-clause-swept g c = λ last. absurd (end-writes c.args.event (sym c.may_write.ensures ∙ c.if-may_write.false) last)

@@ -1,4 +1,4 @@
-use Rattle.std.proofs.Common.{◌≡◌, ◌∙◌, false, true, ap, refl, sym, Option}
+use Rattle.std.proofs.Common.{◌≡◌, ◌∙◌, false, true, ap, refl, rules, sym, Option}
 use Rattle.std.specs.Prelude.{is_err}
 use Rattle.holdings.specs.Contents.{deleted}
 use Rattle.holdings.specs.Parts.{is_live}
@@ -58,8 +58,13 @@ invariant_of-self-2 c = λ usable working.
     kept-repository s.repository c.delete.new.self s.queries.items s.counts
     (priors-call c.delete.result s.repository c.delete.new.self (with_held s.repository (deleted s.repository.held c.args.docno)) c.delete.ensures.deleted c.delete.ensures.kept refl) (c.self.invariant usable (sym c.delete.ensures.usable ∙ working))
 
-pub returns-then-is_err-clause-unchanged : goal.returns-then-is_err-clause-unchanged
-returns-then-is_err-clause-unchanged c =
-    let view = seen c.self.inside in
-    let was : is_err c.delete.result ≡ true = sym c.is_err.ensures.value ∙ c.if-is_err.true in
-    ap (with_repository view) (err-of c.delete.result (c.delete.new.self ≡ view.repository) was c.delete.ensures.kept) ∙ c.self.view_is
+pub returns-then-is_err-clause-keeps : goal.returns-then-is_err-clause-keeps
+returns-then-is_err-clause-keeps c = record {
+  form = tt;
+  kind = ap (λ (x : Keeps). x.kind) c.self.view_is;
+  unchanged =
+      let view = seen c.self.inside in
+      let was : is_err c.delete.result ≡ true = sym c.is_err.ensures.value ∙ c.if-is_err.true in
+      ap (with_repository view) (err-of c.delete.result (c.delete.new.self ≡ view.repository) was c.delete.ensures.kept) ∙ c.self.view_is;
+  usable = search rules;
+}

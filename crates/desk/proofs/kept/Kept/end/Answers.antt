@@ -1,4 +1,4 @@
-use Rattle.std.proofs.Common.{◌∙◌, ap, refl}
+use Rattle.std.proofs.Common.{◌∙◌, ap, refl, rules}
 use Rattle.session_events.specs.declared.event.Event.TheVariants as event
 use Rattle.desk.specs.Backed.{Keeps, state_of}
 use Rattle.desk.proofs.Cases.{step-ended}
@@ -8,35 +8,40 @@ use Rattle.desk.proofs.Found.{seen}
 use Rattle.desk.proofs.KeptLemmas.{kept-closed}
 use Rattle.desk.proofs.kept.Kept.end.Goals as goal
 
-pub returns-in_err-flush-clause-now : goal.returns-in_err-flush-clause-now
-returns-in_err-flush-clause-now g c = λ kept backed stands.
-    let view = seen c.self.inside in
-    broken-now g.T.Store.files g.T.Store.clock g.T.Store.since c.args.store.now view c.args.self.now c.drop_merge.new.self kept c.self.view_is c.drop_merge.ensures backed stands c.flush.new.store c.flush.ensures.writes (g.met.T.Store.honest c.flush.new.store) (g.met.T.Store.still c.args.store.now) c.flush.ensures.goes_on.later
+pub returns-in_err-flush-clause-files : goal.returns-in_err-flush-clause-files
+returns-in_err-flush-clause-files g c = record {
+  done = search rules;
+  now = λ kept backed stands.
+      let view = seen c.self.inside in
+      broken-now g.T.Store.files g.T.Store.clock g.T.Store.since c.args.store.now view c.args.self.now c.drop_merge.new.self kept c.self.view_is c.drop_merge.ensures backed stands c.flush.new.store c.flush.ensures.writes (g.met.T.Store.honest c.flush.new.store) (g.met.T.Store.still c.args.store.now) c.flush.ensures.goes_on.later;
+  stops = λ kept backed stands.
+      let view = seen c.self.inside in
+      broken-stops g.T.Store.files g.T.Store.clock g.T.Store.since c.args.store.now view c.args.self.now c.drop_merge.new.self kept c.self.view_is c.drop_merge.ensures backed stands c.flush.new.store c.flush.ensures.writes;
+}
 
-pub returns-in_err-flush-clause-stops : goal.returns-in_err-flush-clause-stops
-returns-in_err-flush-clause-stops g c = λ kept backed stands.
-    let view = seen c.self.inside in
-    broken-stops g.T.Store.files g.T.Store.clock g.T.Store.since c.args.store.now view c.args.self.now c.drop_merge.new.self kept c.self.view_is c.drop_merge.ensures backed stands c.flush.new.store c.flush.ensures.writes
+pub returns-in_err-sweep-clause-files : goal.returns-in_err-sweep-clause-files
+returns-in_err-sweep-clause-files g c = record {
+  done = search rules;
+  now = λ kept backed stands.
+      let view = seen c.self.inside in
+      swept-now g.T.Store.files g.T.Store.clock g.T.Store.since c.args.store.now view c.args.self.now c.drop_merge.new.self kept c.self.view_is c.drop_merge.ensures backed stands c.flush.new.store c.flush.ensures.writes c.flush.new.self c.in_ok-flush.ensures.wrote c.in_ok-flush.ensures.saved c.sweep.new.store c.sweep.ensures.writes (g.met.T.Store.honest c.sweep.new.store) (g.met.T.Store.still c.flush.new.store) c.sweep.ensures.goes_on.later;
+  stops = λ kept backed stands.
+      let view = seen c.self.inside in
+      swept-stops g.T.Store.files g.T.Store.clock g.T.Store.since c.args.store.now view c.args.self.now c.drop_merge.new.self kept c.self.view_is c.drop_merge.ensures backed stands c.flush.new.store c.flush.ensures.writes c.flush.new.self c.in_ok-flush.ensures.wrote c.in_ok-flush.ensures.saved c.sweep.new.store c.sweep.ensures.writes;
+}
 
-pub returns-in_err-sweep-clause-now : goal.returns-in_err-sweep-clause-now
-returns-in_err-sweep-clause-now g c = λ kept backed stands.
-    let view = seen c.self.inside in
-    swept-now g.T.Store.files g.T.Store.clock g.T.Store.since c.args.store.now view c.args.self.now c.drop_merge.new.self kept c.self.view_is c.drop_merge.ensures backed stands c.flush.new.store c.flush.ensures.writes c.flush.new.self c.in_ok-flush.ensures.wrote c.in_ok-flush.ensures.saved c.sweep.new.store c.sweep.ensures.writes (g.met.T.Store.honest c.sweep.new.store) (g.met.T.Store.still c.flush.new.store) c.sweep.ensures.goes_on.later
-
-pub returns-in_err-sweep-clause-stops : goal.returns-in_err-sweep-clause-stops
-returns-in_err-sweep-clause-stops g c = λ kept backed stands.
-    let view = seen c.self.inside in
-    swept-stops g.T.Store.files g.T.Store.clock g.T.Store.since c.args.store.now view c.args.self.now c.drop_merge.new.self kept c.self.view_is c.drop_merge.ensures backed stands c.flush.new.store c.flush.ensures.writes c.flush.new.self c.in_ok-flush.ensures.wrote c.in_ok-flush.ensures.saved c.sweep.new.store c.sweep.ensures.writes
-
-pub returns-clause-now : goal.returns-clause-now
-returns-clause-now g c = λ kept backed stands.
-    let view = seen c.self.inside in
-    swept-now g.T.Store.files g.T.Store.clock g.T.Store.since c.args.store.now view c.args.self.now c.drop_merge.new.self kept c.self.view_is c.drop_merge.ensures backed stands c.flush.new.store c.flush.ensures.writes c.flush.new.self c.in_ok-flush.ensures.wrote c.in_ok-flush.ensures.saved c.sweep.new.store c.sweep.ensures.writes (g.met.T.Store.honest c.sweep.new.store) (g.met.T.Store.still c.flush.new.store) c.sweep.ensures.goes_on.later
-
-pub returns-clause-stops : goal.returns-clause-stops
-returns-clause-stops g c = λ kept backed stands.
-    let view = seen c.self.inside in
-    swept-stops g.T.Store.files g.T.Store.clock g.T.Store.since c.args.store.now view c.args.self.now c.drop_merge.new.self kept c.self.view_is c.drop_merge.ensures backed stands c.flush.new.store c.flush.ensures.writes c.flush.new.self c.in_ok-flush.ensures.wrote c.in_ok-flush.ensures.saved c.sweep.new.store c.sweep.ensures.writes
+pub returns-clause-files : goal.returns-clause-files
+returns-clause-files g c = record {
+  done = λ kept backed stands.
+      let view = seen c.self.inside in
+      end-kept (g.T.Store.files c.args.store.now) (g.T.Store.files c.flush.new.store) (g.T.Store.files c.sweep.new.store) view c.args.self.now c.drop_merge.new.self c.flush.new.self c.sweep.new.self c.self.view_is c.drop_merge.ensures c.in_ok-flush.ensures.wrote c.in_ok-flush.ensures.saved c.in_ok-sweep.ensures.wrote c.in_ok-sweep.ensures.saved kept backed;
+  now = λ kept backed stands.
+      let view = seen c.self.inside in
+      swept-now g.T.Store.files g.T.Store.clock g.T.Store.since c.args.store.now view c.args.self.now c.drop_merge.new.self kept c.self.view_is c.drop_merge.ensures backed stands c.flush.new.store c.flush.ensures.writes c.flush.new.self c.in_ok-flush.ensures.wrote c.in_ok-flush.ensures.saved c.sweep.new.store c.sweep.ensures.writes (g.met.T.Store.honest c.sweep.new.store) (g.met.T.Store.still c.flush.new.store) c.sweep.ensures.goes_on.later;
+  stops = λ kept backed stands.
+      let view = seen c.self.inside in
+      swept-stops g.T.Store.files g.T.Store.clock g.T.Store.since c.args.store.now view c.args.self.now c.drop_merge.new.self kept c.self.view_is c.drop_merge.ensures backed stands c.flush.new.store c.flush.ensures.writes c.flush.new.self c.in_ok-flush.ensures.wrote c.in_ok-flush.ensures.saved c.sweep.new.store c.sweep.ensures.writes;
+}
 
 pub returns-clause-steps : goal.returns-clause-steps
 returns-clause-steps g c = λ backed.
@@ -47,11 +52,6 @@ pub returns-clause-refuses : goal.returns-clause-refuses
 returns-clause-refuses g c = λ told.
     let view = seen c.self.inside in
     accepted-by event.End told view c.args.self.now _ c.self.view_is (step-ended (state_of told view)) refl
-
-pub returns-clause-done : goal.returns-clause-done
-returns-clause-done g c = λ kept backed stands.
-    let view = seen c.self.inside in
-    end-kept (g.T.Store.files c.args.store.now) (g.T.Store.files c.flush.new.store) (g.T.Store.files c.sweep.new.store) view c.args.self.now c.drop_merge.new.self c.flush.new.self c.sweep.new.self c.self.view_is c.drop_merge.ensures c.in_ok-flush.ensures.wrote c.in_ok-flush.ensures.saved c.in_ok-sweep.ensures.wrote c.in_ok-sweep.ensures.saved kept backed
 
 pub returns-clause-swept : goal.returns-clause-swept
 returns-clause-swept g c = (

@@ -1,4 +1,4 @@
-use Rattle.std.proofs.Common.{◌≡◌, ◌∙◌, ◌-◌, ap, length, map, subst, sym, List, None}
+use Rattle.std.proofs.Common.{◌≡◌, ◌∙◌, ◌-◌, ap, length, map, rules, subst, sym, List, None}
 use Rattle.std.specs.Prelude.{is_some}
 use Rattle.std.proofs.Math.Logic.{∥∥₁_map}
 use Rattle.std.proofs.lemmas.Result.{err_from_is_err_and}
@@ -99,8 +99,13 @@ explain_hit-requires-clause-hit g c =
     subst (λ leaves. IsWindowIn (live told c.parts.result.now) leaves (candidate_of hit)) (as-many-leaves q.search c.checked.result.now was.network c.checked.ensures)
     (subst (λ (ms : List Marked). IsWindowIn (live told ms) n (candidate_of hit)) (sym parts) here))
 
-pub returns-clause-form : goal.returns-clause-form
-returns-clause-form g c = scale-form c.checked.result.now c.in_ok-explained.explained.scale c.in_ok-explained.ensures.scale
+pub returns-clause-keeps : goal.returns-clause-keeps
+returns-clause-keeps g c = record {
+  form = scale-form c.checked.result.now c.in_ok-explained.explained.scale c.in_ok-explained.ensures.scale;
+  kind = ap (λ (x : Keeps). x.kind) c.self.view_is;
+  unchanged = tt;
+  usable = search rules;
+}
 
 pub returns-clause-steps : goal.returns-clause-steps
 returns-clause-steps g c = λ backed.

@@ -1,7 +1,5 @@
-use Rattle.std.proofs.Common.{◌∙◌, ap, refl, subst, sym}
-use Rattle.store_ends.specs.Files.{Leaves}
+use Rattle.std.proofs.Common.{◌∙◌, ap, refl, rules, subst, sym}
 use Rattle.repository.specs.Stands.{Collection, Stands}
-use Rattle.repository.specs.Writes.{IsEither}
 use Rattle.session_events.specs.declared.event.Event.TheVariants as event
 use Rattle.desk.specs.declared.reply.Reply.TheVariants as reply
 use Rattle.desk.specs.Backed.{Keeps, Steps, state_of}
@@ -10,23 +8,28 @@ use Rattle.desk.specs.Step.{step}
 use Rattle.desk.proofs.Cases.{kept-flushed, step-flushed}
 use Rattle.desk.proofs.DocumentExits.{with_repository}
 use Rattle.desk.proofs.Exits.{accepted-by, of-now}
-use Rattle.desk.proofs.FlushExits.{flush-exit, flush-now, flush-stands, flush-stops}
+use Rattle.desk.proofs.FlushExits.{flush-exit, flush-stands, flushed-now, flushed-stops}
 use Rattle.desk.proofs.Found.{seen}
 use Rattle.desk.proofs.KeptLemmas.{kept-repository, priors-saved}
 use Rattle.desk.proofs.kept.Kept.flush.Goals as goal
 
-pub returns-in_err-flush-clause-now : goal.returns-in_err-flush-clause-now
-returns-in_err-flush-clause-now g c = λ kept backed stands.
-    let view = seen c.self.inside in
-    of-now (g.T.Store.files c.args.store.now) view c.args.self.now (λ (x : Keeps). Stands x.repository.held.limits (g.T.Store.files c.args.store.now) kept → IsEither x.repository.held.limits kept (kept_behind kept (step (state_of (g.T.Store.files c.args.store.now) x) event.Flush)) (g.T.Store.files c.flush.new.store)) c.self.view_is
-    (λ b standing. flush-now g.T.Store.files g.T.Store.clock g.T.Store.since c.args.store.now c.flush.new.store view kept b c.flush.ensures.writes standing (g.met.T.Store.honest c.flush.new.store) (g.met.T.Store.still c.args.store.now) c.flush.ensures.goes_on.later)
-    backed stands
+pub returns-in_err-flush-clause-files : goal.returns-in_err-flush-clause-files
+returns-in_err-flush-clause-files g c = record {
+  done = search rules;
+  now = flushed-now g.T.Store.files g.T.Store.clock g.T.Store.since c.args.store.now c.flush.new.store (seen c.self.inside) c.args.self.now c.self.view_is c.flush.ensures.writes (g.met.T.Store.honest c.flush.new.store) (g.met.T.Store.still c.args.store.now) c.flush.ensures.goes_on.later;
+  stops = flushed-stops g.T.Store.files g.T.Store.clock g.T.Store.since c.args.store.now c.flush.new.store (seen c.self.inside) c.args.self.now c.self.view_is c.flush.ensures.writes;
+}
 
-pub returns-in_err-flush-clause-stops : goal.returns-in_err-flush-clause-stops
-returns-in_err-flush-clause-stops g c = λ kept backed stands.
-    let view = seen c.self.inside in
-    of-now (g.T.Store.files c.args.store.now) view c.args.self.now (λ (x : Keeps). Stands x.repository.held.limits (g.T.Store.files c.args.store.now) kept → Leaves (g.T.Store.since c.args.store.now) (g.T.Store.since c.flush.new.store) (IsEither x.repository.held.limits kept (kept_behind kept (step (state_of (g.T.Store.files c.args.store.now) x) event.Flush)))) c.self.view_is
-    (λ b standing. flush-stops g.T.Store.files g.T.Store.clock g.T.Store.since c.args.store.now c.flush.new.store view kept b c.flush.ensures.writes standing) backed stands
+pub returns-clause-files : goal.returns-clause-files
+returns-clause-files g c = record {
+  done = λ kept backed stands.
+      let view = seen c.self.inside in
+      of-now (g.T.Store.files c.args.store.now) view c.args.self.now (λ (x : Keeps). Stands x.repository.held.limits (g.T.Store.files c.flush.new.store) (kept_behind kept (step (state_of (g.T.Store.files c.args.store.now) x) event.Flush))) c.self.view_is
+      (λ b. subst (λ (k : Collection). Stands view.repository.held.limits (g.T.Store.files c.flush.new.store) k) (sym (kept-flushed kept (state_of (g.T.Store.files c.args.store.now) view)))
+      (flush-stands (g.T.Store.files c.args.store.now) (g.T.Store.files c.flush.new.store) view c.flush.new.self b c.flush.ensures.writes.others c.in_ok-flush.ensures.wrote c.in_ok-flush.ensures.merging c.in_ok-flush.ensures.saved)) backed;
+  now = flushed-now g.T.Store.files g.T.Store.clock g.T.Store.since c.args.store.now c.flush.new.store (seen c.self.inside) c.args.self.now c.self.view_is c.flush.ensures.writes (g.met.T.Store.honest c.flush.new.store) (g.met.T.Store.still c.args.store.now) c.flush.ensures.goes_on.later;
+  stops = flushed-stops g.T.Store.files g.T.Store.clock g.T.Store.since c.args.store.now c.flush.new.store (seen c.self.inside) c.args.self.now c.self.view_is c.flush.ensures.writes;
+}
 
 pub returns-clause-steps : goal.returns-clause-steps
 returns-clause-steps g c = λ backed.
@@ -38,26 +41,6 @@ pub returns-clause-refuses : goal.returns-clause-refuses
 returns-clause-refuses g c = λ told.
     let view = seen c.self.inside in
     accepted-by event.Flush told view c.args.self.now _ c.self.view_is (step-flushed (state_of told view)) refl
-
-pub returns-clause-done : goal.returns-clause-done
-returns-clause-done g c = λ kept backed stands.
-    let view = seen c.self.inside in
-    of-now (g.T.Store.files c.args.store.now) view c.args.self.now (λ (x : Keeps). Stands x.repository.held.limits (g.T.Store.files c.flush.new.store) (kept_behind kept (step (state_of (g.T.Store.files c.args.store.now) x) event.Flush))) c.self.view_is
-    (λ b. subst (λ (k : Collection). Stands view.repository.held.limits (g.T.Store.files c.flush.new.store) k) (sym (kept-flushed kept (state_of (g.T.Store.files c.args.store.now) view)))
-    (flush-stands (g.T.Store.files c.args.store.now) (g.T.Store.files c.flush.new.store) view c.flush.new.self b c.flush.ensures.writes.others c.in_ok-flush.ensures.wrote c.in_ok-flush.ensures.merging c.in_ok-flush.ensures.saved)) backed
-
-pub returns-clause-now : goal.returns-clause-now
-returns-clause-now g c = λ kept backed stands.
-    let view = seen c.self.inside in
-    of-now (g.T.Store.files c.args.store.now) view c.args.self.now (λ (x : Keeps). Stands x.repository.held.limits (g.T.Store.files c.args.store.now) kept → IsEither x.repository.held.limits kept (kept_behind kept (step (state_of (g.T.Store.files c.args.store.now) x) event.Flush)) (g.T.Store.files c.flush.new.store)) c.self.view_is
-    (λ b standing. flush-now g.T.Store.files g.T.Store.clock g.T.Store.since c.args.store.now c.flush.new.store view kept b c.flush.ensures.writes standing (g.met.T.Store.honest c.flush.new.store) (g.met.T.Store.still c.args.store.now) c.flush.ensures.goes_on.later)
-    backed stands
-
-pub returns-clause-stops : goal.returns-clause-stops
-returns-clause-stops g c = λ kept backed stands.
-    let view = seen c.self.inside in
-    of-now (g.T.Store.files c.args.store.now) view c.args.self.now (λ (x : Keeps). Stands x.repository.held.limits (g.T.Store.files c.args.store.now) kept → Leaves (g.T.Store.since c.args.store.now) (g.T.Store.since c.flush.new.store) (IsEither x.repository.held.limits kept (kept_behind kept (step (state_of (g.T.Store.files c.args.store.now) x) event.Flush)))) c.self.view_is
-    (λ b standing. flush-stops g.T.Store.files g.T.Store.clock g.T.Store.since c.args.store.now c.flush.new.store view kept b c.flush.ensures.writes standing) backed stands
 
 pub invariant_of-self-2 : goal.invariant_of-self-2
 invariant_of-self-2 g c = λ usable working.

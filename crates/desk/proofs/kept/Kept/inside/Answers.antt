@@ -2,10 +2,11 @@ use Rattle.std.proofs.Common.{refl, subst, sym, Option}
 use Rattle.store_ends.specs.Files.{Files}
 use Rattle.session_events.specs.declared.event.Event.{Event}
 use Rattle.desk.specs.declared.reply.Reply.{Reply}
-use Rattle.desk.specs.Backed.{IsDeskBacked, state_of}
+use Rattle.desk.specs.Backed.{IsDeskBacked, IsUsable, state_of}
 use Rattle.desk.specs.Keeping.{StaysIfRefused}
 use Rattle.desk.specs.Orders.{IsTrueReply}
 use Rattle.desk.proofs.EventExits.{if-ok-all, inside-kinds, stays-same}
+use Rattle.desk.proofs.Points.{on-ok}
 use Rattle.desk.proofs.kept.Kept.inside.Goals as goal
 
 pub returns-in-Document-clause-order : goal.returns-in-Document-clause-order
@@ -25,5 +26,10 @@ returns-in-Close-clause-order c = λ told backed. subst (λ (e : Event). IsTrueR
 pub unreachable-requires : goal.unreachable-requires
 unreachable-requires c = inside-kinds c.args.event c.requires.inside c.in_default.not-Document c.in_default.not-Delete c.in_default.not-Merge c.in_default.not-Show c.in_default.not-Close
 
-pub returns-in-Show-clause-unchanged : goal.returns-in-Show-clause-unchanged
-returns-in-Show-clause-unchanged c = if-ok-all c.show.result (λ (r : Reply). StaysIfRefused r c.args.self.now c.args.self.now) (λ r. stays-same r c.args.self.now c.args.self.now refl)
+pub returns-in-Show-clause-keeps : goal.returns-in-Show-clause-keeps
+returns-in-Show-clause-keeps c = record {
+  form = c.show.ensures.form;
+  kind = refl;
+  unchanged = if-ok-all c.show.result (λ (r : Reply). StaysIfRefused r c.args.self.now c.args.self.now) (λ r. stays-same r c.args.self.now c.args.self.now refl);
+  usable = on-ok c.show.result (IsUsable c.args.self.now) c.requires.usable;
+}

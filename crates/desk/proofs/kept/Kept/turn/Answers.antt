@@ -1,4 +1,4 @@
-use Rattle.std.proofs.Common.{◌≡◌, ◌∙◌, false, true, ap, inl, subst, sym}
+use Rattle.std.proofs.Common.{◌≡◌, ◌∙◌, false, true, ap, inl, rules, subst, sym}
 use Rattle.std.specs.Prelude.{is_some}
 use Rattle.std.proofs.lemmas.Result.{err_from_is_err_and}
 use Rattle.store_ends.proofs.Files.{Leaves-same}
@@ -15,7 +15,7 @@ use Rattle.desk.proofs.Exits.{of-now, refused-by, refused-exit}
 use Rattle.desk.proofs.Found.{seen}
 use Rattle.desk.proofs.KeptLemmas.{kept-repository, priors-turned}
 use Rattle.desk.proofs.MergeExits.{with_merged}
-use Rattle.desk.proofs.TurnExits.{nomerge-kept, nomerge-step, none-below, same-below, turn-form, turn-honest, turn-kept, turn-now, turn-refuses, turn-stays, turn-steps, turn-stops}
+use Rattle.desk.proofs.TurnExits.{nomerge-kept, nomerge-step, same-below, turn-form, turn-honest, turn-kept, turn-refuses, turn-stays, turn-steps, turned-now, turned-stops}
 use Rattle.desk.proofs.kept.Kept.turn.Goals as goal
 
 pub returns-then-not-merge_open-clause-steps : goal.returns-then-not-merge_open-clause-steps
@@ -30,49 +30,43 @@ returns-then-not-merge_open-clause-refuses g c = λ told.
     let none : is_some view.repository.merge ≡ false = sym c.merge_open.ensures ∙ c.if-not-merge_open.true in
     refused-by (event.Turn c.args.docs) told view c.args.self.now NoMerge c.self.view_is (nomerge-step told view c.args.docs none)
 
-pub returns-then-not-merge_open-clause-done : goal.returns-then-not-merge_open-clause-done
-returns-then-not-merge_open-clause-done g c = λ kept backed stands.
-    let view = seen c.self.inside in
-    let none : is_some view.repository.merge ≡ false = sym c.merge_open.ensures ∙ c.if-not-merge_open.true in
-    nomerge-kept (g.T.Store.files c.args.store.now) view c.args.self.now c.args.docs kept c.self.view_is none stands
+pub returns-then-not-merge_open-clause-files : goal.returns-then-not-merge_open-clause-files
+returns-then-not-merge_open-clause-files g c = record {
+  done = λ kept backed stands.
+      let view = seen c.self.inside in
+      let none : is_some view.repository.merge ≡ false = sym c.merge_open.ensures ∙ c.if-not-merge_open.true in
+      nomerge-kept (g.T.Store.files c.args.store.now) view c.args.self.now c.args.docs kept c.self.view_is none stands;
+  now = λ kept backed stands. inl stands;
+  stops = λ kept backed stands. Leaves-same (g.T.Store.since c.args.store.now) _;
+}
 
-pub returns-then-not-merge_open-clause-now : goal.returns-then-not-merge_open-clause-now
-returns-then-not-merge_open-clause-now g c = λ kept backed stands. inl stands
+pub returns-in_err-turned-clause-files : goal.returns-in_err-turned-clause-files
+returns-in_err-turned-clause-files g c = record {
+  done = search rules;
+  now = turned-now g.T.Store.files g.T.Store.layers g.T.Store.clock g.T.Store.since g.T.Store.longest g.T.Store.held c.args.store.now c.merge_turn.new.store (seen c.self.inside) c.args.self.now c.args.docs c.self.view_is (sym c.merge_open.ensures ∙ c.if-not-merge_open.false) c.merge_turn.ensures.quiet c.merge_turn.ensures.stay c.merge_turn.ensures.stops (g.met.T.Store.honest c.merge_turn.new.store) (g.met.T.Store.still c.args.store.now) c.merge_turn.ensures.goes_on.later;
+  stops = turned-stops g.T.Store.files g.T.Store.layers g.T.Store.clock g.T.Store.since g.T.Store.longest g.T.Store.held c.args.store.now c.merge_turn.new.store (seen c.self.inside) c.args.self.now c.args.docs c.self.view_is (sym c.merge_open.ensures ∙ c.if-not-merge_open.false) c.merge_turn.ensures.quiet c.merge_turn.ensures.stay c.merge_turn.ensures.stops;
+}
 
-pub returns-then-not-merge_open-clause-stops : goal.returns-then-not-merge_open-clause-stops
-returns-then-not-merge_open-clause-stops g c = λ kept backed stands. Leaves-same (g.T.Store.since c.args.store.now) _
+pub returns-clause-files : goal.returns-clause-files
+returns-clause-files g c = record {
+  done = λ kept backed stands.
+      let view = seen c.self.inside in
+      turn-kept (g.T.Store.files c.args.store.now) (g.T.Store.files c.merge_turn.new.store) view c.args.self.now c.args.docs c.merge_turn.new.self c.merge_turn.new.cache c.live_count.result c.self.view_is
+      (same-below g.T.Store.files g.T.Store.layers g.T.Store.clock g.T.Store.since g.T.Store.longest g.T.Store.held c.args.store.now c.merge_turn.new.store view.repository.merge c.args.docs c.merge_turn.ensures.quiet) c.in_ok-turned.turned c.in_ok-turned.ensures.turned c.in_ok-turned.ensures.state c.in_ok-turned.ensures.over kept backed stands;
+  now = turned-now g.T.Store.files g.T.Store.layers g.T.Store.clock g.T.Store.since g.T.Store.longest g.T.Store.held c.args.store.now c.merge_turn.new.store (seen c.self.inside) c.args.self.now c.args.docs c.self.view_is (sym c.merge_open.ensures ∙ c.if-not-merge_open.false) c.merge_turn.ensures.quiet c.merge_turn.ensures.stay c.merge_turn.ensures.stops (g.met.T.Store.honest c.merge_turn.new.store) (g.met.T.Store.still c.args.store.now) c.merge_turn.ensures.goes_on.later;
+  stops = turned-stops g.T.Store.files g.T.Store.layers g.T.Store.clock g.T.Store.since g.T.Store.longest g.T.Store.held c.args.store.now c.merge_turn.new.store (seen c.self.inside) c.args.self.now c.args.docs c.self.view_is (sym c.merge_open.ensures ∙ c.if-not-merge_open.false) c.merge_turn.ensures.quiet c.merge_turn.ensures.stay c.merge_turn.ensures.stops;
+}
 
-pub returns-in_err-turned-clause-now : goal.returns-in_err-turned-clause-now
-returns-in_err-turned-clause-now g c = λ kept backed stands.
-    let view = seen c.self.inside in
-    let some : is_some view.repository.merge ≡ true = sym c.merge_open.ensures ∙ c.if-not-merge_open.false in
-    turn-now g.T.Store.files g.T.Store.clock g.T.Store.since c.args.store.now c.merge_turn.new.store view c.args.self.now c.args.docs kept c.self.view_is some
-    (same-below g.T.Store.files g.T.Store.layers g.T.Store.clock g.T.Store.since g.T.Store.longest g.T.Store.held c.args.store.now c.merge_turn.new.store view.repository.merge c.args.docs c.merge_turn.ensures.quiet)
-    (none-below g.T.Store.files g.T.Store.layers g.T.Store.clock g.T.Store.since g.T.Store.longest g.T.Store.held c.args.store.now c.merge_turn.new.store view.repository.merge c.args.docs c.merge_turn.ensures.quiet) c.merge_turn.ensures.stay c.merge_turn.ensures.stops backed stands (g.met.T.Store.honest c.merge_turn.new.store) (g.met.T.Store.still c.args.store.now) c.merge_turn.ensures.goes_on.later
-
-pub returns-in_err-turned-clause-stops : goal.returns-in_err-turned-clause-stops
-returns-in_err-turned-clause-stops g c = λ kept backed stands.
-    let view = seen c.self.inside in
-    let some : is_some view.repository.merge ≡ true = sym c.merge_open.ensures ∙ c.if-not-merge_open.false in
-    turn-stops g.T.Store.files g.T.Store.clock g.T.Store.since c.args.store.now c.merge_turn.new.store view c.args.self.now c.args.docs kept c.self.view_is some
-    (same-below g.T.Store.files g.T.Store.layers g.T.Store.clock g.T.Store.since g.T.Store.longest g.T.Store.held c.args.store.now c.merge_turn.new.store view.repository.merge c.args.docs c.merge_turn.ensures.quiet)
-    (none-below g.T.Store.files g.T.Store.layers g.T.Store.clock g.T.Store.since g.T.Store.longest g.T.Store.held c.args.store.now c.merge_turn.new.store view.repository.merge c.args.docs c.merge_turn.ensures.quiet) c.merge_turn.ensures.stay c.merge_turn.ensures.stops backed stands
-
-pub returns-clause-now : goal.returns-clause-now
-returns-clause-now g c = λ kept backed stands.
-    let view = seen c.self.inside in
-    let some : is_some view.repository.merge ≡ true = sym c.merge_open.ensures ∙ c.if-not-merge_open.false in
-    turn-now g.T.Store.files g.T.Store.clock g.T.Store.since c.args.store.now c.merge_turn.new.store view c.args.self.now c.args.docs kept c.self.view_is some
-    (same-below g.T.Store.files g.T.Store.layers g.T.Store.clock g.T.Store.since g.T.Store.longest g.T.Store.held c.args.store.now c.merge_turn.new.store view.repository.merge c.args.docs c.merge_turn.ensures.quiet)
-    (none-below g.T.Store.files g.T.Store.layers g.T.Store.clock g.T.Store.since g.T.Store.longest g.T.Store.held c.args.store.now c.merge_turn.new.store view.repository.merge c.args.docs c.merge_turn.ensures.quiet) c.merge_turn.ensures.stay c.merge_turn.ensures.stops backed stands (g.met.T.Store.honest c.merge_turn.new.store) (g.met.T.Store.still c.args.store.now) c.merge_turn.ensures.goes_on.later
-
-pub returns-clause-stops : goal.returns-clause-stops
-returns-clause-stops g c = λ kept backed stands.
-    let view = seen c.self.inside in
-    let some : is_some view.repository.merge ≡ true = sym c.merge_open.ensures ∙ c.if-not-merge_open.false in
-    turn-stops g.T.Store.files g.T.Store.clock g.T.Store.since c.args.store.now c.merge_turn.new.store view c.args.self.now c.args.docs kept c.self.view_is some
-    (same-below g.T.Store.files g.T.Store.layers g.T.Store.clock g.T.Store.since g.T.Store.longest g.T.Store.held c.args.store.now c.merge_turn.new.store view.repository.merge c.args.docs c.merge_turn.ensures.quiet)
-    (none-below g.T.Store.files g.T.Store.layers g.T.Store.clock g.T.Store.since g.T.Store.longest g.T.Store.held c.args.store.now c.merge_turn.new.store view.repository.merge c.args.docs c.merge_turn.ensures.quiet) c.merge_turn.ensures.stay c.merge_turn.ensures.stops backed stands
+pub returns-clause-keeps : goal.returns-clause-keeps
+returns-clause-keeps g c = record {
+  form = subst IsReply (sym c.turned_reply.ensures) (turn-form c.in_ok-turned.turned c.live_count.result);
+  kind = ap (λ (x : Keeps). x.kind) c.self.view_is;
+  unchanged =
+      let s = c.self.inside in
+      let behind : Keeps = record { repository = c.merge_turn.new.self; kind = s.kind; queries = s.queries.items; counts = s.counts; cache = c.merge_turn.new.cache; usable = s.usable } in
+      subst (λ (x : Reply). StaysIfRefused x c.args.self.now behind) (sym c.turned_reply.ensures) (turn-stays c.in_ok-turned.turned c.live_count.result c.args.self.now behind);
+  usable = search rules;
+}
 
 pub returns-in_err-turned-clause-honest : goal.returns-in_err-turned-clause-honest
 returns-in_err-turned-clause-honest g c = λ backed.
@@ -87,20 +81,11 @@ returns-clause-steps g c = λ backed.
     (turn-steps (g.T.Store.files c.args.store.now) (g.T.Store.files c.merge_turn.new.store) view c.args.self.now c.args.docs c.merge_turn.new.self c.merge_turn.new.cache c.live_count.result c.self.view_is
     (same-below g.T.Store.files g.T.Store.layers g.T.Store.clock g.T.Store.since g.T.Store.longest g.T.Store.held c.args.store.now c.merge_turn.new.store view.repository.merge c.args.docs c.merge_turn.ensures.quiet) c.in_ok-turned.turned c.in_ok-turned.ensures.turned c.in_ok-turned.ensures.state c.in_ok-turned.ensures.over c.merge_turn.ensures.stay c.merge_turn.ensures.cache (c.live_count.ensures (g.T.Store.files c.merge_turn.new.store)) backed)
 
-pub returns-clause-done : goal.returns-clause-done
-returns-clause-done g c = λ kept backed stands.
-    let view = seen c.self.inside in
-    turn-kept (g.T.Store.files c.args.store.now) (g.T.Store.files c.merge_turn.new.store) view c.args.self.now c.args.docs c.merge_turn.new.self c.merge_turn.new.cache c.live_count.result c.self.view_is
-    (same-below g.T.Store.files g.T.Store.layers g.T.Store.clock g.T.Store.since g.T.Store.longest g.T.Store.held c.args.store.now c.merge_turn.new.store view.repository.merge c.args.docs c.merge_turn.ensures.quiet) c.in_ok-turned.turned c.in_ok-turned.ensures.turned c.in_ok-turned.ensures.state c.in_ok-turned.ensures.over kept backed stands
-
 pub returns-clause-refuses : goal.returns-clause-refuses
 returns-clause-refuses g c = λ told.
     let view = seen c.self.inside in
     let some : is_some view.repository.merge ≡ true = sym c.merge_open.ensures ∙ c.if-not-merge_open.false in
     subst (λ (x : Reply). RefusesAs x (step (state_of told c.args.self.now) (event.Turn c.args.docs)).1) (sym c.turned_reply.ensures) (turn-refuses told view c.args.self.now c.args.docs c.live_count.result c.in_ok-turned.turned c.self.view_is some)
-
-pub returns-clause-form : goal.returns-clause-form
-returns-clause-form g c = subst IsReply (sym c.turned_reply.ensures) (turn-form c.in_ok-turned.turned c.live_count.result)
 
 pub invariant_of-self : goal.invariant_of-self
 invariant_of-self g c = λ usable working.
@@ -111,9 +96,3 @@ pub invariant_of-self-2 : goal.invariant_of-self-2
 invariant_of-self-2 g c = λ usable working.
     let s = c.self.inside in
     kept-repository s.repository c.merge_turn.new.self s.queries.items s.counts (priors-turned c.merge_turn.result c.args.docs s.repository c.merge_turn.new.self c.merge_turn.ensures.state c.merge_turn.ensures.broken working) (c.self.invariant usable (ap (λ (x : Keeps). x.repository.usable) c.self.view_is ∙ c.requires.usable.1))
-
-pub returns-clause-unchanged : goal.returns-clause-unchanged
-returns-clause-unchanged g c =
-    let s = c.self.inside in
-    let behind : Keeps = record { repository = c.merge_turn.new.self; kind = s.kind; queries = s.queries.items; counts = s.counts; cache = c.merge_turn.new.cache; usable = s.usable } in
-    subst (λ (x : Reply). StaysIfRefused x c.args.self.now behind) (sym c.turned_reply.ensures) (turn-stays c.in_ok-turned.turned c.live_count.result c.args.self.now behind)

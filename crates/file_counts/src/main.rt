@@ -13,6 +13,10 @@
 //! Where something fails, it ends with status 1.
 #![tactic(auto)]
 
+ghost use Rattle.std.specs.Prelude.{◌≤◌, length};
+ghost use Rattle.ri_base.specs.Collection.{name_count};
+ghost use Rattle.ri_base.specs.declared.limits.TheConstants.{MAX_PART_DOCS, MAX_PART_NAMES};
+
 mod documents;
 mod parts;
 mod queries;
@@ -31,7 +35,10 @@ use std::{env, fs};
 use store_ends::{FolderStore, Store};
 use tasks::{Task, answer};
 
-fn write_segment(rt: &HostRuntime, sealed: &Sealed, path: &str) -> Option<()> {
+fn write_segment(rt: &HostRuntime, sealed: &Sealed, path: &str) -> Option<()>
+    requires few { length sealed.now ≤ MAX_PART_DOCS }
+    requires named { name_count sealed.now ≤ MAX_PART_NAMES }
+{
     let bytes = seg_bytes(rt.alloc(), sealed).ok()?;
     if !path.is_empty() {
         fs::write(rt, path, bytes.as_slice()).ok()?;

@@ -92,18 +92,13 @@ module _ (names : List (List ℕ)) (d : Document) (w : Pair) where
 abbrev line_with : Line → Entry → Line
 line_with l e = record { names = l.names; query = l.query; stats = l.stats; document = l.document; rank = l.rank; entry = e }
 
-line-same : (rank : ℕ) (hit : Hit) → result_line rank hit ≡ result_text rank (candidate_of hit)
-unfolding result_line
-line-same rank hit = refl
-
 explained-same : (l : Line) (e : Explained) → IsExplanation l.names l.query l.stats l.document l.rank e.hit e → entry_of e.hit ≡ l.entry → reply_text (reply.Explained e) ≡ explanation_text l
-unfolding reply_text
+unfolding reply_text result_line
 explained-same l e is entry =
     let leaves : explained.leaves_text 1 e.leaves ≡ leaves_text l.names l.document (hit_window e.hit) 1 l.query.leaves l.stats (map ratio_of e.hit.fractions) =
     leaves-shown 1 e.leaves ∙ ap (texts_told 1) is.leaves_are ∙ leaves-same l.names l.document (hit_window e.hit) 1 l.query.leaves l.stats e.hit.fractions in
-    let line : result_line e.rank e.hit ≡ result_text l.rank (candidate_of e.hit) = line-same e.rank e.hit ∙ ap (λ n. result_text n (candidate_of e.hit)) is.rank_is in
     let first : reply_text (reply.Explained e) ≡ explanation_text (line_with l (entry_of e.hit)) =
-    λ i. line i ++ scale_line (is.scale_is i) ++ leaves i ++ score_line (score (is.scale_is i) e.hit.key) in
+    λ i. result_text (is.rank_is i) (candidate_of e.hit) ++ scale_line (is.scale_is i) ++ leaves i ++ score_line (score (is.scale_is i) e.hit.key) in
     first ∙ ap (λ (x : Entry). explanation_text (line_with l x)) entry
 
 -- ---- replies

@@ -12,6 +12,7 @@ use Rattle.query_check.specs.Leaves.{LeafTree, extents, prior}
 use Rattle.document_scoring.specs.Candidates.{Candidate}
 use Rattle.document_scoring.specs.Counts.{count_in}
 use Rattle.ranked_output.specs.Explained.{counts_columns, places_text, scale_line, score_line}
+use Rattle.ranked_output.specs.Texts.{hit_text}
 use Rattle.result_explanation.specs.Explanation.{prior_name, shown_extents}
 use Rattle.desk.specs.Told.{Line}
 
@@ -35,7 +36,7 @@ leaves_text names d w i (l ∷ ls) (s ∷ ss) (b ∷ bs) = leaf_text names d w i
 
 -- result RANK DOCNO BEGIN END
 abbrev pub result_text : ℕ → Candidate → List ℕ
-result_text rank c = codes "result " ++ decimal rank ++ 32 ∷ c.docno ++ 32 ∷ decimal c.begin ++ 32 ∷ decimal c.end ++ 10 ∷ []
+result_text rank c = codes "result " ++ decimal rank ++ 32 ∷ hit_text c.docno c.begin c.end
 
 -- the line, the scale, the leaves and the score
 abbrev pub explanation_text : Line → List ℕ

@@ -33,6 +33,8 @@ or for nothing.
 
 A row of memory has how much more the peak is of a search for thousands of results than of one for 10, for each result more and each
 leaf of the query. The search is the first of its process. The numbers of results stand on both sides of those at which its list is moved.
+There the C library gives blocks of 32 KiB and more back as soon as they are freed (MALLOC_MMAP_THRESHOLD_): by itself it keeps more and larger ones
+the larger the first ones were, and the peak would tell what it keeps, not what a search holds.
 
 The status is 1 where a row is beyond its bound, or where the program reads or says something else than it must.
 """
@@ -44,6 +46,7 @@ import struct
 import sys
 import tempfile
 from collections import defaultdict
+from contextlib import contextmanager
 from dataclasses import dataclass
 from pathlib import Path
 
@@ -63,6 +66,8 @@ SEARCHED = {"absent": 0.1, f"w{RARE}": 3, ALL_TENTHS: 60}
 STEPS, SEARCH_EXPONENT = 1.3, 0.3
 MANY, TEN, HALF = 1000, 10, 0.5
 DEARER, TABLES = 1.1, 0.1
+# Blocks from this size on are given back once they are freed.
+KEPT = "MALLOC_MMAP_THRESHOLD_"
 HELD, MOST_HELD = 200, (5_000, 9_000, 10_000, 12_000, 20_000)
 
 
@@ -88,6 +93,16 @@ class Reader(Program):
         spent = self.ask(line)
         after = self.reads()
         return spent, Reads(after.calls - before.calls - line_bytes, after.size - before.size - line_bytes)
+
+
+@contextmanager
+def given_back():
+    """Programs that are run meanwhile give large blocks back once they are freed."""
+    os.environ[KEPT] = str(32 * 1024)
+    try:
+        yield
+    finally:
+        del os.environ[KEPT]
 
 
 def exponent(times):
@@ -314,8 +329,8 @@ class Table:
         return self.bounded(shown, share <= TABLES, f"at most {TABLES}") if is_bounded else shown
 
     def peak(self, query, folder, documents, most):
-        """The peak of the first search of a process, for so many results."""
-        with Reader(self.program, "search", folder, documents, most, documents) as run:
+        """The peak of the first search of a process, for so many results, where freed blocks are given back."""
+        with given_back(), Reader(self.program, "search", folder, documents, most, documents) as run:
             first = run.ask(query)
         self.wanted("results", first.said.split()[0], str(most))
         return first.peak

@@ -1,7 +1,7 @@
 #!/usr/bin/env python3
 """Measures the opening of a segment, and counts and searches over it, as LLVM builds the calls. It stands apart from the gate.
 
-usage: bench/parts.py [--rounds N] [--mega N] [--documents N] [--program FILE]
+usage: bench/parts.py [--rounds N] [--mega N] [--documents N] [--program FILE] [--instructions]
 
 The program that is measured is file_counts. It opens the segment of a folder, or counts the leaves of a query, makes the tables of its
 ranges or searches for it, once for each line that it is sent. `rt run` in crates/file_counts builds it, and proves it first.
@@ -31,6 +31,9 @@ than 1,000 results of 1,000 the row only says what they take, since the program 
 few ranges have no document that may be among the first 10 by what is known of the range, or none: there the tables are made for little
 or for nothing.
 
+--instructions measures nothing but how many instructions a search for 10 results takes, with tables and without, and what the tables take, by
+valgrind. These numbers are the same on a machine that does other things meanwhile, where times aren't. The bounds are those of the times.
+
 A row of memory has how much more the peak is of a search for thousands of results than of one for 10, for each result more and each
 leaf of the query. The search is the first of its process. The numbers of results stand on both sides of those at which its list is moved.
 There the C library gives blocks of 32 KiB and more back as soon as they are freed (MALLOC_MMAP_THRESHOLD_): by itself it keeps more and larger ones
@@ -42,7 +45,9 @@ import argparse
 import math
 import os
 import random
+import re
 import struct
+import subprocess
 import sys
 import tempfile
 from collections import defaultdict
@@ -321,6 +326,29 @@ class Table:
         )
         print(f"{'  with tables':<24}", "   ".join(cells), flush=True)
 
+    def instructions_of(self, *words):
+        """How many instructions a query takes once its words are counted and its blocks are kept: those of a second one."""
+        counts = []
+        for lines in (1, 2):
+            command = ["valgrind", "--tool=callgrind", "--callgrind-out-file=/dev/null", self.program, *map(str, words)]
+            run = subprocess.run(command, input=f"{ALL_TENTHS}\n" * lines, capture_output=True, text=True, check=True)
+            counts.append(int(re.search(r"Collected : (\d+)", run.stderr)[1]))
+        return counts[1] - counts[0]
+
+    def instructions(self, name, documents):
+        """The first ten of documents of a shape, in instructions."""
+        folder = self.made(f"{name} {documents}")
+        (folder / NAME).write_bytes(segment(documents, shaped_tokens(SHAPES[name]))[0])
+        search, both = (self.instructions_of(command, folder, documents, TEN, documents) for command in ("search", "skip"))
+        tables = self.instructions_of("table", folder, documents)
+        most = HALF if name == "early" else DEARER
+        cells = (
+            f"{search / 1e6:6.2f} million",
+            self.bounded(f"with tables {both / 1e6:6.2f}, {both / search:5.3f} times", both <= most * search, f"at most {most}"),
+            self.bounded(f"tables {tables / 1e6:5.2f}, {tables / search:5.3f} times", tables <= TABLES * search, f"at most {TABLES}"),
+        )
+        print(f"{'instructions, ' + name:<24}", "   ".join(cells), flush=True)
+
     def tables_shown(self, query, folder, documents, search, is_bounded=True):
         """What the tables take, beside a search without them."""
         tables = self.best(query, "table", folder, documents)[1]
@@ -378,6 +406,7 @@ def main():
     parser.add_argument("--mega", type=int, default=20, help="the size of the segment of usual words in MB (20)")
     parser.add_argument("--documents", type=int, default=60_000, help="how many short documents there are (60,000)")
     parser.add_argument("--program", type=Path, default=PROGRAM, help="the program that is measured")
+    parser.add_argument("--instructions", action="store_true", help="count instructions of searches for 10 results, by valgrind")
     chosen = parser.parse_args()
     if min(chosen.rounds, chosen.mega, chosen.documents) < 1:
         parser.error("a number is below 1")
@@ -385,6 +414,10 @@ def main():
         sys.exit("the program isn't built: `rt run` in crates/file_counts builds it")
     with tempfile.TemporaryDirectory() as folder:
         table = Table(chosen.program.resolve(), chosen.rounds, Path(folder))
+        if chosen.instructions:
+            for name in SHAPES:
+                table.instructions(name, chosen.documents)
+            sys.exit(0 if table.is_within else 1)
         table.usual_words(chosen.mega * MEGA)
         table.documents(chosen.documents)
         table.searched(chosen.documents)

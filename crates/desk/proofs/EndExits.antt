@@ -4,7 +4,7 @@ use Rattle.std.specs.Option.{IfSome, option_map}
 use Rattle.std.proofs.lemmas.List.Elements.{All-nil}
 use Rattle.ri_base.specs.Documents.{Document}
 use Rattle.store_ends.specs.Files.{Files, Leaves}
-use Rattle.disk_index.specs.Cache.{KeptBlock}
+use Rattle.disk_index.specs.Cache.{Cached}
 use Rattle.holdings.specs.Parts.{live}
 use Rattle.counts.specs.Kept.{AreSums}
 use Rattle.merge_job.specs.Merge.{Merging}
@@ -31,7 +31,7 @@ use Rattle.desk.proofs.Reading.{reads-state}
 use Rattle.desk.proofs.WritingLemmas.{either-now, one-of, then-same}
 
 -- with another repository, and with these queries and blocks
-abbrev pub ended_with : Keeps → repositories.State → List OpenQuery → List KeptBlock → Keeps
+abbrev pub ended_with : Keeps → repositories.State → List OpenQuery → Cached → Keeps
 ended_with d t queries cache = record { repository = t; kind = d.kind; queries = queries; counts = d.counts; cache = cache; usable = d.usable }
 
 -- nothing is open, and no block is kept
@@ -109,7 +109,7 @@ module _ (before mid after : Option Files) (d now : Keeps) (start r t : reposito
       (end-exit before mid after begun r t refl (begun-backed before d inside) flushed-begun saved-begun swept last count is)) backed
 
   -- with queries and blocks of which there are none
-  pub end-done : (qs : List OpenQuery) (cache : List KeptBlock) (count : ℕ) → qs ≡ [] → cache ≡ [] → count ≡ length (live after t.held.parts) → IsDeskBacked before now → Steps event.End before after now (ended_with d t qs cache) (reply.Ended count)
+  pub end-done : (qs : List OpenQuery) (cache : Cached) (count : ℕ) → qs ≡ [] → cache ≡ [] → count ≡ length (live after t.held.parts) → IsDeskBacked before now → Steps event.End before after now (ended_with d t qs cache) (reply.Ended count)
   end-done qs cache count closed_all emptied is backed =
       let same_now : ended d t ≡ ended_with d t qs cache = λ i. ended_with d t (sym closed_all i) (sym emptied i) in
       subst (λ (x : Keeps). Steps event.End before after now x (reply.Ended count)) same_now (end-now count is backed)

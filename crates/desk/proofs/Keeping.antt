@@ -8,7 +8,7 @@ use Rattle.ri_base.specs.Documents.{Document}
 use Rattle.store_ends.specs.Files.{Files, SameWhere}
 use Rattle.smoothing.specs.declared.rule.RuleKind.{RuleKind}
 use Rattle.manifest.specs.Listing.{prior_numbers}
-use Rattle.disk_index.specs.Cache.{KeptBlock}
+use Rattle.disk_index.specs.Cache.{Cached}
 use Rattle.holdings.specs.Contents.{Contents}
 use Rattle.holdings.specs.Parts.{live}
 use Rattle.holdings.specs.declared.limits.Limits.{Limits}
@@ -53,7 +53,7 @@ backed-new told d none zero empty stored merging =
       counts = empty-sums (live told s.held.parts) s.held.generation d.counts zero;
       cache = record {
         backed = empty-cache told d.cache empty;
-        listed = λ b there. (let w : Contains [] b = subst (λ (c : List KeptBlock). Contains c b) empty there in absurd (let within = w.1 in omega (arith, within)));
+        listed = λ b there. (let w : Contains [] b = subst (λ (c : Cached). Contains c b) empty there in absurd (let within = w.1 in omega (arith, within)));
       };
     }
 
@@ -100,7 +100,7 @@ Query-on told s t kind q on same b = record {
 pub Queries-on : (told : Option Files) (s t : repositories.State) (kind : RuleKind) (qs : List OpenQuery) → Lists s t → t.priors ≡ s.priors → All (IsQueryBacked told s kind) qs → All (IsQueryBacked told t kind) qs
 Queries-on told s t kind qs on same all = All-weaker (IsQueryBacked told s kind) (IsQueryBacked told t kind) (λ q b. Query-on told s t kind q on same b) qs all
 
-pub Cache-on : (told : Option Files) (s t : repositories.State) (cache : List KeptBlock) → Lists s t → IsCacheKept told s cache → IsCacheKept told t cache
+pub Cache-on : (told : Option Files) (s t : repositories.State) (cache : Cached) → Lists s t → IsCacheKept told s cache → IsCacheKept told t cache
 Cache-on told s t cache on b = record { backed = b.backed; listed = λ k c. on k.0.number (b.listed k c) }
 
 -- ---- a commit
@@ -136,7 +136,7 @@ queries-same a b s kind [] backed same all = refl
 queries-same a b s kind (q ∷ qs) backed same all = λ i.
     query-same a b s kind q backed same (All-head (IsQueryBacked a s kind) q qs all) i ∷ queries-same a b s kind qs backed same (All-tail (IsQueryBacked a s kind) q qs all) i
 
-pub Cache-commit : (a b : Option Files) (s t : repositories.State) (cache : List KeptBlock) → IsBacked a s → SameWhere (IsBeside (IsUnlisted (listed_numbers s))) a b → Lists s t → IsCacheKept a s cache → IsCacheKept b t cache
+pub Cache-commit : (a b : Option Files) (s t : repositories.State) (cache : Cached) → IsBacked a s → SameWhere (IsBeside (IsUnlisted (listed_numbers s))) a b → Lists s t → IsCacheKept a s cache → IsCacheKept b t cache
 Cache-commit a b s t cache backed same on kept = record {
   backed = cache-same (IsBeside (IsUnlisted (listed_numbers s))) a b cache same (λ e c. listed-stays a s backed e.0.number (kept.listed e c)) kept.backed;
   listed = λ e c. on e.0.number (kept.listed e c);

@@ -1,7 +1,7 @@
 // The answer of a query over the documents of a snapshot.
-ghost use Rattle.std.specs.Prelude.{◌≡◌, ◌≤◌, [], List, Option, Some, true, length, map, Err, IfErr, IfOk};
+ghost use Rattle.std.specs.Prelude.{◌≡◌, ◌≤◌, [], List, Option, Some, true, length, map, Err, IfErr, IfOk, OnOk};
 ghost use Rattle.std.specs.Option.{option_map};
-ghost use Rattle.ri_base.specs.Faults.{IsOutside};
+ghost use Rattle.ri_base.specs.Faults.{IsOutside, TellsDamage};
 ghost use Rattle.ri_base.specs.Keeps.{Rose};
 ghost use Rattle.store_ends.specs.Files.{Files, IsQuiet};
 ghost use Rattle.command_words.specs.Asked.{told_labels};
@@ -91,6 +91,8 @@ fn explanation<T: Store>(
         → (network_tree search.now.network).stats ≡ map (stats_of (searched (T.files store.old) search.now)) (whole_checked search.now.checked).leaves
         → IfOk result (λ text. IsAnswerText kind priors names.now (explanation rank) (whole_checked search.now.checked) (searched (T.files store.old) search.now) (option_map (λ t. t.items) text)) }
     ensures honest { AreBacked (T.files store.old) search.now.snapshot → IsCacheBacked (T.files store.old) cache.old → IfErr result IsOutside }
+    ensures undamaged { OnOk result (cache.new.damage ≡ cache.old.damage) }
+    ensures damaged { IfErr result (TellsDamage cache.old.damage cache.new.damage) }
     ensures reads { OnlyReads T.files T.layers T.clock T.since T.longest T.held T.faults (IsFileAmong search.now.snapshot) store.old store.new cache.old cache.new }
     ensures store { result ≡ Err SegFault.Store → Rose (T.faults store.old) (T.faults store.new) }
 {
@@ -132,6 +134,8 @@ fn show<T: Store>(
         → (network_tree search.now.network).stats ≡ map (stats_of (searched (T.files store.old) search.now)) (whole_checked search.now.checked).leaves
         → IfOk result (λ text. IsAnswerText kind priors names.now (told_shown shown.now) (whole_checked search.now.checked) (searched (T.files store.old) search.now) (option_map (λ t. t.items) text)) }
     ensures honest { AreBacked (T.files store.old) search.now.snapshot → IsCacheBacked (T.files store.old) cache.old → IfErr result IsOutside }
+    ensures undamaged { OnOk result (cache.new.damage ≡ cache.old.damage) }
+    ensures damaged { IfErr result (TellsDamage cache.old.damage cache.new.damage) }
     ensures reads { OnlyReads T.files T.layers T.clock T.since T.longest T.held T.faults (IsFileAmong search.now.snapshot) store.old store.new cache.old cache.new }
     ensures store { result ≡ Err SegFault.Store → Rose (T.faults store.old) (T.faults store.new) }
 {

@@ -1,5 +1,6 @@
 // Queries that are searched for over a segment that is open.
-ghost use Rattle.std.specs.Prelude.{◌≡◌, All, IfOk};
+ghost use Rattle.std.specs.Prelude.{◌≡◌, All, IfOk, OnOk, IfErr};
+ghost use Rattle.ri_base.specs.Faults.{TellsDamage};
 ghost use Rattle.ri_base.specs.Ratio.{ratio_of};
 ghost use Rattle.smoothing.specs.Counts.{AreCounts};
 ghost use Rattle.smoothing.specs.Fractions.{Computes, dirichlet};
@@ -59,6 +60,8 @@ fn step<T: Store, F: Fn(u32, u32, u64, u64) -> Fraction>(
     requires rule { Computes F.pre F.post rule.now.kind rule.now.f }
     requires priors { All (HasPrior 0) (network_tree search.old.network).leaves }
     ensures priors { All (HasPrior 0) (network_tree search.new.network).leaves }
+    ensures undamaged { OnOk result (cache.new.damage ≡ cache.old.damage) }
+    ensures damaged { IfErr result (TellsDamage cache.old.damage cache.new.damage) }
 {
     if !search.usable() {
         bail!("a search that can't go on");

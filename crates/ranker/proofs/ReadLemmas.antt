@@ -3,7 +3,7 @@ use Rattle.std.proofs.Common.{◌≡◌, ◌≤◌, ◌<◌, ℕ, ◌+◌, nat_l
 use Rattle.std.proofs.lemmas.Bool.Decides.{nat_tests}
 use Rattle.ri_base.specs.Documents.{Document}
 use Rattle.store_ends.specs.Files.{Files}
-use Rattle.disk_index.specs.Cache.{IsCacheBacked, KeptBlock}
+use Rattle.disk_index.specs.Cache.{Cached, IsCacheBacked}
 use Rattle.disk_index.specs.Parts.{IsPartBacked, Source, outlines_of, reads}
 use Rattle.disk_index.specs.Snapshots.{Marked}
 use Rattle.disk_index.proofs.AmongLemmas.{docs-of, sound-of}
@@ -20,7 +20,7 @@ pub fits-part : (source own : Source) (held : Held) → own ≡ source → FitDo
 fits-part source own held same fits = subst (λ (p : Source). FitDocuments (outlines_of p) held) (sym same) fits
 
 -- a reader is sound where what it is lent is so
-pub sound-by : (told here : Option Files) (source own : Source) (cached kept : List KeptBlock) (was held : Held) → here ≡ told → own ≡ source → kept ≡ cached → held ≡ was → IsPartBacked told source
+pub sound-by : (told here : Option Files) (source own : Source) (cached kept : Cached) (was held : Held) → here ≡ told → own ≡ source → kept ≡ cached → held ≡ was → IsPartBacked told source
     → AreReadBy told (reads told source) cached was → IsPartBacked here own × IsCacheBacked here kept × AreAnswersOf (reads here own) held
 sound-by told here source own cached kept was held same_told same_part same_cache same_held part read =
     let base = sound-of told here source own cached kept same_told same_part same_cache part read.cache in
@@ -28,7 +28,7 @@ sound-by told here source own cached kept was held same_told same_part same_cach
     (base.0, base.1, subst (λ (ds : List Document). AreAnswersOf ds held) (sym docs) (subst (AreAnswersOf (reads told source)) (sym same_held) read.held))
 
 -- and what it leaves is so by the same files
-pub read-after : (told here : Option Files) (source own : Source) (kept : List KeptBlock) (held : Held) → here ≡ told → own ≡ source → IsCacheBacked here kept → AreAnswersOf (reads here own) held → AreReadBy told (reads told source) kept held
+pub read-after : (told here : Option Files) (source own : Source) (kept : Cached) (held : Held) → here ≡ told → own ≡ source → IsCacheBacked here kept → AreAnswersOf (reads here own) held → AreReadBy told (reads told source) kept held
 read-after told here source own kept held same_told same_part cache are = record {
   cache = subst (λ (f : Option Files). IsCacheBacked f kept) same_told cache;
   held = subst (λ (ds : List Document). AreAnswersOf ds held) (docs-of told here source own same_told same_part) are;
@@ -57,7 +57,7 @@ module _ (parts : List Marked) (at : Place) (to : Passed) (most : ℕ) (m : Mark
           let all : most ≤ to.docs = grind (arith, nat_tests) in
           subst (λ (p : Marked). FitDocuments (outlines_of p.source) now) (sym is) (subst (FitDocuments (outlines_of m.source)) (sym (same all)) fits)
 
-  pub read-behind : (told : Option Files) (kept : List KeptBlock) → (to.docs < most → (docs : List Document) → AreAnswersOf docs now) → AreReadBy told (reads told m.source) kept mid → AreReadAt told parts (behind at to most) kept now
+  pub read-behind : (told : Option Files) (kept : Cached) → (to.docs < most → (docs : List Document) → AreAnswersOf docs now) → AreReadBy told (reads told m.source) kept mid → AreReadAt told parts (behind at to most) kept now
   read-behind told kept none read = by (nat_lt to.docs most) refl
     where
       by : (b : Bool) → nat_lt to.docs most ≡ b
@@ -70,5 +70,5 @@ module _ (parts : List Marked) (at : Place) (to : Passed) (most : ℕ) (m : Mark
           record { cache = read.cache; held = subst (λ (p : Marked). AreAnswersOf (reads told p.source) now) (sym is) (subst (AreAnswersOf (reads told m.source)) (sym (same all)) read.held) }
 
 -- what is read in a part of the number of a place
-pub read-at : (told : Option Files) (parts : List Marked) (at : Place) (m : Marked) (kept : List KeptBlock) (held : Held) → part_at parts at.part ≡ m → AreReadAt told parts at kept held → AreReadBy told (reads told m.source) kept held
+pub read-at : (told : Option Files) (parts : List Marked) (at : Place) (m : Marked) (kept : Cached) (held : Held) → part_at parts at.part ≡ m → AreReadAt told parts at kept held → AreReadBy told (reads told m.source) kept held
 read-at told parts at m kept held is read = subst (λ (p : Marked). AreReadBy told (reads told p.source) kept held) is read

@@ -1,7 +1,7 @@
 // The parts of a snapshot, one behind the other.
 ghost use Rattle.std.specs.Prelude.{◌≡◌, ◌<◌, ◌≤◌, ◌+◌, ◌*◌, ◌^◌, ℕ, List, Option, if◌then◌else◌, nat_lt, length, map, min, true, All, Err, IfErr, IfOk, OnErr, OnOk};
 ghost use Rattle.ri_base.specs.Documents.{Document};
-ghost use Rattle.ri_base.specs.Faults.{IsOutside};
+ghost use Rattle.ri_base.specs.Faults.{IsOutside, TellsDamage};
 ghost use Rattle.ri_base.specs.Keeps.{Rose};
 ghost use Rattle.ri_base.specs.Query.{filter_tree, is_range};
 ghost use Rattle.store_ends.specs.Files.{Files, IsQuiet};
@@ -83,6 +83,8 @@ fn pass_marked<T: Store, F: Fn(u32, u32, u64, u64) -> Fraction, L: Ledger, B: Le
     ensures stay { map (λ plug. meaning plug) plugs.new ≡ map (λ plug. meaning plug) plugs.old }
     ensures honest { IsPartBacked (T.files store.old) marked.now.source → AreReadBy (T.files store.old) (reads (T.files store.old) marked.now.source) cache.old held.old → IfErr result IsOutside }
     ensures cache { CacheKeeps (T.files store.old) (IsFileOf marked.now.source) cache.old cache.new }
+    ensures undamaged { OnOk result (cache.new.damage ≡ cache.old.damage) }
+    ensures damaged { IfErr result (TellsDamage cache.old.damage cache.new.damage) }
     ensures quiet { IsQuiet T.files T.layers T.clock T.since T.longest T.held store.old store.new }
     ensures later { T.faults store.old ≤ T.faults store.new }
     ensures store { result ≡ Err SegFault.Store → Rose (T.faults store.old) (T.faults store.new) }
@@ -194,6 +196,8 @@ fn pass_next<T: Store, F: Fn(u32, u32, u64, u64) -> Fraction, L: Ledger, B: Ledg
     ensures stay { map (λ plug. meaning plug) plugs.new ≡ map (λ plug. meaning plug) plugs.old }
     ensures honest { AreBacked (T.files store.old) parts.now → AreReadAt (T.files store.old) parts.now at.old cache.old held.old → IfErr result IsOutside }
     ensures cache { CacheKeeps (T.files store.old) (IsFileAmong parts.now) cache.old cache.new }
+    ensures undamaged { OnOk result (cache.new.damage ≡ cache.old.damage) }
+    ensures damaged { IfErr result (TellsDamage cache.old.damage cache.new.damage) }
     ensures quiet { IsQuiet T.files T.layers T.clock T.since T.longest T.held store.old store.new }
     ensures later { T.faults store.old ≤ T.faults store.new }
     ensures store { result ≡ Err SegFault.Store → Rose (T.faults store.old) (T.faults store.new) }
@@ -256,6 +260,8 @@ pub fn pass_parts<T: Store, F: Fn(u32, u32, u64, u64) -> Fraction, L: Ledger, B:
     ensures stay { map (λ plug. meaning plug) plugs.new ≡ map (λ plug. meaning plug) plugs.old }
     ensures honest { AreBacked (T.files store.old) parts.now → AreReadAt (T.files store.old) parts.now at.old cache.old held.old → IfErr result IsOutside }
     ensures cache { CacheKeeps (T.files store.old) (IsFileAmong parts.now) cache.old cache.new }
+    ensures undamaged { OnOk result (cache.new.damage ≡ cache.old.damage) }
+    ensures damaged { IfErr result (TellsDamage cache.old.damage cache.new.damage) }
     ensures quiet { IsQuiet T.files T.layers T.clock T.since T.longest T.held store.old store.new }
     ensures later { T.faults store.old ≤ T.faults store.new }
     ensures store { result ≡ Err SegFault.Store → Rose (T.faults store.old) (T.faults store.new) }

@@ -1,6 +1,6 @@
 // Merges that are run to their end.
 ghost use Rattle.std.specs.Prelude.{◌≡◌, ◌≤◌, ◌⊎◌, ◌&&◌, [], Err, None, Some, IsTrue, nat_lt, true, IfErr, IfOk, OnOk};
-ghost use Rattle.ri_base.specs.Faults.{IsOutside};
+ghost use Rattle.ri_base.specs.Faults.{IsOutside, TellsDamage};
 ghost use Rattle.ri_base.specs.Keeps.{Rose};
 ghost use Rattle.store_ends.specs.Files.{Files, GoesOn, IsQuiet};
 ghost use Rattle.disk_index.specs.Cache.{IsCacheBacked};
@@ -74,6 +74,8 @@ pub fn merge_around<T: Store>(
     ensures answer { IfOk result (λ deleted. deleted ≡ (nat_lt docs (size_of (merge_of repository.old)) && is_live (merge_begun repository.old).held.parts docno.now)) }
     ensures live { IfOk result (λ deleted. IsTrue deleted → (d : Collection) → IsBacked (T.files store.old) repository.old → IsCacheBacked (T.files store.old) cache.old
         → ReadsAs (T.files store.old) repository.old d → live (T.files store.new) repository.new.held.parts ≡ without docno.now d.live) }
+        ensures undamaged { OnOk result (cache.new.damage ≡ cache.old.damage) }
+        ensures damaged { IfErr result (TellsDamage cache.old.damage cache.new.damage) }
 {
     let Ok(size) = repository.begin_merge(alloc) else {
         return Err(SegFault::Memory);

@@ -31,6 +31,7 @@ invariant-loop-left g l = record {
   few : l.blocks + length l.terms * l.left ≤ l.fn.blocks + length l.terms * l.docs;
   credit : l.at.credit + l.left ≡ l.fn.at.credit + l.docs;
   cache : CacheKeeps (g.T.Store.files l.fn.store) (IsFileAmong l.parts) l.fn.cache l.cache;
+  undamaged : l.cache.damage ≡ l.fn.cache.damage;
   quiet : IsQuiet g.T.Store.files g.T.Store.layers g.T.Store.clock g.T.Store.since g.T.Store.longest g.T.Store.held l.fn.store l.store;
   later : g.T.Store.faults l.fn.store ≤ g.T.Store.faults l.store;
   squared : RiseAlike l.fn.squares l.squares l.fn.spent.squared l.spent.squared;

@@ -66,7 +66,8 @@ pub fn first_of_runs<T: Leading + Drop>(
 ) -> Result<Runs<T>, AllocError>
     ensures { IfOk result (λ runs. HoldsRuns T.before most items.items runs.run runs.full runs.items.items) }
 {
-    items.sort_unstable_by(|a, b| b.in_runs(a));
+    // A sort that goes on with what is in order: of items that are looked through again most are.
+    items.sort_by(|a, b| b.in_runs(a))?;
     let mut runs = Runs::new(alloc, most, items.len())?;
     while let Some(item) = items.pop() {
         runs.take(item)?;

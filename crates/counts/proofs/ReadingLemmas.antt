@@ -9,7 +9,7 @@ use Rattle.ri_base.specs.declared.seg_fault.SegFault.{SegFault}
 use Rattle.ri_base.specs.declared.seg_fault.SegFault.TheVariants.{Malformed, Missing, Store, Memory}
 use Rattle.store_ends.specs.Files.{Files}
 use Rattle.extent_lists.proofs.WordLemmas.{EachWord-weaker}
-use Rattle.disk_index.specs.Cache.{IsCacheBacked, KeptBlock}
+use Rattle.disk_index.specs.Cache.{Cached, IsCacheBacked}
 use Rattle.disk_index.specs.Parts.{IsFileOf, IsPartBacked, IsReadableOf, Source}
 use Rattle.disk_index.specs.QuietLaws.{CacheKeeps-after, CacheKeeps-same, IsCacheBacked-kept, IsQuiet-same, IsQuiet-then, IsReadableIn-before}
 use Rattle.disk_index.specs.Snapshots.{AreBacked, IsFileAmong, Marked}
@@ -31,10 +31,10 @@ parts-more P parts i m inside is own all = subst (All P) (sym (take_more parts i
 
 module _ {S : Type 0} (files : S → Option Files) (layers : S → Option (List Files)) (clock : S → ℕ) (since : S → ℕ → Files → Type 0) (longest : S → ℕ) (held : S → List ℕ) (faults : S → ℕ) where
   module _ (IsOwn : ℕ → Type 0) where
-    pub reads-same : (s : S) (c : List KeptBlock) → OnlyReads files layers clock since longest held faults IsOwn s s c c
+    pub reads-same : (s : S) (c : Cached) → OnlyReads files layers clock since longest held faults IsOwn s s c c
     reads-same s c = record { quiet = IsQuiet-same files layers clock since longest held faults s; later = omega arith; cache = CacheKeeps-same (files s) IsOwn c }
 
-    pub reads-then : (s t u : S) (c d e : List KeptBlock) → OnlyReads files layers clock since longest held faults IsOwn s t c d → OnlyReads files layers clock since longest held faults IsOwn t u d e
+    pub reads-then : (s t u : S) (c d e : Cached) → OnlyReads files layers clock since longest held faults IsOwn s t c d → OnlyReads files layers clock since longest held faults IsOwn t u d e
         → OnlyReads files layers clock since longest held faults IsOwn s u c e
     reads-then s t u c d e first second = record {
       quiet = IsQuiet-then files layers clock since longest held faults s t u first.quiet second.quiet;
@@ -43,21 +43,21 @@ module _ {S : Type 0} (files : S → Option Files) (layers : S → Option (List 
     }
 
     -- what is backed stays so
-    pub part-backed : (s t : S) (c d : List KeptBlock) (p : Source) → OnlyReads files layers clock since longest held faults IsOwn s t c d → IsPartBacked (files s) p → IsPartBacked (files t) p
+    pub part-backed : (s t : S) (c d : Cached) (p : Source) → OnlyReads files layers clock since longest held faults IsOwn s t c d → IsPartBacked (files s) p → IsPartBacked (files t) p
     part-backed s t c d p reads backed = subst (λ (f : Option Files). IsPartBacked f p) (sym reads.quiet.same_files) backed
 
-    pub cache-backed : (s t : S) (c d : List KeptBlock) → OnlyReads files layers clock since longest held faults IsOwn s t c d → IsCacheBacked (files s) c → IsCacheBacked (files t) d
+    pub cache-backed : (s t : S) (c d : Cached) → OnlyReads files layers clock since longest held faults IsOwn s t c d → IsCacheBacked (files s) c → IsCacheBacked (files t) d
     cache-backed s t c d reads backed = subst (λ (f : Option Files). IsCacheBacked f d) (sym reads.quiet.same_files) (IsCacheBacked-kept (files s) IsOwn c d reads.cache backed)
 
     -- what is told afterwards could be told before
-    pub live-before : (s t : S) (c d : List KeptBlock) (x : ExprTree) (m : Marked) (id : ℕ) → OnlyReads files layers clock since longest held faults IsOwn s t c d
+    pub live-before : (s t : S) (c d : Cached) (x : ExprTree) (m : Marked) (id : ℕ) → OnlyReads files layers clock since longest held faults IsOwn s t c d
         → IsLiveTold (files t) d x m id → IsLiveTold (files s) c x m id
     live-before s t c d x m id reads told live may =
         EachWord-weaker (λ w. IsReadableOf (files t) d m.source w id) (λ w. IsReadableOf (files s) c m.source w id)
         (λ w can. IsReadableIn-before (files s) IsOwn c d m.source w (id / 64) reads.cache (subst (λ (f : Option Files). IsReadableOf f d m.source w id) reads.quiet.same_files can)) x (told live may)
 
   -- a part's file is among those of its snapshot
-  pub reads-among : (parts : List Marked) (i : ℕ) (m : Marked) (s t : S) (c d : List KeptBlock) → i < length parts → m ≡ get_or parts i m
+  pub reads-among : (parts : List Marked) (i : ℕ) (m : Marked) (s t : S) (c d : Cached) → i < length parts → m ≡ get_or parts i m
       → OnlyReads files layers clock since longest held faults (IsFileOf m.source) s t c d → OnlyReads files layers clock since longest held faults (IsFileAmong parts) s t c d
   reads-among parts i m s t c d lt is reads = record {
     quiet = reads.quiet;
@@ -68,7 +68,7 @@ module _ {S : Type 0} (files : S → Option Files) (layers : S → Option (List 
 -- ---- faults
 
 -- a fault of one part of several
-pub fault-of : (told : Option Files) (parts : List Marked) (m : Marked) (cached : List KeptBlock) (fault : SegFault) → Contains parts m → (IsPartBacked told m.source → IsCacheBacked told cached → IsOutside fault)
+pub fault-of : (told : Option Files) (parts : List Marked) (m : Marked) (cached : Cached) (fault : SegFault) → Contains parts m → (IsPartBacked told m.source → IsCacheBacked told cached → IsOutside fault)
     → IsFaultOf told parts cached fault
 fault-of told parts m cached (Malformed file part place) there honest = inr (m, there, honest)
 fault-of told parts m cached (Missing file) there honest = inr (m, there, honest)
@@ -76,7 +76,7 @@ fault-of told parts m cached Store there honest = inl tt
 fault-of told parts m cached Memory there honest = inl tt
 
 -- where all is backed, no part is to blame
-pub fault-outside : (told : Option Files) (parts : List Marked) (cached : List KeptBlock) (fault : SegFault) → AreBacked told parts → IsCacheBacked told cached → IsFaultOf told parts cached fault → IsOutside fault
+pub fault-outside : (told : Option Files) (parts : List Marked) (cached : Cached) (fault : SegFault) → AreBacked told parts → IsCacheBacked told cached → IsFaultOf told parts cached fault → IsOutside fault
 fault-outside told parts cached fault backed cache_backed why = elim why [
   | inl outside ↦ outside
   | inr at ↦ absurd (at.2 (All-contains (λ (m : Marked). IsPartBacked told m.source) parts at.0 backed at.1) cache_backed)

@@ -1,7 +1,7 @@
 // Sums that are kept for a while.
-ghost use Rattle.std.specs.Prelude.{◌≡◌, ◌<◌, ◌≤◌, ◌-◌, ◌^◌, ◌⊎◌, [], Err, IfErr, IfOk, IfSome, IsOkAnd, Contains, option_copied};
+ghost use Rattle.std.specs.Prelude.{◌≡◌, ◌<◌, ◌≤◌, ◌-◌, ◌^◌, ◌⊎◌, [], Err, IfErr, IfOk, IfSome, IsOkAnd, Contains, option_copied, OnOk};
 ghost use Rattle.ri_base.specs.Expression.{expr_tree};
-ghost use Rattle.ri_base.specs.Faults.{IsOutside};
+ghost use Rattle.ri_base.specs.Faults.{IsOutside, TellsDamage};
 ghost use Rattle.ri_base.specs.Keeps.{Rose};
 ghost use Rattle.store_ends.specs.Files.{IsQuiet};
 ghost use Rattle.disk_index.specs.Cache.{CacheKeeps, IsCacheBacked};
@@ -88,6 +88,8 @@ impl Counts {
         ensures fault { IfErr result (IsFaultOf (T.files store.old) snapshot.now cache.old) }
         ensures honest { AreBacked (T.files store.old) snapshot.now → IsCacheBacked (T.files store.old) cache.old → IfErr result IsOutside }
         ensures cache { CacheKeeps (T.files store.old) (IsFileAmong snapshot.now) cache.old cache.new }
+        ensures undamaged { OnOk result (cache.new.damage ≡ cache.old.damage) }
+        ensures damaged { IfErr result (TellsDamage cache.old.damage cache.new.damage) }
         ensures quiet { IsQuiet T.files T.layers T.clock T.since T.longest T.held store.old store.new }
         ensures later { T.faults store.old ≤ T.faults store.new }
         ensures store { result ≡ Err SegFault.Store → Rose (T.faults store.old) (T.faults store.new) }

@@ -1,8 +1,8 @@
 // How often an expression occurs in the documents of a snapshot, and in how many of their tokens.
-ghost use Rattle.std.specs.Prelude.{◌≡◌, ◌<◌, ◌≤◌, ◌+◌, ◌*◌, ◌/◌, ℕ, Option, option_copied, sum_by, Err, IfErr, IfOk};
+ghost use Rattle.std.specs.Prelude.{◌≡◌, ◌<◌, ◌≤◌, ◌+◌, ◌*◌, ◌/◌, ℕ, Option, option_copied, sum_by, Err, IfErr, IfOk, OnOk};
 ghost use Rattle.ri_base.specs.Collection.{document_at, token_count};
 ghost use Rattle.ri_base.specs.Expression.{EachWord, expr_tree};
-ghost use Rattle.ri_base.specs.Faults.{IsOutside};
+ghost use Rattle.ri_base.specs.Faults.{IsOutside, TellsDamage};
 ghost use Rattle.ri_base.specs.Keeps.{Rose};
 ghost use Rattle.ri_base.specs.declared.limits.TheConstants.{MAX_HELD_TOKENS};
 ghost use Rattle.store_ends.specs.Files.{Files};
@@ -38,6 +38,8 @@ fn in_document<T: Store>(
     ensures few { IfOk result (λ n. n ≤ counted_tokens (option_copied context.entry) (document_at (reads (T.files store.old) (source_of part.now)) id)) }
     ensures told { IfOk result (λ _. EachWord (λ t. IsReadableOf (T.files store.old) cache.old (source_of part.now) t id) (expr_tree expr.now)) }
     ensures honest { IsPartBacked (T.files store.old) (source_of part.now) → IsCacheBacked (T.files store.old) cache.old → IfErr result IsOutside }
+    ensures undamaged { OnOk result (cache.new.damage ≡ cache.old.damage) }
+    ensures damaged { IfErr result (TellsDamage cache.old.damage cache.new.damage) }
     ensures reads { OnlyReads T.files T.layers T.clock T.since T.longest T.held T.faults (IsFileOf (source_of part.now)) store.old store.new cache.old cache.new }
     ensures store { result ≡ Err SegFault.Store → Rose (T.faults store.old) (T.faults store.new) }
 {
@@ -61,6 +63,8 @@ fn in_live_document<T: Store>(
     ensures few { IfOk result (λ n. n ≤ living (counted_tokens (option_copied context.entry)) (T.files store.old) marked.now id) }
     ensures told { IfOk result (λ _. IsLiveTold (T.files store.old) cache.old (expr_tree expr.now) marked.now id) }
     ensures honest { IsPartBacked (T.files store.old) marked.now.source → IsCacheBacked (T.files store.old) cache.old → IfErr result IsOutside }
+    ensures undamaged { OnOk result (cache.new.damage ≡ cache.old.damage) }
+    ensures damaged { IfErr result (TellsDamage cache.old.damage cache.new.damage) }
     ensures reads { OnlyReads T.files T.layers T.clock T.since T.longest T.held T.faults (IsFileOf marked.now.source) store.old store.new cache.old cache.new }
     ensures store { result ≡ Err SegFault.Store → Rose (T.faults store.old) (T.faults store.new) }
 {
@@ -91,6 +95,8 @@ fn in_range<T: Store>(
     ensures told { IfOk result
         (λ _. (id : ℕ) → id < size marked.now.source → id / 64 ≡ range → IsLiveTold (T.files store.old) cache.old (expr_tree expr.now) marked.now id) }
     ensures honest { IsPartBacked (T.files store.old) marked.now.source → IsCacheBacked (T.files store.old) cache.old → IfErr result IsOutside }
+    ensures undamaged { OnOk result (cache.new.damage ≡ cache.old.damage) }
+    ensures damaged { IfErr result (TellsDamage cache.old.damage cache.new.damage) }
     ensures reads { OnlyReads T.files T.layers T.clock T.since T.longest T.held T.faults (IsFileOf marked.now.source) store.old store.new cache.old cache.new }
     ensures store { result ≡ Err SegFault.Store → Rose (T.faults store.old) (T.faults store.new) }
 {
@@ -124,6 +130,8 @@ fn in_part<T: Store>(
     ensures few { IfOk result (λ n. n ≤ sum_by (counted_tokens (option_copied context.entry)) (live_in (T.files store.old) marked.now)) }
     ensures told { IfOk result (λ _. IsPartTold (T.files store.old) cache.old (expr_tree expr.now) marked.now) }
     ensures honest { IsPartBacked (T.files store.old) marked.now.source → IsCacheBacked (T.files store.old) cache.old → IfErr result IsOutside }
+    ensures undamaged { OnOk result (cache.new.damage ≡ cache.old.damage) }
+    ensures damaged { IfErr result (TellsDamage cache.old.damage cache.new.damage) }
     ensures reads { OnlyReads T.files T.layers T.clock T.since T.longest T.held T.faults (IsFileOf marked.now.source) store.old store.new cache.old cache.new }
     ensures store { result ≡ Err SegFault.Store → Rose (T.faults store.old) (T.faults store.new) }
 {
@@ -153,6 +161,8 @@ fn in_parts<T: Store>(
     ensures fault { IfErr result (IsFaultOf (T.files store.old) parts.now cache.old) }
     ensures reads { OnlyReads T.files T.layers T.clock T.since T.longest T.held T.faults (IsFileAmong parts.now) store.old store.new cache.old cache.new }
     ensures store { result ≡ Err SegFault.Store → Rose (T.faults store.old) (T.faults store.new) }
+    ensures undamaged { OnOk result (cache.new.damage ≡ cache.old.damage) }
+    ensures damaged { IfErr result (TellsDamage cache.old.damage cache.new.damage) }
 {
     let mut count = 0;
     for marked in parts {
@@ -181,6 +191,8 @@ pub fn sums_of<T: Store>(
     ensures fault { IfErr result (IsFaultOf (T.files store.old) snapshot.now cache.old) }
     ensures reads { OnlyReads T.files T.layers T.clock T.since T.longest T.held T.faults (IsFileAmong snapshot.now) store.old store.new cache.old cache.new }
     ensures store { result ≡ Err SegFault.Store → Rose (T.faults store.old) (T.faults store.new) }
+    ensures undamaged { OnOk result (cache.new.damage ≡ cache.old.damage) }
+    ensures damaged { IfErr result (TellsDamage cache.old.damage cache.new.damage) }
 {
     let cf = in_parts(alloc, expr, context, snapshot.parts(), store, cache)?;
     let total = total_of(context, snapshot);

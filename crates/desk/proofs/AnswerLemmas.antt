@@ -16,7 +16,6 @@ use Rattle.query_check.specs.Leaves.{LeafTree, are_sound_leaves, extents, is_sou
 use Rattle.query_check.specs.Scale.{scale}
 use Rattle.belief_nodes.specs.Leaves.{HasPrior}
 use Rattle.belief_nodes.specs.Priors.{Prior}
-use Rattle.disk_index.specs.Cache.{IsCacheBacked, KeptBlock}
 use Rattle.disk_index.specs.Snapshots.{Marked, live}
 use Rattle.counts.specs.Kept.{AreSums, Kept}
 use Rattle.ranker.specs.Searches.{searched}
@@ -64,10 +63,7 @@ results-few shown count labels most is many fits =
     let few : count ≤ MAX_RESULTS = subst (λ (s : Told). IsShowable s) is fits in
     omega (arith, same, few)
 
--- ---- a cache and sums in which nothing is
-
-pub empty-cache : (told : Option Files) (c : List KeptBlock) → c ≡ [] → IsCacheBacked told c
-empty-cache told c none = subst (IsCacheBacked told) (sym none) (λ files is e there. absurd (let inside : there.0 < 0 = there.1 in omega (arith, inside)))
+-- ---- sums in which nothing is
 
 pub empty-sums : (docs : List Document) (generation : ℕ) (c : List Kept) → c ≡ [] → AreSums docs generation c
 empty-sums docs generation c none = subst (AreSums docs generation) (sym none) (record {

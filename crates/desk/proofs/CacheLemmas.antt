@@ -2,7 +2,7 @@
 use Rattle.std.proofs.Common.{◌≡◌, ◌<◌, inl, inr, ℕ, zero, suc, true, List, [], ◌∷◌, ◌++◌, get_or, length, sym, subst, arith, Option}
 use Rattle.store_ends.specs.Files.{Files}
 use Rattle.manifest.specs.Listing.{prior_numbers}
-use Rattle.disk_index.specs.Cache.{CacheKeeps, KeptBlock}
+use Rattle.disk_index.specs.Cache.{CacheKeeps, Cached}
 use Rattle.disk_index.specs.Parts.{InMemory, IsFileOf, OnDisk, Source}
 use Rattle.disk_index.specs.QuietLaws.{IsCacheBacked-kept}
 use Rattle.disk_index.specs.Snapshots.{IsFileAmong, Marked}
@@ -27,7 +27,7 @@ among-file parts n file = among-at parts file.1.0 n file.0 file.1.1 file.1.2 (ow
 
 -- ---- over a call that reads some parts
 
-pub cache-read : (told : Option Files) (s : State) (parts : List Marked) (c d : List KeptBlock) → AreListed s (part_numbers parts) → CacheKeeps told (IsFileAmong parts) c d → IsCacheKept told s c → IsCacheKept told s d
+pub cache-read : (told : Option Files) (s : State) (parts : List Marked) (c d : Cached) → AreListed s (part_numbers parts) → CacheKeeps told (IsFileAmong parts) c d → IsCacheKept told s c → IsCacheKept told s d
 cache-read told s parts c d listed keeps kept = record {
   backed = IsCacheBacked-kept told (IsFileAmong parts) c d keeps kept.backed;
   listed = λ b there. elim (keeps.each b there) [

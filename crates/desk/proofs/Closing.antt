@@ -3,7 +3,7 @@ use Rattle.std.proofs.Common.{◌≡◌, ◌⊎◌, inl, inr, ◌<◌, ◌-◌, 
 use Rattle.std.specs.Prelude.{Err, Ok, OnErr, OnOk, Result}
 use Rattle.ri_base.specs.Documents.{Document}
 use Rattle.store_ends.specs.Files.{Files}
-use Rattle.disk_index.specs.Cache.{KeptBlock}
+use Rattle.disk_index.specs.Cache.{Cached}
 use Rattle.holdings.specs.Contents.{all_closed}
 use Rattle.holdings.specs.Parts.{live}
 use Rattle.holdings.proofs.RoomLemmas.{live-sealed}
@@ -28,7 +28,7 @@ abbrev pub closed : repositories.State → repositories.State
 closed s = with_held s (all_closed s.held)
 
 -- with it, and with other sums and blocks
-abbrev pub with_closed : Keeps → List Kept → List KeptBlock → Keeps
+abbrev pub with_closed : Keeps → List Kept → Cached → Keeps
 with_closed d counts cache = record { repository = closed d.repository; kind = d.kind; queries = d.queries; counts = counts; cache = cache; usable = d.usable }
 
 -- what was listed is listed
@@ -59,7 +59,7 @@ module _ (told : Option Files) (d : Keeps) (backed : IsDeskBacked told d) where
   pub closed-sums : (counts : List Kept) → AreSums (live told d.repository.held.parts) d.repository.held.generation counts → AreSums (live told (closed d.repository).held.parts) d.repository.held.generation counts
   closed-sums counts sums = subst (λ (docs : List Document). AreSums docs d.repository.held.generation counts) (sym (live-sealed told d.repository.held.parts)) sums
 
-  pub closed-backed : (counts : List Kept) (cache : List KeptBlock) → AreSums (live told d.repository.held.parts) d.repository.held.generation counts → IsCacheKept told d.repository cache → IsDeskBacked told (with_closed d counts cache)
+  pub closed-backed : (counts : List Kept) (cache : Cached) → AreSums (live told d.repository.held.parts) d.repository.held.generation counts → IsCacheKept told d.repository cache → IsDeskBacked told (with_closed d counts cache)
   closed-backed counts cache sums kept =
       let s = d.repository in
       let r = closed s in

@@ -4,7 +4,8 @@ use Rattle.std.specs.Option.{IfSome, option_map}
 use Rattle.std.proofs.lemmas.List.Elements.{All-nil}
 use Rattle.ri_base.specs.Documents.{Document}
 use Rattle.store_ends.specs.Files.{Files, Leaves}
-use Rattle.disk_index.specs.Cache.{KeptBlock}
+use Rattle.disk_index.specs.Cache.{Cached, without_blocks}
+use Rattle.disk_index.proofs.CacheLemmas.{empty-cache}
 use Rattle.holdings.specs.Parts.{live}
 use Rattle.counts.specs.Kept.{AreSums}
 use Rattle.merge_job.specs.Merge.{Merging}
@@ -31,16 +32,16 @@ use Rattle.desk.proofs.Reading.{reads-state}
 use Rattle.desk.proofs.WritingLemmas.{either-now, one-of, then-same}
 
 -- with another repository, and with these queries and blocks
-abbrev pub ended_with : Keeps → repositories.State → List OpenQuery → List KeptBlock → Keeps
+abbrev pub ended_with : Keeps → repositories.State → List OpenQuery → Cached → Keeps
 ended_with d t queries cache = record { repository = t; kind = d.kind; queries = queries; counts = d.counts; cache = cache; usable = d.usable }
 
 -- nothing is open, and no block is kept
 abbrev pub ended : Keeps → repositories.State → Keeps
-ended d t = ended_with d t [] []
+ended d t = ended_with d t [] (without_blocks d.cache)
 
-pub cache-empty : (told : Option Files) (s : repositories.State) → IsCacheKept told s []
-cache-empty told s = record {
-  backed = λ f e b there. let within = there.1 in absurd (omega (arith, within));
+pub cache-empty : (told : Option Files) (s : repositories.State) (c : Cached) → IsCacheKept told s (without_blocks c)
+cache-empty told s c = record {
+  backed = empty-cache told (without_blocks c) refl;
   listed = λ b there. let within = there.1 in absurd (omega (arith, within));
 }
 
@@ -54,7 +55,7 @@ begun-backed told d backed = record {
   queries = All-nil (IsQueryBacked told (with_merge d.repository None) d.kind);
   merge = tt;
   counts = backed.counts;
-  cache = cache-empty told (with_merge d.repository None);
+  cache = cache-empty told (with_merge d.repository None) d.cache;
 }
 
 step-begun : (told : Option Files) (d : Keeps) → step (state_of told (ended d (with_merge d.repository None))) event.End ≡ step (state_of told d) event.End
@@ -84,7 +85,7 @@ module _ (before mid after : Option Files) (d : Keeps) (r t : repositories.State
         merge = none-open after t t.merge closed;
         counts = subst (λ g. AreSums (live after t.held.parts) g d.counts) (sym (last.generation ∙ saved.generation))
             (subst (λ (docs : List Document). AreSums docs d.repository.held.generation d.counts) (sym reads-after.live_are) backed.counts);
-        cache = cache-empty after t;
+        cache = cache-empty after t d.cache;
       })
 
   end-stands : Stands d.repository.held.limits after (collection_of (state_of before d))
@@ -109,7 +110,7 @@ module _ (before mid after : Option Files) (d now : Keeps) (start r t : reposito
       (end-exit before mid after begun r t refl (begun-backed before d inside) flushed-begun saved-begun swept last count is)) backed
 
   -- with queries and blocks of which there are none
-  pub end-done : (qs : List OpenQuery) (cache : List KeptBlock) (count : ℕ) → qs ≡ [] → cache ≡ [] → count ≡ length (live after t.held.parts) → IsDeskBacked before now → Steps event.End before after now (ended_with d t qs cache) (reply.Ended count)
+  pub end-done : (qs : List OpenQuery) (cache : Cached) (count : ℕ) → qs ≡ [] → cache ≡ without_blocks d.cache → count ≡ length (live after t.held.parts) → IsDeskBacked before now → Steps event.End before after now (ended_with d t qs cache) (reply.Ended count)
   end-done qs cache count closed_all emptied is backed =
       let same_now : ended d t ≡ ended_with d t qs cache = λ i. ended_with d t (sym closed_all i) (sym emptied i) in
       subst (λ (x : Keeps). Steps event.End before after now x (reply.Ended count)) same_now (end-now count is backed)

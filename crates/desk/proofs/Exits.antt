@@ -1,6 +1,9 @@
 -- How the calls of a desk end: in a step that is done, or in a refusal.
 use Rattle.std.proofs.Common.{◌≡◌, ◌∙◌, false, List, map, refl, sym, ap, subst, Option}
 use Rattle.std.specs.Option.{option_map}
+use Rattle.std.specs.Prelude.{Err}
+use Rattle.ri_base.specs.Faults.{TellsDamage}
+use Rattle.ri_base.specs.declared.seg_fault.SegFault.{SegFault}
 use Rattle.store_ends.specs.Files.{Files}
 use Rattle.smoothing.specs.declared.rule.RuleKind.{RuleKind}
 use Rattle.holdings.specs.declared.limits.Limits.{Limits}
@@ -11,6 +14,7 @@ use Rattle.desk.specs.declared.reply.Refusal.{Refusal}
 use Rattle.desk.specs.declared.reply.Reply.{Reply}
 use Rattle.desk.specs.declared.reply.Reply.TheVariants as reply
 use Rattle.desk.specs.Backed.{IsDeskBacked, Keeps, Steps, merge_of, state_of}
+use Rattle.desk.specs.Leaving.{LeavesKept}
 use Rattle.desk.specs.Queries.{query_of}
 use Rattle.desk.specs.State.{Merge, Query, State}
 use Rattle.desk.specs.Step.{refuse, step}
@@ -25,6 +29,19 @@ exit e before after old new r to is state shows backed = record {
   state = state ∙ ap (λ (x : State × Told). x.0) (sym is);
   shows = subst (λ (t : Told). Shows t r) (ap (λ (x : State × Told). x.1) (sym is)) shows;
   backed = backed;
+}
+
+-- ---- a call that fails
+
+-- damage that it tells is what was met last
+pub leaves-failed : (fault : SegFault) (d now new : Keeps) → d ≡ now → new.kind ≡ d.kind → TellsDamage d.cache.damage new.cache.damage fault → LeavesKept (Err fault) now new
+leaves-failed fault d now new same kind tells = record {
+  form = tt;
+  kind = kind ∙ ap (λ (x : Keeps). x.kind) same;
+  unchanged = tt;
+  usable = tt;
+  undamaged = tt;
+  damaged = subst (λ (x : Keeps). TellsDamage x.cache.damage new.cache.damage fault) same tells;
 }
 
 -- ---- an event that is refused

@@ -10,7 +10,7 @@ use Rattle.manifest.specs.Files.{numbers_of}
 use Rattle.manifest.specs.Listing.{all_numbers, prior_numbers}
 use Rattle.manifest.proofs.ListingLaws.{listing-of}
 use Rattle.disk_index.specs.Blocks.{IsBlockIn, told_file}
-use Rattle.disk_index.specs.Cache.{IsCacheBacked, KeptBlock}
+use Rattle.disk_index.specs.Cache.{Cached, IsCacheBacked, KeptBlock}
 use Rattle.disk_index.specs.Names.{segment_name}
 use Rattle.disk_index.specs.Parts.{InMemory, IsPartBacked, OnDisk, Source, reads}
 use Rattle.disk_index.specs.Reads.{HasSegment, rebuilt}
@@ -124,7 +124,7 @@ block-same P f g key es same p is = record {
   fit = is.fit;
 }
 
-pub cache-same : (P : List ℕ → Type 0) (a b : Option Files) (cache : List KeptBlock) → SameWhere P a b → ((e : KeptBlock) → Contains cache e → P (segment_name e.0.number)) → IsCacheBacked a cache → IsCacheBacked b cache
+pub cache-same : (P : List ℕ → Type 0) (a b : Option Files) (cache : Cached) → SameWhere P a b → ((e : KeptBlock) → Contains cache.kept e → P (segment_name e.0.number)) → IsCacheBacked a cache → IsCacheBacked b cache
 cache-same P None None cache same stay backed = backed
 cache-same P None (Some g) cache same stay backed = absurd same
 cache-same P (Some f) None cache same stay backed = absurd same

@@ -8,7 +8,8 @@ use Rattle.ri_base.specs.Documents.{Document}
 use Rattle.store_ends.specs.Files.{Files, SameWhere}
 use Rattle.smoothing.specs.declared.rule.RuleKind.{RuleKind}
 use Rattle.manifest.specs.Listing.{prior_numbers}
-use Rattle.disk_index.specs.Cache.{KeptBlock}
+use Rattle.disk_index.specs.Cache.{Cached, nothing_cached}
+use Rattle.disk_index.proofs.CacheLemmas.{new-cache}
 use Rattle.holdings.specs.Contents.{Contents}
 use Rattle.holdings.specs.Parts.{live}
 use Rattle.holdings.specs.declared.limits.Limits.{Limits}
@@ -23,7 +24,7 @@ use Rattle.repository.specs.Steps.{with_held}
 use Rattle.repository.specs.Writes.{IsBeside}
 use Rattle.query_check.specs.Answers.{whole_checked}
 use Rattle.desk.specs.Priors.{priors_with}
-use Rattle.desk.proofs.AnswerLemmas.{empty-cache, empty-sums}
+use Rattle.desk.proofs.AnswerLemmas.{empty-sums}
 use Rattle.ranker.specs.Ranking.{query_network}
 use Rattle.ranker.specs.Searches.{IsTaken}
 use Rattle.desk.proofs.Frames.{Stay, backed-same, cache-same, listed-stays, live-same, taken-same}
@@ -43,7 +44,7 @@ state-eq el ed et ep eq em eb ek = λ i. record { live = el i; documents = ed i;
 -- ---- a new desk
 
 -- where nothing is open and nothing kept it is backed as its repository is
-pub backed-new : (told : Option Files) (d : Keeps) → d.queries ≡ [] → d.counts ≡ [] → d.cache ≡ [] → IsBacked told d.repository → IfSome d.repository.merge (IsMergeBacked told d.repository) → IsDeskBacked told d
+pub backed-new : (told : Option Files) (d : Keeps) → d.queries ≡ [] → d.counts ≡ [] → d.cache ≡ nothing_cached → IsBacked told d.repository → IfSome d.repository.merge (IsMergeBacked told d.repository) → IsDeskBacked told d
 backed-new told d none zero empty stored merging =
     let s = d.repository in
     record {
@@ -52,8 +53,8 @@ backed-new told d none zero empty stored merging =
       merge = merging;
       counts = empty-sums (live told s.held.parts) s.held.generation d.counts zero;
       cache = record {
-        backed = empty-cache told d.cache empty;
-        listed = λ b there. (let w : Contains [] b = subst (λ (c : List KeptBlock). Contains c b) empty there in absurd (let within = w.1 in omega (arith, within)));
+        backed = new-cache told d.cache empty;
+        listed = λ b there. (let w : Contains [] b = subst (λ (c : Cached). Contains c.kept b) empty there in absurd (let within = w.1 in omega (arith, within)));
       };
     }
 
@@ -100,7 +101,7 @@ Query-on told s t kind q on same b = record {
 pub Queries-on : (told : Option Files) (s t : repositories.State) (kind : RuleKind) (qs : List OpenQuery) → Lists s t → t.priors ≡ s.priors → All (IsQueryBacked told s kind) qs → All (IsQueryBacked told t kind) qs
 Queries-on told s t kind qs on same all = All-weaker (IsQueryBacked told s kind) (IsQueryBacked told t kind) (λ q b. Query-on told s t kind q on same b) qs all
 
-pub Cache-on : (told : Option Files) (s t : repositories.State) (cache : List KeptBlock) → Lists s t → IsCacheKept told s cache → IsCacheKept told t cache
+pub Cache-on : (told : Option Files) (s t : repositories.State) (cache : Cached) → Lists s t → IsCacheKept told s cache → IsCacheKept told t cache
 Cache-on told s t cache on b = record { backed = b.backed; listed = λ k c. on k.0.number (b.listed k c) }
 
 -- ---- a commit
@@ -136,7 +137,7 @@ queries-same a b s kind [] backed same all = refl
 queries-same a b s kind (q ∷ qs) backed same all = λ i.
     query-same a b s kind q backed same (All-head (IsQueryBacked a s kind) q qs all) i ∷ queries-same a b s kind qs backed same (All-tail (IsQueryBacked a s kind) q qs all) i
 
-pub Cache-commit : (a b : Option Files) (s t : repositories.State) (cache : List KeptBlock) → IsBacked a s → SameWhere (IsBeside (IsUnlisted (listed_numbers s))) a b → Lists s t → IsCacheKept a s cache → IsCacheKept b t cache
+pub Cache-commit : (a b : Option Files) (s t : repositories.State) (cache : Cached) → IsBacked a s → SameWhere (IsBeside (IsUnlisted (listed_numbers s))) a b → Lists s t → IsCacheKept a s cache → IsCacheKept b t cache
 Cache-commit a b s t cache backed same on kept = record {
   backed = cache-same (IsBeside (IsUnlisted (listed_numbers s))) a b cache same (λ e c. listed-stays a s backed e.0.number (kept.listed e c)) kept.backed;
   listed = λ e c. on e.0.number (kept.listed e c);

@@ -5,7 +5,7 @@ use Rattle.std.specs.Option.{option_map}
 use Rattle.ri_base.specs.Collection.{token_count}
 use Rattle.ri_base.specs.Documents.{Document}
 use Rattle.store_ends.specs.Files.{Files, SameWhere}
-use Rattle.disk_index.specs.Cache.{KeptBlock}
+use Rattle.disk_index.specs.Cache.{Cached}
 use Rattle.disk_index.specs.Snapshots as snapshots
 use Rattle.disk_index.specs.Snapshots.{Marked}
 use Rattle.holdings.specs.Contents.{all_closed}
@@ -41,7 +41,7 @@ abbrev merge_at : ℕ → ℕ → ℕ → ℕ → Merge
 merge_at size credit documents tokens = record { size = size; credit = credit; dead_documents = documents; dead_tokens = tokens }
 
 -- with another repository and other blocks
-abbrev pub with_merged : Keeps → repositories.State → List KeptBlock → Keeps
+abbrev pub with_merged : Keeps → repositories.State → Cached → Keeps
 with_merged d r cache = record { repository = r; kind = d.kind; queries = d.queries; counts = d.counts; cache = cache; usable = d.usable }
 
 merge-eq : {a b c d e f g h : ℕ} → a ≡ b → c ≡ d → e ≡ f → g ≡ h → merge_at a c e g ≡ merge_at b d f h
@@ -114,7 +114,7 @@ none-if {X} P o is = subst (λ (p : Option X). IfSome p P) (sym is) tt
 same-some : {X : Type 0} (o : Option X) (x y : X) → o ≡ Some x → o ≡ Some y → x ≡ y
 same-some {X} o x y p q = ap (λ (r : Option X). unwrap_or r x) (sym p ∙ q)
 
-module _ (told after : Option Files) (d : Keeps) (docs : ℕ) (r : repositories.State) (cache : List KeptBlock) (m : Merging) (open_is : d.repository.merge ≡ Some m) (kept : IsCacheKept told d.repository cache) (backed : IsDeskBacked told d) where
+module _ (told after : Option Files) (d : Keeps) (docs : ℕ) (r : repositories.State) (cache : Cached) (m : Merging) (open_is : d.repository.merge ≡ Some m) (kept : IsCacheKept told d.repository cache) (backed : IsDeskBacked told d) where
   was-listed : AreListed d.repository (part_numbers m.snapshot)
   was-listed = (if-some (IsMergeBacked told d.repository) d.repository.merge m open_is backed.merge).listed
 

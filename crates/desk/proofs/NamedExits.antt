@@ -10,7 +10,7 @@ use Rattle.ri_base.specs.declared.hit.Hit.{Hit}
 use Rattle.store_ends.specs.Files.{Files}
 use Rattle.query_check.specs.Answers.{whole_checked}
 use Rattle.belief_nodes.specs.Network.{NetworkTree}
-use Rattle.disk_index.specs.Cache.{KeptBlock}
+use Rattle.disk_index.specs.Cache.{Cached}
 use Rattle.holdings.specs.MarkedParts.{docnos_of}
 use Rattle.holdings.proofs.LiveLemmas.{docnos-live}
 use Rattle.ranker.specs.Ranking.{IsAnswerBy}
@@ -37,7 +37,7 @@ abbrev pub with_queries : Keeps → List OpenQuery → Keeps
 with_queries d queries = record { repository = d.repository; kind = d.kind; queries = queries; counts = d.counts; cache = d.cache; usable = d.usable }
 
 -- and another cache
-abbrev pub with_search : Keeps → List OpenQuery → List KeptBlock → Keeps
+abbrev pub with_search : Keeps → List OpenQuery → Cached → Keeps
 with_search d queries cache = record { repository = d.repository; kind = d.kind; queries = queries; counts = d.counts; cache = cache; usable = d.usable }
 
 module _ (told : Option Files) (d : Keeps) (name : List ℕ) (i : ℕ) (q : OpenQuery) (place : IsPlace name d.queries i q) (there : q ≡ get_or d.queries i q) where
@@ -58,7 +58,7 @@ module _ (told : Option Files) (d : Keeps) (name : List ℕ) (i : ℕ) (q : Open
 
   -- ---- one query gets more credit
 
-  pub step-exit : (after : Option Files) (docs credit long : ℕ) (new : OpenQuery) (cache : List KeptBlock) → after ≡ told → query_of told new ≡ advanced docs (query_of told q) → IsQueryBacked after d.repository d.kind new
+  pub step-exit : (after : Option Files) (docs credit long : ℕ) (new : OpenQuery) (cache : Cached) → after ≡ told → query_of told new ≡ advanced docs (query_of told q) → IsQueryBacked after d.repository d.kind new
       → IsCacheKept after d.repository cache → credit ≡ (advanced docs (query_of told q)).credit → long ≡ length (searched told q.search) → IsDeskBacked told d
       → Steps (event.Step name docs) told after d (with_search d (set d.queries i new) cache) (reply.Stepped name credit long)
   step-exit after docs credit long new cache same on now kept more count backed =

@@ -16,7 +16,7 @@ use Rattle.query_check.specs.Leaves.{leaf_tree}
 use Rattle.query_check.specs.declared.checked.Checked.{Checked}
 use Rattle.belief_nodes.specs.Network.{NetworkTree, network_of, network_tree}
 use Rattle.belief_nodes.specs.Priors.{Prior}
-use Rattle.disk_index.specs.Cache.{KeptBlock}
+use Rattle.disk_index.specs.Cache.{Cached}
 use Rattle.disk_index.specs.Snapshots as snapshots
 use Rattle.disk_index.specs.Snapshots.{AreBacked, Marked}
 use Rattle.document_scoring.specs.Counts.{stats_of}
@@ -54,7 +54,7 @@ use Rattle.desk.proofs.Naming.{is-taken, is_named}
 use Rattle.desk.proofs.ReadingExits.{names-told}
 
 -- the part that was being filled is closed, one query more is open, and sums and blocks were kept
-abbrev pub with_opened : Keeps → OpenQuery → List Kept → List KeptBlock → Keeps
+abbrev pub with_opened : Keeps → OpenQuery → List Kept → Cached → Keeps
 with_opened d q counts cache = record { repository = closed d.repository; kind = d.kind; queries = d.queries ++ q ∷ []; counts = counts; cache = cache; usable = d.usable }
 
 -- a step to a state that is given by what it is
@@ -111,7 +111,7 @@ module _ (told : Option Files) (d : Keeps) (name : List ℕ) (k : ℕ) (tree : C
   reads-opened : (q : OpenQuery) → IsOfNow q → query_of told q ≡ opened (state_of told d) name tree k
   reads-opened q now = λ i. record { name = now.name_is i; live = now.documents i; query = now.checked i; k = now.most i; credit = now.credit i }
 
-  open-exit : (after : Option Files) (q : OpenQuery) (counts : List Kept) (cache : List KeptBlock) (live_now : ℕ) → after ≡ told → IsOfNow q → is_some (position (is_named name) d.queries) ≡ false → nat_le MAX_QUERIES (length d.queries) ≡ false
+  open-exit : (after : Option Files) (q : OpenQuery) (counts : List Kept) (cache : Cached) (live_now : ℕ) → after ≡ told → IsOfNow q → is_some (position (is_named name) d.queries) ≡ false → nat_le MAX_QUERIES (length d.queries) ≡ false
       → live_now ≡ length (live told d.repository.held.parts) → IsQueryBacked told (closed d.repository) d.kind q → AreSums (live told d.repository.held.parts) d.repository.held.generation counts → IsCacheKept told d.repository cache
       → IsDeskBacked told d → StepsTo (open_step (state_of told d) name k (Ok tree)) after (with_opened d q counts cache) (reply.Opened name live_now)
   open-exit after q counts cache live_now same now free room count one sums kept backed =
@@ -192,11 +192,11 @@ module _ (told : Option Files) (d : Keeps) (name : List ℕ) (k : ℕ) (checked 
         network = new.network_is ∙ ap (network_of checked) counted ∙ (λ i. query_network (whole_checked (sym new.checked_is i)) (docs i));
       }
 
-  abbrev opened_with : repositories.State → List OpenQuery → List Kept → List KeptBlock → Keeps
+  abbrev opened_with : repositories.State → List OpenQuery → List Kept → Cached → Keeps
   opened_with r all counts cache = record { repository = r; kind = d.kind; queries = all; counts = counts; cache = cache; usable = d.usable }
 
   -- The query is opened.
-  pub open-done : (after : Option Files) (now : Keeps) (r : repositories.State) (all : List OpenQuery) (counts : List Kept) (cache : List KeptBlock) (live_now : ℕ) (told_name : List ℕ) → d ≡ now → r ≡ closed d.repository → all ≡ d.queries ++ q ∷ [] → told_name ≡ name → after ≡ told
+  pub open-done : (after : Option Files) (now : Keeps) (r : repositories.State) (all : List OpenQuery) (counts : List Kept) (cache : Cached) (live_now : ℕ) (told_name : List ℕ) → d ≡ now → r ≡ closed d.repository → all ≡ d.queries ++ q ∷ [] → told_name ≡ name → after ≡ told
       → is_some (position (is_named name) d.queries) ≡ false → nat_le MAX_QUERIES (length d.queries) ≡ false → live_now ≡ length (snapshots.live told snapshot)
       → part_numbers snapshot ≡ part_numbers d.repository.held.parts.closed → (IsDeskBacked told d → AreBacked told snapshot) → (IsDeskBacked told d → (kind : RuleKind) (priors : List Prior) → IsTaken kind priors told q.search)
       → (IsDeskBacked told d → stats ≡ map (stats_of (snapshots.live told snapshot)) (map leaf_tree checked.leaves.items))

@@ -1,8 +1,10 @@
 -- Events that are no flush points.
 use Rattle.std.proofs.Common.{◌≡◌, refl, sym, ap, subst, ℕ, Bool, true, false, List, Option, Some, None, length}
-use Rattle.std.specs.Prelude.{OnOk, Result, Ok, Err, if◌then◌else◌, is_some, nat_le, nat_lt, slice_get, ◌-◌}
+use Rattle.std.specs.Prelude.{IfErr, OnOk, Result, Ok, Err, if◌then◌else◌, is_some, nat_le, nat_lt, slice_get, ◌-◌}
 use Rattle.ri_base.specs.Expression.{ExprTree}
+use Rattle.ri_base.specs.Faults.{TellsDamage}
 use Rattle.ri_base.specs.declared.seg_fault.SegFault.{SegFault}
+use Rattle.ri_base.specs.declared.seg_fault.SegFault.TheVariants.{Memory}
 use Rattle.store_ends.specs.Files.{Files}
 use Rattle.query_check.specs.Check.{CheckedTree}
 use Rattle.desk.specs.Priors.{names_with}
@@ -80,6 +82,11 @@ quiet-kept kept s e w = ap (λ (b : Bool). if b then collection_of (step s e).0 
 -- Behind such an event, which leaves the files, they stand for what they stood for.
 pub kept-by : (limits : Limits) (b c : Option Files) (s : State) (e : Event) (kept : Collection) → may_write e ≡ false → c ≡ b → Stands limits b kept → Stands limits c (kept_behind kept (step s e))
 kept-by limits b c s e kept w same stands = subst (λ (k : Collection). Stands limits c k) (sym (quiet-kept kept s e w)) (subst (λ (f : Option Files). Stands limits f kept) (sym same) stands)
+
+-- want of memory isn't damage
+pub memory-damage : (r : Result Reply SegFault) (before now : Option SegFault) → now ≡ before → IfErr r (λ fault. fault ≡ Memory) → IfErr r (TellsDamage before now)
+memory-damage (Ok x) before now same is = tt
+memory-damage (Err fault) before now same is = subst (TellsDamage before now) (sym is) same
 
 pub on-ok : (r : Result Reply SegFault) (P : Type 0) → P → OnOk r P
 on-ok (Ok x) P p = p

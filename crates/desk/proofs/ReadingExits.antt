@@ -13,7 +13,7 @@ use Rattle.store_ends.specs.Files.{Files}
 use Rattle.manifest.specs.declared.manifest.PriorEntry.{PriorEntry}
 use Rattle.query_check.specs.Answers.{whole_checked}
 use Rattle.belief_nodes.specs.Network.{NetworkTree, network_tree}
-use Rattle.disk_index.specs.Cache.{KeptBlock}
+use Rattle.disk_index.specs.Cache.{Cached}
 use Rattle.document_scoring.specs.Counts.{stats_of}
 use Rattle.holdings.specs.Parts.{live}
 use Rattle.ranked_output.specs.declared.explained.Explained.{Explained}
@@ -43,17 +43,17 @@ use Rattle.desk.proofs.Exits.{exit, of-now, refused-by, state-by}
 use Rattle.desk.proofs.Naming.{IsPlace, named-here}
 
 -- other blocks are kept
-abbrev pub with_cache : Keeps → List KeptBlock → Keeps
+abbrev pub with_cache : Keeps → Cached → Keeps
 with_cache d cache = record { repository = d.repository; kind = d.kind; queries = d.queries; counts = d.counts; cache = cache; usable = d.usable }
 
 -- ---- a scan
 
 -- with that repository, and other blocks
-abbrev with_read : Keeps → repositories.State → List KeptBlock → Keeps
+abbrev with_read : Keeps → repositories.State → Cached → Keeps
 with_read d r cache = record { repository = r; kind = d.kind; queries = d.queries; counts = d.counts; cache = cache; usable = d.usable }
 
 module _ (told : Option Files) (d : Keeps) (backed : IsDeskBacked told d) where
-  scan-exit : (after : Option Files) (text : List ℕ) (x : ExprTree) (lines : List (List ℕ × Pair)) (cache : List KeptBlock) → after ≡ told → scanned text ≡ Ok x → lines ≡ extents_in x (live told d.repository.held.parts)
+  scan-exit : (after : Option Files) (text : List ℕ) (x : ExprTree) (lines : List (List ℕ × Pair)) (cache : Cached) → after ≡ told → scanned text ≡ Ok x → lines ≡ extents_in x (live told d.repository.held.parts)
       → IsCacheKept told d.repository cache → Steps (event.Scan text) told after d (with_closed d d.counts cache) (reply.Extents lines)
   scan-exit after text x lines cache same is found kept =
       let n = with_closed d d.counts cache in
@@ -61,7 +61,7 @@ module _ (told : Option Files) (d : Keeps) (backed : IsDeskBacked told d) where
       exit (event.Scan text) told after d n (reply.Extents lines) _ (scan-found (state_of told d) text x is) (ap (λ (f : Option Files). state_of f n) same ∙ state) (ap reply.Extents found)
       (subst (λ (f : Option Files). IsDeskBacked f n) (sym same) (closed-backed told d backed d.counts cache backed.counts kept))
 
-pub scan-done : (told after : Option Files) (d now : Keeps) (r : repositories.State) (text : List ℕ) (x : ExprTree) (lines : List (List ℕ × Pair)) (cache : List KeptBlock) → d ≡ now → r ≡ closed d.repository → after ≡ told → scanned text ≡ Ok x
+pub scan-done : (told after : Option Files) (d now : Keeps) (r : repositories.State) (text : List ℕ) (x : ExprTree) (lines : List (List ℕ × Pair)) (cache : Cached) → d ≡ now → r ≡ closed d.repository → after ≡ told → scanned text ≡ Ok x
     → (IsDeskBacked told d → lines ≡ extents_in x (live told d.repository.held.parts)) → (IsDeskBacked told d → IsCacheKept told d.repository cache) → IsDeskBacked told now
     → Steps (event.Scan text) told after now (with_read d r cache) (reply.Extents lines)
 scan-done told after d now r text x lines cache same made stay is found kept backed =
@@ -82,7 +82,7 @@ module _ (told : Option Files) (d : Keeps) (name : List ℕ) (i : ℕ) (q : Open
   pub no-rank : None ≡ slice_get hits (rank - 1) → step (state_of told d) (event.Explain name rank) ≡ refuse (state_of told d) (NoSuchRank name)
   no-rank at = explain-norank (state_of told d) name rank (query_of told q) (named-here told name d.queries i q place there) passed (entry-at None at)
 
-  pub explain-exit : (after : Option Files) (cache : List KeptBlock) (hit : Hit) (doc : Document) (names : List (List ℕ)) (stats : List LeafStats) (e : Explained) → after ≡ told → Some hit ≡ slice_get hits (rank - 1)
+  pub explain-exit : (after : Option Files) (cache : Cached) (hit : Hit) (doc : Document) (names : List (List ℕ)) (stats : List LeafStats) (e : Explained) → after ≡ told → Some hit ≡ slice_get hits (rank - 1)
       → document_with hit.docno (searched told q.search) ≡ Some doc → names ≡ map (λ (x : PriorEntry). x.name) d.repository.priors → stats ≡ (network_tree q.search.network).stats
       → IsExplanation names (whole_checked q.search.checked) stats doc rank hit e → IsQueryBacked told d.repository d.kind q → IsCacheKept told d.repository cache → IsDeskBacked told d
       → Steps (event.Explain name rank) told after d (with_cache d cache) (reply.Explained e)

@@ -8,7 +8,7 @@ use Rattle.store_ends.specs.Files.{Files}
 use Rattle.query_check.specs.Leaves.{LeafTree}
 use Rattle.belief_nodes.specs.Network.{network_tree}
 use Rattle.disk_index.specs.Blocks.{IsBlockIn}
-use Rattle.disk_index.specs.Cache.{CacheKeeps, KeptBlock}
+use Rattle.disk_index.specs.Cache.{CacheKeeps, Cached, KeptBlock}
 use Rattle.disk_index.specs.Parts.{IsPartBacked, reads}
 use Rattle.disk_index.specs.Snapshots.{AreBacked, IsFileAmong, Marked}
 use Rattle.range_bounds.specs.Tables.{AreTablesOf, IsTableOf}
@@ -52,14 +52,14 @@ chosen-backed told parts chosen (inl none) backed = subst (λ (ms : List Marked)
 chosen-backed told parts chosen (inr whole) backed = subst (λ (ms : List Marked). AreBacked told ms) (sym whole) backed
 
 -- what was added to a cache for those chosen is of files of the parts
-pub chosen-kept : (told : Option Files) (parts chosen : List Marked) (c d : List KeptBlock) → (chosen ≡ []) ⊎ (chosen ≡ parts)
+pub chosen-kept : (told : Option Files) (parts chosen : List Marked) (c d : Cached) → (chosen ≡ []) ⊎ (chosen ≡ parts)
     → CacheKeeps told (IsFileAmong chosen) c d → CacheKeeps told (IsFileAmong parts) c d
 chosen-kept told parts chosen c d (inl none) keeps =
     let kept : CacheKeeps told (IsFileAmong []) c d = subst (λ (ms : List Marked). CacheKeeps told (IsFileAmong ms) c d) none keeps in
     record { each = λ e there. of-none (kept.each e there) }
   where
-    of-none : {e : KeptBlock} → Contains c e ⊎ IsFileAmong [] e.0.number × ((files : Files) → told ≡ Some files → IsBlockIn files e.0 e.1)
-        → Contains c e ⊎ IsFileAmong parts e.0.number × ((files : Files) → told ≡ Some files → IsBlockIn files e.0 e.1)
+    of-none : {e : KeptBlock} → Contains c.kept e ⊎ IsFileAmong [] e.0.number × ((files : Files) → told ≡ Some files → IsBlockIn files e.0 e.1)
+        → Contains c.kept e ⊎ IsFileAmong parts e.0.number × ((files : Files) → told ≡ Some files → IsBlockIn files e.0 e.1)
     of-none (inl old) = inl old
     of-none (inr new) = absurd (Contains-none new.0.0 new.0.1)
 chosen-kept told parts chosen c d (inr whole) keeps = subst (λ (ms : List Marked). CacheKeeps told (IsFileAmong ms) c d) whole keeps

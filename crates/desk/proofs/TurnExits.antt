@@ -6,7 +6,7 @@ use Rattle.std.proofs.lemmas.Bool.{ltb-true}
 use Rattle.ri_base.specs.Faults.{IsOutside}
 use Rattle.ri_base.specs.declared.seg_fault.SegFault.{SegFault}
 use Rattle.store_ends.specs.Files.{Files, IsQuiet, Leaves, SameWhere}
-use Rattle.disk_index.specs.Cache.{CacheKeeps, IsCacheBacked, KeptBlock}
+use Rattle.disk_index.specs.Cache.{CacheKeeps, Cached, IsCacheBacked}
 use Rattle.disk_index.specs.Snapshots.{IsFileAmong}
 use Rattle.holdings.specs.Parts.{live}
 use Rattle.merge_job.specs.Merge.{Merging, size_of}
@@ -172,7 +172,7 @@ turn-honest told d now why same honest backed =
 
 -- ---- below the size
 
-module _ (before after : Option Files) (d now : Keeps) (docs credit size : ℕ) (r : repositories.State) (cache : List KeptBlock) (same : d ≡ now) (answer : IfSome d.repository.merge (λ m. turn.Open credit size ≡ turned m docs)) (on : IsTurnedOn docs d.repository r)
+module _ (before after : Option Files) (d now : Keeps) (docs credit size : ℕ) (r : repositories.State) (cache : Cached) (same : d ≡ now) (answer : IfSome d.repository.merge (λ m. turn.Open credit size ≡ turned m docs)) (on : IsTurnedOn docs d.repository r)
     (same_if : IfSome d.repository.merge (λ m. length m.copied + docs < size_of m → after ≡ before)) where
   below-on : nat_lt (length on.before.copied + docs) (size_of on.before) ≡ true
   below-on = below-open (nat_lt (length on.before.copied + docs) (size_of on.before)) credit size (length on.before.copied + docs) (size_of on.before)
@@ -208,7 +208,7 @@ module _ (before after : Option Files) (d now : Keeps) (docs credit size : ℕ) 
 
 -- ---- at the size
 
-module _ (before after : Option Files) (d now : Keeps) (docs : ℕ) (r : repositories.State) (cache : List KeptBlock) (same : d ≡ now) (answer : IfSome d.repository.merge (λ m. turn.Done ≡ turned m docs)) (to : IsMergedTo d.repository r)
+module _ (before after : Option Files) (d now : Keeps) (docs : ℕ) (r : repositories.State) (cache : Cached) (same : d ≡ now) (answer : IfSome d.repository.merge (λ m. turn.Done ≡ turned m docs)) (to : IsMergedTo d.repository r)
     (over : IsOpenMerging before d.repository → IsCacheBacked before d.cache → IsTurnedOver turn.Done d.repository.merge before after d.repository r) where
   past-to : nat_lt (length to.before.copied + docs) (size_of to.before) ≡ false
   past-to = past-done (nat_lt (length to.before.copied + docs) (size_of to.before)) (length to.before.copied + docs) (size_of to.before)
@@ -238,7 +238,7 @@ module _ (before after : Option Files) (d now : Keeps) (docs : ℕ) (r : reposit
 
 -- ---- whatever became of it
 
-module _ (before after : Option Files) (d now : Keeps) (docs : ℕ) (r : repositories.State) (cache : List KeptBlock) (count : ℕ) (same : d ≡ now)
+module _ (before after : Option Files) (d now : Keeps) (docs : ℕ) (r : repositories.State) (cache : Cached) (count : ℕ) (same : d ≡ now)
     (same_if : IfSome d.repository.merge (λ m. length m.copied + docs < size_of m → after ≡ before)) where
   abbrev Over : Turned → Type 0
   Over t = IsOpenMerging before d.repository → IsCacheBacked before d.cache → IsTurnedOver t d.repository.merge before after d.repository r

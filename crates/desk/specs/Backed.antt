@@ -5,7 +5,7 @@ use Rattle.std.specs.List.{All}
 use Rattle.std.specs.Option.{option_map}
 use Rattle.store_ends.specs.Files.{Files}
 use Rattle.smoothing.specs.declared.rule.RuleKind.{RuleKind}
-use Rattle.disk_index.specs.Cache.{KeptBlock}
+use Rattle.disk_index.specs.Cache.{Cached}
 use Rattle.disk_index.specs.Snapshots.{documents_held}
 use Rattle.holdings.specs.MarkedParts.{tokens_held}
 use Rattle.holdings.specs.Parts.{all_parts, live}
@@ -28,7 +28,7 @@ pub record Keeps : Type 0 where
   pub kind : RuleKind
   pub queries : List OpenQuery
   pub counts : List Kept
-  pub cache : List KeptBlock
+  pub cache : Cached
   pub usable : Bool
 
 -- the same, usable or not

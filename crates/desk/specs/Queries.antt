@@ -6,7 +6,7 @@ use Rattle.query_check.specs.Answers.{whole_checked}
 use Rattle.belief_nodes.specs.Network.{network_tree}
 use Rattle.manifest.specs.Priors.{PriorTable, prior_file}
 use Rattle.manifest.specs.declared.manifest.PriorEntry.{PriorEntry}
-use Rattle.disk_index.specs.Cache.{IsCacheBacked, KeptBlock}
+use Rattle.disk_index.specs.Cache.{Cached, IsCacheBacked, KeptBlock}
 use Rattle.disk_index.specs.Snapshots.{AreBacked}
 use Rattle.ranker.specs.Ranking.{query_network}
 use Rattle.ranker.specs.Searches.{IsTaken, searched}
@@ -58,6 +58,6 @@ pub record IsQueryBacked (told : Option Files) (s : State) (kind : RuleKind) (q 
   pub network : network_tree q.search.network ≡ query_network (whole_checked q.search.checked) (searched told q.search)
 
 -- each block of the cache is that of its file, which is listed
-pub record IsCacheKept (told : Option Files) (s : State) (cache : List KeptBlock) : Type 0 where
+pub record IsCacheKept (told : Option Files) (s : State) (cache : Cached) : Type 0 where
   pub backed : IsCacheBacked told cache
-  pub listed : (b : KeptBlock) → Contains cache b → is_among b.0.number (listed_numbers s) ≡ true
+  pub listed : (b : KeptBlock) → Contains cache.kept b → is_among b.0.number (listed_numbers s) ≡ true

@@ -1,7 +1,7 @@
 // The answer of a query over the documents of a snapshot.
-ghost use Rattle.std.specs.Prelude.{◌≡◌, ◌≤◌, [], List, Option, Some, true, length, map, Err, IfErr, IfOk};
+ghost use Rattle.std.specs.Prelude.{◌≡◌, ◌≤◌, [], List, Option, Some, true, length, map, Err, IfErr, IfOk, OnOk};
 ghost use Rattle.std.specs.Option.{option_map};
-ghost use Rattle.ri_base.specs.Faults.{IsOutside};
+ghost use Rattle.ri_base.specs.Faults.{IsOutside, TellsDamage};
 ghost use Rattle.ri_base.specs.Keeps.{Rose};
 ghost use Rattle.store_ends.specs.Files.{Files, IsQuiet};
 ghost use Rattle.command_words.specs.Asked.{told_labels};
@@ -37,9 +37,6 @@ use smoothing::RuleKind;
 use std::alloc::Global;
 use std::num::NonZeroUsize;
 use store_ends::Store;
-
-/// How many blocks are kept while a query is answered.
-const BLOCK_SLOTS: usize = 1024;
 
 /// How many sums of leaves are kept.
 const COUNT_SLOTS: usize = 256;
@@ -91,6 +88,8 @@ fn explanation<T: Store>(
         → (network_tree search.now.network).stats ≡ map (stats_of (searched (T.files store.old) search.now)) (whole_checked search.now.checked).leaves
         → IfOk result (λ text. IsAnswerText kind priors names.now (explanation rank) (whole_checked search.now.checked) (searched (T.files store.old) search.now) (option_map (λ t. t.items) text)) }
     ensures honest { AreBacked (T.files store.old) search.now.snapshot → IsCacheBacked (T.files store.old) cache.old → IfErr result IsOutside }
+    ensures undamaged { OnOk result (cache.new.damage ≡ cache.old.damage) }
+    ensures damaged { IfErr result (TellsDamage cache.old.damage cache.new.damage) }
     ensures reads { OnlyReads T.files T.layers T.clock T.since T.longest T.held T.faults (IsFileAmong search.now.snapshot) store.old store.new cache.old cache.new }
     ensures store { result ≡ Err SegFault.Store → Rose (T.faults store.old) (T.faults store.new) }
 {
@@ -132,6 +131,8 @@ fn show<T: Store>(
         → (network_tree search.now.network).stats ≡ map (stats_of (searched (T.files store.old) search.now)) (whole_checked search.now.checked).leaves
         → IfOk result (λ text. IsAnswerText kind priors names.now (told_shown shown.now) (whole_checked search.now.checked) (searched (T.files store.old) search.now) (option_map (λ t. t.items) text)) }
     ensures honest { AreBacked (T.files store.old) search.now.snapshot → IsCacheBacked (T.files store.old) cache.old → IfErr result IsOutside }
+    ensures undamaged { OnOk result (cache.new.damage ≡ cache.old.damage) }
+    ensures damaged { IfErr result (TellsDamage cache.old.damage cache.new.damage) }
     ensures reads { OnlyReads T.files T.layers T.clock T.since T.longest T.held T.faults (IsFileAmong search.now.snapshot) store.old store.new cache.old cache.new }
     ensures store { result ≡ Err SegFault.Store → Rose (T.faults store.old) (T.faults store.new) }
 {
@@ -153,19 +154,21 @@ pub fn answer<T: Store>(
     snapshot: Snapshot,
     generation: u64,
     store: &mut T,
+    cache: &mut BlockCache,
 ) -> Result<Option<Vec<u8>>, SegFault>
     requires rule { IsRule kind }
     requires shown { IsShowable (told_shown shown.now) }
     requires nine { length plugs.old ≡ 9 }
-    ensures exact { AreBacked (T.files store.old) snapshot
+    ensures exact { AreBacked (T.files store.old) snapshot → IsCacheBacked (T.files store.old) cache.old
         → IfOk result (λ text. IsAnswerText kind (map (λ plug. meaning plug) plugs.old) names.now (told_shown shown.now) (whole_checked checked) (snapshots.live (T.files store.old) snapshot) (option_map (λ t. t.items) text)) }
-    ensures honest { AreBacked (T.files store.old) snapshot → IfErr result IsOutside }
+    ensures honest { AreBacked (T.files store.old) snapshot → IsCacheBacked (T.files store.old) cache.old → IfErr result IsOutside }
+    ensures undamaged { OnOk result (cache.new.damage ≡ cache.old.damage) }
+    ensures damaged { IfErr result (TellsDamage cache.old.damage cache.new.damage) }
     ensures stay { map (λ plug. meaning plug) plugs.new ≡ map (λ plug. meaning plug) plugs.old }
     ensures quiet { IsQuiet T.files T.layers T.clock T.since T.longest T.held store.old store.new }
     ensures later { T.faults store.old ≤ T.faults store.new }
     ensures store { result ≡ Err SegFault.Store → Rose (T.faults store.old) (T.faults store.new) }
 {
-    let mut cache = BlockCache::new(alloc, slots(BLOCK_SLOTS))?;
     let mut counts = Counts::new(alloc, slots(COUNT_SLOTS))?;
     let stats = all_stats(
         alloc,
@@ -174,13 +177,13 @@ pub fn answer<T: Store>(
         generation,
         &mut counts,
         store,
-        &mut cache,
+        cache,
     )?;
     let most = wanted(shown);
     let search = search_all(
-        alloc, kind, checked, &stats, plugs, snapshot, most, store, &mut cache,
+        alloc, kind, checked, &stats, plugs, snapshot, most, store, cache,
     )?;
-    show(alloc, shown, names, &search, store, &mut cache)
+    show(alloc, shown, names, &search, store, cache)
 }
 
 /// So many slots of a cache, and one where there is to be none.

@@ -1,6 +1,6 @@
 // A desk over a repository.
 ghost use Rattle.std.specs.Prelude.{◌≡◌, ◌≤◌, ◌&&◌, [], Option, Err, true, false, not, length, map, OnOk, OnErr, IfOk, IfErr, IfSome};
-ghost use Rattle.ri_base.specs.Faults.{IsOutside};
+ghost use Rattle.ri_base.specs.Faults.{IsOutside, TellsDamage};
 ghost use Rattle.ri_base.specs.Keeps.{Rose};
 ghost use Rattle.store_ends.specs.Files.{Files, GoesOn, IsQuiet, Leaves};
 ghost use Rattle.session_events.specs.Events.{IsSessionEvent, is_end};
@@ -86,6 +86,10 @@ impl<F: Fn(u32, u32, u64, u64) -> Fraction> Desk<F> {
 
         // Where it is refused, all that is kept stays as it is.
         ensures unchanged { IfOk result (λ reply. StaysIfRefused reply self.old.kept self.new.kept) }
+
+        // Whatever the files are, a reply says that reading met no malformed and no missing file, and one that is told is the one that was met.
+        ensures undamaged { OnOk result (self.new.kept.cache.damage ≡ self.old.kept.cache.damage) }
+        ensures damaged { IfErr result (TellsDamage self.old.kept.cache.damage self.new.kept.cache.damage) }
 
         // Behind a flush point the files stand for the live documents, and behind another event for what they stood for.
         ensures done { OnOk result ((kept : Collection) → IsDeskBacked (T.files store.old) self.old.kept → Stands self.old.kept.repository.held.limits (T.files store.old) kept

@@ -1,8 +1,8 @@
 // What explains a result of a search.
-ghost use Rattle.std.specs.Prelude.{◌≡◌, ◌<◌, ◌≤◌, ◌-◌, Some, length, slice_get, Err, IfErr, IfOk};
+ghost use Rattle.std.specs.Prelude.{◌≡◌, ◌<◌, ◌≤◌, ◌-◌, Some, length, slice_get, Err, IfErr, IfOk, OnOk};
 ghost use Rattle.ri_base.specs.Collection.{document_at};
 ghost use Rattle.ri_base.specs.Documents.{Document};
-ghost use Rattle.ri_base.specs.Faults.{IsOutside};
+ghost use Rattle.ri_base.specs.Faults.{IsOutside, TellsDamage};
 ghost use Rattle.ri_base.specs.Keeps.{Rose};
 ghost use Rattle.query_check.specs.Answers.{whole_checked};
 ghost use Rattle.disk_index.specs.Cache.{IsCacheBacked};
@@ -56,6 +56,8 @@ fn explain_in<T: Store>(
         → IfOk result (IsExplanation names.now (whole_checked checked.now) stats.now (document_at (reads (T.files store.old) marked.now.source) id) rank hit) }
     ensures scale { IfOk result (λ explained. explained.scale ≡ checked.now.scale) }
     ensures honest { IsPartBacked (T.files store.old) marked.now.source → IsCacheBacked (T.files store.old) cache.old → IfErr result IsOutside }
+    ensures undamaged { OnOk result (cache.new.damage ≡ cache.old.damage) }
+    ensures damaged { IfErr result (TellsDamage cache.old.damage cache.new.damage) }
     ensures reads { OnlyReads T.files T.layers T.clock T.since T.longest T.held T.faults (IsFileOf marked.now.source) store.old store.new cache.old cache.new }
     ensures store { result ≡ Err SegFault.Store → Rose (T.faults store.old) (T.faults store.new) }
 {
@@ -84,6 +86,8 @@ fn explain_at<T: Store>(
         → IfOk result (IsExplanation names.now (whole_checked checked.now) stats.now (document_in (T.files store.old) parts.now place) rank hit) }
     ensures scale { IfOk result (λ explained. explained.scale ≡ checked.now.scale) }
     ensures honest { AreBacked (T.files store.old) parts.now → IsCacheBacked (T.files store.old) cache.old → IfErr result IsOutside }
+    ensures undamaged { OnOk result (cache.new.damage ≡ cache.old.damage) }
+    ensures damaged { IfErr result (TellsDamage cache.old.damage cache.new.damage) }
     ensures reads { OnlyReads T.files T.layers T.clock T.since T.longest T.held T.faults (IsFileAmong parts.now) store.old store.new cache.old cache.new }
     ensures store { result ≡ Err SegFault.Store → Rose (T.faults store.old) (T.faults store.new) }
 {
@@ -113,6 +117,8 @@ pub fn explain_hit<T: Store>(
         × IsExplanation names.now (whole_checked checked.now) stats.now d rank hit explained) }
     ensures scale { IfOk result (λ explained. explained.scale ≡ checked.now.scale) }
     ensures honest { AreBacked (T.files store.old) parts.now → IsCacheBacked (T.files store.old) cache.old → IfErr result IsOutside }
+    ensures undamaged { OnOk result (cache.new.damage ≡ cache.old.damage) }
+    ensures damaged { IfErr result (TellsDamage cache.old.damage cache.new.damage) }
     ensures reads { OnlyReads T.files T.layers T.clock T.since T.longest T.held T.faults (IsFileAmong parts.now) store.old store.new cache.old cache.new }
     ensures store { result ≡ Err SegFault.Store → Rose (T.faults store.old) (T.faults store.new) }
 {

@@ -24,6 +24,7 @@ ghost use Rattle.desk.specs.Step.{open_step, step};
 ghost use Rattle.desk.specs.Told.{RefusesAs, reply_early, told_early};
 
 use crate::asking::{NotTaken, ask, ask_expr};
+use crate::blocks::block_cache;
 use crate::query::{MAX_QUERIES, OpenQuery};
 use crate::scanning::scan;
 use crate::search::new_search;
@@ -41,9 +42,6 @@ use std::alloc::{AllocError, Global};
 use std::marker::Model;
 use std::num::NonZeroUsize;
 use store_ends::Store;
-
-/// As many blocks are kept.
-const BLOCKS: usize = 1024;
 
 /// As many sums are kept.
 const SUMS: usize = 256;
@@ -131,7 +129,7 @@ impl Kept {
             kind,
             queries: Vec::new(alloc),
             counts: Counts::new(alloc, NonZeroUsize::new(SUMS).unwrap())?,
-            cache: BlockCache::new(alloc, NonZeroUsize::new(BLOCKS).unwrap())?,
+            cache: block_cache(alloc)?,
             usable: true,
         })
     }
@@ -615,7 +613,7 @@ impl Kept {
     {
         self.queries.clear();
         self.repository.drop_merge();
-        self.cache = BlockCache::new(alloc, NonZeroUsize::new(BLOCKS).unwrap())?;
+        self.cache.clear();
         self.repository.flush(alloc, store)?;
         self.repository.sweep(alloc, store)?;
         Ok(Reply::Ended(self.repository.live_count()))

@@ -1,6 +1,6 @@
 // What a collection has of the leaves of a query.
 ghost use Rattle.std.specs.Prelude.{◌≡◌, ◌⊎◌, ◌<◌, ◌-◌, ◌^◌, length, map, All, Contains, Err, IfErr, IfOk, OnOk};
-ghost use Rattle.ri_base.specs.Faults.{IsOutside};
+ghost use Rattle.ri_base.specs.Faults.{IsOutside, TellsDamage};
 ghost use Rattle.ri_base.specs.Keeps.{Rose};
 ghost use Rattle.query_check.specs.Leaves.{leaf_tree};
 ghost use Rattle.belief_nodes.specs.Leaves.{AreLeafStats};
@@ -34,6 +34,8 @@ fn leaf_stats<T: Store>(
     ensures adds { (e : Kept) → Contains counts.new e → Contains counts.old e ⊎ (e.generation < 2 ^ 64 - 1) }
     ensures range { IfOk result (λ s. AreLeafStats s) }
     ensures honest { AreBacked (T.files store.old) snapshot.now → IsCacheBacked (T.files store.old) cache.old → IfErr result IsOutside }
+    ensures undamaged { OnOk result (cache.new.damage ≡ cache.old.damage) }
+    ensures damaged { IfErr result (TellsDamage cache.old.damage cache.new.damage) }
     ensures reads { OnlyReads T.files T.layers T.clock T.since T.longest T.held T.faults (IsFileAmong snapshot.now) store.old store.new cache.old cache.new }
     ensures store { result ≡ Err SegFault.Store → Rose (T.faults store.old) (T.faults store.new) }
 {
@@ -66,6 +68,8 @@ pub fn all_stats<T: Store>(
     ensures each { IfOk result (λ stats. length stats.items ≡ length leaves.now) }
     ensures range { IfOk result (λ stats. All (λ s. AreLeafStats s) stats.items) }
     ensures honest { AreBacked (T.files store.old) snapshot.now → IsCacheBacked (T.files store.old) cache.old → IfErr result IsOutside }
+    ensures undamaged { OnOk result (cache.new.damage ≡ cache.old.damage) }
+    ensures damaged { IfErr result (TellsDamage cache.old.damage cache.new.damage) }
     ensures reads { OnlyReads T.files T.layers T.clock T.since T.longest T.held T.faults (IsFileAmong snapshot.now) store.old store.new cache.old cache.new }
     ensures store { result ≡ Err SegFault.Store → Rose (T.faults store.old) (T.faults store.new) }
 {

@@ -3,6 +3,7 @@
 
 mod answering;
 mod asking;
+mod blocks;
 mod desk;
 mod explained;
 mod kept;
@@ -22,6 +23,7 @@ mod shown;
 mod text;
 
 pub use answering::answer;
+pub use blocks::block_cache;
 pub use desk::Desk;
 pub use explained::{explain_hit, hit_of_rank};
 pub use kept_priors::{names_of, take_priors};

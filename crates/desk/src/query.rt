@@ -1,6 +1,6 @@
 // An open query.
 ghost use Rattle.std.specs.Prelude.{◌≡◌, ◌≤◌, ◌<◌, All, Err, Option, is_ok, length, map, true, IfErr, IfOk, OnOk};
-ghost use Rattle.ri_base.specs.Faults.{IsOutside};
+ghost use Rattle.ri_base.specs.Faults.{IsOutside, TellsDamage};
 ghost use Rattle.ri_base.specs.Keeps.{Rose};
 ghost use Rattle.store_ends.specs.Files.{Files, IsQuiet};
 ghost use Rattle.smoothing.specs.Fractions.{Computes};
@@ -58,6 +58,8 @@ impl OpenQuery {
         ensures stay { map (λ plug. meaning plug) plugs.new ≡ map (λ plug. meaning plug) plugs.old }
         ensures honest { (s : State) → IsQueryBacked (T.files store.old) s rule.now.kind self.old → IsCacheBacked (T.files store.old) cache.old → IfErr result IsOutside }
         ensures cache { CacheKeeps (T.files store.old) (IsFileAmong self.old.search.snapshot) cache.old cache.new }
+        ensures undamaged { OnOk result (cache.new.damage ≡ cache.old.damage) }
+        ensures damaged { IfErr result (TellsDamage cache.old.damage cache.new.damage) }
         ensures quiet { IsQuiet T.files T.layers T.clock T.since T.longest T.held store.old store.new }
         ensures later { T.faults store.old ≤ T.faults store.new }
         ensures store { result ≡ Err SegFault.Store → Rose (T.faults store.old) (T.faults store.new) }

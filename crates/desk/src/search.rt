@@ -1,6 +1,6 @@
 // A search over all documents of a snapshot.
-ghost use Rattle.std.specs.Prelude.{◌≡◌, ◌⊎◌, [], true, length, map, All, Err, IfErr, IfOk, List, Option};
-ghost use Rattle.ri_base.specs.Faults.{IsOutside};
+ghost use Rattle.std.specs.Prelude.{◌≡◌, ◌⊎◌, [], true, length, map, All, Err, IfErr, IfOk, List, Option, OnOk};
+ghost use Rattle.ri_base.specs.Faults.{IsOutside, TellsDamage};
 ghost use Rattle.ri_base.specs.Keeps.{Rose};
 ghost use Rattle.ri_base.specs.Ratio.{ratio_of};
 ghost use Rattle.store_ends.specs.Files.{Files};
@@ -90,6 +90,8 @@ pub(crate) fn new_search<T: Store>(
     ensures taken { AreBacked (T.files store.old) snapshot → IsCacheBacked (T.files store.old) cache.old
         → IfOk result (λ s. (kind : RuleKind) (priors : List Prior) → IsTaken kind priors (T.files store.old) s) }
     ensures honest { AreBacked (T.files store.old) snapshot → IsCacheBacked (T.files store.old) cache.old → IfErr result IsOutside }
+    ensures undamaged { OnOk result (cache.new.damage ≡ cache.old.damage) }
+    ensures damaged { IfErr result (TellsDamage cache.old.damage cache.new.damage) }
     ensures reads { OnlyReads T.files T.layers T.clock T.since T.longest T.held T.faults (IsFileAmong snapshot) store.old store.new cache.old cache.new }
     ensures store { result ≡ Err SegFault.Store → Rose (T.faults store.old) (T.faults store.new) }
 {
@@ -121,6 +123,8 @@ pub fn search_all<T: Store>(
         → IfOk result (λ s. IsTaken kind (map (λ plug. meaning plug) plugs.old) (T.files store.old) s) }
     ensures stay { map (λ plug. meaning plug) plugs.new ≡ map (λ plug. meaning plug) plugs.old }
     ensures honest { AreBacked (T.files store.old) snapshot → IsCacheBacked (T.files store.old) cache.old → IfErr result IsOutside }
+    ensures undamaged { OnOk result (cache.new.damage ≡ cache.old.damage) }
+    ensures damaged { IfErr result (TellsDamage cache.old.damage cache.new.damage) }
     ensures reads { OnlyReads T.files T.layers T.clock T.since T.longest T.held T.faults (IsFileAmong snapshot) store.old store.new cache.old cache.new }
     ensures store { result ≡ Err SegFault.Store → Rose (T.faults store.old) (T.faults store.new) }
 {

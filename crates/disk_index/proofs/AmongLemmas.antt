@@ -2,14 +2,14 @@
 use Rattle.std.proofs.Common.{◌≡◌, ◌<◌, ℕ, List, Option, Contains, get_or, inl, inr, length, sym, ap, subst, ◌∙◌}
 use Rattle.std.proofs.lemmas.List.Elements.{Contains-get_or}
 use Rattle.store_ends.specs.Files.{Files}
-use Rattle.disk_index.specs.Cache.{CacheKeeps, IsCacheBacked, KeptBlock}
+use Rattle.disk_index.specs.Cache.{CacheKeeps, Cached, IsCacheBacked}
 use Rattle.disk_index.specs.Parts.{IsFileOf, IsPartBacked, Source, reads, size}
 use Rattle.disk_index.specs.QuietLaws.{CacheKeeps-after}
 use Rattle.disk_index.specs.Snapshots.{AreBacked, IsFileAmong, Marked}
 use Rattle.disk_index.proofs.RebuiltLemmas.{reads-length}
 
 -- a reader of a backed part and a backed cache is sound
-pub sound-of : (told here : Option Files) (source own : Source) (cached kept : List KeptBlock) → here ≡ told → own ≡ source → kept ≡ cached → IsPartBacked told source → IsCacheBacked told cached
+pub sound-of : (told here : Option Files) (source own : Source) (cached kept : Cached) → here ≡ told → own ≡ source → kept ≡ cached → IsPartBacked told source → IsCacheBacked told cached
     → IsPartBacked here own × IsCacheBacked here kept
 sound-of told here source own cached kept same_told same_part same_cache part cache = (
   subst (λ (f : Option Files). IsPartBacked f own) (sym same_told) (subst (IsPartBacked told) (sym same_part) part),
@@ -34,7 +34,7 @@ module _ (parts : List Marked) (i : ℕ) (m : Marked) (inside : i < length parts
   backed-at told backed = subst (λ (x : Marked). IsPartBacked told x.source) (sym at) (backed i m inside)
 
   -- its file is among theirs
-  pub blocks-among : (told : Option Files) (c d : List KeptBlock) → CacheKeeps told (IsFileOf m.source) c d → CacheKeeps told (IsFileAmong parts) c d
+  pub blocks-among : (told : Option Files) (c d : Cached) → CacheKeeps told (IsFileOf m.source) c d → CacheKeeps told (IsFileAmong parts) c d
   blocks-among told c d keeps = record {
     each = λ e h. elim (keeps.each e h) [
       | inl was ↦ inl was
@@ -43,5 +43,5 @@ module _ (parts : List Marked) (i : ℕ) (m : Marked) (inside : i < length parts
   }
 
   -- after one part more the cache has nothing new but blocks of the parts' files
-  pub keeps-among : (told here : Option Files) (c d e : List KeptBlock) → here ≡ told → CacheKeeps told (IsFileAmong parts) c d → CacheKeeps here (IsFileOf m.source) d e → CacheKeeps told (IsFileAmong parts) c e
+  pub keeps-among : (told here : Option Files) (c d e : Cached) → here ≡ told → CacheKeeps told (IsFileAmong parts) c d → CacheKeeps here (IsFileOf m.source) d e → CacheKeeps told (IsFileAmong parts) c e
   keeps-among told here c d e same first second = CacheKeeps-after told here (IsFileAmong parts) c d e same first (blocks-among here d e second)

@@ -1,15 +1,34 @@
 -- What the cache of blocks keeps after a call.
-use Rattle.std.proofs.Common.{◌≡◌, ℕ, Bool, true, ◌⊎◌, inl, inr, List, Contains, Option, Some, None, Result, Ok, Err, OnOk, OnErr, IfOk, IfSome, sym, ap, subst, ◌∙◌}
+use Rattle.std.proofs.Common.{◌≡◌, ◌<◌, ℕ, Bool, true, ◌⊎◌, inl, inr, List, [], Contains, Option, Some, None, Result, Ok, Err, OnOk, OnErr, IfOk, IfSome, refl, sym, ap, subst, ◌∙◌, arith}
+use Rattle.ri_base.specs.Faults.{IsOutside, TellsDamage}
+use Rattle.ri_base.specs.declared.seg_fault.SegFault.{SegFault}
+use Rattle.ri_base.specs.declared.seg_fault.SegFault.TheVariants.{Malformed, Memory, Missing, Store}
 use Rattle.store_ends.specs.Files.{Files}
 use Rattle.seg_codec.specs.Fits.{FitBlock}
 use Rattle.seg_codec.specs.declared.blocks.BlockEntry.{BlockEntry}
 use Rattle.seg_codec.specs.declared.documents.Entry.{Entry}
 use Rattle.disk_index.specs.Blocks.{IsBlockIn}
-use Rattle.disk_index.specs.Cache.{AllKept, CacheKeeps, KeptBlock}
+use Rattle.disk_index.specs.Cache.{AllKept, CacheKeeps, Cached, IsCacheBacked, KeptBlock, nothing_cached}
 use Rattle.disk_index.specs.Faults.{CameFrom}
 use Rattle.disk_index.specs.declared.cache.BlockKey.{BlockKey}
 use Rattle.lru.specs.LruCache.{LruCache, lru_cache, promoted, put_entries}
 use Rattle.lru.proofs.CallerLemmas.{Contains-promoted, Contains-put_entries}
+
+-- what isn't damage leaves what was met last
+pub outside-damage : (damage : Option SegFault) (fault : SegFault) → IsOutside fault → TellsDamage damage damage fault
+outside-damage damage (Malformed file part place) outside = absurd outside
+outside-damage damage (Missing file) outside = absurd outside
+outside-damage damage Store outside = refl
+outside-damage damage Memory outside = refl
+
+-- a cache of no block is backed by any files
+pub empty-cache : (told : Option Files) (c : Cached) → c.kept ≡ [] → IsCacheBacked told c
+empty-cache told c none = λ files is e there.
+    let inside : Contains [] e = subst (λ (es : List KeptBlock). Contains es e) none there in
+    absurd (let within = inside.1 in omega (arith, within))
+
+pub new-cache : (told : Option Files) (c : Cached) → c ≡ nothing_cached → IsCacheBacked told c
+new-cache told c none = empty-cache told c (ap (λ (x : Cached). x.kept) none)
 
 pub ok_some : {X E : Type 0} (r : Result (Option X) E) (x : X) (P : X → Type 0) → IfOk r (λ o. o ≡ Some x) → P x → IfOk r (λ o. IfSome o P)
 ok_some (Ok (Some y)) x P is here = let same : y ≡ x = cc in subst P (sym same) here
@@ -38,8 +57,8 @@ key_is a b p q r s =
     ap (λ n. record { number = n; range = a.range; place = a.place; length = a.length }) p ∙ ap (λ n. record { number = b.number; range = n; place = a.place; length = a.length }) q
     ∙ ap (λ n. record { number = b.number; range = b.range; place = n; length = a.length }) r ∙ ap (λ n. record { number = b.number; range = b.range; place = b.place; length = n }) s
 
-pub fetched : (told : Option Files) (key : BlockKey) (now mid new : List KeptBlock) (block stored : List BlockEntry) → AllKept now mid
-    → ((e : KeptBlock) → Contains new e → Contains mid e ⊎ (e ≡ (key, stored))) → stored ≡ block → ((files : Files) → told ≡ Some files → IsBlockIn files key block)
+pub fetched : (told : Option Files) (key : BlockKey) (now mid new : Cached) (block stored : List BlockEntry) → AllKept now mid
+    → ((e : KeptBlock) → Contains new.kept e → Contains mid.kept e ⊎ (e ≡ (key, stored))) → stored ≡ block → ((files : Files) → told ≡ Some files → IsBlockIn files key block)
     → CacheKeeps told (λ n. n ≡ key.number) now new
 fetched told key now mid new block stored stay put same right = record {
   each = λ e h. elim (put e h) [
@@ -53,11 +72,11 @@ fetched told key now mid new block stored stay put same right = record {
 }
 
 -- the files of another number may be named by an equal one
-pub CacheKeeps-number : (told : Option Files) (m n : ℕ) (c d : List KeptBlock) → m ≡ n → CacheKeeps told (λ k. k ≡ m) c d → CacheKeeps told (λ k. k ≡ n) c d
+pub CacheKeeps-number : (told : Option Files) (m n : ℕ) (c d : Cached) → m ≡ n → CacheKeeps told (λ k. k ≡ m) c d → CacheKeeps told (λ k. k ≡ n) c d
 CacheKeeps-number told m n c d same keeps = subst (λ (x : ℕ). CacheKeeps told (λ k. k ≡ x) c d) same keeps
 
 -- a block that was read came from its file
-pub came-read : {E : Type 0} (told : Option Files) (kept : List KeptBlock) (docs : List Entry) (key : BlockKey) (r : Result (List BlockEntry) E) → IfOk r (FitBlock docs key.range) → ((f : Files) → told ≡ Some f → IfOk r (IsBlockIn f key))
+pub came-read : {E : Type 0} (told : Option Files) (kept : Cached) (docs : List Entry) (key : BlockKey) (r : Result (List BlockEntry) E) → IfOk r (FitBlock docs key.range) → ((f : Files) → told ≡ Some f → IfOk r (IsBlockIn f key))
     → IfOk r (CameFrom told kept docs key)
 came-read told kept docs key (Ok es) fits exact = inr (record { fit = fits; bytes = λ f is. (exact f is).bytes })
 came-read told kept docs key (Err e) fits exact = tt

@@ -19,7 +19,7 @@ use Rattle.seg_codec.specs.declared.blocks.BlockEntry.{BlockEntry}
 use Rattle.seg_codec.specs.declared.dictionary.BlockPlace.{BlockPlace}
 use Rattle.seg_codec.specs.declared.documents.Entry.{Entry}
 use Rattle.disk_index.specs.Blocks.{IsBlockFault, places_of}
-use Rattle.disk_index.specs.Cache.{KeptBlock}
+use Rattle.disk_index.specs.Cache.{Cached}
 use Rattle.disk_index.specs.Faults.{ArePlacesIn, CameFrom, IsPlacesFault, IsTermFault}
 use Rattle.disk_index.specs.Kept.{Kept, key_of, place_of}
 use Rattle.disk_index.specs.declared.cache.BlockKey.{BlockKey}
@@ -79,7 +79,7 @@ places-seen ps i size done below rising = record {
 -- ---- faults
 
 -- where the places of a block aren't those of a document, a wrong block was kept
-pub wrong-kept : (f : Files) (told : Option Files) (cached : List KeptBlock) (kept : Kept) (t : List ℕ) (id place : ℕ) (es : List BlockEntry) → place ≡ option_map_or (λ (p : BlockPlace). p.place) (place_of kept.dictionary t (id / 64)) 0
+pub wrong-kept : (f : Files) (told : Option Files) (cached : Cached) (kept : Kept) (t : List ℕ) (id place : ℕ) (es : List BlockEntry) → place ≡ option_map_or (λ (p : BlockPlace). p.place) (place_of kept.dictionary t (id / 64)) 0
     → MatchOption (place_of kept.dictionary t (id / 64)) (es ≡ []) (λ p. CameFrom told cached kept.outlines (key_of kept.number (id / 64) p) es)
     → (ArePlacesIn (tokens_of kept.outlines id) (places_of id es) → ⊥) → IsTermFault f cached kept t id (Malformed (Segment kept.number) parts.Block place)
 wrong-kept f told cached kept t id place es at from wrong = by (place_of kept.dictionary t (id / 64)) at from
@@ -91,13 +91,13 @@ wrong-kept f told cached kept t id place es at from wrong = by (place_of kept.di
     by (Some p) at (inr read) = absurd (wrong (block-places kept.outlines (id / 64) id es read.fit))
 
 -- a fault of a block is one of the places
-pub places-fault : (f : Files) (cached : List KeptBlock) (docs : List Entry) (id : ℕ) (key : BlockKey) (e : SegFault) → IsBlockFault f key docs e → IsPlacesFault f cached docs id key e
+pub places-fault : (f : Files) (cached : Cached) (docs : List Entry) (id : ℕ) (key : BlockKey) (e : SegFault) → IsBlockFault f key docs e → IsPlacesFault f cached docs id key e
 places-fault f cached docs id key (Malformed file part place) h = inl h
 places-fault f cached docs id key (Missing file) h = h
 places-fault f cached docs id key Store h = tt
 places-fault f cached docs id key Memory h = tt
 
-pub term-fault : (f : Files) (cached : List KeptBlock) (kept : Kept) (t : List ℕ) (id : ℕ) (e : SegFault)
+pub term-fault : (f : Files) (cached : Cached) (kept : Kept) (t : List ℕ) (id : ℕ) (e : SegFault)
     → MatchOption (place_of kept.dictionary t (id / 64)) (IsOutside e) (λ p. IsBlockFault f (key_of kept.number (id / 64) p) kept.outlines e) → IsTermFault f cached kept t id e
 term-fault f cached kept t id e h = by (place_of kept.dictionary t (id / 64)) h
   where
@@ -107,7 +107,7 @@ term-fault f cached kept t id e h = by (place_of kept.dictionary t (id / 64)) h
     by (Some p) h = places-fault f cached kept.outlines id (key_of kept.number (id / 64) p) e h
 
 -- want of memory may come at any time
-pub memory-fault : (f : Files) (cached : List KeptBlock) (kept : Kept) (t : List ℕ) (id : ℕ) → IsTermFault f cached kept t id Memory
+pub memory-fault : (f : Files) (cached : Cached) (kept : Kept) (t : List ℕ) (id : ℕ) → IsTermFault f cached kept t id Memory
 memory-fault f cached kept t id = by (place_of kept.dictionary t (id / 64))
   where
     by : (o : Option BlockPlace) → MatchOption o (IsOutside Memory) (λ p. IsPlacesFault f cached kept.outlines id (key_of kept.number (id / 64) p) Memory)

@@ -17,7 +17,7 @@ use Rattle.seg_codec.specs.Spelling.{block_bytes}
 use Rattle.seg_codec.specs.declared.blocks.BlockEntry.{BlockEntry}
 use Rattle.seg_codec.specs.declared.documents.Entry.{Entry}
 use Rattle.disk_index.specs.Blocks.{IsBlockFault, IsBlockIn, bytes_at, places_of}
-use Rattle.disk_index.specs.Cache.{KeptBlock}
+use Rattle.disk_index.specs.Cache.{Cached}
 use Rattle.disk_index.specs.Kept.{Kept, key_of, place_of}
 use Rattle.disk_index.specs.Names.{segment_name}
 use Rattle.disk_index.specs.Rebuild.{Slots}
@@ -29,26 +29,26 @@ pub record IsRead (told : Option Files) (docs : List Entry) (key : BlockKey) (es
   pub bytes : (files : Files) → told ≡ Some files → bytes_at files key ≡ block_bytes key.range es
 
 -- a block that was kept under this key, or that was read
-abbrev pub CameFrom : Option Files → List KeptBlock → List Entry → BlockKey → List BlockEntry → Type 0
-CameFrom told kept docs key es = Contains kept (key, es) ⊎ IsRead told docs key es
+abbrev pub CameFrom : Option Files → Cached → List Entry → BlockKey → List BlockEntry → Type 0
+CameFrom told cached docs key es = Contains cached.kept (key, es) ⊎ IsRead told docs key es
 
 -- the block of a term for a range: it came from there, and is empty where the dictionary has none
-abbrev pub IsTermBlock : Option Files → List KeptBlock → Kept → List ℕ → ℕ → List BlockEntry → Type 0
+abbrev pub IsTermBlock : Option Files → Cached → Kept → List ℕ → ℕ → List BlockEntry → Type 0
 IsTermBlock told cached kept term range es = MatchOption (place_of kept.dictionary term range) (es ≡ []) (λ p. CameFrom told cached kept.outlines (key_of kept.number range p) es)
 
 -- the places that this block has in the document
-pub record AreTold (told : Option Files) (cached : List KeptBlock) (kept : Kept) (term : List ℕ) (id : ℕ) (ps : List ℕ) : Type 0 where
+pub record AreTold (told : Option Files) (cached : Cached) (kept : Kept) (term : List ℕ) (id : ℕ) (ps : List ℕ) : Type 0 where
   pub entries : List BlockEntry
   pub block : IsTermBlock told cached kept term (id / 64) entries
   pub places : ps ≡ places_of id entries
 
 -- a block of this key is kept, or the file has one there where the files are told
-pub record IsReadable (told : Option Files) (kept : List KeptBlock) (key : BlockKey) : Type 0 where
+pub record IsReadable (told : Option Files) (cached : Cached) (key : BlockKey) : Type 0 where
   pub entries : List BlockEntry
-  pub here : Contains kept (key, entries) ⊎ ((files : Files) → told ≡ Some files → IsBlockIn files key entries)
+  pub here : Contains cached.kept (key, entries) ⊎ ((files : Files) → told ≡ Some files → IsBlockIn files key entries)
 
 -- the same of the block of a term for a range, where the dictionary has one
-abbrev pub IsTermReadable : Option Files → List KeptBlock → Kept → List ℕ → ℕ → Type 0
+abbrev pub IsTermReadable : Option Files → Cached → Kept → List ℕ → ℕ → Type 0
 IsTermReadable told cached kept term range = MatchOption (place_of kept.dictionary term range) (Unit {0}) (λ p. IsReadable told cached (key_of kept.number range p))
 
 -- rising places of a document of so many tokens
@@ -57,23 +57,23 @@ pub record ArePlacesIn (size : ℕ) (ps : List ℕ) : Type 0 where
   pub below : All (λ p. p < size) ps
 
 -- a block is kept under this key whose places in the document aren't rising places of it; the fault is told at the block's begin
-pub record IsKeptFault (kept : List KeptBlock) (docs : List Entry) (id : ℕ) (key : BlockKey) (file : FileName) (part : PartName) (place : ℕ) : Type 0 where
+pub record IsKeptFault (cached : Cached) (docs : List Entry) (id : ℕ) (key : BlockKey) (file : FileName) (part : PartName) (place : ℕ) : Type 0 where
   pub file_is : file ≡ Segment key.number
   pub part_is : part ≡ parts.Block
   pub place_is : place ≡ key.place
   pub entries : List BlockEntry
-  pub is_kept : Contains kept (key, entries)
+  pub is_kept : Contains cached.kept (key, entries)
   pub wrong : ArePlacesIn (tokens_of docs id) (places_of id entries) → ⊥
 
 -- why the places that the block of this key has in a document can't be told: it can't be read, or a wrong one is kept
-abbrev pub IsPlacesFault : Files → List KeptBlock → List Entry → ℕ → BlockKey → SegFault → Type 0
+abbrev pub IsPlacesFault : Files → Cached → List Entry → ℕ → BlockKey → SegFault → Type 0
 IsPlacesFault files kept docs id key (Malformed file part place) = IsBlockFault files key docs (Malformed file part place) ⊎ IsKeptFault kept docs id key file part place
 IsPlacesFault files kept docs id key (Missing file) = IsBlockFault files key docs (Missing file)
 IsPlacesFault files kept docs id key Store = Unit {0}
 IsPlacesFault files kept docs id key Memory = Unit {0}
 
 -- The same of the places of a term. Where the dictionary has no such block, no file is to blame.
-abbrev pub IsTermFault : Files → List KeptBlock → Kept → List ℕ → ℕ → SegFault → Type 0
+abbrev pub IsTermFault : Files → Cached → Kept → List ℕ → ℕ → SegFault → Type 0
 IsTermFault files cached kept term id fault =
     MatchOption (place_of kept.dictionary term (id / 64)) (IsOutside fault) (λ p. IsPlacesFault files cached kept.outlines id (key_of kept.number (id / 64) p) fault)
 

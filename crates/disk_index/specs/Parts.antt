@@ -9,7 +9,7 @@ use Rattle.store_ends.specs.Files.{Files, IsQuiet}
 use Rattle.seg_codec.specs.Segment.{entry_of}
 use Rattle.seg_codec.specs.declared.documents.Entry.{Entry}
 use Rattle.disk_index.specs.Blocks.{of_range, told_file}
-use Rattle.disk_index.specs.Cache.{CacheKeeps, KeptBlock}
+use Rattle.disk_index.specs.Cache.{CacheKeeps, Cached}
 use Rattle.disk_index.specs.Faults.{AreTold, IsRangeFault, IsTermFault, IsTermReadable}
 use Rattle.disk_index.specs.Kept.{Kept}
 use Rattle.disk_index.specs.Reads.{IsBacked, rebuilt}
@@ -52,31 +52,31 @@ IsPartBacked told (InMemory docs) = Unit {0}
 IsPartBacked told (OnDisk kept) = (docs : List Document) × IsBacked told kept docs
 
 -- why the places of a term in a document of the part can't be told; of one in memory no file is to blame
-abbrev pub IsPartFault : Files → List KeptBlock → Source → List ℕ → ℕ → SegFault → Type 0
+abbrev pub IsPartFault : Files → Cached → Source → List ℕ → ℕ → SegFault → Type 0
 IsPartFault files cached (InMemory docs) term id fault = IsOutside fault
 IsPartFault files cached (OnDisk kept) term id fault = IsTermFault files cached kept term id fault
 
 -- what may be told as the places of a term in a document of the part: of one on disk those of a block that was kept or read
-abbrev pub ArePlacesOf : Option Files → List KeptBlock → Source → List ℕ → ℕ → List ℕ → Type 0
+abbrev pub ArePlacesOf : Option Files → Cached → Source → List ℕ → ℕ → List ℕ → Type 0
 ArePlacesOf told cached (InMemory docs) term id ps = ps ≡ places term (document_at docs id)
 ArePlacesOf told cached (OnDisk kept) term id ps = AreTold told cached kept term id ps
 
 -- the block of the term for a range can be read, where there is one; a part in memory has no blocks
-abbrev pub IsReadableIn : Option Files → List KeptBlock → Source → List ℕ → ℕ → Type 0
+abbrev pub IsReadableIn : Option Files → Cached → Source → List ℕ → ℕ → Type 0
 IsReadableIn told cached (InMemory docs) term range = Unit {0}
 IsReadableIn told cached (OnDisk kept) term range = IsTermReadable told cached kept term range
 
 -- the same of the range of a document
-abbrev pub IsReadableOf : Option Files → List KeptBlock → Source → List ℕ → ℕ → Type 0
+abbrev pub IsReadableOf : Option Files → Cached → Source → List ℕ → ℕ → Type 0
 IsReadableOf told cached p term id = IsReadableIn told cached p term (id / 64)
 
 -- what may be read as the documents of a range of the part: of one on disk what the blocks of the range tell
-abbrev pub AreRangeOf : Option Files → List KeptBlock → Source → ℕ → List Document → Type 0
+abbrev pub AreRangeOf : Option Files → Cached → Source → ℕ → List Document → Type 0
 AreRangeOf told cached (InMemory docs) range found = found ≡ of_range range docs
 AreRangeOf told cached (OnDisk kept) range found = AreTogether told cached kept range found
 
 -- why the documents of a range of the part can't be put together; of one in memory no file is to blame
-abbrev pub IsRangeFaultOf : Files → List KeptBlock → Source → ℕ → SegFault → Type 0
+abbrev pub IsRangeFaultOf : Files → Cached → Source → ℕ → SegFault → Type 0
 IsRangeFaultOf files cached (InMemory docs) range fault = IsOutside fault
 IsRangeFaultOf files cached (OnDisk kept) range fault = IsDocumentsFault files cached kept range fault
 
@@ -88,7 +88,7 @@ IsSourceFault files (OnDisk kept) fault = IsRangeFault files kept.number fault
 -- A reader's second state differs from the first by no more than reading may change: the part is the same, store and cache stand
 -- behind the same references, the store is as a reading call leaves it, and the cache has nothing new but blocks of the part's file.
 pub record IsQuietReader {S : Type 0} (files : S → Option Files) (layers : S → Option (List Files)) (clock : S → ℕ) (since : S → ℕ → Files → Type 0)
-    (longest : S → ℕ) (held : S → List ℕ) (faults : S → ℕ) (p q : Source) (sn sm cn cm : ℕ) (s t : S) (c d : List KeptBlock) : Type 0 where
+    (longest : S → ℕ) (held : S → List ℕ) (faults : S → ℕ) (p q : Source) (sn sm cn cm : ℕ) (s t : S) (c d : Cached) : Type 0 where
   pub same_part : q ≡ p
   pub same_store : sm ≡ sn
   pub same_cache : cm ≡ cn

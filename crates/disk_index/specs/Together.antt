@@ -11,7 +11,7 @@ use Rattle.seg_codec.specs.declared.blocks.BlockEntry.{BlockEntry}
 use Rattle.seg_codec.specs.declared.dictionary.BlockPlace.{BlockPlace}
 use Rattle.seg_codec.specs.declared.documents.Entry.{Entry}
 use Rattle.disk_index.specs.Blocks.{IsBlockFault, of_range}
-use Rattle.disk_index.specs.Cache.{KeptBlock}
+use Rattle.disk_index.specs.Cache.{Cached}
 use Rattle.disk_index.specs.Faults.{IsTermBlock}
 use Rattle.disk_index.specs.Kept.{Kept, key_of, place_of}
 use Rattle.disk_index.specs.Names.{segment_name}
@@ -32,18 +32,18 @@ abbrev pub untold : List Entry → List Slots
 untold outlines = map (λ o. replicate o.tokens None) outlines
 
 -- the block of the rank's term was put over these rows, with this answer
-pub record IsPut (told : Option Files) (cached : List KeptBlock) (kept : Kept) (range rank : ℕ) (rows : List Slots) (answer : Result (List Slots) ℕ) : Type 0 where
+pub record IsPut (told : Option Files) (cached : Cached) (kept : Kept) (range rank : ℕ) (rows : List Slots) (answer : Result (List Slots) ℕ) : Type 0 where
   pub entries : List BlockEntry
   pub block : IsTermBlock told cached kept (term_of kept.dictionary rank) range entries
   pub put : put_block (begin_of kept range rank) rank entries rows ≡ answer
 
 -- what the blocks of the first n of these ranks tell, each put over those before it
-abbrev pub AreRows : Option Files → List KeptBlock → Kept → ℕ → List ℕ → ℕ → List Slots → Type 0
+abbrev pub AreRows : Option Files → Cached → Kept → ℕ → List ℕ → ℕ → List Slots → Type 0
 AreRows told cached kept range ks zero rows = rows ≡ untold (of_range range kept.outlines)
 AreRows told cached kept range ks (suc n) rows = (before : List Slots) × AreRows told cached kept range ks n before × IsPut told cached kept range (slice_index_or ks n 0) before (Ok rows)
 
 -- what all blocks of the range tell
-abbrev pub AreAllRows : Option Files → List KeptBlock → Kept → ℕ → List Slots → Type 0
+abbrev pub AreAllRows : Option Files → Cached → Kept → ℕ → List Slots → Type 0
 AreAllRows told cached kept range rows = AreRows told cached kept range (ranks_of range kept.dictionary) (length (ranks_of range kept.dictionary)) rows
 
 -- where the last block of the range begins
@@ -51,20 +51,20 @@ abbrev pub range_end : Kept → ℕ → ℕ
 range_end kept range = last_begin kept range (ranks_of range kept.dictionary) (length (ranks_of range kept.dictionary))
 
 -- the documents that the blocks of the range tell
-pub record AreTogether (told : Option Files) (cached : List KeptBlock) (kept : Kept) (range : ℕ) (docs : List Document) : Type 0 where
+pub record AreTogether (told : Option Files) (cached : Cached) (kept : Kept) (range : ℕ) (docs : List Document) : Type 0 where
   pub rows : List Slots
   pub each : AreAllRows told cached kept range rows
   pub are : documents_of kept.dictionary (of_range range kept.outlines) rows ≡ Some docs
 
 -- the block of this rank breaks there: its bytes are no block, or one of its places isn't free
-abbrev pub BlockBreaks : Files → List KeptBlock → Kept → ℕ → ℕ → List Slots → ℕ → Type 0
+abbrev pub BlockBreaks : Files → Cached → Kept → ℕ → ℕ → List Slots → ℕ → Type 0
 BlockBreaks files cached kept range rank rows place =
     ((p : BlockPlace) × (place_of kept.dictionary (term_of kept.dictionary rank) range ≡ Some p) × IsBlockFault files (key_of kept.number range p) kept.outlines (Malformed (Segment kept.number) parts.Block place))
     ⊎ IsPut (Some files) cached kept range rank rows (Err place)
 
 -- The blocks of the range break at this place of the file. Behind the rows of some of them the next block breaks there; or behind all of them
 -- some token isn't told, and the last block begins there.
-pub record RangeBreaks (files : Files) (cached : List KeptBlock) (kept : Kept) (range place : ℕ) : Type 0 where
+pub record RangeBreaks (files : Files) (cached : Cached) (kept : Kept) (range place : ℕ) : Type 0 where
   pub count : ℕ
   pub rows : List Slots
   pub so_far : AreRows (Some files) cached kept range (ranks_of range kept.dictionary) count rows
@@ -72,7 +72,7 @@ pub record RangeBreaks (files : Files) (cached : List KeptBlock) (kept : Kept) (
       ⊎ ((count ≡ length (ranks_of range kept.dictionary)) × (documents_of kept.dictionary (of_range range kept.outlines) rows ≡ None) × (place ≡ range_end kept range))
 
 -- Why the documents of a range can't be put together: its blocks break, which is told where they do, or there is no such file.
-abbrev pub IsDocumentsFault : Files → List KeptBlock → Kept → ℕ → SegFault → Type 0
+abbrev pub IsDocumentsFault : Files → Cached → Kept → ℕ → SegFault → Type 0
 IsDocumentsFault files cached kept range (Malformed file part place) = (file ≡ Segment kept.number) × (part ≡ parts.Block) × RangeBreaks files cached kept range place
 IsDocumentsFault files cached kept range (Missing file) = (file ≡ Segment kept.number) × (files (segment_name kept.number) ≡ None)
 IsDocumentsFault files cached kept range Store = Unit {0}

@@ -1,11 +1,13 @@
 // Blocks that were read, kept for a while.
-ghost use Rattle.std.specs.Prelude.{◌≡◌, ◌≢◌, ◌<◌, ◌≤◌, ◌+◌, ◌^◌, ◌⊎◌, ◌↔◌, List, [], Some, Err, IsTrue, IfOk, IfErr, IfSome, length};
+ghost use Rattle.std.specs.Prelude.{◌≡◌, ◌≢◌, ◌<◌, ◌≤◌, ◌+◌, ◌^◌, ◌⊎◌, ◌↔◌, List, [], Some, Err, IsTrue, IfOk, IfErr, IfSome, OnOk, length};
 ghost use Rattle.std.specs.List.{Contains};
+ghost use Rattle.ri_base.specs.Faults.{TellsDamage};
 ghost use Rattle.ri_base.specs.Keeps.{Rose};
 ghost use Rattle.store_ends.specs.Files.{Files, IsQuiet};
+ghost use Rattle.seg_codec.specs.Fits.{FitBlock};
 ghost use Rattle.seg_codec.specs.declared.blocks.BlockEntry.{BlockEntry};
 ghost use Rattle.disk_index.specs.Blocks.{IsBlockFault, IsBlockIn};
-ghost use Rattle.disk_index.specs.Cache.{AllKept, CacheKeeps, IsCacheBacked};
+ghost use Rattle.disk_index.specs.Cache.{AllIn, AllKept, CacheKeeps, IsCacheBacked, nothing_cached, without_blocks};
 ghost use Rattle.disk_index.specs.Faults.{CameFrom};
 
 use crate::Block;
@@ -28,41 +30,49 @@ pub struct BlockKey {
 }
 
 /// Blocks that were read, as many as it has slots, seen as the list of them with their keys. Of a full cache the block that wasn't
-/// asked for for the longest time makes room.
+/// asked for for the longest time makes room. It notes the last damage
+/// that was met by reading through it.
 #[derive(Drop)]
 pub struct BlockCache {
     kept: LruCache<BlockKey, Block>,
+    damage: Option<SegFault>,
 }
 
 impl Model for BlockCache {
-    ghost use Rattle.std.specs.Prelude.{List};
-    ghost use Rattle.seg_codec.specs.declared.blocks.BlockEntry.{BlockEntry};
-    ghost use Rattle.disk_index.specs.declared.cache.BlockKey.{BlockKey};
+    ghost use Rattle.disk_index.specs.Cache.{Cached};
 
-    ghost Value = { List (BlockKey × List BlockEntry) };
+    ghost Value = { Cached };
 
-    ghost view = { λ c. c.kept.entries };
+    ghost view = { λ c. record { kept = c.kept.entries; damage = c.damage } };
 }
 
 impl BlockCache {
     /// No block, with room for so many.
     pub fn new(alloc: Global, slots: NonZeroUsize) -> Result<BlockCache, NoMemory>
-        ensures { IfOk result (λ c. c ≡ []) }
+        ensures { IfOk result (λ c. c ≡ nothing_cached) }
     {
         Ok(BlockCache {
             kept: LruCache::sparse(alloc, slots)?,
+            damage: None,
         })
+    }
+
+    /// No block is kept any more.
+    pub fn clear(&mut self)
+        ensures { self.new ≡ without_blocks self.old }
+    {
+        self.kept.clear();
     }
 
     /// How many blocks are kept.
     pub fn len(&self) -> usize
-        ensures { result ≡ length self.now }
+        ensures { result ≡ length self.now.kept }
     {
         self.kept.len()
     }
 
     pub fn is_empty(&self) -> bool
-        ensures { IsTrue result ↔ (self.now ≡ []) }
+        ensures { IsTrue result ↔ (self.now.kept ≡ []) }
     {
         self.kept.is_empty()
     }
@@ -81,6 +91,8 @@ impl BlockCache {
         ensures fault { (f : Files) → T.files store.old ≡ Some f → IfErr result (IsBlockFault f key documents.now) }
         ensures origin { IfOk result (CameFrom (T.files store.old) self.old documents.now key) }
         ensures cache { CacheKeeps (T.files store.old) (λ n. n ≡ key.number) self.old self.new }
+        ensures undamaged { OnOk result (self.new.damage ≡ self.old.damage) }
+        ensures damaged { IfErr result (TellsDamage self.old.damage self.new.damage) }
         ensures quiet { IsQuiet T.files T.layers T.clock T.since T.longest T.held store.old store.new }
         ensures later { T.faults store.old ≤ T.faults store.new }
         ensures store { result ≡ Err SegFault.Store → Rose (T.faults store.old) (T.faults store.new) }
@@ -89,7 +101,7 @@ impl BlockCache {
         if let Some(block) = kept_at(&mut self.kept, key)? {
             return Ok(block);
         }
-        let block = read_block(alloc, store, key, documents)?;
+        let block = self.read(alloc, store, key, documents)?;
         if let Ok(shared) = block.share() {
             keep(&mut self.kept, key, shared);
         }
@@ -109,6 +121,8 @@ impl BlockCache {
         ensures fault { (f : Files) → T.files store.old ≡ Some f → IfErr result (IsBlockFault f key documents.now) }
         ensures origin { IfOk result (CameFrom (T.files store.old) self.old documents.now key) }
         ensures cache { AllKept self.old self.new }
+        ensures undamaged { OnOk result (self.new.damage ≡ self.old.damage) }
+        ensures damaged { IfErr result (TellsDamage self.old.damage self.new.damage) }
         ensures quiet { IsQuiet T.files T.layers T.clock T.since T.longest T.held store.old store.new }
         ensures later { T.faults store.old ≤ T.faults store.new }
         ensures store { result ≡ Err SegFault.Store → Rose (T.faults store.old) (T.faults store.new) }
@@ -117,13 +131,59 @@ impl BlockCache {
         if let Some(block) = kept_at(&mut self.kept, key)? {
             return Ok(block);
         }
-        read_block(alloc, store, key, documents)
+        self.read(alloc, store, key, documents)
+    }
+
+    /// The block of this key as its file has it, of a segment with these documents. It isn't kept, and damage is noted.
+    fn read<T: Store>(
+        &mut self,
+        alloc: Global,
+        store: &mut T,
+        key: BlockKey,
+        documents: &Documents,
+    ) -> Result<Block, SegFault>
+        requires { key.place + key.length < 2 ^ 64 }
+        ensures exact { (f : Files) → T.files store.old ≡ Some f → IfOk result (IsBlockIn f key) }
+        ensures fits { IfOk result (FitBlock documents.now key.range) }
+        ensures fault { (f : Files) → T.files store.old ≡ Some f → IfErr result (IsBlockFault f key documents.now) }
+        ensures same { self.new.kept ≡ self.old.kept }
+        ensures undamaged { OnOk result (self.new.damage ≡ self.old.damage) }
+        ensures damaged { IfErr result (TellsDamage self.old.damage self.new.damage) }
+        ensures quiet { IsQuiet T.files T.layers T.clock T.since T.longest T.held store.old store.new }
+        ensures later { T.faults store.old ≤ T.faults store.new }
+        ensures store { result ≡ Err SegFault.Store → Rose (T.faults store.old) (T.faults store.new) }
+        ensures none { result ≢ Err SegFault.Store → T.faults store.new ≡ T.faults store.old }
+    {
+        match read_block(alloc, store, key, documents) {
+            Ok(block) => Ok(block),
+            Err(fault) => Err(self.noted(fault)),
+        }
+    }
+
+    /// The fault, noted where it is damage.
+    pub(crate) fn noted(&mut self, fault: SegFault) -> SegFault
+        ensures same { result ≡ fault }
+        ensures kept { self.new.kept ≡ self.old.kept }
+        ensures damage { TellsDamage self.old.damage self.new.damage fault }
+    {
+        match fault {
+            SegFault::Malformed { file, part, place } => {
+                self.damage = Some(SegFault::Malformed { file, part, place });
+                SegFault::Malformed { file, part, place }
+            }
+            SegFault::Missing { file } => {
+                self.damage = Some(SegFault::Missing { file });
+                SegFault::Missing { file }
+            }
+            SegFault::Store => SegFault::Store,
+            SegFault::Memory => SegFault::Memory,
+        }
     }
 }
 
 /// The block of this key, where it is kept.
 fn kept_at(kept: &mut LruCache<BlockKey, Block>, key: BlockKey) -> Result<Option<Block>, NoMemory>
-    ensures stay { AllKept kept.old.entries kept.new.entries }
+    ensures stay { AllIn kept.old.entries kept.new.entries }
     ensures found { IfOk result (λ found. IfSome found (λ b. Contains kept.old.entries (key, b))) }
 {
     match kept.get(&key) {

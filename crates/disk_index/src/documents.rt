@@ -1,7 +1,7 @@
 // The documents of a range of a part on disk, put together from its blocks.
 ghost use Rattle.std.specs.Prelude.{◌≡◌, ◌≢◌, ◌≤◌, ◌<◌, ◌*◌, List, Some, Ok, Err, IfOk, IfErr, OnOk, length, map};
 ghost use Rattle.ri_base.specs.Documents.{Document};
-ghost use Rattle.ri_base.specs.Faults.{IsOutside};
+ghost use Rattle.ri_base.specs.Faults.{IsOutside, TellsDamage};
 ghost use Rattle.ri_base.specs.Keeps.{Rose};
 ghost use Rattle.store_ends.specs.Files.{Files, IsQuiet};
 ghost use Rattle.seg_codec.specs.Held.{lengths_of};
@@ -51,6 +51,8 @@ impl DiskIndex {
 
         ensures fault { (f : Files) → T.files store.old ≡ Some f → IfErr result (IsDocumentsFault f cache.old self.now range) }
         ensures cache { AllKept cache.old cache.new }
+        ensures undamaged { OnOk result (cache.new.damage ≡ cache.old.damage) }
+        ensures damaged { IfErr result (TellsDamage cache.old.damage cache.new.damage) }
         ensures quiet { IsQuiet T.files T.layers T.clock T.since T.longest T.held store.old store.new }
         ensures later { T.faults store.old ≤ T.faults store.new }
         ensures store { result ≡ Err SegFault.Store → Rose (T.faults store.old) (T.faults store.new) }
@@ -59,7 +61,7 @@ impl DiskIndex {
         let told = self.told(alloc, store, cache, range)?;
         match documents_of(alloc, self.dictionary(), self.outlines(range), &told.rows)? {
             Some(docs) => Ok(docs),
-            None => Err(self.malformed(told.last)),
+            None => Err(cache.noted(self.malformed(told.last))),
         }
     }
 
@@ -81,6 +83,8 @@ impl DiskIndex {
         ensures last { IfOk result (λ t. t.last ≡ range_end self.now range) }
         ensures fault { (f : Files) → T.files store.old ≡ Some f → IfErr result (IsDocumentsFault f cache.old self.now range) }
         ensures cache { AllKept cache.old cache.new }
+        ensures undamaged { OnOk result (cache.new.damage ≡ cache.old.damage) }
+        ensures damaged { IfErr result (TellsDamage cache.old.damage cache.new.damage) }
         ensures quiet { IsQuiet T.files T.layers T.clock T.since T.longest T.held store.old store.new }
         ensures later { T.faults store.old ≤ T.faults store.new }
         ensures store { result ≡ Err SegFault.Store → Rose (T.faults store.old) (T.faults store.new) }
@@ -92,7 +96,7 @@ impl DiskIndex {
         for rank in ranks {
             let block = self.ranked_block(alloc, store, cache, *rank, range)?;
             last = self.ranked_begin(*rank, range);
-            self.put(&mut rows, &block, *rank, last)?;
+            self.put(cache, &mut rows, &block, *rank, last)?;
         }
         Ok(Told { rows, last })
     }
@@ -100,6 +104,7 @@ impl DiskIndex {
     /// Tells the rank at the places of a block that begins there in the file.
     fn put(
         &self,
+        cache: &mut BlockCache,
         rows: &mut Vec<Slots>,
         block: &Block,
         rank: u32,
@@ -107,10 +112,13 @@ impl DiskIndex {
     ) -> Result<(), SegFault>
         ensures ok { OnOk result (put_block begin rank block.now rows.old.items ≡ Ok rows.new.items) }
         ensures err { IfErr result (IsUnput self.now.number (put_block begin rank block.now rows.old.items)) }
+        ensures kept { cache.new.kept ≡ cache.old.kept }
+        ensures undamaged { OnOk result (cache.new.damage ≡ cache.old.damage) }
+        ensures damaged { IfErr result (TellsDamage cache.old.damage cache.new.damage) }
     {
         match put_block(rows, block.entries(), rank, begin) {
             Ok(()) => Ok(()),
-            Err(taken) => Err(self.malformed(taken.place)),
+            Err(taken) => Err(cache.noted(self.malformed(taken.place))),
         }
     }
 

@@ -1,11 +1,11 @@
 // A part of the collection that lies in a file.
-ghost use Rattle.std.specs.Prelude.{◌≡◌, ◌≢◌, ◌≤◌, ◌<◌, ◌+◌, ◌*◌, ◌^◌, ℕ, List, Some, Err, IfOk, IfErr, IfSome, MatchOption, if◌then◌else◌, length, slice_index_or, IsTrue, [], is_some};
+ghost use Rattle.std.specs.Prelude.{◌≡◌, ◌≢◌, ◌≤◌, ◌<◌, ◌+◌, ◌*◌, ◌^◌, ℕ, List, Some, Err, IfOk, IfErr, IfSome, MatchOption, if◌then◌else◌, length, slice_index_or, IsTrue, [], is_some, OnOk};
 ghost use Rattle.std.specs.List.{All, AllPairs};
 ghost use Rattle.std.specs.List.Sorted.{IsStrictlyIncreasing};
 ghost use Rattle.std.specs.Option.{option_map, option_map_or};
 ghost use Rattle.ri_base.specs.Collection.{document_at};
 ghost use Rattle.ri_base.specs.Documents.{Document, IsDocument};
-ghost use Rattle.ri_base.specs.Faults.{IsOutside};
+ghost use Rattle.ri_base.specs.Faults.{IsOutside, TellsDamage};
 ghost use Rattle.ri_base.specs.Keeps.{Rose};
 ghost use Rattle.ri_base.specs.Places.{places};
 ghost use Rattle.ri_base.specs.Vocabulary.{IsTermBefore};
@@ -237,6 +237,8 @@ impl DiskIndex {
         ensures origin { MatchOption (place_of self.now.dictionary (term_of self.now.dictionary rank) range) (IfOk result (λ b. b ≡ []))
             (λ p. IfOk result (CameFrom (T.files store.old) cache.old self.now.outlines (key_of self.now.number range p))) }
         ensures cache { AllKept cache.old cache.new }
+        ensures undamaged { OnOk result (cache.new.damage ≡ cache.old.damage) }
+        ensures damaged { IfErr result (TellsDamage cache.old.damage cache.new.damage) }
         ensures quiet { IsQuiet T.files T.layers T.clock T.since T.longest T.held store.old store.new }
         ensures later { T.faults store.old ≤ T.faults store.new }
         ensures store { result ≡ Err SegFault.Store → Rose (T.faults store.old) (T.faults store.new) }
@@ -307,6 +309,8 @@ impl DiskIndex {
         ensures steps { blocks.new ≡ blocks.old + (if is_some (place_of self.now.dictionary term.now range) then 1 else 0) }
 
         ensures cache { CacheKeeps (T.files store.old) (λ n. n ≡ self.now.number) cache.old cache.new }
+        ensures undamaged { OnOk result (cache.new.damage ≡ cache.old.damage) }
+        ensures damaged { IfErr result (TellsDamage cache.old.damage cache.new.damage) }
         ensures quiet { IsQuiet T.files T.layers T.clock T.since T.longest T.held store.old store.new }
         ensures later { T.faults store.old ≤ T.faults store.new }
         ensures store { result ≡ Err SegFault.Store → Rose (T.faults store.old) (T.faults store.new) }
@@ -343,6 +347,8 @@ impl DiskIndex {
         ensures below { (file : List ℕ) → IfOk result (All (λ p. p < length (document_at (rebuilt self.now file) id).tokens)) }
         ensures fault { (f : Files) → T.files store.old ≡ Some f → IfErr result (IsTermFault f cache.old self.now term.now id) }
         ensures cache { CacheKeeps (T.files store.old) (λ n. n ≡ self.now.number) cache.old cache.new }
+        ensures undamaged { OnOk result (cache.new.damage ≡ cache.old.damage) }
+        ensures damaged { IfErr result (TellsDamage cache.old.damage cache.new.damage) }
         ensures quiet { IsQuiet T.files T.layers T.clock T.since T.longest T.held store.old store.new }
         ensures later { T.faults store.old ≤ T.faults store.new }
         ensures store { result ≡ Err SegFault.Store → Rose (T.faults store.old) (T.faults store.new) }
@@ -374,6 +380,8 @@ impl DiskIndex {
         ensures below { (file : List ℕ) → IfOk result (All (λ p. p < length (document_at (rebuilt self.now file) id).tokens)) }
         ensures fault { (f : Files) → T.files store.old ≡ Some f → IfErr result (IsTermFault f cache.old self.now term.now id) }
         ensures cache { CacheKeeps (T.files store.old) (λ n. n ≡ self.now.number) cache.old cache.new }
+        ensures undamaged { OnOk result (cache.new.damage ≡ cache.old.damage) }
+        ensures damaged { IfErr result (TellsDamage cache.old.damage cache.new.damage) }
         ensures quiet { IsQuiet T.files T.layers T.clock T.since T.longest T.held store.old store.new }
         ensures later { T.faults store.old ≤ T.faults store.new }
         ensures store { result ≡ Err SegFault.Store → Rose (T.faults store.old) (T.faults store.new) }
@@ -383,11 +391,11 @@ impl DiskIndex {
         let block = self.block(alloc, store, cache, term, id / 64, &mut blocks)?;
         let places = block.places(id);
         if !are_places(places, self.length(id)) {
-            return Err(SegFault::Malformed {
+            return Err(cache.noted(SegFault::Malformed {
                 file: FileName::Segment(self.number),
                 part: PartName::Block,
                 place: self.block_place(term, id / 64),
-            });
+            }));
         }
         Ok(positions_of(alloc, places)?)
     }

@@ -1,8 +1,8 @@
 // Which documents pass the filters of a query.
-ghost use Rattle.std.specs.Prelude.{◌≡◌, ◌<◌, length, map, Err, IfErr, IfOk};
+ghost use Rattle.std.specs.Prelude.{◌≡◌, ◌<◌, length, map, Err, IfErr, IfOk, OnOk};
 ghost use Rattle.std.specs.List.{list_all};
 ghost use Rattle.ri_base.specs.Collection.{document_at};
-ghost use Rattle.ri_base.specs.Faults.{IsOutside};
+ghost use Rattle.ri_base.specs.Faults.{IsOutside, TellsDamage};
 ghost use Rattle.ri_base.specs.Keeps.{Keeps, Rose};
 ghost use Rattle.ri_base.specs.Query.{filter_tree};
 ghost use Rattle.document_scoring.specs.Candidates.{passes};
@@ -26,6 +26,8 @@ fn passes<P: Postings>(
         (λ b. b ≡ passes (document_at (P.documents part.old) id) (filter_tree filter.now)) }
     ensures told { IfOk result (λ _. IsFilterTold (λ t. P.told part.old t id) (filter_tree filter.now)) }
     ensures honest { P.sound part.old → IfErr result IsOutside }
+    ensures undamaged { OnOk result (P.damage part.new ≡ P.damage part.old) }
+    ensures damaged { IfErr result (TellsDamage (P.damage part.old) (P.damage part.new)) }
     ensures store { result ≡ Err SegFault.Store → Rose (P.faults part.old) (P.faults part.new) }
 {
     extents_have_one_list();
@@ -50,6 +52,8 @@ pub fn all_pass<P: Postings>(
     ensures told { IfOk result (AreFiltersTold (λ t. P.told part.old t id) (map filter_tree filters.now)) }
 
     ensures honest { P.sound part.old → IfErr result IsOutside }
+    ensures undamaged { OnOk result (P.damage part.new ≡ P.damage part.old) }
+    ensures damaged { IfErr result (TellsDamage (P.damage part.old) (P.damage part.new)) }
     ensures store { result ≡ Err SegFault.Store → Rose (P.faults part.old) (P.faults part.new) }
 {
     for filter in filters {

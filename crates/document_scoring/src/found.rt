@@ -1,8 +1,8 @@
 // What is found of the leaves of a query in a document.
-ghost use Rattle.std.specs.Prelude.{◌≡◌, ◌<◌, ◌⊎◌, length, map, slice_index_or, take, All, Contains, Err, IfErr, IfOk, IfSome};
+ghost use Rattle.std.specs.Prelude.{◌≡◌, ◌<◌, ◌⊎◌, length, map, slice_index_or, take, All, Contains, Err, IfErr, IfOk, IfSome, OnOk};
 ghost use Rattle.ri_base.specs.Collection.{document_at};
 ghost use Rattle.ri_base.specs.Expression.{EachWord, expr_tree};
-ghost use Rattle.ri_base.specs.Faults.{IsOutside};
+ghost use Rattle.ri_base.specs.Faults.{IsOutside, TellsDamage};
 ghost use Rattle.ri_base.specs.Keeps.{Keeps, Rose};
 ghost use Rattle.ri_base.specs.Pair.{Pair};
 ghost use Rattle.field_extents.specs.Extents.{AreInOrder};
@@ -69,6 +69,8 @@ pub fn counted<P: Postings>(
     ensures few { IfOk result (λ found. IfSome context.now (IsFewer found (document_at (P.documents part.old) id).fields)) }
     ensures told { IfOk result (λ _. EachWord (λ t. P.told part.old t id) (expr_tree expr.now)) }
     ensures honest { P.sound part.old → IfErr result IsOutside }
+    ensures undamaged { OnOk result (P.damage part.new ≡ P.damage part.old) }
+    ensures damaged { IfErr result (TellsDamage (P.damage part.old) (P.damage part.new)) }
     ensures store { result ≡ Err SegFault.Store → Rose (P.faults part.old) (P.faults part.new) }
 {
     extents_have_one_list();
@@ -93,6 +95,8 @@ pub fn found_of<'a, P: Postings>(
     ensures found { IfOk result (IsFound (document_at (P.documents part.old) id).fields) }
     ensures told { IfOk result (λ _. IsLeafTold (λ t. P.told part.old t id) (leaf_tree leaf.now)) }
     ensures honest { P.sound part.old → IfErr result IsOutside }
+    ensures undamaged { OnOk result (P.damage part.new ≡ P.damage part.old) }
+    ensures damaged { IfErr result (TellsDamage (P.damage part.old) (P.damage part.new)) }
     ensures store { result ≡ Err SegFault.Store → Rose (P.faults part.old) (P.faults part.new) }
 {
     let LeafKind::Extents(expr, context) = leaf else {
@@ -128,6 +132,8 @@ fn found_at<'a, P: Postings>(
     ensures told { IfOk result (λ _. IsLeafTold (λ t. P.told part.old t id) (slice_index_or (map leaf_tree leaves.now) number (prior 0))
         ⊎ Contains (take number (map leaf_tree leaves.now)) (slice_index_or (map leaf_tree leaves.now) number (prior 0))) }
     ensures honest { P.sound part.old → IfErr result IsOutside }
+    ensures undamaged { OnOk result (P.damage part.new ≡ P.damage part.old) }
+    ensures damaged { IfErr result (TellsDamage (P.damage part.old) (P.damage part.new)) }
     ensures store { result ≡ Err SegFault.Store → Rose (P.faults part.old) (P.faults part.new) }
 {
     let leaf = &leaves[number];
@@ -155,6 +161,8 @@ pub fn all_found<'a, P: Postings>(
     ensures found { IfOk result (λ v. All (IsFound (document_at (P.documents part.old) id).fields) v.items) }
     ensures told { IfOk result (λ _. All (IsLeafTold (λ t. P.told part.old t id)) (map leaf_tree leaves.now)) }
     ensures honest { P.sound part.old → IfErr result IsOutside }
+    ensures undamaged { OnOk result (P.damage part.new ≡ P.damage part.old) }
+    ensures damaged { IfErr result (TellsDamage (P.damage part.old) (P.damage part.new)) }
     ensures store { result ≡ Err SegFault.Store → Rose (P.faults part.old) (P.faults part.new) }
 {
     let mut all = Vec::with_capacity(alloc, leaves.len())?;

@@ -1,9 +1,9 @@
 // The extents of an expression.
-ghost use Rattle.std.specs.Prelude.{◌≡◌, ◌<◌, length, map, All, IfOk, IfErr, IsOkAnd, Err};
+ghost use Rattle.std.specs.Prelude.{◌≡◌, ◌<◌, length, map, All, IfOk, IfErr, IsOkAnd, Err, OnOk};
 ghost use Rattle.std.specs.List.{AllZip};
 ghost use Rattle.ri_base.specs.Collection.{document_at};
 ghost use Rattle.ri_base.specs.Expression.{EachWord, EachWordOf, expr_tree, expr_trees};
-ghost use Rattle.ri_base.specs.Faults.{IsOutside};
+ghost use Rattle.ri_base.specs.Faults.{IsOutside, TellsDamage};
 ghost use Rattle.ri_base.specs.Keeps.{Keeps, Rose};
 ghost use Rattle.field_extents.specs.Extents.{AreInOrder};
 ghost use Rattle.extent_lists.specs.Extents.{Ext};
@@ -36,6 +36,8 @@ pub fn extents<P: Postings>(
     ensures told { IfOk result (λ _. EachWord (λ t. P.told postings.old t id) (expr_tree expr.now)) }
 
     ensures honest { P.sound postings.old → IfErr result IsOutside }
+    ensures undamaged { OnOk result (P.damage postings.new ≡ P.damage postings.old) }
+    ensures damaged { IfErr result (TellsDamage (P.damage postings.old) (P.damage postings.new)) }
     ensures store { result ≡ Err SegFault.Store → Rose (P.faults postings.old) (P.faults postings.new) }
 {
     evaluated(alloc, expr, postings, id)
@@ -55,6 +57,8 @@ fn evaluated<P: Postings>(
     ensures ascending { IfOk result IsAscending }
     ensures told { IfOk result (λ _. EachWord (λ t. P.told postings.old t id) (expr_tree expr.now)) }
     ensures honest { P.sound postings.old → IfErr result IsOutside }
+    ensures undamaged { OnOk result (P.damage postings.new ≡ P.damage postings.old) }
+    ensures damaged { IfErr result (TellsDamage (P.damage postings.old) (P.damage postings.new)) }
     ensures store { result ≡ Err SegFault.Store → Rose (P.faults postings.old) (P.faults postings.new) }
 {
     match expr {
@@ -107,6 +111,8 @@ fn all_evaluated<P: Postings>(
     ensures ascending { IfOk result (λ v. All IsAscending v.items) }
     ensures told { IfOk result (λ _. EachWordOf (λ t. P.told postings.old t id) (expr_trees (map expr_tree all.now))) }
     ensures honest { P.sound postings.old → IfErr result IsOutside }
+    ensures undamaged { OnOk result (P.damage postings.new ≡ P.damage postings.old) }
+    ensures damaged { IfErr result (TellsDamage (P.damage postings.old) (P.damage postings.new)) }
     ensures store { result ≡ Err SegFault.Store → Rose (P.faults postings.old) (P.faults postings.new) }
 {
     let mut lists = Vec::new(alloc);

@@ -1,10 +1,10 @@
 // The extents of a term and of a field's name.
-ghost use Rattle.std.specs.Prelude.{◌≡◌, ◌<◌, IfOk, IfErr, Err, length, map};
+ghost use Rattle.std.specs.Prelude.{◌≡◌, ◌<◌, IfOk, IfErr, Err, length, map, OnOk};
 ghost use Rattle.std.specs.List.{All, AllPairs};
 ghost use Rattle.ri_base.specs.Collection.{document_at};
 ghost use Rattle.ri_base.specs.Documents.{IsBefore};
 ghost use Rattle.ri_base.specs.Expression.{word};
-ghost use Rattle.ri_base.specs.Faults.{IsOutside};
+ghost use Rattle.ri_base.specs.Faults.{IsOutside, TellsDamage};
 ghost use Rattle.ri_base.specs.Keeps.{Keeps, Rose};
 ghost use Rattle.extent_lists.specs.Extents.{Ext, IsField};
 ghost use Rattle.extent_lists.specs.Rows.{IsAscending, Lists, extent_at};
@@ -52,6 +52,8 @@ pub fn of_term<P: Postings>(
     ensures ascending { IfOk result IsAscending }
     ensures told { IfOk result (λ _. P.told postings.old term.now id) }
     ensures honest { P.sound postings.old → IfErr result IsOutside }
+    ensures undamaged { OnOk result (P.damage postings.new ≡ P.damage postings.old) }
+    ensures damaged { IfErr result (TellsDamage (P.damage postings.old) (P.damage postings.new)) }
     ensures store { result ≡ Err SegFault.Store → Rose (P.faults postings.old) (P.faults postings.new) }
 {
     let length = postings.length(id);

@@ -1,8 +1,8 @@
 // The extents of an expression, one after the other.
-ghost use Rattle.std.specs.Prelude.{◌≡◌, ◌<◌, length, map, drop, slice_get, IfOk, IfErr, Err};
+ghost use Rattle.std.specs.Prelude.{◌≡◌, ◌<◌, length, map, drop, slice_get, IfOk, IfErr, Err, OnOk};
 ghost use Rattle.ri_base.specs.Collection.{document_at};
 ghost use Rattle.ri_base.specs.Expression.{EachWord, EachWordOf, expr_tree, expr_trees};
-ghost use Rattle.ri_base.specs.Faults.{IsOutside};
+ghost use Rattle.ri_base.specs.Faults.{IsOutside, TellsDamage};
 ghost use Rattle.ri_base.specs.Keeps.{Keeps, Rose};
 ghost use Rattle.extent_lists.specs.Extents.{Ext};
 ghost use Rattle.extent_lists.specs.Listing.{IsListing};
@@ -34,6 +34,8 @@ fn walk_of<P: Postings>(
     ensures kept { IfOk result IsKept }
     ensures told { IfOk result (λ _. EachWord (λ t. P.told postings.old t id) (expr_tree expr.now)) }
     ensures honest { P.sound postings.old → IfErr result IsOutside }
+    ensures undamaged { OnOk result (P.damage postings.new ≡ P.damage postings.old) }
+    ensures damaged { IfErr result (TellsDamage (P.damage postings.old) (P.damage postings.new)) }
     ensures store { result ≡ Err SegFault.Store → Rose (P.faults postings.old) (P.faults postings.new) }
 {
     match expr {
@@ -95,6 +97,8 @@ fn group_of<P: Postings>(
     ensures kept { IfOk result (λ v. AreKept v.items) }
     ensures told { IfOk result (λ _. EachWordOf (λ t. P.told postings.old t id) (expr_trees (map expr_tree all.now))) }
     ensures honest { P.sound postings.old → IfErr result IsOutside }
+    ensures undamaged { OnOk result (P.damage postings.new ≡ P.damage postings.old) }
+    ensures damaged { IfErr result (TellsDamage (P.damage postings.old) (P.damage postings.new)) }
     ensures store { result ≡ Err SegFault.Store → Rose (P.faults postings.old) (P.faults postings.new) }
 {
     let mut out = Vec::new(alloc);
@@ -143,6 +147,8 @@ impl ExtentIter {
         ensures told { IfOk result (λ _. EachWord (λ t. P.told postings.old t id) (expr_tree expr.now)) }
 
         ensures honest { P.sound postings.old → IfErr result IsOutside }
+        ensures undamaged { OnOk result (P.damage postings.new ≡ P.damage postings.old) }
+        ensures damaged { IfErr result (TellsDamage (P.damage postings.old) (P.damage postings.new)) }
         ensures store { result ≡ Err SegFault.Store → Rose (P.faults postings.old) (P.faults postings.new) }
     {
         let walk = walk_of(alloc, expr, postings, id)?;

@@ -20,7 +20,7 @@ use Rattle.indri_app.specs.Asked.{IsAsked, IsBrokenOver, IsIntact, IsIntactWithP
 use Rattle.indri_app.specs.Command.{AreAnswer, ArePieces, IsAskedBy, MakesRepository, NeedsRepository, ShowsInOrder, query_refusal, text_refusal}
 use Rattle.indri_app.specs.LastLines.{IsClosed}
 use Rattle.indri_app.specs.Opened.{IsAbsentFault, IsWant}
-use Rattle.indri_app.specs.Runs.{RunsTo, Tells, TellsDamage, TellsDamageOf, WritesBy}
+use Rattle.indri_app.specs.Runs.{RunsTo, Tells, WritesDamage, WritesDamageOf, WritesBy}
 use Rattle.indri_app.specs.declared.status.Status.{Status}
 use Rattle.indri_app.specs.declared.status.Status.TheVariants as status
 use Rattle.indri_app.proofs.Closing.{closed, want-begun}
@@ -67,7 +67,7 @@ asked-in_order (gen count) c left text mu shown by' = absurd by'
 asked-in_order (query question) c left text mu shown by' = tt
 asked-in_order (explain rank question) c left text mu shown by' = tt
 
-pub asked-tells : (asks : Asks) (before now : Option (List ℕ)) (a z : ℕ) (text : List ℕ) (mu : ℕ) (shown : Shown) → IsAskedBy asks text mu shown → TellsDamage before now a z → TellsDamageOf asks before now a z
+pub asked-tells : (asks : Asks) (before now : Option (List ℕ)) (a z : ℕ) (text : List ℕ) (mu : ℕ) (shown : Shown) → IsAskedBy asks text mu shown → WritesDamage before now a z → WritesDamageOf asks before now a z
 asked-tells (scan t) before now a z text mu shown by' tells = absurd by'
 asked-tells create before now a z text mu shown by' tells = absurd by'
 asked-tells add before now a z text mu shown by' tells = absurd by'

@@ -13,7 +13,7 @@ use Rattle.collection_commands.proofs.CauseLemmas.{as-causes, damage_causes, ite
 use Rattle.command_words.specs.Table.{scan}
 use Rattle.indri_app.specs.Changes.{IsFoundFirst, IsOverFault, first_causes, over_causes, told_change}
 use Rattle.indri_app.specs.Command.{MakesRepository, NeedsRepository, ReadsPriors, ShowsInOrder}
-use Rattle.indri_app.specs.Runs.{TellsDamage, TellsDamageOf}
+use Rattle.indri_app.specs.Runs.{WritesDamage, WritesDamageOf}
 use Rattle.indri_app.specs.declared.changing.Change.{Change}
 use Rattle.indri_app.specs.declared.changing.Change.TheVariants.{Add, Delete, Merge, Prior}
 use Rattle.indri_app.specs.Opened.{IsOpenFault, IsWant, open_causes, want_causes}
@@ -102,7 +102,7 @@ change-in_order Delete c left = tt
 change-in_order Merge c left = tt
 change-in_order (Prior name) c left = tt
 
-pub change-tells : (what : Change) (start now : Option (List ℕ)) (a z : ℕ) → TellsDamage start now a z → TellsDamageOf (told_change what) start now a z
+pub change-tells : (what : Change) (start now : Option (List ℕ)) (a z : ℕ) → WritesDamage start now a z → WritesDamageOf (told_change what) start now a z
 change-tells Add start now a z tells = tells
 change-tells Delete start now a z tells = tells
 change-tells Merge start now a z tells = tells

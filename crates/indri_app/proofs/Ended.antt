@@ -12,7 +12,7 @@ use Rattle.collection_commands.proofs.CauseLemmas.{as-causes, damage_causes, of-
 use Rattle.indri_app.specs.Changes.{IsFoundFirst, IsOverFault, first_causes}
 use Rattle.indri_app.specs.LastLines.{EndsWith, IsClosed, absent_line, exists_line, last_line, malformed_line, missing_line, status_of}
 use Rattle.indri_app.specs.Opened.{IsAbsentFault, IsWant, absent_causes, want_causes}
-use Rattle.indri_app.specs.Runs.{HasDone, IsAbsentStatus, IsAllDone, IsEnded, IsUntouched, TellsDamage}
+use Rattle.indri_app.specs.Runs.{HasDone, IsAbsentStatus, IsAllDone, IsEnded, IsUntouched, WritesDamage}
 use Rattle.indri_app.specs.declared.status.Status.{Status}
 use Rattle.indri_app.specs.declared.status.Status.TheVariants as status
 
@@ -182,7 +182,7 @@ malformed-of fault.Memory e = absurd cc
 pub malformed-closed : (why : CommandFault) (s : Status) (mid now : Option (List ℕ)) (b z : ℕ) → IsClosed why s mid now b z → s ≡ status.Malformed → IsDamage why
 malformed-closed why s mid now b z ends e = elim (closed-status why s mid now b z ends) [ inl w ↦ malformed-of why (sym e ∙ w) | inr m ↦ absurd cc ]
 
-pub damage-closed : (why : CommandFault) (s : Status) (mid now : Option (List ℕ)) (b z : ℕ) → IsClosed why s mid now b z → s ≡ status.Malformed → TellsDamage mid now b z
+pub damage-closed : (why : CommandFault) (s : Status) (mid now : Option (List ℕ)) (b z : ℕ) → IsClosed why s mid now b z → s ≡ status.Malformed → WritesDamage mid now b z
 damage-closed fault.Read s mid now b z ends e = absurd (malformed-closed fault.Read s mid now b z ends e)
 damage-closed fault.Write s mid now b z ends e = absurd (malformed-closed fault.Write s mid now b z ends e)
 damage-closed fault.Store s mid now b z ends e = absurd (malformed-closed fault.Store s mid now b z ends e)
@@ -192,7 +192,7 @@ damage-closed fault.NoRepository s mid now b z ends e = absurd (malformed-closed
 damage-closed fault.Exists s mid now b z ends e = absurd (malformed-closed fault.Exists s mid now b z ends e)
 damage-closed fault.Memory s mid now b z ends e = absurd (malformed-closed fault.Memory s mid now b z ends e)
 
-pub damage-first : (start mid now : Option (List ℕ)) (a b z : ℕ) → mid ≡ start → a ≤ b → TellsDamage mid now b z → TellsDamage start now a z
+pub damage-first : (start mid now : Option (List ℕ)) (a b z : ℕ) → mid ≡ start → a ≤ b → WritesDamage mid now b z → WritesDamage start now a z
 damage-first start mid now a b z e h (why, damage, (line, is, l)) = (why, damage, (line, is, line-first line start mid now a b z e h l))
 
 -- the fault is one that is found first
@@ -204,7 +204,7 @@ first-ended Q (Ok false) s mid now b z q (w, same) e = absurd cc
 first-ended Q (Ok true) s mid now b z q (w, same) e = absurd cc
 first-ended Q (Err why) s mid now b z q ends e = q (first-damage why (malformed-closed why s mid now b z ends e))
 
-pub damage-ended : (answer : Result Bool CommandFault) (s : Status) (mid now : Option (List ℕ)) (b z : ℕ) → IsEnded answer s mid now b z → s ≡ status.Malformed → TellsDamage mid now b z
+pub damage-ended : (answer : Result Bool CommandFault) (s : Status) (mid now : Option (List ℕ)) (b z : ℕ) → IsEnded answer s mid now b z → s ≡ status.Malformed → WritesDamage mid now b z
 damage-ended (Ok false) s mid now b z (w, same) e = absurd cc
 damage-ended (Ok true) s mid now b z (w, same) e = absurd cc
 damage-ended (Err why) s mid now b z ends e = damage-closed why s mid now b z ends e

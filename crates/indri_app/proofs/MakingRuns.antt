@@ -11,7 +11,7 @@ use Rattle.repository.specs.Stands.{Collection}
 use Rattle.indri_app.specs.Command.{MakesInOrder, MakesRepository, NeedsRepository, ReadsPriors, ShowsInOrder}
 use Rattle.indri_app.specs.HasRun.{HasRun}
 use Rattle.indri_app.specs.LastLines.{IsClosed, exists_line}
-use Rattle.indri_app.specs.Runs.{IsAllDone, IsUntouched, MakesAlong, MakesTo, TellsDamageOf}
+use Rattle.indri_app.specs.Runs.{IsAllDone, IsUntouched, MakesAlong, MakesTo, WritesDamageOf}
 use Rattle.indri_app.specs.declared.status.Status.{Status}
 use Rattle.indri_app.specs.declared.status.Status.TheVariants as status
 use Rattle.indri_app.proofs.Closing.{stops-none}
@@ -82,7 +82,7 @@ module _ (asks : Asks) (making : IsMaking asks) (left : Option (List ℕ)) (told
 
   -- it is broken off
   pub run-unmade : (why : CommandFault) (s : Status) (mid : Option (List ℕ)) (b : ℕ) → IsClosed why s mid now b z → (why ≡ fault.NoRepository → ⊥) → HasMade asks s told files past since before now a z → a ≤ b → IsLeft why told files past since before mid → ((f : Files) → told ≡ Some f → why ≡ fault.Exists → IsTrue (is_some (f manifest_name))) → (why ≡ fault.Exists → mid ≡ before)
-      → ((f : Files) → told ≡ Some f → IsDamage why → ⊥) → (s ≡ status.Malformed → TellsDamageOf asks before now a z) → HasRun asks s left told files past since before now a z
+      → ((f : Files) → told ≡ Some f → IsDamage why → ⊥) → (s ≡ status.Malformed → WritesDamageOf asks before now a z) → HasRun asks s left told files past since before now a z
   run-unmade why s mid b ends needed done later untouched there same sound damage = record {
     runs = λ k stands. let has = stands-there k told stands in let e = untouched has.0 has.1 has.2 in exists-runs asks making.makes why s k left told files before mid now a b z e.0 ends e.3 later e.1 stands;
     stops = λ k stands. let has = stands-there k told stands in stops-none told asks k left past since (untouched has.0 has.1 has.2).2;

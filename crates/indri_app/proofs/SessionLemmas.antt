@@ -19,7 +19,7 @@ use Rattle.indri_app.specs.Sessions.{Grows, begun}
 use Rattle.indri_app.specs.Asked.{IsIntactWithPriors}
 use Rattle.indri_app.specs.Changes.{IsOverFault}
 use Rattle.indri_app.specs.Command.{ShowsInOrder}
-use Rattle.indri_app.specs.Runs.{IsAllDone, IsEnded, IsUntouched, TellsDamage}
+use Rattle.indri_app.specs.Runs.{IsAllDone, IsEnded, IsUntouched, WritesDamage}
 use Rattle.indri_app.specs.declared.status.Status.{Status}
 use Rattle.indri_app.proofs.Ended.{absent-ended, all-not_closed, damage-first, exists-not_ended, refused-not_ended, usage-not_ended}
 
@@ -55,5 +55,5 @@ with-priors told s (Err why) opened priors = tt
 with-priors told s (Ok refused) opened priors = (s.held.limits, (s, opened, priors))
 
 -- damage is told behind what was written
-pub damage-behind : (start mid now : Option (List ℕ)) (a b z : ℕ) → Grows start mid → a ≤ b → TellsDamage mid now b z → (written : Option (List ℕ)) × Grows start written × TellsDamage written now a z
+pub damage-behind : (start mid now : Option (List ℕ)) (a b z : ℕ) → Grows start mid → a ≤ b → WritesDamage mid now b z → (written : Option (List ℕ)) × Grows start written × WritesDamage written now a z
 damage-behind start mid now a b z grows h tells = (mid, grows, damage-first mid mid now a b z refl h tells)

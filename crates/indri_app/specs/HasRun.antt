@@ -9,7 +9,7 @@ use Rattle.repository.specs.Stands.{Collection}
 use Rattle.indri_app.specs.Asked.{IsIntact, IsIntactWithPriors}
 use Rattle.indri_app.specs.Command.{MakesInOrder, MakesRepository, NeedsRepository, ReadsPriors, ShowsInOrder}
 use Rattle.indri_app.specs.LastLines.{absent_line, exists_line}
-use Rattle.indri_app.specs.Runs.{HasDone, IsAbsentStatus, IsAllDone, IsExistsStatus, MakesAlong, MakesTo, RunsTo, ScansTo, StopsAlong, TellsDamageOf}
+use Rattle.indri_app.specs.Runs.{HasDone, IsAbsentStatus, IsAllDone, IsExistsStatus, MakesAlong, MakesTo, RunsTo, ScansTo, StopsAlong, WritesDamageOf}
 use Rattle.indri_app.specs.declared.status.Status.{Status}
 use Rattle.indri_app.specs.declared.status.Status.TheVariants.{Exists, Malformed, NoRepository, Usage}
 
@@ -30,7 +30,7 @@ pub record HasRun (asks : Asks) (status : Status) (left : Option (List ℕ)) (to
   -- damage: never where the files stand for a collection, or where there is no manifest; and it isn't passed over
   pub sound : status ≡ Malformed → (c : Collection) → StandsFor c told → ⊥
   pub there : (f : Files) → told ≡ Some f → status ≡ Malformed → IsTrue (is_some (f manifest_name))
-  pub damage : status ≡ Malformed → TellsDamageOf asks before now count_before count_now
+  pub damage : status ≡ Malformed → WritesDamageOf asks before now count_before count_now
   pub intact : (f : Files) → told ≡ Some f → HasDone status → NeedsRepository asks → IsIntact told
   pub intact_priors : (f : Files) → told ≡ Some f → HasDone status → ReadsPriors asks → IsIntactWithPriors told
   -- there is no manifest where one is needed

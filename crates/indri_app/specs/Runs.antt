@@ -118,21 +118,21 @@ abbrev pub IsUntouched : Status → Type 0
 IsUntouched status = (status ≡ Usage) ⊎ (status ≡ QueryRefused) ⊎ (status ≡ NoRepository) ⊎ (status ≡ Exists)
 
 -- what is written ends with the line of the damage that was found, and of it all but where the sink's count rose
-abbrev pub TellsDamage : Option (List ℕ) → Option (List ℕ) → ℕ → ℕ → Type 0
-TellsDamage before now count_before count_now = (why : CommandFault) × IsDamage why × ((line : List ℕ) × (last_line why ≡ Some line) × WritesLine before now line count_before count_now)
+abbrev pub WritesDamage : Option (List ℕ) → Option (List ℕ) → ℕ → ℕ → Type 0
+WritesDamage before now count_before count_now = (why : CommandFault) × IsDamage why × ((line : List ℕ) × (last_line why ≡ Some line) × WritesLine before now line count_before count_now)
 
 -- the same behind what a session has written
-abbrev pub TellsDamageOf : Asks → Option (List ℕ) → Option (List ℕ) → ℕ → ℕ → Type 0
-TellsDamageOf (scan text) before now count_before count_now = TellsDamage before now count_before count_now
-TellsDamageOf create before now count_before count_now = TellsDamage before now count_before count_now
-TellsDamageOf add before now count_before count_now = TellsDamage before now count_before count_now
-TellsDamageOf delete before now count_before count_now = TellsDamage before now count_before count_now
-TellsDamageOf merge before now count_before count_now = TellsDamage before now count_before count_now
-TellsDamageOf (prior name) before now count_before count_now = TellsDamage before now count_before count_now
-TellsDamageOf (session mu) before now count_before count_now = (written : Option (List ℕ)) × Grows before written × TellsDamage written now count_before count_now
-TellsDamageOf (gen count) before now count_before count_now = TellsDamage before now count_before count_now
-TellsDamageOf (query question) before now count_before count_now = TellsDamage before now count_before count_now
-TellsDamageOf (explain rank question) before now count_before count_now = TellsDamage before now count_before count_now
+abbrev pub WritesDamageOf : Asks → Option (List ℕ) → Option (List ℕ) → ℕ → ℕ → Type 0
+WritesDamageOf (scan text) before now count_before count_now = WritesDamage before now count_before count_now
+WritesDamageOf create before now count_before count_now = WritesDamage before now count_before count_now
+WritesDamageOf add before now count_before count_now = WritesDamage before now count_before count_now
+WritesDamageOf delete before now count_before count_now = WritesDamage before now count_before count_now
+WritesDamageOf merge before now count_before count_now = WritesDamage before now count_before count_now
+WritesDamageOf (prior name) before now count_before count_now = WritesDamage before now count_before count_now
+WritesDamageOf (session mu) before now count_before count_now = (written : Option (List ℕ)) × Grows before written × WritesDamage written now count_before count_now
+WritesDamageOf (gen count) before now count_before count_now = WritesDamage before now count_before count_now
+WritesDamageOf (query question) before now count_before count_now = WritesDamage before now count_before count_now
+WritesDamageOf (explain rank question) before now count_before count_now = WritesDamage before now count_before count_now
 
 -- all pieces were done
 abbrev pub IsAllDone : Status → Type 0

@@ -24,7 +24,7 @@ use crate::opening::open_repository;
 use crate::texts::{TextFault, read_checked};
 use belief_nodes::BeliefNode;
 use command_pieces::{CommandFault, Reply};
-use desk::{Shown, answer, names_of, take_priors};
+use desk::{Shown, answer, block_cache, names_of, take_priors};
 use query_check::Checked;
 use query_refusals::{QueryRefusal, reply_of};
 use repository::Repository;
@@ -98,10 +98,13 @@ fn answer_checked<T: Store>(
     let Ok(snapshot) = repository.snapshot(alloc) else {
         return Err(CommandFault::Memory);
     };
+    let Ok(mut cache) = block_cache(alloc) else {
+        return Err(CommandFault::Memory);
+    };
     let kind = RuleKind::Dirichlet { mu };
     let generation = repository.generation();
     let answer = match answer(
-        alloc, kind, shown, checked, names, plugs, snapshot, generation, store,
+        alloc, kind, shown, checked, names, plugs, snapshot, generation, store, &mut cache,
     ) {
         Ok(answer) => answer,
         Err(fault) => return Err(CommandFault::of_files(fault)),

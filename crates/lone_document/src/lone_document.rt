@@ -78,7 +78,7 @@ fn note_place(places: &mut Vec<u32>, is_there: bool, at: u32) -> Result<(), NoMe
 }
 
 impl<'a> Postings for LoneDocument<'a> {
-    ghost use Rattle.std.specs.Prelude.{◌≡◌, ⊤};
+    ghost use Rattle.std.specs.Prelude.{◌≡◌, ⊤, None};
 
     ghost documents = { λ s. s };
 
@@ -89,6 +89,8 @@ impl<'a> Postings for LoneDocument<'a> {
     ghost quiet = { λ r s. r ≡ s };
 
     ghost told = { λ _ _ _. ⊤ };
+
+    ghost damage = { λ _. None };
 
     fn docs(&self) -> u32 {
         let _one = &self.doc;

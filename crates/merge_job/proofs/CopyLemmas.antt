@@ -9,7 +9,7 @@ use Rattle.store_ends.specs.Files.{Files}
 use Rattle.seg_codec.specs.Segment.{entry_of}
 use Rattle.seg_codec.specs.declared.documents.Entry.{Entry}
 use Rattle.disk_index.specs.Blocks.{of_range}
-use Rattle.disk_index.specs.Cache.{AllKept, IsCacheBacked, KeptBlock}
+use Rattle.disk_index.specs.Cache.{AllKept, Cached, IsCacheBacked}
 use Rattle.disk_index.specs.Parts.{IsPartBacked, Source, reads, size}
 use Rattle.disk_index.specs.Snapshots.{AreBacked, Marked, unmarked}
 use Rattle.disk_index.proofs.AmongLemmas.{backed-at}
@@ -120,7 +120,7 @@ module _ (parts : List Marked) (q p : ℕ) (m : Marked) (within : p < length par
   to-next-at f j ys all past before = ap (λ l. ys ++ l) (to-next f parts p j m within at past) ∙ ap (λ k. ys ++ rest f parts k j) (sym same) ∙ before
 
   -- the same of whole documents, as the files that stay have them
-  pub exact-at : (told here : Option Files) (c d : List KeptBlock) (i j : ℕ) (xs ys all : List Document) → here ≡ told → AllKept c d
+  pub exact-at : (told here : Option Files) (c d : Cached) (i j : ℕ) (xs ys all : List Document) → here ≡ told → AllKept c d
       → (IsPartBacked here m.source → IsCacheBacked here d → ys ++ rest_in (reads here) m j ≡ xs ++ rest_in (reads here) m i)
       → (AreBacked told parts → IsCacheBacked told c → xs ++ rest (reads told) parts q i ≡ all) → AreBacked told parts → IsCacheBacked told c → ys ++ rest (reads told) parts q j ≡ all
   exact-at told here c d i j xs ys all stay keeps one before backed cached =

@@ -5,7 +5,7 @@ use Rattle.ri_base.specs.declared.seg_fault.SegFault.{SegFault}
 use Rattle.store_ends.specs.Files.{Files}
 use Rattle.seg_codec.specs.Segment.{entry_of}
 use Rattle.seg_codec.specs.declared.documents.Entry.{Entry}
-use Rattle.disk_index.specs.Cache.{KeptBlock}
+use Rattle.disk_index.specs.Cache.{Cached}
 use Rattle.disk_index.specs.Parts.{Source, InMemory, OnDisk, IsRangeFaultOf}
 use Rattle.disk_index.specs.Snapshots.{Marked, unmarked}
 
@@ -41,9 +41,9 @@ abbrev pub tokens_of : List Entry → ℕ
 tokens_of es = sum_by (λ e. e.tokens) es
 
 -- why documents of the part can't be put together: those of some range of 64 ids can't
-abbrev pub IsFaultOf : Files → List KeptBlock → Source → SegFault → Type 0
+abbrev pub IsFaultOf : Files → Cached → Source → SegFault → Type 0
 IsFaultOf files cached source fault = (range : ℕ) × IsRangeFaultOf files cached source range fault
 
 -- why documents of one of the parts can't be put together
-abbrev pub IsFaultAmong : Files → List KeptBlock → List Marked → SegFault → Type 0
+abbrev pub IsFaultAmong : Files → Cached → List Marked → SegFault → Type 0
 IsFaultAmong files cached parts fault = (m : Marked) × Contains parts m × IsFaultOf files cached m.source fault

@@ -8,14 +8,14 @@ use Rattle.std.proofs.lemmas.List.Elements.{All-push}
 use Rattle.std.proofs.lemmas.Slice.Eq.{bytes_eq-Decides}
 use Rattle.store_ends.specs.Files.{Files}
 use Rattle.seg_codec.specs.declared.blocks.BlockEntry.{BlockEntry}
-use Rattle.disk_index.specs.Cache.{KeptBlock}
+use Rattle.disk_index.specs.Cache.{Cached}
 use Rattle.disk_index.specs.Parts.{IsReadableIn, IsReadableOf, Source}
 use Rattle.disk_index.specs.Blocks.{places_of}
 use Rattle.range_masks.specs.Held.{Held, IsAnswered, bit_answer, block_in, most_answer}
 use Rattle.range_masks.specs.Most.{most_of_entries}
 
 -- what can be read in a range can be read in each document of it
-pub readable-each : (told : Option Files) (cached : List KeptBlock) (p : Source) (term : List ℕ) (range : ℕ) → IsReadableIn told cached p term range
+pub readable-each : (told : Option Files) (cached : Cached) (p : Source) (term : List ℕ) (range : ℕ) → IsReadableIn told cached p term range
     → (id : ℕ) → id / 64 ≡ range → IsReadableOf told cached p term id
 readable-each told cached p term range can id here = subst (λ r. IsReadableIn told cached p term r) (sym here) can
 

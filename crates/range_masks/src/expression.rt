@@ -1,8 +1,8 @@
 // Which documents of a range may have an extent of an expression.
-ghost use Rattle.std.specs.Prelude.{◌≡◌, Err, IfErr, IfOk};
+ghost use Rattle.std.specs.Prelude.{◌≡◌, Err, IfErr, IfOk, OnOk};
 ghost use Rattle.std.specs.List.{list_all, list_any};
 ghost use Rattle.ri_base.specs.Expression.{expr_tree};
-ghost use Rattle.ri_base.specs.Faults.{IsOutside};
+ghost use Rattle.ri_base.specs.Faults.{IsOutside, TellsDamage};
 ghost use Rattle.ri_base.specs.Keeps.{Keeps, Rose};
 ghost use Rattle.range_masks.specs.Masks.{HasEachDocument, IsMask};
 ghost use Rattle.range_masks.specs.May.{may};
@@ -24,6 +24,8 @@ pub fn expression_mask<P: TermMasks>(
     ensures exact { P.sound part.old → IfOk result (IsMask (may (expr_tree expr.now)) range (P.documents part.old)) }
     ensures each { P.sound part.old → IfOk result (HasEachDocument (expr_tree expr.now) range (P.documents part.old)) }
     ensures honest { P.sound part.old → IfErr result IsOutside }
+    ensures undamaged { OnOk result (P.damage part.new ≡ P.damage part.old) }
+    ensures damaged { IfErr result (TellsDamage (P.damage part.old) (P.damage part.new)) }
     ensures store { result ≡ Err SegFault.Store → Rose (P.faults part.old) (P.faults part.new) }
 {
     mask_of(alloc, expr, part, range)
@@ -39,6 +41,8 @@ fn mask_of<P: TermMasks>(
     ensures keeps { Keeps P.documents P.faults P.sound P.quiet part.old part.new }
     ensures exact { P.sound part.old → IfOk result (IsMask (may (expr_tree expr.now)) range (P.documents part.old)) }
     ensures honest { P.sound part.old → IfErr result IsOutside }
+    ensures undamaged { OnOk result (P.damage part.new ≡ P.damage part.old) }
+    ensures damaged { IfErr result (TellsDamage (P.damage part.old) (P.damage part.new)) }
     ensures store { result ≡ Err SegFault.Store → Rose (P.faults part.old) (P.faults part.new) }
 {
     match expr {
@@ -63,6 +67,8 @@ fn mask_of_each<P: TermMasks>(
     ensures keeps { Keeps P.documents P.faults P.sound P.quiet part.old part.new }
     ensures exact { P.sound part.old → IfOk result (IsMask (λ d. list_all (λ x. may (expr_tree x) d) all.now) range (P.documents part.old)) }
     ensures honest { P.sound part.old → IfErr result IsOutside }
+    ensures undamaged { OnOk result (P.damage part.new ≡ P.damage part.old) }
+    ensures damaged { IfErr result (TellsDamage (P.damage part.old) (P.damage part.new)) }
     ensures store { result ≡ Err SegFault.Store → Rose (P.faults part.old) (P.faults part.new) }
 {
     let mut mask = u64::MAX;
@@ -87,6 +93,8 @@ fn mask_of_some<P: TermMasks>(
     ensures keeps { Keeps P.documents P.faults P.sound P.quiet part.old part.new }
     ensures exact { P.sound part.old → IfOk result (IsMask (λ d. list_any (λ x. may (expr_tree x) d) all.now) range (P.documents part.old)) }
     ensures honest { P.sound part.old → IfErr result IsOutside }
+    ensures undamaged { OnOk result (P.damage part.new ≡ P.damage part.old) }
+    ensures damaged { IfErr result (TellsDamage (P.damage part.old) (P.damage part.new)) }
     ensures store { result ≡ Err SegFault.Store → Rose (P.faults part.old) (P.faults part.new) }
 {
     let mut mask = 0;

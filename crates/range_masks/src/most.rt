@@ -1,7 +1,7 @@
 // How many places a term has at most in one document of a range.
-ghost use Rattle.std.specs.Prelude.{◌≡◌, ◌≤◌, List, Err, IfErr, IfOk};
+ghost use Rattle.std.specs.Prelude.{◌≡◌, ◌≤◌, List, Err, IfErr, IfOk, OnOk};
 ghost use Rattle.ri_base.specs.Documents.{Document};
-ghost use Rattle.ri_base.specs.Faults.{IsOutside};
+ghost use Rattle.ri_base.specs.Faults.{IsOutside, TellsDamage};
 ghost use Rattle.ri_base.specs.Keeps.{Rose};
 ghost use Rattle.store_ends.specs.Files.{IsQuiet};
 ghost use Rattle.disk_index.specs.Cache.{CacheKeeps, IsCacheBacked};
@@ -34,6 +34,8 @@ pub(crate) fn most_in_part<T: Store>(
     ensures told { IfOk result (λ _. IsReadableIn (T.files store.old) cache.old (source_of part.now) term.now range) }
     ensures honest { IsPartBacked (T.files store.old) (source_of part.now) → IfErr result IsOutside }
     ensures cache { CacheKeeps (T.files store.old) (IsFileOf (source_of part.now)) cache.old cache.new }
+    ensures undamaged { OnOk result (cache.new.damage ≡ cache.old.damage) }
+    ensures damaged { IfErr result (TellsDamage cache.old.damage cache.new.damage) }
     ensures quiet { IsQuiet T.files T.layers T.clock T.since T.longest T.held store.old store.new }
     ensures later { T.faults store.old ≤ T.faults store.new }
     ensures store { result ≡ Err SegFault.Store → Rose (T.faults store.old) (T.faults store.new) }
@@ -58,6 +60,8 @@ fn most_on_disk<T: Store>(
     ensures told { IfOk result (λ _. IsTermReadable (T.files store.old) cache.old index.now term.now range) }
     ensures honest { (docs : List Document) → IsBacked (T.files store.old) index.now docs → IfErr result IsOutside }
     ensures cache { CacheKeeps (T.files store.old) (λ n. n ≡ index.now.number) cache.old cache.new }
+    ensures undamaged { OnOk result (cache.new.damage ≡ cache.old.damage) }
+    ensures damaged { IfErr result (TellsDamage cache.old.damage cache.new.damage) }
     ensures quiet { IsQuiet T.files T.layers T.clock T.since T.longest T.held store.old store.new }
     ensures later { T.faults store.old ≤ T.faults store.new }
     ensures store { result ≡ Err SegFault.Store → Rose (T.faults store.old) (T.faults store.new) }

@@ -2,7 +2,7 @@
 ghost use Rattle.std.specs.Prelude.{◌≡◌, ◌<◌, ◌≤◌, ◌+◌, ◌^◌, ◌⊎◌, ℕ, List, Some, true, is_some, length, Err, IfErr, IfOk, IsTrue, OnOk};
 ghost use Rattle.std.specs.List.{All};
 ghost use Rattle.ri_base.specs.Documents.{Document};
-ghost use Rattle.ri_base.specs.Faults.{IsOutside};
+ghost use Rattle.ri_base.specs.Faults.{IsOutside, TellsDamage};
 ghost use Rattle.ri_base.specs.Keeps.{Rose};
 ghost use Rattle.store_ends.specs.Files.{Files, IsQuiet};
 ghost use Rattle.disk_index.specs.Cache.{CacheKeeps, IsCacheBacked};
@@ -41,6 +41,8 @@ pub(crate) fn open_on_disk<T: Store, L: Ledger>(
     ensures honest { (docs : List Document) → IsBacked (T.files store.old) index.now docs → IfErr result IsOutside }
     ensures fault { (f : Files) → T.files store.old ≡ Some f → IfErr result (IsRangeFault f index.now.number) }
     ensures cache { CacheKeeps (T.files store.old) (λ n. n ≡ index.now.number) cache.old cache.new }
+    ensures undamaged { OnOk result (cache.new.damage ≡ cache.old.damage) }
+    ensures damaged { IfErr result (TellsDamage cache.old.damage cache.new.damage) }
     ensures quiet { IsQuiet T.files T.layers T.clock T.since T.longest T.held store.old store.new }
     ensures later { T.faults store.old ≤ T.faults store.new }
     ensures store { result ≡ Err SegFault.Store → Rose (T.faults store.old) (T.faults store.new) }
@@ -77,6 +79,8 @@ fn open_block<T: Store, L: Ledger>(
     ensures honest { (docs : List Document) → IsBacked (T.files store.old) index.now docs → IfErr result IsOutside }
     ensures fault { (f : Files) → T.files store.old ≡ Some f → IfErr result (IsRangeFault f index.now.number) }
     ensures cache { CacheKeeps (T.files store.old) (λ n. n ≡ index.now.number) cache.old cache.new }
+    ensures undamaged { OnOk result (cache.new.damage ≡ cache.old.damage) }
+    ensures damaged { IfErr result (TellsDamage cache.old.damage cache.new.damage) }
     ensures quiet { IsQuiet T.files T.layers T.clock T.since T.longest T.held store.old store.new }
     ensures later { T.faults store.old ≤ T.faults store.new }
     ensures store { result ≡ Err SegFault.Store → Rose (T.faults store.old) (T.faults store.new) }

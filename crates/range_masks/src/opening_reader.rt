@@ -65,6 +65,8 @@ impl<'a, T: Store> Postings for OpeningReader<'a, T> {
 
     ghost told = { λ s term id. IsAnswered s.held.now term id ⊎ IsReadableOf (T.files s.store.now) s.cache.now (source_of s.part.now) term id };
 
+    ghost damage = { λ s. s.cache.now.damage };
+
     fn docs(&self) -> u32 {
         self.part.docs()
     }

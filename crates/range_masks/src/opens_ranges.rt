@@ -1,7 +1,7 @@
 // Blocks that a part is asked to open.
 ghost use Rattle.std.specs.Prelude.{◌≡◌, ◌≤◌, ◌+◌, ◌/◌, ℕ, List, length, Err, IfErr, IfOk, OnOk};
 ghost use Rattle.std.specs.List.{All};
-ghost use Rattle.ri_base.specs.Faults.{IsOutside};
+ghost use Rattle.ri_base.specs.Faults.{IsOutside, TellsDamage};
 ghost use Rattle.ri_base.specs.Keeps.{Keeps, Rose};
 
 use crate::TermMasks;
@@ -37,6 +37,8 @@ pub trait OpensRanges: TermMasks {
         ensures none { present self.old ≡ range → blocks.new ≡ blocks.old }
         ensures cost { blocks.new ≤ blocks.old + length terms.now }
         ensures honest { Self.sound self.old → IfErr result IsOutside }
+        ensures undamaged { OnOk result (Self.damage self.new ≡ Self.damage self.old) }
+        ensures damaged { IfErr result (TellsDamage (Self.damage self.old) (Self.damage self.new)) }
         ensures store { result ≡ Err SegFault.Store → Rose (Self.faults self.old) (Self.faults self.new) };
 
     // laws

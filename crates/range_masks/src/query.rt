@@ -1,6 +1,6 @@
 // Which documents of a range may have something to show for a query.
-ghost use Rattle.std.specs.Prelude.{◌≡◌, map, Err, IfErr, IfOk};
-ghost use Rattle.ri_base.specs.Faults.{IsOutside};
+ghost use Rattle.std.specs.Prelude.{◌≡◌, map, Err, IfErr, IfOk, OnOk};
+ghost use Rattle.ri_base.specs.Faults.{IsOutside, TellsDamage};
 ghost use Rattle.ri_base.specs.Keeps.{Keeps, Rose};
 ghost use Rattle.ri_base.specs.Query.{filter_tree};
 ghost use Rattle.query_check.specs.Leaves.{leaf_tree};
@@ -22,6 +22,8 @@ pub fn leaf_mask<P: TermMasks>(
     ensures keeps { Keeps P.documents P.faults P.sound P.quiet part.old part.new }
     ensures exact { P.sound part.old → IfOk result (IsMask (leaf_may (leaf_tree leaf.now)) range (P.documents part.old)) }
     ensures honest { P.sound part.old → IfErr result IsOutside }
+    ensures undamaged { OnOk result (P.damage part.new ≡ P.damage part.old) }
+    ensures damaged { IfErr result (TellsDamage (P.damage part.old) (P.damage part.new)) }
     ensures store { result ≡ Err SegFault.Store → Rose (P.faults part.old) (P.faults part.new) }
 {
     match leaf {
@@ -40,6 +42,8 @@ fn leaves_mask<P: TermMasks>(
     ensures keeps { Keeps P.documents P.faults P.sound P.quiet part.old part.new }
     ensures exact { P.sound part.old → IfOk result (IsMask (some_may (map leaf_tree leaves.now)) range (P.documents part.old)) }
     ensures honest { P.sound part.old → IfErr result IsOutside }
+    ensures undamaged { OnOk result (P.damage part.new ≡ P.damage part.old) }
+    ensures damaged { IfErr result (TellsDamage (P.damage part.old) (P.damage part.new)) }
     ensures store { result ≡ Err SegFault.Store → Rose (P.faults part.old) (P.faults part.new) }
 {
     let mut mask = 0;
@@ -60,6 +64,8 @@ fn filter_mask<P: TermMasks>(
     ensures keeps { Keeps P.documents P.faults P.sound P.quiet part.old part.new }
     ensures exact { P.sound part.old → IfOk result (IsMask (filter_may (filter_tree filter.now)) range (P.documents part.old)) }
     ensures honest { P.sound part.old → IfErr result IsOutside }
+    ensures undamaged { OnOk result (P.damage part.new ≡ P.damage part.old) }
+    ensures damaged { IfErr result (TellsDamage (P.damage part.old) (P.damage part.new)) }
     ensures store { result ≡ Err SegFault.Store → Rose (P.faults part.old) (P.faults part.new) }
 {
     if filter.keep {
@@ -79,6 +85,8 @@ fn filters_mask<P: TermMasks>(
     ensures keeps { Keeps P.documents P.faults P.sound P.quiet part.old part.new }
     ensures exact { P.sound part.old → IfOk result (IsMask (filters_may (map filter_tree filters.now)) range (P.documents part.old)) }
     ensures honest { P.sound part.old → IfErr result IsOutside }
+    ensures undamaged { OnOk result (P.damage part.new ≡ P.damage part.old) }
+    ensures damaged { IfErr result (TellsDamage (P.damage part.old) (P.damage part.new)) }
     ensures store { result ≡ Err SegFault.Store → Rose (P.faults part.old) (P.faults part.new) }
 {
     let mut mask = u64::MAX;
@@ -102,6 +110,8 @@ pub fn query_mask<P: TermMasks>(
     ensures exact { P.sound part.old → IfOk result
         (IsMask (query_may (map filter_tree filters.now) (map leaf_tree leaves.now)) range (P.documents part.old)) }
     ensures honest { P.sound part.old → IfErr result IsOutside }
+    ensures undamaged { OnOk result (P.damage part.new ≡ P.damage part.old) }
+    ensures damaged { IfErr result (TellsDamage (P.damage part.old) (P.damage part.new)) }
     ensures store { result ≡ Err SegFault.Store → Rose (P.faults part.old) (P.faults part.new) }
 {
     let occurring = leaves_mask(alloc, leaves, part, range)?;

@@ -1,6 +1,6 @@
 // What a part tells of a term in a range of ids.
-ghost use Rattle.std.specs.Prelude.{◌≡◌, ◌≤◌, ◌/◌, ℕ, Err, IfErr, IfOk, IfSome};
-ghost use Rattle.ri_base.specs.Faults.{IsOutside};
+ghost use Rattle.std.specs.Prelude.{◌≡◌, ◌≤◌, ◌/◌, ℕ, Err, IfErr, IfOk, IfSome, OnOk};
+ghost use Rattle.ri_base.specs.Faults.{IsOutside, TellsDamage};
 ghost use Rattle.ri_base.specs.Keeps.{Keeps, Rose};
 ghost use Rattle.range_masks.specs.Masks.{IsMask};
 ghost use Rattle.range_masks.specs.May.{has_term};
@@ -22,6 +22,8 @@ pub trait TermMasks: Postings {
         ensures told { IfOk result (λ _. (id : ℕ) → id / 64 ≡ range → Self.told self.old term.now id) }
 
         ensures honest { Self.sound self.old → IfErr result IsOutside }
+        ensures undamaged { OnOk result (Self.damage self.new ≡ Self.damage self.old) }
+        ensures damaged { IfErr result (TellsDamage (Self.damage self.old) (Self.damage self.new)) }
         ensures store { result ≡ Err SegFault.Store → Rose (Self.faults self.old) (Self.faults self.new) };
 
     /// How many places the term has at most in one document of the range.
@@ -30,6 +32,8 @@ pub trait TermMasks: Postings {
         ensures exact { Self.sound self.old → IfOk result (λ most. most ≡ most_places term.now range (Self.documents self.old)) }
         ensures told { IfOk result (λ _. (id : ℕ) → id / 64 ≡ range → Self.told self.old term.now id) }
         ensures honest { Self.sound self.old → IfErr result IsOutside }
+        ensures undamaged { OnOk result (Self.damage self.new ≡ Self.damage self.old) }
+        ensures damaged { IfErr result (TellsDamage (Self.damage self.old) (Self.damage self.new)) }
         ensures store { result ≡ Err SegFault.Store → Rose (Self.faults self.old) (Self.faults self.new) };
 
     /// A range from this one on before which no document from this one on has the term; none where no document from this one on

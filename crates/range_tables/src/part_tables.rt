@@ -1,6 +1,6 @@
 // The tables of the parts of a snapshot.
-ghost use Rattle.std.specs.Prelude.{◌≡◌, ◌≤◌, length, map, Err, IfErr, IfOk};
-ghost use Rattle.ri_base.specs.Faults.{IsOutside};
+ghost use Rattle.std.specs.Prelude.{◌≡◌, ◌≤◌, length, map, Err, IfErr, IfOk, OnOk};
+ghost use Rattle.ri_base.specs.Faults.{IsOutside, TellsDamage};
 ghost use Rattle.ri_base.specs.Keeps.{Rose};
 ghost use Rattle.store_ends.specs.Files.{IsQuiet};
 ghost use Rattle.query_check.specs.Leaves.{leaf_tree};
@@ -29,6 +29,8 @@ fn part_table<T: Store>(
         → IfOk result (IsTableOf (map leaf_tree leaves.now) (reads (T.files store.old) (source_of part.now))) }
     ensures honest { IsPartBacked (T.files store.old) (source_of part.now) → IsCacheBacked (T.files store.old) cache.old → IfErr result IsOutside }
     ensures cache { CacheKeeps (T.files store.old) (IsFileOf (source_of part.now)) cache.old cache.new }
+    ensures undamaged { OnOk result (cache.new.damage ≡ cache.old.damage) }
+    ensures damaged { IfErr result (TellsDamage cache.old.damage cache.new.damage) }
     ensures quiet { IsQuiet T.files T.layers T.clock T.since T.longest T.held store.old store.new }
     ensures later { T.faults store.old ≤ T.faults store.new }
     ensures store { result ≡ Err SegFault.Store → Rose (T.faults store.old) (T.faults store.new) }
@@ -50,6 +52,8 @@ pub fn tables<T: Store>(
     ensures each { IfOk result (λ tables. length tables.items ≡ length parts.now) }
     ensures honest { AreBacked (T.files store.old) parts.now → IsCacheBacked (T.files store.old) cache.old → IfErr result IsOutside }
     ensures cache { CacheKeeps (T.files store.old) (IsFileAmong parts.now) cache.old cache.new }
+    ensures undamaged { OnOk result (cache.new.damage ≡ cache.old.damage) }
+    ensures damaged { IfErr result (TellsDamage cache.old.damage cache.new.damage) }
     ensures quiet { IsQuiet T.files T.layers T.clock T.since T.longest T.held store.old store.new }
     ensures later { T.faults store.old ≤ T.faults store.new }
     ensures store { result ≡ Err SegFault.Store → Rose (T.faults store.old) (T.faults store.new) }

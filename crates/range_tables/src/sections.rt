@@ -1,9 +1,9 @@
 // What is counted of the documents with the ids from one on up to another, and of those of a range.
-ghost use Rattle.std.specs.Prelude.{◌≡◌, ◌≤◌, ◌<◌, length, map, Err, IfErr, IfOk};
+ghost use Rattle.std.specs.Prelude.{◌≡◌, ◌≤◌, ◌<◌, length, map, Err, IfErr, IfOk, OnOk};
 ghost use Rattle.std.specs.List.{AllZip};
 ghost use Rattle.ri_base.specs.Collection.{document_at};
 ghost use Rattle.ri_base.specs.Documents.{IsDocument};
-ghost use Rattle.ri_base.specs.Faults.{IsOutside};
+ghost use Rattle.ri_base.specs.Faults.{IsOutside, TellsDamage};
 ghost use Rattle.ri_base.specs.Keeps.{Keeps, Rose};
 ghost use Rattle.ri_base.specs.declared.limits.TheConstants.{MAX_DOC_TOKENS};
 ghost use Rattle.query_check.specs.Leaves.{leaf_tree};
@@ -91,6 +91,8 @@ fn needed_places<P: TermMasks>(
     ensures exact { P.sound part.old → IfOk result
         (IsTermCount (map leaf_tree leaves.now) (range_documents (P.documents part.old) range) term.now) }
     ensures honest { P.sound part.old → IfErr result IsOutside }
+    ensures undamaged { OnOk result (P.damage part.new ≡ P.damage part.old) }
+    ensures damaged { IfErr result (TellsDamage (P.damage part.old) (P.damage part.new)) }
     ensures store { result ≡ Err SegFault.Store → Rose (P.faults part.old) (P.faults part.new) }
 {
     if !is_needed(leaves, term, part, range) {
@@ -112,6 +114,8 @@ pub(crate) fn all_needed_places<P: TermMasks>(
     ensures exact { P.sound part.old → IfOk result
         (λ v. AllZip (IsTermCount (map leaf_tree leaves.now) (range_documents (P.documents part.old) range)) terms.now v.items) }
     ensures honest { P.sound part.old → IfErr result IsOutside }
+    ensures undamaged { OnOk result (P.damage part.new ≡ P.damage part.old) }
+    ensures damaged { IfErr result (TellsDamage (P.damage part.old) (P.damage part.new)) }
     ensures store { result ≡ Err SegFault.Store → Rose (P.faults part.old) (P.faults part.new) }
 {
     let mut all = Vec::with_capacity(alloc, terms.len())?;

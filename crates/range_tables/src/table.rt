@@ -1,6 +1,6 @@
 // The table of the ranges of a part.
-ghost use Rattle.std.specs.Prelude.{◌≡◌, ◌<◌, ◌≤◌, ◌+◌, ◌*◌, length, map, Err, IfErr, IfOk};
-ghost use Rattle.ri_base.specs.Faults.{IsOutside};
+ghost use Rattle.std.specs.Prelude.{◌≡◌, ◌<◌, ◌≤◌, ◌+◌, ◌*◌, length, map, Err, IfErr, IfOk, OnOk};
+ghost use Rattle.ri_base.specs.Faults.{IsOutside, TellsDamage};
 ghost use Rattle.ri_base.specs.Keeps.{Keeps, Rose};
 ghost use Rattle.query_check.specs.Leaves.{leaf_tree};
 ghost use Rattle.range_bounds.specs.Ranges.{range_documents};
@@ -29,6 +29,8 @@ pub fn table_of<P: TermMasks>(
     ensures keeps { Keeps P.documents P.faults P.sound P.quiet part.old part.new }
     ensures exact { P.sound part.old → IfOk result (IsTableOf (map leaf_tree leaves.now) (P.documents part.old)) }
     ensures honest { P.sound part.old → IfErr result IsOutside }
+    ensures undamaged { OnOk result (P.damage part.new ≡ P.damage part.old) }
+    ensures damaged { IfErr result (TellsDamage (P.damage part.old) (P.damage part.new)) }
     ensures store { result ≡ Err SegFault.Store → Rose (P.faults part.old) (P.faults part.new) }
 {
     let asked = asked_by(alloc, leaves)?;
@@ -52,6 +54,8 @@ fn all_counts<P: TermMasks>(
     ensures exact { P.sound part.old → IfOk result
         (λ ranges. AreAllCounts (map leaf_tree leaves.now) terms.now names.now (P.documents part.old) ranges.items) }
     ensures honest { P.sound part.old → IfErr result IsOutside }
+    ensures undamaged { OnOk result (P.damage part.new ≡ P.damage part.old) }
+    ensures damaged { IfErr result (TellsDamage (P.damage part.old) (P.damage part.new)) }
     ensures store { result ≡ Err SegFault.Store → Rose (P.faults part.old) (P.faults part.new) }
 {
     let count = range_count(part.docs());
@@ -93,6 +97,8 @@ fn told_of<P: TermMasks>(
     ensures exact { P.sound part.old → AreAbsentTo (map leaf_tree leaves.now) (P.documents part.old) range next → IfOk result
         (TellsRange (map leaf_tree leaves.now) terms.now names.now (range_documents (P.documents part.old) range)) }
     ensures honest { P.sound part.old → IfErr result IsOutside }
+    ensures undamaged { OnOk result (P.damage part.new ≡ P.damage part.old) }
+    ensures damaged { IfErr result (TellsDamage (P.damage part.old) (P.damage part.new)) }
     ensures store { result ≡ Err SegFault.Store → Rose (P.faults part.old) (P.faults part.new) }
 {
     if range < next {
@@ -117,6 +123,8 @@ fn range_counts<P: TermMasks>(
     ensures exact { P.sound part.old → IfOk result
         (AreCountsOf (map leaf_tree leaves.now) terms.now names.now (range_documents (P.documents part.old) range)) }
     ensures honest { P.sound part.old → IfErr result IsOutside }
+    ensures undamaged { OnOk result (P.damage part.new ≡ P.damage part.old) }
+    ensures damaged { IfErr result (TellsDamage (P.damage part.old) (P.damage part.new)) }
     ensures store { result ≡ Err SegFault.Store → Rose (P.faults part.old) (P.faults part.new) }
 {
     let docs = part.docs();

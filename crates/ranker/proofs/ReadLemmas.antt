@@ -3,7 +3,7 @@ use Rattle.std.proofs.Common.{◌≡◌, ◌≤◌, ◌<◌, ℕ, ◌+◌, nat_l
 use Rattle.std.proofs.lemmas.Bool.Decides.{nat_tests}
 use Rattle.ri_base.specs.Documents.{Document}
 use Rattle.store_ends.specs.Files.{Files}
-use Rattle.disk_index.specs.Cache.{IsCacheBacked, KeptBlock}
+use Rattle.disk_index.specs.Cache.{Cached, IsCacheBacked}
 use Rattle.disk_index.specs.Parts.{IsFileOf, IsPartBacked, Source, outlines_of, reads}
 use Rattle.disk_index.specs.QuietLaws.{CacheKeeps-after, CacheKeeps-same, IsQuiet-same, IsQuiet-then}
 use Rattle.disk_index.specs.Snapshots.{AreBacked, IsFileAmong, Marked}
@@ -22,7 +22,7 @@ pub fits-part : (source own : Source) (held : Held) → own ≡ source → FitDo
 fits-part source own held same fits = subst (λ (p : Source). FitDocuments (outlines_of p) held) (sym same) fits
 
 -- a reader is sound where what it is lent is so
-pub sound-by : (told here : Option Files) (source own : Source) (cached kept : List KeptBlock) (was held : Held) → here ≡ told → own ≡ source → kept ≡ cached → held ≡ was → IsPartBacked told source
+pub sound-by : (told here : Option Files) (source own : Source) (cached kept : Cached) (was held : Held) → here ≡ told → own ≡ source → kept ≡ cached → held ≡ was → IsPartBacked told source
     → AreReadBy told (reads told source) cached was → IsPartBacked here own × IsCacheBacked here kept × AreAnswersOf (reads here own) held
 sound-by told here source own cached kept was held same_told same_part same_cache same_held part read =
     let base = sound-of told here source own cached kept same_told same_part same_cache part read.cache in
@@ -30,7 +30,7 @@ sound-by told here source own cached kept was held same_told same_part same_cach
     (base.0, base.1, subst (λ (ds : List Document). AreAnswersOf ds held) (sym docs) (subst (AreAnswersOf (reads told source)) (sym same_held) read.held))
 
 -- and what it leaves is so by the same files
-pub read-after : (told here : Option Files) (source own : Source) (kept : List KeptBlock) (held : Held) → here ≡ told → own ≡ source → IsCacheBacked here kept → AreAnswersOf (reads here own) held → AreReadBy told (reads told source) kept held
+pub read-after : (told here : Option Files) (source own : Source) (kept : Cached) (held : Held) → here ≡ told → own ≡ source → IsCacheBacked here kept → AreAnswersOf (reads here own) held → AreReadBy told (reads told source) kept held
 read-after told here source own kept held same_told same_part cache are = record {
   cache = subst (λ (f : Option Files). IsCacheBacked f kept) same_told cache;
   held = subst (λ (ds : List Document). AreAnswersOf ds held) (docs-of told here source own same_told same_part) are;
@@ -59,7 +59,7 @@ module _ (parts : List Marked) (at : Place) (to : Passed) (most : ℕ) (m : Mark
           let all : most ≤ to.docs = grind (arith, nat_tests) in
           subst (λ (p : Marked). FitDocuments (outlines_of p.source) now) (sym is) (subst (FitDocuments (outlines_of m.source)) (sym (same all)) fits)
 
-  pub read-behind : (told : Option Files) (kept : List KeptBlock) → (to.docs < most → (docs : List Document) → AreAnswersOf docs now) → AreReadBy told (reads told m.source) kept mid → AreReadAt told parts (behind at to most) kept now
+  pub read-behind : (told : Option Files) (kept : Cached) → (to.docs < most → (docs : List Document) → AreAnswersOf docs now) → AreReadBy told (reads told m.source) kept mid → AreReadAt told parts (behind at to most) kept now
   read-behind told kept none read = by (nat_lt to.docs most) refl
     where
       by : (b : Bool) → nat_lt to.docs most ≡ b
@@ -71,18 +71,22 @@ module _ (parts : List Marked) (at : Place) (to : Passed) (most : ℕ) (m : Mark
           let all : most ≤ to.docs = grind (arith, nat_tests) in
           record { cache = read.cache; held = subst (λ (p : Marked). AreAnswersOf (reads told p.source) now) (sym is) (subst (AreAnswersOf (reads told m.source)) (sym (same all)) read.held) }
 
+-- what is read by a cache and by what is held is so by the same ones
+pub read-moved : (told : Option Files) (docs : List Document) (c d : Cached) (was now : Held) → c ≡ d → was ≡ now → AreReadBy told docs c was → AreReadBy told docs d now
+read-moved told docs c d was now same stay read = subst (λ (h : Held). AreReadBy told docs d h) stay (subst (λ (e : Cached). AreReadBy told docs e was) same read)
+
 -- what is read in a part of the number of a place
-pub read-at : (told : Option Files) (parts : List Marked) (at : Place) (m : Marked) (kept : List KeptBlock) (held : Held) → part_at parts at.part ≡ m → AreReadAt told parts at kept held → AreReadBy told (reads told m.source) kept held
+pub read-at : (told : Option Files) (parts : List Marked) (at : Place) (m : Marked) (kept : Cached) (held : Held) → part_at parts at.part ≡ m → AreReadAt told parts at kept held → AreReadBy told (reads told m.source) kept held
 read-at told parts at m kept held is read = subst (λ (p : Marked). AreReadBy told (reads told p.source) kept held) is read
 
 -- ---- what reading leaves, over several calls
 
 module _ {S : Type 0} (files : S → Option Files) (layers : S → Option (List Files)) (clock : S → ℕ) (since : S → ℕ → Files → Type 0) (longest : S → ℕ) (held : S → List ℕ) (faults : S → ℕ) where
   module _ (IsOwn : ℕ → Type 0) (AreOwn : Option Files → Type 0) where
-    abbrev Reads : Source → Source → S → S → List KeptBlock → List KeptBlock → Held → Held → Type 0
+    abbrev Reads : Source → Source → S → S → Cached → Cached → Held → Held → Type 0
     Reads p q s t c d was now = OnlyReads files layers clock since longest held faults IsOwn AreOwn p q s t c d was now
 
-    pub reads-same : (p : Source) (s : S) (c : List KeptBlock) (was : Held) → FitDocuments (outlines_of p) was → Reads p p s s c c was was
+    pub reads-same : (p : Source) (s : S) (c : Cached) (was : Held) → FitDocuments (outlines_of p) was → Reads p p s s c c was was
     reads-same p s c was fits = record {
       quiet = IsQuiet-same files layers clock since longest held faults s;
       later = omega arith;
@@ -92,10 +96,10 @@ module _ {S : Type 0} (files : S → Option Files) (layers : S → Option (List 
     }
 
     -- what is read stays so by the files as they are now
-    pub reads-blocks : (p q : Source) (s t : S) (c d : List KeptBlock) (was now : Held) → Reads p q s t c d was now → AreOwn (files s) → AreReadBy (files s) (reads (files s) p) c was → AreReadBy (files t) (reads (files t) q) d now
+    pub reads-blocks : (p q : Source) (s t : S) (c d : Cached) (was now : Held) → Reads p q s t c d was now → AreOwn (files s) → AreReadBy (files s) (reads (files s) p) c was → AreReadBy (files t) (reads (files t) q) d now
     reads-blocks p q s t c d was now h backed read = subst (λ (f : Option Files). AreReadBy f (reads f q) d now) (sym h.quiet.same_files) (h.read backed read)
 
-    pub reads-then : (p q r : Source) (s t u : S) (c d e : List KeptBlock) (was mid now : Held) → Reads p q s t c d was mid → Reads q r t u d e mid now → Reads p r s u c e was now
+    pub reads-then : (p q r : Source) (s t u : S) (c d e : Cached) (was mid now : Held) → Reads p q s t c d was mid → Reads q r t u d e mid now → Reads p r s u c e was now
     reads-then p q r s t u c d e was mid now first second =
         let same : files t ≡ files s = first.quiet.same_files in
         record {
@@ -108,7 +112,7 @@ module _ {S : Type 0} (files : S → Option Files) (layers : S → Option (List 
 
   -- a part among others
   module _ (parts : List Marked) (i : ℕ) (m : Marked) (inside : i < length parts) (at : m ≡ get_or parts i m) (is : part_at parts i ≡ m) where
-    pub reads-among : (s t : S) (c d : List KeptBlock) (was now : Held) → OnlyReads files layers clock since longest held faults (IsFileOf m.source) (λ told. IsPartBacked told m.source) m.source m.source s t c d was now
+    pub reads-among : (s t : S) (c d : Cached) (was now : Held) → OnlyReads files layers clock since longest held faults (IsFileOf m.source) (λ told. IsPartBacked told m.source) m.source m.source s t c d was now
         → OnlyReads files layers clock since longest held faults (IsFileAmong parts) (λ told. AreBacked told parts) (part_at parts i).source (part_at parts i).source s t c d was now
     reads-among s t c d was now h = record {
       quiet = h.quiet;
@@ -120,7 +124,7 @@ module _ {S : Type 0} (files : S → Option Files) (layers : S → Option (List 
 
   -- up to the place behind documents of its part
   module _ (parts : List Marked) (at : Place) (to : Passed) (most : ℕ) (mid now : Held) (same : most ≤ to.docs → now ≡ mid) where
-    pub reads-behind : (s t : S) (c d : List KeptBlock) (was : Held) → (to.docs < most → (source : Source) → FitDocuments (outlines_of source) now) → (to.docs < most → (docs : List Document) → AreAnswersOf docs now)
+    pub reads-behind : (s t : S) (c d : Cached) (was : Held) → (to.docs < most → (source : Source) → FitDocuments (outlines_of source) now) → (to.docs < most → (docs : List Document) → AreAnswersOf docs now)
         → OnlyReads files layers clock since longest held faults (IsFileAmong parts) (λ told. AreBacked told parts) (part_at parts at.part).source (part_at parts at.part).source s t c d was mid
         → OnlyReads files layers clock since longest held faults (IsFileAmong parts) (λ told. AreBacked told parts) (part_at parts at.part).source (part_at parts (behind at to most).part).source s t c d was now
     reads-behind s t c d was none answers h = record {

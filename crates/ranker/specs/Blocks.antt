@@ -5,7 +5,7 @@ use Rattle.ri_base.specs.Documents.{Document}
 use Rattle.ri_base.specs.Query.{FilterTree}
 use Rattle.store_ends.specs.Files.{Files}
 use Rattle.query_check.specs.Leaves.{LeafTree, extents, prior}
-use Rattle.disk_index.specs.Cache.{IsCacheBacked, KeptBlock}
+use Rattle.disk_index.specs.Cache.{Cached, IsCacheBacked}
 use Rattle.disk_index.specs.Parts.{reads, size}
 use Rattle.disk_index.specs.Snapshots.{Marked}
 use Rattle.expression_words.specs.Words.{words}
@@ -26,12 +26,12 @@ abbrev pub query_words : List FilterTree → List LeafTree → List (List ℕ)
 query_words filters leaves = flat_map filter_words filters ++ flat_map leaf_words leaves
 
 -- the cache holds blocks as these files have them, and what is held of a range is that of these documents
-pub record AreReadBy (told : Option Files) (docs : List Document) (kept : List KeptBlock) (own : Held) : Type 0 where
+pub record AreReadBy (told : Option Files) (docs : List Document) (kept : Cached) (own : Held) : Type 0 where
   pub cache : IsCacheBacked told kept
   pub held : AreAnswersOf docs own
 
 -- the same of the documents of the part of a place
-abbrev pub AreReadAt : Option Files → List Marked → Place → List KeptBlock → Held → Type 0
+abbrev pub AreReadAt : Option Files → List Marked → Place → Cached → Held → Type 0
 AreReadAt told parts at = AreReadBy told (reads told (part_at parts at.part).source)
 
 -- the ranges before that of an id, with this one where its blocks were opened

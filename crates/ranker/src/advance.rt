@@ -1,7 +1,7 @@
 // A step of what a search holds.
 ghost use Rattle.std.specs.Prelude.{◌≡◌, ◌<◌, ◌≤◌, ◌+◌, ◌*◌, Option, true, false, length, map, min, nat_lt, All, Err, IfErr, OnOk, ℕ, List, []};
 ghost use Rattle.ri_base.specs.Documents.{Document};
-ghost use Rattle.ri_base.specs.Faults.{IsOutside};
+ghost use Rattle.ri_base.specs.Faults.{IsOutside, TellsDamage};
 ghost use Rattle.ri_base.specs.Keeps.{Rose};
 ghost use Rattle.ri_base.specs.Query.{FilterTree, filter_tree, is_range};
 ghost use Rattle.store_ends.specs.Files.{Files};
@@ -85,6 +85,8 @@ pub fn advance<T: Store, F: Fn(u32, u32, u64, u64) -> Fraction, L: Ledger, B: Le
     ensures counted { OnOk result (RiseAlike blocks.old blocks.new numbers.old.opened numbers.new.opened) }
     ensures stay { map (λ plug. meaning plug) plugs.new ≡ map (λ plug. meaning plug) plugs.old }
     ensures honest { AreBacked (T.files store.old) parts.now → AreReadAt (T.files store.old) parts.now at.old cache.old read.old → IfErr result IsOutside }
+    ensures undamaged { OnOk result (cache.new.damage ≡ cache.old.damage) }
+    ensures damaged { IfErr result (TellsDamage cache.old.damage cache.new.damage) }
     ensures store { result ≡ Err SegFault.Store → Rose (T.faults store.old) (T.faults store.new) }
     ensures blocks { OpensAt (length terms.now) parts.now at.old at.new read.old.range read.new.range blocks.old blocks.new (length terms.now * docs) result }
 {

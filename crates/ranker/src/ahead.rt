@@ -1,7 +1,7 @@
 // What the postings of a part tell of the documents that come next.
-ghost use Rattle.std.specs.Prelude.{◌≡◌, ◌<◌, ◌≤◌, ◌*◌, ◌%◌, ◌⊎◌, ℕ, None, false, length, map, Err, IfErr, IfOk};
+ghost use Rattle.std.specs.Prelude.{◌≡◌, ◌<◌, ◌≤◌, ◌*◌, ◌%◌, ◌⊎◌, ℕ, None, false, length, map, Err, IfErr, IfOk, OnOk};
 ghost use Rattle.ri_base.specs.Collection.{document_at};
-ghost use Rattle.ri_base.specs.Faults.{IsOutside};
+ghost use Rattle.ri_base.specs.Faults.{IsOutside, TellsDamage};
 ghost use Rattle.ri_base.specs.Keeps.{Keeps, Rose};
 ghost use Rattle.ri_base.specs.Query.{filter_tree};
 ghost use Rattle.belief_nodes.specs.Network.{network_tree};
@@ -92,6 +92,8 @@ pub fn masked<P: TermMasks>(
     ensures end { IfOk result (λ to. to.end ≡ ahead.end) }
     ensures bound { IfOk result (λ to. to.bound ≡ ahead.bound) }
     ensures honest { P.sound part.old → IfErr result IsOutside }
+    ensures undamaged { OnOk result (P.damage part.new ≡ P.damage part.old) }
+    ensures damaged { IfErr result (TellsDamage (P.damage part.old) (P.damage part.new)) }
     ensures store { result ≡ Err SegFault.Store → Rose (P.faults part.old) (P.faults part.new) }
 {
     if ahead.mask.is_some() {

@@ -1,7 +1,7 @@
 // The parts of a snapshot, one behind the other.
 ghost use Rattle.std.specs.Prelude.{◌≡◌, ◌<◌, ◌≤◌, ◌+◌, ◌*◌, ◌^◌, ℕ, List, Option, if◌then◌else◌, nat_lt, length, map, min, true, All, Err, IfErr, IfOk, OnErr, OnOk};
 ghost use Rattle.ri_base.specs.Documents.{Document};
-ghost use Rattle.ri_base.specs.Faults.{IsOutside};
+ghost use Rattle.ri_base.specs.Faults.{IsOutside, TellsDamage};
 ghost use Rattle.ri_base.specs.Keeps.{Rose};
 ghost use Rattle.ri_base.specs.Query.{filter_tree, is_range};
 ghost use Rattle.store_ends.specs.Files.{Files};
@@ -73,6 +73,8 @@ fn pass_marked<T: Store, F: Fn(u32, u32, u64, u64) -> Fraction, L: Ledger, B: Le
     ensures counted { OnOk result (RiseAlike blocks.old blocks.new spent.old.opened spent.new.opened) }
     ensures stay { map (λ plug. meaning plug) plugs.new ≡ map (λ plug. meaning plug) plugs.old }
     ensures honest { IsPartBacked (T.files store.old) marked.now.source → AreReadBy (T.files store.old) (reads (T.files store.old) marked.now.source) cache.old held.old → IfErr result IsOutside }
+    ensures undamaged { OnOk result (cache.new.damage ≡ cache.old.damage) }
+    ensures damaged { IfErr result (TellsDamage cache.old.damage cache.new.damage) }
     ensures store { result ≡ Err SegFault.Store → Rose (T.faults store.old) (T.faults store.new) }
     ensures blocks { OpensIn (length terms.now) (size marked.now.source) id held.old.range held.new.range blocks.old blocks.new (length terms.now * most) result }
     ensures each { IfOk result (λ to. blocks.new ≤ blocks.old + length terms.now * to.docs) }
@@ -159,6 +161,8 @@ fn pass_next<T: Store, F: Fn(u32, u32, u64, u64) -> Fraction, L: Ledger, B: Ledg
     ensures counted { OnOk result (RiseAlike blocks.old blocks.new spent.old.opened spent.new.opened) }
     ensures stay { map (λ plug. meaning plug) plugs.new ≡ map (λ plug. meaning plug) plugs.old }
     ensures honest { AreBacked (T.files store.old) parts.now → AreReadAt (T.files store.old) parts.now at.old cache.old held.old → IfErr result IsOutside }
+    ensures undamaged { OnOk result (cache.new.damage ≡ cache.old.damage) }
+    ensures damaged { IfErr result (TellsDamage cache.old.damage cache.new.damage) }
     ensures store { result ≡ Err SegFault.Store → Rose (T.faults store.old) (T.faults store.new) }
     ensures blocks { OpensAt (length terms.now) parts.now at.old at.new held.old.range held.new.range blocks.old blocks.new (length terms.now * most) result }
     ensures each { IfOk result (λ docs. blocks.new ≤ blocks.old + length terms.now * docs) }
@@ -210,6 +214,8 @@ pub fn pass_parts<T: Store, F: Fn(u32, u32, u64, u64) -> Fraction, L: Ledger, B:
     ensures counted { OnOk result (RiseAlike blocks.old blocks.new spent.old.opened spent.new.opened) }
     ensures stay { map (λ plug. meaning plug) plugs.new ≡ map (λ plug. meaning plug) plugs.old }
     ensures honest { AreBacked (T.files store.old) parts.now → AreReadAt (T.files store.old) parts.now at.old cache.old held.old → IfErr result IsOutside }
+    ensures undamaged { OnOk result (cache.new.damage ≡ cache.old.damage) }
+    ensures damaged { IfErr result (TellsDamage cache.old.damage cache.new.damage) }
     ensures store { result ≡ Err SegFault.Store → Rose (T.faults store.old) (T.faults store.new) }
     ensures blocks { OpensAt (length terms.now) parts.now at.old at.new held.old.range held.new.range blocks.old blocks.new (length terms.now * docs) result }
 {

@@ -5,7 +5,7 @@ use Rattle.ri_base.specs.Faults.{IsOutside}
 use Rattle.ri_base.specs.declared.seg_fault.SegFault.{SegFault}
 use Rattle.store_ends.specs.Files.{Files, Leaves, SameWhere}
 use Rattle.store_ends.proofs.Files.{Leaves-then}
-use Rattle.disk_index.specs.Cache.{CacheKeeps, KeptBlock}
+use Rattle.disk_index.specs.Cache.{CacheKeeps, Cached}
 use Rattle.disk_index.specs.Snapshots.{AreBacked, IsFileAmong, Marked}
 use Rattle.merge_job.specs.Merge.{AreTaken, Merging, size_of}
 use Rattle.merge_job.specs.Walk.{IsFaultAmong}
@@ -33,10 +33,10 @@ some-quiet {P} o m docs was quiet = if-some o m (λ (x : Merging). length x.copi
 pub some-not-below : (P : Type 0) (o : Option Merging) (m : Merging) (docs : ℕ) → o ≡ Some m → (length m.copied + docs < size_of m → ⊥) → IfSome o (λ x. length x.copied + docs < size_of x → P)
 some-not-below P o m docs was not = if-some o m (λ (x : Merging). length x.copied + docs < size_of x → P) was (λ below. absurd (not below))
 
-pub some-kept : (told : Option Files) (o : Option Merging) (m : Merging) (x y : List KeptBlock) → o ≡ Some m → CacheKeeps told (IsFileAmong m.snapshot) x y → IfSome o (λ k. CacheKeeps told (IsFileAmong k.snapshot) x y)
+pub some-kept : (told : Option Files) (o : Option Merging) (m : Merging) (x y : Cached) → o ≡ Some m → CacheKeeps told (IsFileAmong m.snapshot) x y → IfSome o (λ k. CacheKeeps told (IsFileAmong k.snapshot) x y)
 some-kept told o m x y was keeps = if-some o m (λ (k : Merging). CacheKeeps told (IsFileAmong k.snapshot) x y) was keeps
 
-pub some-fault : (f : Files) (cached : List KeptBlock) (o : Option Merging) (m : Merging) (fault : SegFault) → o ≡ Some m → IsOutside fault ⊎ IsFaultAmong f cached m.snapshot fault
+pub some-fault : (f : Files) (cached : Cached) (o : Option Merging) (m : Merging) (fault : SegFault) → o ≡ Some m → IsOutside fault ⊎ IsFaultAmong f cached m.snapshot fault
     → IfSome o (λ x. IsOutside fault ⊎ IsFaultAmong f cached x.snapshot fault)
 some-fault f cached o m fault was is = if-some o m (λ (x : Merging). IsOutside fault ⊎ IsFaultAmong f cached x.snapshot fault) was is
 

@@ -12,7 +12,7 @@ use Rattle.seg_codec.specs.Segment.{entry_of}
 use Rattle.seg_codec.specs.declared.documents.Entry.{Entry}
 use Rattle.store_ends.specs.Files.{Files, Leaves, SameWhere}
 use Rattle.manifest.specs.Listing.{prior_numbers}
-use Rattle.disk_index.specs.Cache.{CacheKeeps, IsCacheBacked, KeptBlock}
+use Rattle.disk_index.specs.Cache.{CacheKeeps, Cached, IsCacheBacked, nothing_cached}
 use Rattle.disk_index.specs.QuietLaws.{IsCacheBacked-kept}
 use Rattle.disk_index.specs.Snapshots.{IsFileAmong, Marked, live, live_in}
 use Rattle.disk_index.proofs.AlikeLemmas.{tokens-outlines}
@@ -36,9 +36,6 @@ use Rattle.repository.proofs.SaveLemmas.{numbers-sealed}
 
 pub open-done : (credit size : ℕ) → Open credit size ≡ Done → ⊥
 open-done credit size e = cc
-
-pub empty-cache : (told : Option Files) (c : List KeptBlock) → c ≡ [] → IsCacheBacked told c
-empty-cache told c none = subst (IsCacheBacked told) (sym none) (λ files is e there. absurd (let inside : there.0 < 0 = there.1 in omega (arith, inside)))
 
 -- ---- a turn of all documents
 
@@ -130,11 +127,11 @@ module _ {S : Type 0} (files : S → Option Files) (since : S → ℕ → Files 
         (subst (λ (l : Limits). Leaves (since old) (since new) (IsEither l k (without_dead_of r.merge d))) limits left);
   }
 
-pub fault-begun : (f : Files) (s r : State) (cached : List KeptBlock) (fault : SegFault) → r ≡ merge_begun s → cached ≡ [] → IfSome r.merge (λ m. IsOutside fault ⊎ IsFaultAmong f cached m.snapshot fault)
-    → IsOutside fault ⊎ IsFaultAmong f [] (sealed s.held.parts).closed fault
+pub fault-begun : (f : Files) (s r : State) (cached : Cached) (fault : SegFault) → r ≡ merge_begun s → cached ≡ nothing_cached → IfSome r.merge (λ m. IsOutside fault ⊎ IsFaultAmong f cached m.snapshot fault)
+    → IsOutside fault ⊎ IsFaultAmong f nothing_cached (sealed s.held.parts).closed fault
 fault-begun f s r cached fault begun none is =
-    subst (λ (x : State). IfSome x.merge (λ m. IsOutside fault ⊎ IsFaultAmong f [] m.snapshot fault)) begun
-    (subst (λ (k : List KeptBlock). IfSome r.merge (λ m. IsOutside fault ⊎ IsFaultAmong f k m.snapshot fault)) none is)
+    subst (λ (x : State). IfSome x.merge (λ m. IsOutside fault ⊎ IsFaultAmong f nothing_cached m.snapshot fault)) begun
+    (subst (λ (k : Cached). IfSome r.merge (λ m. IsOutside fault ⊎ IsFaultAmong f k m.snapshot fault)) none is)
 
 -- ---- a merge around another call
 
@@ -143,7 +140,7 @@ ok-on (Ok x) P ok on = on
 ok-on (Err x) P ok on = cc
 
 -- the cache stays backed over a turn
-pub some-cache : (a b : Option Files) (o : Option Merging) (x y : List KeptBlock) → is_some o ≡ true → b ≡ a → IfSome o (λ m. CacheKeeps a (IsFileAmong m.snapshot) x y) → IsCacheBacked a x → IsCacheBacked b y
+pub some-cache : (a b : Option Files) (o : Option Merging) (x y : Cached) → is_some o ≡ true → b ≡ a → IfSome o (λ m. CacheKeeps a (IsFileAmong m.snapshot) x y) → IsCacheBacked a x → IsCacheBacked b y
 some-cache a b None x y some same keeps cached = cc
 some-cache a b (Some m) x y some same keeps cached = subst (λ (f : Option Files). IsCacheBacked f y) (sym same) (IsCacheBacked-kept a (IsFileAmong m.snapshot) x y keeps cached)
 

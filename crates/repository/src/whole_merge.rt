@@ -1,9 +1,9 @@
 // Merges that are run to their end.
 ghost use Rattle.std.specs.Prelude.{◌≡◌, ◌≤◌, ◌⊎◌, ◌&&◌, [], Err, None, Some, IsTrue, nat_lt, true, IfErr, IfOk, OnOk};
-ghost use Rattle.ri_base.specs.Faults.{IsOutside};
+ghost use Rattle.ri_base.specs.Faults.{IsOutside, TellsDamage};
 ghost use Rattle.ri_base.specs.Keeps.{Rose};
 ghost use Rattle.store_ends.specs.Files.{Files, GoesOn, IsQuiet};
-ghost use Rattle.disk_index.specs.Cache.{IsCacheBacked};
+ghost use Rattle.disk_index.specs.Cache.{IsCacheBacked, nothing_cached};
 ghost use Rattle.holdings.specs.Parts.{is_live, live, sealed, without};
 ghost use Rattle.merge_job.specs.Merge.{size_of};
 ghost use Rattle.merge_job.specs.Walk.{IsFaultAmong};
@@ -40,7 +40,7 @@ pub fn merge_whole<T: Store>(
     ensures goes_on { GoesOn T.layers T.clock T.longest T.held store.old store.new }
 
     // Only a document that is copied can be refused, by its file alone, since no block is kept from before; and nothing is written then.
-    ensures fault { (f : Files) → T.files store.old ≡ Some f → IfErr result (λ fault. IsOutside fault ⊎ IsFaultAmong f [] (sealed repository.old.held.parts).closed fault) }
+    ensures fault { (f : Files) → T.files store.old ≡ Some f → IfErr result (λ fault. IsOutside fault ⊎ IsFaultAmong f nothing_cached (sealed repository.old.held.parts).closed fault) }
     ensures damage { IfErr result (λ fault. IsOutside fault ⊎ IsQuiet T.files T.layers T.clock T.since T.longest T.held store.old store.new) }
     ensures honest { IsBacked (T.files store.old) repository.old → IfErr result IsOutside }
     ensures later { T.faults store.old ≤ T.faults store.new }
@@ -74,6 +74,8 @@ pub fn merge_around<T: Store>(
     ensures answer { IfOk result (λ deleted. deleted ≡ (nat_lt docs (size_of (merge_of repository.old)) && is_live (merge_begun repository.old).held.parts docno.now)) }
     ensures live { IfOk result (λ deleted. IsTrue deleted → (d : Collection) → IsBacked (T.files store.old) repository.old → IsCacheBacked (T.files store.old) cache.old
         → ReadsAs (T.files store.old) repository.old d → live (T.files store.new) repository.new.held.parts ≡ without docno.now d.live) }
+    ensures undamaged { OnOk result (cache.new.damage ≡ cache.old.damage) }
+    ensures damaged { IfErr result (TellsDamage cache.old.damage cache.new.damage) }
 {
     let Ok(size) = repository.begin_merge(alloc) else {
         return Err(SegFault::Memory);

@@ -1,7 +1,7 @@
 // Why a hit has its score.
-ghost use Rattle.std.specs.Prelude.{◌≡◌, ◌<◌, length, map, All, Err, IfErr, IfOk};
+ghost use Rattle.std.specs.Prelude.{◌≡◌, ◌<◌, length, map, All, Err, IfErr, IfOk, OnOk};
 ghost use Rattle.ri_base.specs.Collection.{document_at};
-ghost use Rattle.ri_base.specs.Faults.{IsOutside};
+ghost use Rattle.ri_base.specs.Faults.{IsOutside, TellsDamage};
 ghost use Rattle.ri_base.specs.Keeps.{Keeps, Rose};
 ghost use Rattle.query_check.specs.Answers.{whole_checked};
 ghost use Rattle.query_check.specs.Leaves.{leaf_tree};
@@ -33,6 +33,8 @@ fn leaves_shown<P: Postings>(
         (λ shown. map told_leaf shown ≡ leaves_told names.now (document_at (P.documents part.old) id) window (map leaf_tree leaves.now) stats.now beliefs.now) }
     ensures told { IfOk result (λ _. All (IsLeafTold (λ t. P.told part.old t id)) (map leaf_tree leaves.now)) }
     ensures honest { P.sound part.old → IfErr result IsOutside }
+    ensures undamaged { OnOk result (P.damage part.new ≡ P.damage part.old) }
+    ensures damaged { IfErr result (TellsDamage (P.damage part.old) (P.damage part.new)) }
     ensures store { result ≡ Err SegFault.Store → Rose (P.faults part.old) (P.faults part.new) }
 {
     let mut shown = List::with_capacity(alloc, leaves.len())?;
@@ -68,6 +70,8 @@ pub fn explain<P: Postings>(
 
     ensures scale { IfOk result (λ explained. explained.scale ≡ checked.now.scale) }
     ensures honest { P.sound part.old → IfErr result IsOutside }
+    ensures undamaged { OnOk result (P.damage part.new ≡ P.damage part.old) }
+    ensures damaged { IfErr result (TellsDamage (P.damage part.old) (P.damage part.new)) }
     ensures store { result ≡ Err SegFault.Store → Rose (P.faults part.old) (P.faults part.new) }
 {
     let window = Extent::new(hit.begin, hit.end);

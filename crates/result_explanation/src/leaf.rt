@@ -1,7 +1,7 @@
 // What is told of a leaf.
-ghost use Rattle.std.specs.Prelude.{◌≡◌, ◌<◌, length, Err, IfErr, IfOk};
+ghost use Rattle.std.specs.Prelude.{◌≡◌, ◌<◌, length, Err, IfErr, IfOk, OnOk};
 ghost use Rattle.ri_base.specs.Collection.{document_at};
-ghost use Rattle.ri_base.specs.Faults.{IsOutside};
+ghost use Rattle.ri_base.specs.Faults.{IsOutside, TellsDamage};
 ghost use Rattle.ri_base.specs.Keeps.{Keeps, Rose};
 ghost use Rattle.query_check.specs.Leaves.{leaf_tree};
 ghost use Rattle.document_scoring.specs.Told.{IsLeafTold};
@@ -44,6 +44,8 @@ pub fn leaf_shown<P: Postings>(
         (λ shown. told_leaf shown ≡ leaf_told names.now (document_at (P.documents part.old) id) window (leaf_tree leaf.now) stats belief) }
     ensures told { IfOk result (λ _. IsLeafTold (λ t. P.told part.old t id) (leaf_tree leaf.now)) }
     ensures honest { P.sound part.old → IfErr result IsOutside }
+    ensures undamaged { OnOk result (P.damage part.new ≡ P.damage part.old) }
+    ensures damaged { IfErr result (TellsDamage (P.damage part.old) (P.damage part.new)) }
     ensures store { result ≡ Err SegFault.Store → Rose (P.faults part.old) (P.faults part.new) }
 {
     match leaf.clone_in(alloc)? {

@@ -1,11 +1,12 @@
 // What a part of the collection tells of its documents.
-ghost use Rattle.std.specs.Prelude.{◌≡◌, ◌<◌, ◌≤◌, ℕ, List, length, All, IfOk, IfErr, Err};
+ghost use Rattle.std.specs.Prelude.{◌≡◌, ◌<◌, ◌≤◌, ℕ, List, length, All, IfOk, IfErr, Err, OnOk, Option};
 ghost use Rattle.std.specs.List.Sorted.{IsStrictlyIncreasing};
 ghost use Rattle.ri_base.specs.Collection.{document_at};
 ghost use Rattle.ri_base.specs.Documents.{Document, IsDocument};
-ghost use Rattle.ri_base.specs.Faults.{IsOutside};
+ghost use Rattle.ri_base.specs.Faults.{IsOutside, TellsDamage};
 ghost use Rattle.ri_base.specs.Keeps.{Keeps, Rose};
 ghost use Rattle.ri_base.specs.Places.{places};
+ghost use Rattle.ri_base.specs.declared.seg_fault.SegFault.{SegFault};
 ghost use Rattle.ri_base.specs.declared.limits.TheConstants.{MAX_DOC_TOKENS};
 
 use crate::{Docno, FieldSpan, Positions, SegFault, Term};
@@ -16,7 +17,8 @@ use std::alloc::Global;
 /// A part that reads files counts the faults of its store. It is `sound` where all that it keeps of its files, and
 /// the files, are those of one list of documents. `quiet` relates two of its states where the second differs from
 /// the first by no more than reading may change. `told` says of a term and a document that the part's files, or what
-/// it keeps of them, can be read there, whether the part is sound or not: then no malformed place was passed by.
+/// it keeps of them, can be read there, whether the part is sound or not: then no malformed place was passed by. `damage`
+/// is the last file that reading found malformed or missing: a call that answers found none, and one that tells damage found this.
 pub trait Postings {
     ghost documents: { Self → List Document };
 
@@ -27,6 +29,8 @@ pub trait Postings {
     ghost quiet: { Self → Self → Type 0 };
 
     ghost told: { Self → List ℕ → ℕ → Type 0 };
+
+    ghost damage: { Self → Option SegFault };
 
     /// How many documents there are.
     fn docs(&self) -> u32
@@ -59,6 +63,8 @@ pub trait Postings {
         ensures below { IfOk result
             (All (λ p. p < length (document_at (documents self.old) id).tokens)) }
         ensures told { IfOk result (λ _. told self.old term.now id) }
+        ensures undamaged { OnOk result (damage self.new ≡ damage self.old) }
+        ensures damaged { IfErr result (TellsDamage (damage self.old) (damage self.new)) }
 
         ensures exact { sound self.old → IfOk result
             (λ ps. ps ≡ places term.now (document_at (documents self.old) id)) }

@@ -159,7 +159,7 @@ fn terms_at(
 }
 
 impl Postings for Sealed {
-    ghost use Rattle.std.specs.Prelude.{◌≡◌, ⊤};
+    ghost use Rattle.std.specs.Prelude.{◌≡◌, ⊤, None};
 
     ghost documents = { λ s. s };
 
@@ -170,6 +170,8 @@ impl Postings for Sealed {
     ghost quiet = { λ r s. r ≡ s };
 
     ghost told = { λ _ _ _. ⊤ };
+
+    ghost damage = { λ _. None };
 
     fn docs(&self) -> u32 {
         self.docs.len() as u32

@@ -1,6 +1,6 @@
 // A merge that is open.
 ghost use Rattle.std.specs.Prelude.{◌≡◌, ◌≤◌, ◌<◌, ◌+◌, ◌⊎◌, ◌↔◌, ◌≢◌, ℕ, List, Option, None, Some, Err, true, false, is_some, length, IfErr, IfOk, IfSome, OnErr, OnOk};
-ghost use Rattle.ri_base.specs.Faults.{IsOutside};
+ghost use Rattle.ri_base.specs.Faults.{IsOutside, TellsDamage};
 ghost use Rattle.ri_base.specs.Keeps.{Rose};
 ghost use Rattle.store_ends.specs.Files.{Files, GoesOn, IsQuiet, Leaves, SameWhere};
 ghost use Rattle.disk_index.specs.Cache.{CacheKeeps, IsCacheBacked};
@@ -112,6 +112,8 @@ impl Repository {
         ensures fault { (f : Files) → T.files store.old ≡ Some f → IfSome self.old.merge (λ m. IfErr result (λ fault. IsOutside fault ⊎ IsFaultAmong f cache.old m.snapshot fault)) }
         ensures damage { IfErr result (λ fault. IsOutside fault ⊎ IsQuiet T.files T.layers T.clock T.since T.longest T.held store.old store.new) }
         ensures honest { IsOpenMerging (T.files store.old) self.old → IsCacheBacked (T.files store.old) cache.old → IfErr result IsOutside }
+        ensures undamaged { OnOk result (cache.new.damage ≡ cache.old.damage) }
+        ensures damaged { IfErr result (TellsDamage cache.old.damage cache.new.damage) }
         ensures later { T.faults store.old ≤ T.faults store.new }
         ensures store { result ≡ Err SegFault.Store → Rose (T.faults store.old) (T.faults store.new) }
     {

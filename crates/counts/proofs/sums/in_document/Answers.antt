@@ -4,7 +4,7 @@ use Rattle.ri_base.specs.Collection.{document_at}
 use Rattle.ri_base.specs.Documents.{Document}
 use Rattle.ri_base.specs.Expression.{EachWord, expr_tree}
 use Rattle.store_ends.specs.Files.{Files}
-use Rattle.disk_index.specs.Cache.{KeptBlock}
+use Rattle.disk_index.specs.Cache.{Cached}
 use Rattle.disk_index.specs.Parts.{IsReadableOf, Source, source_of}
 use Rattle.counts.specs.Sums.{occurrences}
 use Rattle.disk_index.proofs.AmongLemmas.{docs-of, sound-of, within-of}
@@ -36,4 +36,4 @@ returns-clause-told g c =
     IfOk-weaker c.occurrences.result _ _ (λ n each.
     subst (λ (f : Option Files). EachWord (λ t. IsReadableOf f c.args.cache.now (source_of c.args.part.now) t c.args.id) (expr_tree c.args.expr.now)) (ap g.T.Store.files c.new-reader.ensures.store)
     (subst (λ (p : Source). EachWord (λ t. IsReadableOf (g.T.Store.files c.new-reader.result.store.now) c.args.cache.now p t c.args.id) (expr_tree c.args.expr.now)) (ap source_of c.new-reader.ensures.part)
-    (subst (λ (k : List KeptBlock). EachWord (λ t. IsReadableOf (g.T.Store.files c.new-reader.result.store.now) k (source_of c.new-reader.result.part.now) t c.args.id) (expr_tree c.args.expr.now)) c.new-reader.ensures.cache each))) c.occurrences.ensures.told
+    (subst (λ (k : Cached). EachWord (λ t. IsReadableOf (g.T.Store.files c.new-reader.result.store.now) k (source_of c.new-reader.result.part.now) t c.args.id) (expr_tree c.args.expr.now)) c.new-reader.ensures.cache each))) c.occurrences.ensures.told

@@ -1,4 +1,4 @@
-use Rattle.std.proofs.Common.{◌≤◌, ◌+◌, ◌*◌, ◌/◌, option_copied, inl, inr, ap, ◌∙◌, arith}
+use Rattle.std.proofs.Common.{◌≤◌, ◌+◌, ◌*◌, ◌/◌, option_copied, inl, inr, ap, ◌∙◌, arith, refl}
 use Rattle.std.proofs.lemmas.Result.{err_from_is_err_and}
 use Rattle.ri_base.specs.Expression.{expr_tree}
 use Rattle.disk_index.specs.Parts.{size}
@@ -11,7 +11,7 @@ pub in_range-requires-clause-range : goal.in_range-requires-clause-range
 in_range-requires-clause-range g c = let same = ap size c.part.ensures.part in omega (arith, c.loop-range-test.true, c.div_ceil-ranges.ensures, c.docs.ensures.size, same)
 
 pub loop-range-init : goal.loop-range-init
-loop-range-init g c = record { counted = λ backed cached. omega arith; few = omega arith; told = λ id inside below. absurd (omega (arith, below)); reads = reads-same _ _ _ _ _ _ _ _ _ _ }
+loop-range-init g c = record { undamaged = refl; counted = λ backed cached. omega arith; few = omega arith; told = λ id inside below. absurd (omega (arith, below)); reads = reads-same _ _ _ _ _ _ _ _ _ _ }
 
 pub overflow_add-count : goal.overflow_add-count
 overflow_add-count g c =
@@ -28,6 +28,7 @@ loop-range-preserved g c =
     let m = c.args.marked.now in
     let reads = c.loop-range.invariant.reads in
     record {
+      undamaged = c.in_ok-found.ensures.undamaged ∙ c.loop-range.invariant.undamaged;
       counted = λ backed cached.
           let found = c.in_ok-found.ensures.exact (part-backed _ _ _ _ _ _ _ _ _ _ _ _ m.source reads backed) (cache-backed _ _ _ _ _ _ _ _ _ _ _ _ reads cached) in
           counted-range (occurrences (expr_tree c.args.expr.now) (option_copied c.args.context)) told m mid c.loop-range.range c.loop-range.count c.in_ok-found.found reads.quiet.same_files

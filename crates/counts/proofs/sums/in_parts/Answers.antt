@@ -1,4 +1,4 @@
-use Rattle.std.proofs.Common.{◌+◌, Option, option_copied, sum_by, ap, subst, ◌∙◌, arith}
+use Rattle.std.proofs.Common.{◌+◌, Option, option_copied, sum_by, ap, subst, ◌∙◌, arith, refl}
 use Rattle.std.proofs.lemmas.List.{take_all}
 use Rattle.std.proofs.lemmas.Result.{err_from_is_err_and}
 use Rattle.ri_base.specs.Expression.{expr_tree}
@@ -16,7 +16,7 @@ pub in_part-requires : goal.in_part-requires
 in_part-requires g c = part-short c.args.parts.now c.loop-marked.marked-index c.marked-item.result c.requires c.loop-marked-test.true c.marked-item.is
 
 pub loop-marked-init : goal.loop-marked-init
-loop-marked-init g c = record { counted = λ backed cached. omega arith; few = omega arith; told = λ k d low. absurd (omega (arith, low)); reads = reads-same _ _ _ _ _ _ _ _ _ _ }
+loop-marked-init g c = record { undamaged = refl; counted = λ backed cached. omega arith; few = omega arith; told = λ k d low. absurd (omega (arith, low)); reads = reads-same _ _ _ _ _ _ _ _ _ _ }
 
 pub overflow_add-count : goal.overflow_add-count
 overflow_add-count g c =
@@ -38,6 +38,7 @@ loop-marked-preserved g c =
     let f = occurrences (expr_tree c.args.expr.now) (option_copied c.args.context) in
     let k = counted_tokens (option_copied c.args.context) in
     record {
+      undamaged = c.in_ok-found.ensures.undamaged ∙ c.loop-marked.invariant.undamaged;
       counted = λ backed cached.
           let part : IsPartBacked told m.source = backed-at ms i m c.loop-marked-test.true c.marked-item.is told backed in
           let found = c.in_ok-found.ensures.exact (part-backed _ _ _ _ _ _ _ _ _ _ _ _ m.source reads part) (cache-backed _ _ _ _ _ _ _ _ _ _ _ _ reads cached) in

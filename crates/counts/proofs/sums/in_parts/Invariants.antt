@@ -14,4 +14,5 @@ invariant-loop-marked g l = record {
   few : l.count ≤ sum_by (counted_tokens (option_copied l.context)) (live (g.T.Store.files l.initial.store) (take l.marked-index l.parts));
   told : ArePartsTold (g.T.Store.files l.initial.store) l.initial.cache (expr_tree l.expr) (take l.marked-index l.parts);
   reads : OnlyReads g.T.Store.files g.T.Store.layers g.T.Store.clock g.T.Store.since g.T.Store.longest g.T.Store.held g.T.Store.faults (IsFileAmong l.parts) l.initial.store l.store l.initial.cache l.cache;
+  undamaged : l.cache.damage ≡ l.initial.cache.damage;
 }

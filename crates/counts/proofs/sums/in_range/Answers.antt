@@ -1,4 +1,4 @@
-use Rattle.std.proofs.Common.{◌≡◌, ◌<◌, ◌+◌, ◌*◌, option_copied, true, false, inl, inr, sym, ap, subst, ◌∙◌, rules, arith}
+use Rattle.std.proofs.Common.{◌≡◌, ◌<◌, ◌+◌, ◌*◌, option_copied, true, false, inl, inr, sym, ap, subst, ◌∙◌, rules, arith, refl}
 use Rattle.std.proofs.lemmas.Result.{err_from_is_err_and}
 use Rattle.ri_base.specs.Expression.{expr_tree}
 use Rattle.extent_lists.specs.Presence.{may_with}
@@ -64,7 +64,7 @@ overflow_add-count g c =
     omega (arith, few, tokens-within (option_copied c.args.context) told m (c.loop-id.id + 1), c.requires.short told, c.from-count.ensures)
 
 pub loop-id-init : goal.loop-id-init
-loop-id-init g c = record { counted = λ backed cached. omega arith; few = omega arith; told = λ id from below. absurd (omega (arith, from, below)); reads = reads-same _ _ _ _ _ _ _ _ _ _ }
+loop-id-init g c = record { undamaged = refl; counted = λ backed cached. omega arith; few = omega arith; told = λ id from below. absurd (omega (arith, from, below)); reads = reads-same _ _ _ _ _ _ _ _ _ _ }
 
 pub loop-id-preserved : goal.loop-id-preserved
 loop-id-preserved g c =
@@ -78,6 +78,7 @@ loop-id-preserved g c =
     let f = occurrences (expr_tree c.args.expr.now) (option_copied c.args.context) in
     let k = counted_tokens (option_copied c.args.context) in
     record {
+      undamaged = c.in_ok-found.ensures.undamaged ∙ c.loop-id.invariant.undamaged;
       counted = λ backed cached.
           let found = c.in_ok-found.ensures.exact (part-backed _ _ _ _ _ _ _ _ _ _ _ _ m.source reads backed) (cache-backed _ _ _ _ _ _ _ _ _ _ _ _ reads cached) in
           let next = counted-next f told m mid (64 * c.args.range) c.loop-id.id c.loop-id.count c.in_ok-found.found reads.quiet.same_files whole inside (c.loop-id.invariant.counted backed cached) found in

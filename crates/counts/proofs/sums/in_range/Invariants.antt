@@ -17,4 +17,5 @@ invariant-loop-id g l = record {
       ≤ sum_first (counted_tokens (option_copied l.context)) (g.T.Store.files l.initial.store) l.marked l.id;
   told : (id : ℕ) → l.first ≤ id → id < l.id → IsLiveTold (g.T.Store.files l.initial.store) l.initial.cache (expr_tree l.expr) l.marked id;
   reads : OnlyReads g.T.Store.files g.T.Store.layers g.T.Store.clock g.T.Store.since g.T.Store.longest g.T.Store.held g.T.Store.faults (IsFileOf l.marked.source) l.initial.store l.store l.initial.cache l.cache;
+  undamaged : l.cache.damage ≡ l.initial.cache.damage;
 }

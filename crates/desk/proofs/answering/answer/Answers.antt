@@ -12,26 +12,26 @@ use Rattle.counts.proofs.ReadingLemmas.{cache-backed, rose-earlier}
 use Rattle.ranker.specs.Searches.{IsTaken, searched}
 use Rattle.desk.specs.Answer.{IsAnswerText}
 use Rattle.desk.specs.Shown.{told_shown}
-use Rattle.desk.proofs.AnswerLemmas.{answer-moved, empty-cache, empty-sums}
+use Rattle.desk.proofs.AnswerLemmas.{answer-moved, empty-sums}
 use Rattle.desk.proofs.SearchLemmas.{summed-by}
 use Rattle.desk.proofs.answering.answer.Goals as goal
 
 pub returns-in_err-search-clause-honest : goal.returns-in_err-search-clause-honest
-returns-in_err-search-clause-honest g c = λ backed.
+returns-in_err-search-clause-honest g c = λ backed kept.
     let told = g.T.Store.files c.args.store.now in
     let first = c.in_ok-stats.ensures.reads in
-    let cached = cache-backed _ _ _ _ _ _ _ _ _ _ _ _ first (empty-cache told c.in_ok-cache.cache c.in_ok-cache.ensures) in
+    let cached = cache-backed _ _ _ _ _ _ _ _ _ _ _ _ first kept in
     let p = err_from_is_err_and c.from_residual-in_err-search.result c.from_residual-in_err-search.ensures.1 in
     rw (p.1, p.2) (c.in_err-search.ensures.honest (subst (λ (f : Option Files). AreBacked f c.args.snapshot) (sym first.quiet.same_files) backed) cached)
 
 pub returns-clause-honest : goal.returns-clause-honest
-returns-clause-honest g c = λ backed.
+returns-clause-honest g c = λ backed kept.
     let told = g.T.Store.files c.args.store.now in
     let here = g.T.Store.files c.search_all.new.store in
     let first = c.in_ok-stats.ensures.reads in
     let second = c.in_ok-search.ensures.reads in
     let same : here ≡ told = second.quiet.same_files ∙ first.quiet.same_files in
-    let cached = cache-backed _ _ _ _ _ _ _ _ _ _ _ _ second (cache-backed _ _ _ _ _ _ _ _ _ _ _ _ first (empty-cache told c.in_ok-cache.cache c.in_ok-cache.ensures)) in
+    let cached = cache-backed _ _ _ _ _ _ _ _ _ _ _ _ second (cache-backed _ _ _ _ _ _ _ _ _ _ _ _ first kept) in
     let parts = subst (λ (ms : List Marked). AreBacked told ms) (sym c.in_ok-search.ensures.searched.snapshot) backed in
     c.show.ensures.honest (subst (λ (f : Option Files). AreBacked f c.in_ok-search.search.snapshot) (sym same) parts) cached
 
@@ -41,7 +41,7 @@ returns-clause-store g c = λ failed.
     rose-earlier _ _ _ first (c.show.ensures.store failed)
 
 pub returns-clause-exact : goal.returns-clause-exact
-returns-clause-exact g c = λ backed.
+returns-clause-exact g c = λ backed kept.
     let told = g.T.Store.files c.args.store.now in
     let here = g.T.Store.files c.search_all.new.store in
     let parts = c.args.snapshot in
@@ -54,13 +54,12 @@ returns-clause-exact g c = λ backed.
     let first = c.in_ok-stats.ensures.reads in
     let second = c.in_ok-search.ensures.reads in
     let same : here ≡ told = second.quiet.same_files ∙ first.quiet.same_files in
-    let none = empty-cache told c.in_ok-cache.cache c.in_ok-cache.ensures in
-    let cached = cache-backed _ _ _ _ _ _ _ _ _ _ _ _ first none in
+    let cached = cache-backed _ _ _ _ _ _ _ _ _ _ _ _ first kept in
     let later = cache-backed _ _ _ _ _ _ _ _ _ _ _ _ second cached in
     let now = subst (λ (f : Option Files). AreBacked f parts) (sym first.quiet.same_files) backed in
     let then = subst (λ (f : Option Files). AreBacked f s.snapshot) (sym same) (subst (λ (ms : List Marked). AreBacked told ms) (sym has.snapshot) backed) in
     let taken = subst (λ (f : Option Files). IsTaken c.args.kind priors f s) (sym second.quiet.same_files) (c.in_ok-search.ensures.taken now cached) in
-    let counted = c.in_ok-stats.ensures.exact backed none (empty-sums (live told parts) c.args.generation c.in_ok-counts.counts c.in_ok-counts.ensures) in
+    let counted = c.in_ok-stats.ensures.exact backed kept (empty-sums (live told parts) c.args.generation c.in_ok-counts.counts c.in_ok-counts.ensures) in
     let summed = summed-by parts q c.deref-2.result.now c.wanted-most.result s told here has same (c.deref-2.ensures.value ∙ counted ∙ ap (λ (ls : List LeafKind). map (stats_of (live told parts)) (map leaf_tree ls)) c.deref.ensures.value) in
     IfOk-weaker c.show.result (λ text. IsAnswerText c.args.kind priors names shown (whole_checked s.checked) (searched here s) (option_map (λ t. t.items) text))
     (λ text. IsAnswerText c.args.kind priors names shown q (live told parts) (option_map (λ t. t.items) text))

@@ -1,4 +1,4 @@
-use Rattle.std.proofs.Common.{◌≡◌, ◌+◌, ◌++◌, ◌∷◌, [], List, Option, map, ap, subst, sym, ◌∙◌, inl, rules}
+use Rattle.std.proofs.Common.{◌≡◌, ◌+◌, ◌++◌, ◌∷◌, [], List, Option, map, ap, subst, sym, ◌∙◌, inl, rules, refl}
 use Rattle.std.proofs.lemmas.List.{length_push, take_all}
 use Rattle.std.proofs.lemmas.List.Elements.{All-push}
 use Rattle.ri_base.specs.declared.hit.LeafStats.{LeafStats}
@@ -16,6 +16,7 @@ use Rattle.desk.proofs.leaves.all_stats.Goals as goal
 
 pub loop-leaf-init : goal.loop-leaf-init
 loop-leaf-init g c = record {
+  undamaged = refl;
   exact = λ backed cached are. search rules;
   kept = λ backed cached are. are;
   adds = λ e there. inl there;
@@ -34,6 +35,7 @@ loop-leaf-preserved g c =
     let found = c.in_ok-found.found in
     let pushed : c.push.new.self.items ≡ all ++ found ∷ [] = search rules in
     record {
+      undamaged = c.in_ok-found.ensures.undamaged ∙ c.loop-leaf.invariant.undamaged;
       exact = λ backed cached are.
           let now = subst (λ (f : Option Files). AreBacked f parts) (sym same) backed in
           let held = cache-backed _ _ _ _ _ _ _ _ _ _ _ _ inv.reads cached in

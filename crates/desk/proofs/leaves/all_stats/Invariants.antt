@@ -21,4 +21,5 @@ invariant-loop-leaf g l =
       each : length l.stats.items ≡ l.leaf-index;
       range : All (λ (s : LeafStats). AreLeafStats s) l.stats.items;
       reads : OnlyReads g.T.Store.files g.T.Store.layers g.T.Store.clock g.T.Store.since g.T.Store.longest g.T.Store.held g.T.Store.faults (IsFileAmong l.snapshot) l.fn.store l.store l.fn.cache l.cache;
+      undamaged : l.cache.damage ≡ l.fn.cache.damage;
     }

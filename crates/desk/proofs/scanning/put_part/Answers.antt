@@ -1,4 +1,4 @@
-use Rattle.std.proofs.Common.{◌≤◌, ◌∙◌, ◌+◌, ◌++◌, Option, ap, sym, arith}
+use Rattle.std.proofs.Common.{◌≤◌, ◌∙◌, ◌+◌, ◌++◌, Option, ap, sym, arith, refl}
 use Rattle.std.proofs.lemmas.Result.{err_from_is_err_and}
 use Rattle.ri_base.specs.Expression.{expr_tree}
 use Rattle.store_ends.specs.Files.{Files}
@@ -14,6 +14,7 @@ put_document-requires g c = let same = ap size c.part.ensures.part in omega (ari
 
 pub loop-id-init : goal.loop-id-init
 loop-id-init g c = record {
+  undamaged = refl;
   lines = λ backed cached docs so_far. so_far ∙ before-none (expr_tree c.args.expr.now) (g.T.Store.files c.args.store.now) c.args.marked.now docs;
   reads = reads-same _ _ _ _ _ _ _ _ _ _;
 }
@@ -26,6 +27,7 @@ loop-id-preserved g c =
     let reads = c.loop-id.invariant.reads in
     let same = reads.quiet.same_files in
     record {
+      undamaged = c.in_ok-put_document.ensures.undamaged ∙ c.loop-id.invariant.undamaged;
       lines = λ backed cached docs so_far.
           let now = part-backed _ _ _ _ _ _ _ _ _ _ _ _ m.source reads backed in
           let held = cache-backed _ _ _ _ _ _ _ _ _ _ _ _ reads cached in

@@ -13,4 +13,5 @@ invariant-loop-id g l = record {
   lines : IsPartBacked (g.T.Store.files l.initial.store) l.marked.source → IsCacheBacked (g.T.Store.files l.initial.store) l.initial.cache → (docs : List Document)
       → l.initial.lines ≡ extents_in (expr_tree l.expr) docs → l.lines ≡ extents_in (expr_tree l.expr) (docs ++ live_before (g.T.Store.files l.initial.store) l.marked l.id);
   reads : OnlyReads g.T.Store.files g.T.Store.layers g.T.Store.clock g.T.Store.since g.T.Store.longest g.T.Store.held g.T.Store.faults (IsFileOf l.marked.source) l.initial.store l.store l.initial.cache l.cache;
+  undamaged : l.cache.damage ≡ l.initial.cache.damage;
 }

@@ -1,4 +1,4 @@
-use Rattle.std.proofs.Common.{◌∙◌, ◌++◌, Option, ap, take}
+use Rattle.std.proofs.Common.{◌∙◌, ◌++◌, Option, ap, take, refl}
 use Rattle.std.proofs.lemmas.Result.{err_from_is_err_and}
 use Rattle.ri_base.specs.Expression.{expr_tree}
 use Rattle.store_ends.specs.Files.{Files}
@@ -12,6 +12,7 @@ use Rattle.desk.proofs.scanning.scan.Goals as goal
 
 pub loop-marked-init : goal.loop-marked-init
 loop-marked-init g c = record {
+  undamaged = refl;
   lines = λ backed cached. c.new-lines.ensures ∙ parts-none (expr_tree c.args.expr.now) (g.T.Store.files c.args.store.now) c.args.parts.now;
   reads = reads-same _ _ _ _ _ _ _ _ _ _;
 }
@@ -25,6 +26,7 @@ loop-marked-preserved g c =
     let m = c.marked-item.result in
     let reads = c.loop-marked.invariant.reads in
     record {
+      undamaged = c.in_ok-put_part.ensures.undamaged ∙ c.loop-marked.invariant.undamaged;
       lines = λ backed cached.
           let part : IsPartBacked told m.source = backed-at ms i m c.loop-marked-test.true c.marked-item.is told backed in
           let put = c.in_ok-put_part.ensures.exact (part-backed _ _ _ _ _ _ _ _ _ _ _ _ m.source reads part) (cache-backed _ _ _ _ _ _ _ _ _ _ _ _ reads cached) (live told (take i ms)) (c.loop-marked.invariant.lines backed cached) in

@@ -1,4 +1,4 @@
-use Rattle.std.proofs.Common.{◌≡◌, ap, map, subst, List}
+use Rattle.std.proofs.Common.{ap, map, subst, List}
 use Rattle.std.proofs.lemmas.Result.{err_from_is_err_and}
 use Rattle.query_check.specs.Leaves.{leaf_tree}
 use Rattle.query_check.specs.declared.leaf_kind.LeafKind.{LeafKind}

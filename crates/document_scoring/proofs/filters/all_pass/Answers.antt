@@ -1,4 +1,4 @@
-use Rattle.std.proofs.Common.{ℕ, List, subst, arith}
+use Rattle.std.proofs.Common.{ℕ, List, subst, arith, ◌∙◌}
 use Rattle.std.specs.List.{All}
 use Rattle.std.proofs.lemmas.List.{take_all}
 use Rattle.std.proofs.lemmas.List.Elements.{All-map, All-more}
@@ -27,6 +27,7 @@ loop-filter-preserved g c =
     let f = c.filter-item.result in
     let here : IsFilterTold IsTold (filter_tree f) = EachWord-weaker _ IsTold before (expr_tree f.expr) c.in_ok-passes.ensures.told in
     record {
+      undamaged = c.in_ok-passes.ensures.undamaged ∙ c.loop-filter.invariant.undamaged;
       keeps = Keeps-then _ _ _ _ g.met.P.Postings.quiet_then _ _ _ c.loop-filter.invariant.keeps c.passes.ensures.keeps;
       so_far = λ sound.
           all_pass_more (g.P.Postings.documents c.args.part.now) (g.P.Postings.documents c.loop-filter.part) c.args.id c.args.filters.now c.loop-filter.filter-index f

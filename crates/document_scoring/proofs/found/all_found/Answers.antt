@@ -40,6 +40,7 @@ loop-number-preserved g c =
     subst (λ (v : List LeafExtents). (w : Pair) → map (found_count (document_at read c.args.id).fields w) v ≡ map (count_in (document_at read c.args.id) w) (take i leaves)) (sym c.deref.ensures.value)
     (so_far_read docs read c.args.id leaves i all (sym stay) (c.loop-number.invariant.so_far sound)) in
     record {
+      undamaged = c.in_ok-found.ensures.undamaged ∙ c.loop-number.invariant.undamaged;
       keeps = search rules;
       so_far = λ sound w.
           rw pushed (next_same (found_count d.fields w) (count_in d w) all leaves i found leaf inside (default leaves i (prior 0) leaf inside) (c.loop-number.invariant.so_far sound w)

@@ -24,6 +24,7 @@ pub all_evaluated-loop-x-init : goal.all_evaluated-loop-x-init
 all_evaluated-loop-x-init g t c =
     let empty : c.new-lists.result.items ≡ [] = search rules in
     record {
+      undamaged = refl;
       keeps = record { documents_stay = refl; no_fault_lost = omega arith; sound_stays = λ u. u; stays_quiet = g.met.P.Postings.quiet_same _ };
       listed = λ sound. rw empty tt;
       ascending = rw empty (All-nil IsAscending);
@@ -34,6 +35,7 @@ pub all_evaluated-loop-x-preserved : goal.all_evaluated-loop-x-preserved
 all_evaluated-loop-x-preserved g t c =
     let pushed : c.push.new.self.items ≡ c.loop-x.lists.items ++ c.in_ok-found.found ∷ [] = search rules in
     record {
+      undamaged = c.in_ok-found.ensures.undamaged ∙ c.loop-x.invariant.undamaged;
       keeps = Keeps-then _ _ _ _ g.met.P.Postings.quiet_then _ _ _ c.loop-x.invariant.keeps c.evaluated.ensures.keeps;
       listed = λ sound.
           let listed = rw c.loop-x.invariant.keeps.documents_stay at (c.in_ok-found.ensures.exact (c.loop-x.invariant.keeps.sound_stays sound)) in

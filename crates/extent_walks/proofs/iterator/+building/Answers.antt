@@ -17,6 +17,7 @@ pub group_of-loop-x-init : goal.group_of-loop-x-init
 group_of-loop-x-init g t c =
     let empty : c.new-out.result.items ≡ [] = search rules in
     record {
+      undamaged = refl;
       keeps = record { documents_stay = refl; no_fault_lost = omega arith; sound_stays = λ u. u; stays_quiet = g.met.P.Postings.quiet_same _ };
       gives = λ sound. rw empty tt;
       kept = rw empty tt;
@@ -28,6 +29,7 @@ group_of-loop-x-preserved g t c =
     let d = document_at (g.P.Postings.documents c.args.postings.now) c.args.id in
     let pushed : c.push.new.self.items ≡ c.loop-x.out.items ++ c.new.result ∷ [] = search rules in
     record {
+      undamaged = c.in_ok-walk.ensures.undamaged ∙ c.loop-x.invariant.undamaged;
       keeps = Keeps-then _ _ _ _ g.met.P.Postings.quiet_then _ _ _ c.loop-x.invariant.keeps c.walk_of.ensures.keeps;
       gives = λ sound.
           let here = rw c.loop-x.invariant.keeps.documents_stay at (c.in_ok-walk.ensures.exact (c.loop-x.invariant.keeps.sound_stays sound)) in

@@ -1,4 +1,5 @@
 use Rattle.std.proofs.Common.{Err, ap}
+use Rattle.disk_index.proofs.CacheLemmas.{new-cache}
 use Rattle.indri_app.proofs.OpeningLemmas.{file-of}
 use Rattle.indri_app.proofs.OpeningLemmas.{store-of_files, want-of}
 use Rattle.indri_app.proofs.question.answer_checked.Goals as goal
@@ -6,7 +7,7 @@ use Rattle.indri_app.proofs.question.answer_checked.Goals as goal
 -- a file isn't read
 
 pub returns-in-Err-clause-honest : goal.returns-in-Err-clause-honest
-returns-in-Err-clause-honest g c = λ backed. rw c.of_files.ensures (want-of c.in-Err.fault (c.in-Err.ensures.honest (c.in-Ok.ensures.stored _ backed)))
+returns-in-Err-clause-honest g c = λ backed. rw c.of_files.ensures (want-of c.in-Err.fault (c.in-Err.ensures.honest (c.in-Ok.ensures.stored _ backed) (new-cache _ c.in-Ok-block_cache.cache c.in-Ok-block_cache.ensures)))
 
 pub returns-in-Err-clause-only : goal.returns-in-Err-clause-only
 returns-in-Err-clause-only g c = rw c.of_files.ensures (file-of c.in-Err.fault)
@@ -19,4 +20,4 @@ returns-in-Err-clause-store g c = λ e. let one = store-of_files c.in-Err.fault 
 pub returns-in-Ok-reply_to-clause-answered : goal.returns-in-Ok-reply_to-clause-answered
 returns-in-Ok-reply_to-clause-answered g c = λ backed.
     let told = g.T.Store.files c.args.store.now in
-    (_, rw (c.in-Ok.ensures.documents told) at (c.in-Ok-answer.ensures.exact (c.in-Ok.ensures.stored told backed)), c.in-Ok-reply_to.ensures)
+    (_, rw (c.in-Ok.ensures.documents told) at (c.in-Ok-answer.ensures.exact (c.in-Ok.ensures.stored told backed) (new-cache told c.in-Ok-block_cache.cache c.in-Ok-block_cache.ensures)), c.in-Ok-reply_to.ensures)

@@ -95,6 +95,7 @@ loop-number-preserved g c =
     let all_docs = c.args.copied.now.docs ++ rest (reads told) ms c.args.place.now.part c.args.place.now.id in
     let past : size m.source ≤ c.copy_part.new.id = c.in_ok-copy_part.ensures.done (not-goal _ _ _ c.if-len-goal.false c.len.ensures c.copy_part.ensures.goal) in
     record {
+      undamaged = c.in_ok-copy_part.ensures.undamaged ∙ c.loop-number.invariant.undamaged;
       at = refl;
       entries = to-next-at ms q n m c.loop-number-test.true inv.at c.index-parts-number.is entries c.copy_part.new.id (map entry_of ys) all_entries (let l = length-entries m.source in omega (arith, l, past))
           (in-part-at ms q n m c.loop-number-test.true inv.at c.index-parts-number.is entries c.loop-number.place.id c.copy_part.new.id (map entry_of xs) (map entry_of ys) all_entries c.copy_part.ensures.entries inv.entries);

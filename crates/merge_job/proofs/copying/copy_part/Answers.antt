@@ -56,6 +56,7 @@ loop-i-preserved g c =
     let told = g.T.Store.files c.args.store.now in
     let stay : g.T.Store.files c.loop-i.store ≡ told = inv.quiet.same_files in
     record {
+      undamaged = c.in_ok-copy_one.ensures.undamaged ∙ c.loop-i.invariant.undamaged;
       at = refl;
       entries = one.entries ∙ inv.entries;
       exact = λ backed cached.

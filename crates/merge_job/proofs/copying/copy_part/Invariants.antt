@@ -18,6 +18,7 @@ invariant-loop-i g l = record {
   goal : length l.copied.docs ≤ l.goal;
   most : l.copied.most ≡ l.fn.copied.most;
   cache : AllKept l.fn.cache l.cache;
+  undamaged : l.cache.damage ≡ l.fn.cache.damage;
   quiet : IsQuiet g.T.Store.files g.T.Store.layers g.T.Store.clock g.T.Store.since g.T.Store.longest g.T.Store.held l.fn.store l.store;
   later : g.T.Store.faults l.fn.store ≤ g.T.Store.faults l.store;
   same : g.T.Store.faults l.store ≡ g.T.Store.faults l.fn.store;

@@ -1,4 +1,4 @@
-use Rattle.std.proofs.Common.{refl, true, arith}
+use Rattle.std.proofs.Common.{refl, true, arith, ◌∙◌}
 use Rattle.std.proofs.lemmas.Result.{IfOk-weaker}
 use Rattle.ri_base.specs.Expression.{expr_tree}
 use Rattle.ri_base.specs.declared.expression.ExtentExpr.{ExtentExpr}
@@ -10,12 +10,14 @@ use Rattle.range_masks.proofs.expression.+masks.Goals as goal
 
 pub mask_of_each-loop-x-init : goal.mask_of_each-loop-x-init
 mask_of_each-loop-x-init g t c = record {
+  undamaged = refl;
   keeps = record { documents_stay = refl; no_fault_lost = omega arith; sound_stays = λ u. u; stays_quiet = g.met.P.Postings.quiet_same _ };
   exact = λ sound. IsMask-all _ _;
 }
 
 pub mask_of_each-loop-x-preserved : goal.mask_of_each-loop-x-preserved
 mask_of_each-loop-x-preserved g t c = record {
+  undamaged = c.in_ok-found.ensures.undamaged ∙ c.loop-x.invariant.undamaged;
   keeps = Keeps-then _ _ _ _ g.met.P.Postings.quiet_then _ _ _ c.loop-x.invariant.keeps c.mask_of.ensures.keeps;
   exact = λ sound.
       let found = rw c.loop-x.invariant.keeps.documents_stay at (c.in_ok-found.ensures.exact (c.loop-x.invariant.keeps.sound_stays sound)) in
@@ -33,12 +35,14 @@ mask_of_each-returns-clause-exact g t c = λ sound. IsMask-each _ _ (λ (x : Ext
 
 pub mask_of_some-loop-x-init : goal.mask_of_some-loop-x-init
 mask_of_some-loop-x-init g t c = record {
+  undamaged = refl;
   keeps = record { documents_stay = refl; no_fault_lost = omega arith; sound_stays = λ u. u; stays_quiet = g.met.P.Postings.quiet_same _ };
   exact = λ sound. IsMask-none _ _;
 }
 
 pub mask_of_some-loop-x-preserved : goal.mask_of_some-loop-x-preserved
 mask_of_some-loop-x-preserved g t c = record {
+  undamaged = c.in_ok-found.ensures.undamaged ∙ c.loop-x.invariant.undamaged;
   keeps = Keeps-then _ _ _ _ g.met.P.Postings.quiet_then _ _ _ c.loop-x.invariant.keeps c.mask_of.ensures.keeps;
   exact = λ sound.
       let found = rw c.loop-x.invariant.keeps.documents_stay at (c.in_ok-found.ensures.exact (c.loop-x.invariant.keeps.sound_stays sound)) in

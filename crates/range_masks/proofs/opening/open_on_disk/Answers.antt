@@ -24,6 +24,7 @@ loop-term-preserved g c =
     let own : IsTermReadable (g.T.Store.files c.args.store.now) c.args.cache.now c.args.index.now c.term-item.result c.args.range =
     elim opened.told [ inl was ↦ inv.held c.term-item.result was | inr can ↦ before c.term-item.result can ] in
     record {
+      undamaged = c.in_ok-open_block.ensures.undamaged ∙ c.loop-term.invariant.undamaged;
       quiet = IsQuiet-then g.T.Store.files g.T.Store.layers g.T.Store.clock g.T.Store.since g.T.Store.longest g.T.Store.held g.T.Store.faults _ _ _ inv.quiet opened.quiet;
       later = omega (arith, inv.later, opened.later);
       cache = CacheKeeps-after _ _ _ _ _ _ inv.quiet.same_files inv.cache opened.cache;

@@ -13,6 +13,7 @@ invariant-loop-term g l = record {
   quiet : IsQuiet g.T.Store.files g.T.Store.layers g.T.Store.clock g.T.Store.since g.T.Store.longest g.T.Store.held l.initial.store l.store;
   later : g.T.Store.faults l.initial.store ≤ g.T.Store.faults l.store;
   cache : CacheKeeps (g.T.Store.files l.initial.store) (λ n. n ≡ l.index.number) l.initial.cache l.cache;
+  undamaged : l.cache.damage ≡ l.initial.cache.damage;
   range : l.held.range ≡ l.range;
   opened : l.blocks ≡ l.initial.blocks + l.held.opened;
   cost : l.blocks ≤ l.initial.blocks + l.term-index;

@@ -1,4 +1,4 @@
-use Rattle.std.proofs.Common.{refl, arith}
+use Rattle.std.proofs.Common.{refl, arith, ◌∙◌}
 use Rattle.query_check.specs.Leaves.{leaf_tree}
 use Rattle.query_check.specs.declared.leaf_kind.LeafKind.{LeafKind}
 use Rattle.extent_lists.proofs.KeepsLemmas.{Keeps-then}
@@ -8,12 +8,14 @@ use Rattle.range_masks.proofs.query.leaves_mask.Goals as goal
 
 pub loop-leaf-init : goal.loop-leaf-init
 loop-leaf-init g c = record {
+  undamaged = refl;
   keeps = record { documents_stay = refl; no_fault_lost = omega arith; sound_stays = λ u. u; stays_quiet = g.met.P.Postings.quiet_same _ };
   exact = λ sound. IsMask-none _ _;
 }
 
 pub loop-leaf-preserved : goal.loop-leaf-preserved
 loop-leaf-preserved g c = record {
+  undamaged = c.in_ok-found.ensures.undamaged ∙ c.loop-leaf.invariant.undamaged;
   keeps = Keeps-then _ _ _ _ g.met.P.Postings.quiet_then _ _ _ c.loop-leaf.invariant.keeps c.leaf_mask.ensures.keeps;
   exact = λ sound.
       let found = rw c.loop-leaf.invariant.keeps.documents_stay at (c.in_ok-found.ensures.exact (c.loop-leaf.invariant.keeps.sound_stays sound)) in

@@ -1,4 +1,4 @@
-use Rattle.std.proofs.Common.{rules, ◌≡◌, ◌∙◌, ◌++◌, ◌∷◌, [], List, Option, length, length-append, map, subst, sym, ap, arith}
+use Rattle.std.proofs.Common.{rules, ◌≡◌, ◌∙◌, ◌++◌, ◌∷◌, [], List, Option, length, length-append, map, subst, sym, ap, arith, refl}
 use Rattle.std.proofs.lemmas.List.{take_all}
 use Rattle.std.proofs.lemmas.Result.{err_from_is_err_and}
 use Rattle.store_ends.specs.Files.{Files}
@@ -14,6 +14,7 @@ use Rattle.range_tables.proofs.part_tables.tables.Goals as goal
 
 pub loop-marked-init : goal.loop-marked-init
 loop-marked-init g c = record {
+  undamaged = refl;
   exact = λ backed cached. search rules;
   each = search rules;
   cache = CacheKeeps-same (g.T.Store.files c.args.store.now) (IsFileAmong c.args.parts.now) c.args.cache.now;
@@ -35,6 +36,7 @@ loop-marked-preserved g c =
     let pushed : c.push.new.self.items ≡ c.loop-marked.tables.items ++ table ∷ [] = search rules in
     let leaves = map leaf_tree c.args.leaves.now in
     record {
+      undamaged = c.in_ok-table.ensures.undamaged ∙ c.loop-marked.invariant.undamaged;
       exact = λ backed cached.
           let part : IsPartBacked here m.source = subst (λ (f : Option Files). IsPartBacked f m.source) (sym same) (backed-at parts i m c.loop-marked-test.true c.marked-item.is told backed) in
           let blocks : IsCacheBacked here c.loop-marked.cache =

@@ -13,6 +13,7 @@ invariant-loop-marked g l = record {
       → AreTablesOf (map leaf_tree l.leaves) (map (λ m. reads (g.T.Store.files l.fn.store) m.source) (take l.marked-index l.parts)) l.tables.items;
   each : length l.tables.items ≡ l.marked-index;
   cache : CacheKeeps (g.T.Store.files l.fn.store) (IsFileAmong l.parts) l.fn.cache l.cache;
+  undamaged : l.cache.damage ≡ l.fn.cache.damage;
   quiet : IsQuiet g.T.Store.files g.T.Store.layers g.T.Store.clock g.T.Store.since g.T.Store.longest g.T.Store.held l.fn.store l.store;
   later : g.T.Store.faults l.fn.store ≤ g.T.Store.faults l.store;
 }

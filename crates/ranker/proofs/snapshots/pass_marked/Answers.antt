@@ -3,17 +3,16 @@ use Rattle.ri_base.specs.Documents.{Document}
 use Rattle.ri_base.specs.Query.{filter_tree}
 use Rattle.store_ends.specs.Files.{Files}
 use Rattle.belief_nodes.specs.Network.{network_tree}
-use Rattle.disk_index.specs.Cache.{IsCacheBacked}
 use Rattle.disk_index.specs.Parts.{outlines_of, reads, size, source_of}
 use Rattle.disk_index.specs.Snapshots.{unmarked}
 use Rattle.disk_index.proofs.RebuiltLemmas.{reads-length}
-use Rattle.range_masks.specs.Held.{AreAnswersOf, FitDocuments, Held}
+use Rattle.range_masks.specs.Held.{FitDocuments, Held}
 use Rattle.ranker.specs.Blocks.{AreReadBy}
 use Rattle.ranker.specs.Going.{PassesIn, tally}
 use Rattle.ranker.specs.Unbeaten.{sought, stretch}
 use Rattle.ranker.specs.Windows.{KeepsWindows}
 use Rattle.ranker.proofs.AheadLemmas.{IsKnown-read}
-use Rattle.ranker.proofs.ReadLemmas.{fits-part, read-after, sound-by}
+use Rattle.ranker.proofs.ReadLemmas.{fits-part, read-after, read-moved, sound-by}
 use Rattle.ranker.proofs.snapshots.pass_marked.Goals as goal
 
 pub pass_part-requires-clause-id : goal.pass_part-requires-clause-id
@@ -97,7 +96,7 @@ returns-clause-reads g c =
           let read : AreReadBy told (reads told m.source) c.pass_part.new.part.cache.now c.pass_part.new.part.held.now =
           read-after told (g.T.Store.files c.pass_part.new.part.store.now) m.source (source_of c.pass_part.new.part.part.now) c.pass_part.new.part.cache.now c.pass_part.new.part.held.now
           (quiet.store.same_files ∙ same_told) (quiet.same_part ∙ same_part) last.1 last.2 in
-          record { cache = subst (IsCacheBacked told) (search rules) read.cache; held = subst (AreAnswersOf (reads told m.source)) (search rules) read.held };
+          read-moved told (reads told m.source) _ _ _ _ (search rules) (search rules) read;
     }
 
 pub returns-clause-blocks : goal.returns-clause-blocks

@@ -65,6 +65,7 @@ module _ (g : given.Over) (c : After-pass_next g) where
 
 pub loop-left-init : goal.loop-left-init
 loop-left-init g c = record {
+  undamaged = refl;
   stay = refl;
   so_far = λ backed cached count ahead. Passes-same _ _ _ _ _;
   ahead = λ backed cached count ahead. ahead;
@@ -87,6 +88,7 @@ loop-left-preserved g c =
     let inv = c.loop-left.invariant in
     let docs = c.in_ok-passed.ensures.docs in
     record {
+      undamaged = c.in_ok-passed.ensures.undamaged ∙ c.loop-left.invariant.undamaged;
       stay = c.pass_next.ensures.stay ∙ inv.stay;
       so_far = λ backed cached count ahead.
           let s = by g on (priors g on) count in

@@ -24,6 +24,7 @@ invariant-loop-left g l = record {
   opened : OpensWithin (length l.terms) (opened_at l.parts l.fn.at l.fn.held.range) (opened_at l.parts l.at l.held.range) l.fn.blocks l.blocks;
   few : l.blocks + length l.terms * l.left ≤ l.fn.blocks + length l.terms * l.docs;
   credit : l.at.credit + l.left ≡ l.fn.at.credit + l.docs;
+  undamaged : l.cache.damage ≡ l.fn.cache.damage;
   squared : RiseAlike l.fn.squares l.squares l.fn.spent.squared l.spent.squared;
   counted : RiseAlike l.fn.blocks l.blocks l.fn.spent.opened l.spent.opened;
 }

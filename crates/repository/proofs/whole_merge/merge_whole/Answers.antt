@@ -3,7 +3,8 @@ use Rattle.repository.specs.Merges.{IsMergedTo, IsTurnedOver, IsTurnedTo, withou
 use Rattle.repository.specs.States.{State}
 use Rattle.repository.specs.declared.turned.Turned.{Turned}
 use Rattle.repository.proofs.PriorWrites.{writes-none}
-use Rattle.repository.proofs.WholeLemmas.{begun-some, done-begun, empty-cache, fault-begun, open-done, whole-writes, whole-wrote}
+use Rattle.disk_index.proofs.CacheLemmas.{new-cache}
+use Rattle.repository.proofs.WholeLemmas.{begun-some, done-begun, fault-begun, open-done, whole-writes, whole-wrote}
 use Rattle.repository.proofs.whole_merge.merge_whole.Goals as goal
 
 -- nothing is written
@@ -28,7 +29,7 @@ pub returns-clause-writes : goal.returns-clause-writes
 returns-clause-writes g c =
     let a = g.T.Store.files c.args.store.now in
     whole-writes g.T.Store.files g.T.Store.since c.args.repository.now c.begin_merge.new.self c.in-Ok.ensures.begun c.args.store.now c.merge_turn.new.store (c.begin_merge.ensures.reads a) c.merge_turn.ensures.stay c.merge_turn.ensures.stay_on
-    (λ k d backed stands read. c.merge_turn.ensures.stops k d (c.in-Ok.ensures.merging a backed) (empty-cache a c.in_ok-cache.cache c.in_ok-cache.ensures) stands read)
+    (λ k d backed stands read. c.merge_turn.ensures.stops k d (c.in-Ok.ensures.merging a backed) (new-cache a c.in_ok-cache.cache c.in_ok-cache.ensures) stands read)
 
 pub returns-clause-fault : goal.returns-clause-fault
 returns-clause-fault g c f told = fault-begun f c.args.repository.now c.begin_merge.new.self c.in_ok-cache.cache c.in-Err.fault c.in-Ok.ensures.begun c.in_ok-cache.ensures (c.in-Err.ensures.fault f told)
@@ -36,7 +37,7 @@ returns-clause-fault g c f told = fault-begun f c.args.repository.now c.begin_me
 pub returns-clause-honest : goal.returns-clause-honest
 returns-clause-honest g c backed =
     let a = g.T.Store.files c.args.store.now in
-    c.in-Err.ensures.honest (c.in-Ok.ensures.merging a backed) (empty-cache a c.in_ok-cache.cache c.in_ok-cache.ensures)
+    c.in-Err.ensures.honest (c.in-Ok.ensures.merging a backed) (new-cache a c.in_ok-cache.cache c.in_ok-cache.ensures)
 
 -- it is done
 
@@ -44,7 +45,7 @@ pub returns-in-Ok-Done-clause-writes : goal.returns-in-Ok-Done-clause-writes
 returns-in-Ok-Done-clause-writes g c =
     let a = g.T.Store.files c.args.store.now in
     whole-writes g.T.Store.files g.T.Store.since c.args.repository.now c.begin_merge.new.self c.in-Ok.ensures.begun c.args.store.now c.merge_turn.new.store (c.begin_merge.ensures.reads a) c.merge_turn.ensures.stay c.merge_turn.ensures.stay_on
-    (λ k d backed stands read. c.merge_turn.ensures.stops k d (c.in-Ok.ensures.merging a backed) (empty-cache a c.in_ok-cache.cache c.in_ok-cache.ensures) stands read)
+    (λ k d backed stands read. c.merge_turn.ensures.stops k d (c.in-Ok.ensures.merging a backed) (new-cache a c.in_ok-cache.cache c.in_ok-cache.ensures) stands read)
 
 pub returns-in-Ok-Done-clause-wrote : goal.returns-in-Ok-Done-clause-wrote
 returns-in-Ok-Done-clause-wrote g c =
@@ -55,4 +56,4 @@ returns-in-Ok-Done-clause-wrote g c =
     let t = c.merge_turn.new.self in
     let merged : IsMergedTo r t = subst (λ (x : Turned). IsTurnedTo x c.max.result r t) c.in-Ok-Done.field-0-is c.in-Ok-Done.ensures.state in
     whole-wrote a b s r t c.in-Ok.ensures.begun (merged.ended.limits ∙ ap (λ (x : State). x.held.limits) c.in-Ok.ensures.begun) (c.begin_merge.ensures.reads a)
-    (λ backed. subst (λ (x : Turned). IsTurnedOver x r.merge a b r t) c.in-Ok-Done.field-0-is (c.in-Ok-Done.ensures.over (c.in-Ok.ensures.merging a backed) (empty-cache a c.in_ok-cache.cache c.in_ok-cache.ensures)))
+    (λ backed. subst (λ (x : Turned). IsTurnedOver x r.merge a b r t) c.in-Ok-Done.field-0-is (c.in-Ok-Done.ensures.over (c.in-Ok.ensures.merging a backed) (new-cache a c.in_ok-cache.cache c.in_ok-cache.ensures)))

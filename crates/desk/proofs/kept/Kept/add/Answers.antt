@@ -15,6 +15,7 @@ use Rattle.desk.proofs.EventExits.{if-ok-all, stays-same}
 use Rattle.desk.proofs.Exits.{accepted-by}
 use Rattle.desk.proofs.Found.{seen}
 use Rattle.desk.proofs.KeptLemmas.{kept-repository, priors-call}
+use Rattle.desk.proofs.Points.{memory-damage, on-ok}
 use Rattle.desk.proofs.kept.Kept.add.Goals as goal
 
 pub invariant_of-self : goal.invariant_of-self
@@ -69,4 +70,6 @@ returns-clause-keeps c = record {
       let view = seen c.self.inside in
       if-ok-all c.not_added.result (λ (r : Reply). StaysIfRefused r c.args.self.now (with_repository view c.add.new.self)) (λ r. stays-same r c.args.self.now (with_repository view c.add.new.self) (ap (with_repository view) c.in-Err.ensures.kept ∙ c.self.view_is));
   usable = search rules;
+  undamaged = on-ok c.not_added.result _ (ap (λ (x : Keeps). x.cache.damage) c.self.view_is);
+  damaged = memory-damage c.not_added.result _ _ (ap (λ (x : Keeps). x.cache.damage) c.self.view_is) (search rules);
 }

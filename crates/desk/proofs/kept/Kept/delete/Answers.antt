@@ -67,4 +67,6 @@ returns-then-is_err-clause-keeps c = record {
       let was : is_err c.delete.result ≡ true = sym c.is_err.ensures.value ∙ c.if-is_err.true in
       ap (with_repository view) (err-of c.delete.result (c.delete.new.self ≡ view.repository) was c.delete.ensures.kept) ∙ c.self.view_is;
   usable = search rules;
+  undamaged = ap (λ (x : Keeps). x.cache.damage) c.self.view_is;
+  damaged = tt;
 }

@@ -1,4 +1,4 @@
-use Rattle.std.proofs.Common.{◌≡◌, ◌∙◌, ◌-◌, ap, length, map, rules, subst, sym, List, None}
+use Rattle.std.proofs.Common.{◌≡◌, ◌∙◌, ◌-◌, ap, length, map, rules, subst, sym, List, None, refl}
 use Rattle.std.specs.Prelude.{is_some}
 use Rattle.std.proofs.Math.Logic.{∥∥₁_map}
 use Rattle.std.proofs.lemmas.Result.{err_from_is_err_and}
@@ -26,7 +26,7 @@ use Rattle.desk.specs.Step.{step}
 use Rattle.desk.specs.Told.{told_early}
 use Rattle.desk.proofs.CacheLemmas.{cache-read}
 use Rattle.desk.proofs.Cases.{explain-noname}
-use Rattle.desk.proofs.Exits.{of-now, refused-exit, refused-here}
+use Rattle.desk.proofs.Exits.{leaves-failed, of-now, refused-exit, refused-here}
 use Rattle.desk.proofs.Found.{backed-of, left-explained, none-found, open-of, place-of, seen}
 use Rattle.desk.proofs.FormLemmas.{scale-form}
 use Rattle.desk.proofs.NamedExits.{all-passed, shown-entries}
@@ -105,6 +105,8 @@ returns-clause-keeps g c = record {
   kind = ap (λ (x : Keeps). x.kind) c.self.view_is;
   unchanged = tt;
   usable = search rules;
+  undamaged = c.in_ok-explained.ensures.undamaged ∙ ap (λ (x : Keeps). x.cache.damage) c.self.view_is;
+  damaged = tt;
 }
 
 pub returns-clause-steps : goal.returns-clause-steps
@@ -156,3 +158,8 @@ returns-in_err-explained-clause-honest g c = λ backed.
     let parts : c.parts.result.now ≡ q.search.snapshot = c.parts.ensures.parts ∙ c.snapshot.ensures in
     let p = err_from_is_err_and c.from_residual-in_err-explained.result c.from_residual-in_err-explained.ensures.1 in
     rw (p.1, p.2) (c.in_err-explained.ensures.honest (subst (λ (ms : List Marked). AreBacked told ms) (sym parts) query.snapshot) b.cache.backed)
+
+pub returns-in_err-explained-clause-keeps : goal.returns-in_err-explained-clause-keeps
+returns-in_err-explained-clause-keeps g c =
+    let p = err_from_is_err_and c.from_residual-in_err-explained.result c.from_residual-in_err-explained.ensures.1 in
+    rw (p.1, p.2) (leaves-failed _ (seen c.self.inside) c.args.self.now _ c.self.view_is refl c.in_err-explained.ensures.damaged)

@@ -7,10 +7,12 @@ use Rattle.desk.specs.Points.{kept_behind}
 use Rattle.desk.specs.Step.{step}
 use Rattle.desk.proofs.Cases.{kept-flushed, step-flushed}
 use Rattle.desk.proofs.DocumentExits.{with_repository}
-use Rattle.desk.proofs.Exits.{accepted-by, of-now}
+use Rattle.desk.proofs.Exits.{accepted-by, leaves-failed, of-now}
 use Rattle.desk.proofs.FlushExits.{flush-exit, flush-stands, flushed-now, flushed-stops}
 use Rattle.desk.proofs.Found.{seen}
 use Rattle.desk.proofs.KeptLemmas.{kept-repository, priors-saved}
+use Rattle.std.proofs.lemmas.Result.{err_from_is_err_and}
+use Rattle.disk_index.proofs.CacheLemmas.{outside-damage}
 use Rattle.desk.proofs.kept.Kept.flush.Goals as goal
 
 pub returns-in_err-flush-clause-files : goal.returns-in_err-flush-clause-files
@@ -46,3 +48,8 @@ pub invariant_of-self-2 : goal.invariant_of-self-2
 invariant_of-self-2 g c = λ usable working.
     let s = c.self.inside in
     kept-repository s.repository c.flush.new.self s.queries.items s.counts (priors-saved c.flush.result s.repository c.flush.new.self s.repository.stale c.flush.ensures.saved c.flush.ensures.broken working) (c.self.invariant usable (ap (λ (x : Keeps). x.repository.usable) c.self.view_is ∙ c.requires.usable.1))
+
+pub returns-in_err-flush-clause-keeps : goal.returns-in_err-flush-clause-keeps
+returns-in_err-flush-clause-keeps g c =
+    let p = err_from_is_err_and c.from_residual.result c.from_residual.ensures.1 in
+    rw (p.1, p.2) (leaves-failed _ (seen c.self.inside) c.args.self.now _ c.self.view_is refl (outside-damage _ _ c.in_err-flush.ensures.outside))

@@ -6,7 +6,7 @@ use Rattle.desk.specs.Backed.{IsDeskBacked, IsUsable, state_of}
 use Rattle.desk.specs.Keeping.{StaysIfRefused}
 use Rattle.desk.specs.Orders.{IsTrueReply}
 use Rattle.desk.proofs.EventExits.{if-ok-all, inside-kinds, stays-same}
-use Rattle.desk.proofs.Points.{on-ok}
+use Rattle.desk.proofs.Points.{memory-damage, on-ok}
 use Rattle.desk.proofs.kept.Kept.inside.Goals as goal
 
 pub returns-in-Document-clause-order : goal.returns-in-Document-clause-order
@@ -32,4 +32,6 @@ returns-in-Show-clause-keeps c = record {
   kind = refl;
   unchanged = if-ok-all c.show.result (λ (r : Reply). StaysIfRefused r c.args.self.now c.args.self.now) (λ r. stays-same r c.args.self.now c.args.self.now refl);
   usable = on-ok c.show.result (IsUsable c.args.self.now) c.requires.usable;
+  undamaged = on-ok c.show.result _ refl;
+  damaged = memory-damage c.show.result _ _ refl c.show.ensures.memory;
 }

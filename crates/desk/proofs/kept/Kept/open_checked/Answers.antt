@@ -29,6 +29,9 @@ use Rattle.desk.proofs.Closing.{priors-closed, snapped-kept, summed-kept}
 use Rattle.desk.proofs.Found.{found-as, seen}
 use Rattle.desk.proofs.KeptLemmas.{kept-pushed}
 use Rattle.desk.proofs.OpenExits.{full-refused, new-search, open-accepted-by, open-done, open-new, open-refusal, open-refused-by, taken-refused}
+use Rattle.desk.proofs.Exits.{leaves-failed}
+use Rattle.ri_base.specs.Faults.{TellsDamage}
+use Rattle.ri_base.specs.declared.seg_fault.SegFault.{SegFault}
 use Rattle.desk.proofs.kept.Kept.open_checked.Goals as goal
 
 pub returns-then-is_some-clause-steps : goal.returns-then-is_some-clause-steps
@@ -175,3 +178,44 @@ returns-clause-refuses g c = λ told.
     let free = found-as view c.args.self.now c.args.name c.self.view_is false (ap is_some (sym c.find.ensures) ∙ sym c.is_some.ensures ∙ c.if-is_some.false) in
     let room : nat_le MAX_QUERIES (length s.queries.items) ≡ false = lt-leb MAX_QUERIES (length s.queries.items) (omega (arith, c.len.ensures, c.if-len-ge-MAX_QUERIES.false)) in
     open-accepted-by told view c.args.self.now c.args.name c.args.k (whole_checked c.args.checked) c.self.view_is free room
+
+pub returns-in_err-stats-clause-keeps : goal.returns-in_err-stats-clause-keeps
+returns-in_err-stats-clause-keeps g c =
+    let p = err_from_is_err_and c.from_residual-in_err-stats.result c.from_residual-in_err-stats.ensures.1 in
+    rw (p.1, p.2) (leaves-failed _ (seen c.self.inside) c.args.self.now _ c.self.view_is refl c.in_err-stats.ensures.damaged)
+
+pub returns-in_err-search-clause-keeps : goal.returns-in_err-search-clause-keeps
+returns-in_err-search-clause-keeps g c =
+    let p = err_from_is_err_and c.from_residual-in_err-search.result c.from_residual-in_err-search.ensures.1 in
+    let fault = c.in_err-search.field-0.0 in
+    let tells = subst (λ (before : Option SegFault). TellsDamage before c.new_search.new.cache.damage fault) c.in_ok-stats.ensures.undamaged c.in_err-search.ensures.damaged in
+    rw (p.1, p.2) (record {
+      form = tt;
+      kind = ap (λ (x : Keeps). x.kind) c.self.view_is;
+      unchanged = tt;
+      usable = tt;
+      undamaged = tt;
+      damaged = subst (λ (x : Keeps). TellsDamage x.cache.damage c.new_search.new.cache.damage fault) c.self.view_is tells;
+    })
+
+pub returns-clause-keeps : goal.returns-clause-keeps
+returns-clause-keeps g c = record {
+  form = search rules;
+  kind = ap (λ (x : Keeps). x.kind) c.self.view_is;
+  unchanged = tt;
+  usable = search rules;
+  undamaged = c.in_ok-search.ensures.undamaged ∙ c.in_ok-stats.ensures.undamaged ∙ ap (λ (x : Keeps). x.cache.damage) c.self.view_is;
+  damaged = tt;
+}
+
+pub returns-in_err-map_err-clause-keeps : goal.returns-in_err-map_err-clause-keeps
+returns-in_err-map_err-clause-keeps g c =
+    let p = err_from_is_err_and c.from_residual-in_err-map_err.result c.from_residual-in_err-map_err.ensures.1 in
+    rw (p.1, p.2) (record {
+      form = tt;
+      kind = ap (λ (x : Keeps). x.kind) c.self.view_is;
+      unchanged = tt;
+      usable = tt;
+      undamaged = tt;
+      damaged = c.in_ok-search.ensures.undamaged ∙ c.in_ok-stats.ensures.undamaged ∙ ap (λ (x : Keeps). x.cache.damage) c.self.view_is;
+    })

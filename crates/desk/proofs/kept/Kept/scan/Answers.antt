@@ -1,4 +1,4 @@
-use Rattle.std.proofs.Common.{◌≡◌, ◌∙◌, ap, refl, subst, sym, List}
+use Rattle.std.proofs.Common.{◌≡◌, ◌∙◌, ap, refl, subst, sym, List, rules}
 use Rattle.std.specs.Prelude.{Err, Ok}
 use Rattle.std.proofs.lemmas.Result.{err_from_is_err_and}
 use Rattle.ri_base.specs.Expression.{expr_tree}
@@ -14,7 +14,7 @@ use Rattle.desk.specs.declared.asking.NotTaken.TheVariants as not_taken
 use Rattle.desk.proofs.CacheLemmas.{cache-read, listed-now}
 use Rattle.desk.proofs.Cases.{scan-fault, scan-found}
 use Rattle.desk.proofs.Closing.{snapped-kept}
-use Rattle.desk.proofs.Exits.{accepted-by, refused-exit, refused-so}
+use Rattle.desk.proofs.Exits.{accepted-by, leaves-failed, refused-exit, refused-so}
 use Rattle.desk.proofs.Found.{seen}
 use Rattle.desk.proofs.ReadingExits.{scan-done}
 use Rattle.desk.proofs.kept.Kept.scan.Goals as goal
@@ -81,3 +81,18 @@ returns-in_err-lines-clause-honest g c = λ backed.
     let b : IsDeskBacked told view = subst (IsDeskBacked told) (sym c.self.view_is) backed in
     let p = err_from_is_err_and c.from_residual-in_err-lines.result c.from_residual-in_err-lines.ensures.1 in
     rw (p.1, p.2) (c.in_err-lines.ensures.honest (subst (λ (ms : List Marked). AreBacked told ms) (sym c.parts.ensures.parts) (c.in_ok-snapshot.ensures.stored told b.repository)) b.cache.backed)
+
+pub returns-in_err-lines-clause-keeps : goal.returns-in_err-lines-clause-keeps
+returns-in_err-lines-clause-keeps g c =
+    let p = err_from_is_err_and c.from_residual-in_err-lines.result c.from_residual-in_err-lines.ensures.1 in
+    rw (p.1, p.2) (leaves-failed _ (seen c.self.inside) c.args.self.now _ c.self.view_is refl c.in_err-lines.ensures.damaged)
+
+pub returns-clause-keeps : goal.returns-clause-keeps
+returns-clause-keeps g c = record {
+  form = search rules;
+  kind = ap (λ (x : Keeps). x.kind) c.self.view_is;
+  unchanged = tt;
+  usable = search rules;
+  undamaged = c.in_ok-lines.ensures.undamaged ∙ ap (λ (x : Keeps). x.cache.damage) c.self.view_is;
+  damaged = tt;
+}

@@ -1,4 +1,4 @@
-use Rattle.std.proofs.Common.{◌≡◌, ◌∙◌, ◌≤◌, ap, get_or, length, refl, subst, sym, Some, Option, set}
+use Rattle.std.proofs.Common.{◌≡◌, ◌∙◌, ◌≤◌, ap, get_or, length, refl, subst, sym, Some, Option, set, rules}
 use Rattle.std.specs.Prelude.{is_ok}
 use Rattle.std.specs.List.{position}
 use Rattle.store_ends.specs.Files.{Files}
@@ -17,6 +17,8 @@ use Rattle.desk.proofs.KeptLemmas.{asks-nine, kept-set, open-on}
 use Rattle.desk.proofs.NamedExits.{step-exit, with_search}
 use Rattle.desk.proofs.Naming.{at-place, found-place, is_named, named-here}
 use Rattle.desk.proofs.QueryLemmas.{plugs-moved}
+use Rattle.ri_base.specs.Faults.{TellsDamage}
+use Rattle.ri_base.specs.declared.seg_fault.SegFault.{SegFault}
 use Rattle.desk.proofs.kept.Kept.step.Goals as goal
 
 pub returns-in_default-clause-steps : goal.returns-in_default-clause-steps
@@ -105,3 +107,26 @@ returns-in-Err-clause-honest g c = λ backed.
     let query = backed-of view c.args.self.now name c.in-Some.place q c.self.view_is (sym c.find.ensures ∙ c.in-Some.is) told c.index_mut.ensures.value b in
     let kind : c.args.rule.now.kind ≡ view.kind = c.requires.kind ∙ sym (ap (λ (x : Keeps). x.kind) c.self.view_is) in
     c.in-Err.ensures.honest view.repository (subst (λ k. IsQueryBacked told view.repository k q) (sym kind) query) b.cache.backed
+
+pub returns-in-Err-clause-keeps : goal.returns-in-Err-clause-keeps
+returns-in-Err-clause-keeps g c =
+    let met : c.match-name.self.cache.damage ≡ c.advance.new.cache.damage = search rules in
+    let tells = subst (λ (x : Keeps). TellsDamage x.cache.damage c.advance.new.cache.damage c.in-Err.fault) c.self.view_is c.in-Err.ensures.damaged in
+    record {
+      form = tt;
+      kind = search rules;
+      unchanged = tt;
+      usable = tt;
+      undamaged = tt;
+      damaged = subst (λ (after : Option SegFault). TellsDamage c.args.self.now.cache.damage after c.in-Err.fault) (sym met) tells;
+    }
+
+pub returns-in-Ok-clause-keeps : goal.returns-in-Ok-clause-keeps
+returns-in-Ok-clause-keeps g c = record {
+  form = search rules;
+  kind = ap (λ (x : Keeps). x.kind) c.self.view_is;
+  unchanged = tt;
+  usable = search rules;
+  undamaged = c.in-Ok.ensures.undamaged ∙ ap (λ (x : Keeps). x.cache.damage) c.self.view_is;
+  damaged = tt;
+}

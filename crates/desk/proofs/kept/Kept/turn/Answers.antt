@@ -1,4 +1,4 @@
-use Rattle.std.proofs.Common.{◌≡◌, ◌∙◌, false, true, ap, inl, rules, subst, sym}
+use Rattle.std.proofs.Common.{◌≡◌, ◌∙◌, false, true, ap, inl, rules, subst, sym, refl}
 use Rattle.std.specs.Prelude.{is_some}
 use Rattle.std.proofs.lemmas.Result.{err_from_is_err_and}
 use Rattle.store_ends.proofs.Files.{Leaves-same}
@@ -11,7 +11,7 @@ use Rattle.desk.specs.Backed.{Keeps, Steps, state_of}
 use Rattle.desk.specs.Keeping.{StaysIfRefused}
 use Rattle.desk.specs.Step.{step}
 use Rattle.desk.specs.Told.{RefusesAs}
-use Rattle.desk.proofs.Exits.{of-now, refused-by, refused-exit}
+use Rattle.desk.proofs.Exits.{leaves-failed, of-now, refused-by, refused-exit}
 use Rattle.desk.proofs.Found.{seen}
 use Rattle.desk.proofs.KeptLemmas.{kept-repository, priors-turned}
 use Rattle.desk.proofs.MergeExits.{with_merged}
@@ -66,6 +66,8 @@ returns-clause-keeps g c = record {
       let behind : Keeps = record { repository = c.merge_turn.new.self; kind = s.kind; queries = s.queries.items; counts = s.counts; cache = c.merge_turn.new.cache; usable = s.usable } in
       subst (λ (x : Reply). StaysIfRefused x c.args.self.now behind) (sym c.turned_reply.ensures) (turn-stays c.in_ok-turned.turned c.live_count.result c.args.self.now behind);
   usable = search rules;
+  undamaged = c.in_ok-turned.ensures.undamaged ∙ ap (λ (x : Keeps). x.cache.damage) c.self.view_is;
+  damaged = tt;
 }
 
 pub returns-in_err-turned-clause-honest : goal.returns-in_err-turned-clause-honest
@@ -96,3 +98,8 @@ pub invariant_of-self-2 : goal.invariant_of-self-2
 invariant_of-self-2 g c = λ usable working.
     let s = c.self.inside in
     kept-repository s.repository c.merge_turn.new.self s.queries.items s.counts (priors-turned c.merge_turn.result c.args.docs s.repository c.merge_turn.new.self c.merge_turn.ensures.state c.merge_turn.ensures.broken working) (c.self.invariant usable (ap (λ (x : Keeps). x.repository.usable) c.self.view_is ∙ c.requires.usable.1))
+
+pub returns-in_err-turned-clause-keeps : goal.returns-in_err-turned-clause-keeps
+returns-in_err-turned-clause-keeps g c =
+    let p = err_from_is_err_and c.from_residual.result c.from_residual.ensures.1 in
+    rw (p.1, p.2) (leaves-failed _ (seen c.self.inside) c.args.self.now _ c.self.view_is refl c.in_err-turned.ensures.damaged)

@@ -1,4 +1,4 @@
-use Rattle.std.proofs.Common.{◌≡◌, ◌<◌, ℕ, List, All, IsTrue, length, ap, sym, subst, ◌∙◌, rules}
+use Rattle.std.proofs.Common.{Contains, ◌≡◌, ◌<◌, ℕ, List, All, IsTrue, length, ap, sym, subst, ◌∙◌, rules}
 use Rattle.std.specs.List.Sorted.{IsStrictlyIncreasing}
 use Rattle.std.proofs.lemmas.Result.{err_from_is_err_and}
 use Rattle.ri_base.specs.Collection.{document_at}
@@ -8,6 +8,8 @@ use Rattle.ri_base.specs.declared.seg_fault.PartName.TheVariants as parts
 use Rattle.ri_base.specs.declared.seg_fault.SegFault.TheVariants.{Malformed}
 use Rattle.ri_base.proofs.PlacesLemmas.{places-below, places-rise}
 use Rattle.seg_codec.specs.Blocks.{tokens_of}
+use Rattle.ri_base.specs.declared.seg_fault.SegFault.{SegFault}
+use Rattle.disk_index.specs.Cache.{KeptBlock}
 use Rattle.disk_index.specs.Blocks.{places_of, told_file}
 use Rattle.disk_index.specs.Faults.{ArePlacesIn, IsTermFault}
 use Rattle.disk_index.specs.Kept.{Kept}
@@ -50,11 +52,14 @@ returns-in_err-block-clause-fault g c = λ f told.
 pub returns-then-not-are_places-clause-fault : goal.returns-then-not-are_places-clause-fault
 returns-then-not-are_places-clause-fault g c = λ f told.
     let own : c.self.inside.number ≡ c.args.self.now.number = ap (λ (k : Kept). k.number) c.self.view_is in
-    subst (λ n. IsTermFault f c.args.cache.now c.args.self.now c.args.term.now c.args.id (Malformed (Segment n) parts.Block c.block_place.result)) (sym own)
+    subst (λ (e : SegFault). IsTermFault f c.args.cache.now c.args.self.now c.args.term.now c.args.id e) (sym c.noted.ensures.same) (subst (λ n. IsTermFault f c.args.cache.now c.args.self.now c.args.term.now c.args.id (Malformed (Segment n) parts.Block c.block_place.result)) (sym own)
     (wrong-kept f (g.T.Store.files c.args.store.now) c.args.cache.now c.args.self.now c.args.term.now c.args.id c.block_place.result c.in_ok-block.block c.block_place.ensures c.in_ok-block.ensures.origin (λ h.
     let rises : IsTrue c.are_places.result =
     c.are_places.ensures.no (subst (λ n. ArePlacesIn n c.places-places.result.now) (sym c.length.ensures.kept) (subst (λ (l : List ℕ). ArePlacesIn (tokens_of c.args.self.now.outlines c.args.id) l) (sym c.places-places.ensures) h)) in
-    search (rules, rises)))
+    search (rules, rises))))
+
+pub returns-then-not-are_places-clause-cache : goal.returns-then-not-are_places-clause-cache
+returns-then-not-are_places-clause-cache g c = record { each = λ e h. c.in_ok-block.ensures.cache.each e (subst (λ (l : List KeptBlock). Contains l e) c.noted.ensures.kept h) }
 
 pub returns-in_err-positions_of-clause-fault : goal.returns-in_err-positions_of-clause-fault
 returns-in_err-positions_of-clause-fault g c = λ f told.

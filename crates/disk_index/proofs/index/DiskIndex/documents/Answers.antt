@@ -1,13 +1,14 @@
 use Rattle.std.proofs.Common.{◌≡◌, List, Option, None, Some, sym, ap, subst, ◌∙◌}
 use Rattle.std.proofs.lemmas.Option.{same_Some}
 use Rattle.std.proofs.lemmas.Result.{err_from_is_err_and}
+use Rattle.ri_base.specs.declared.seg_fault.SegFault.{SegFault}
 use Rattle.store_ends.specs.Files.{Files}
 use Rattle.seg_codec.specs.Held.{lengths_of}
 use Rattle.seg_codec.specs.declared.dictionary.TermBlocks.{TermBlocks}
 use Rattle.seg_codec.specs.declared.documents.Entry.{Entry}
 use Rattle.disk_index.specs.Blocks.{of_range}
 use Rattle.disk_index.specs.Rebuild.{Slots, documents_of, lengths}
-use Rattle.disk_index.specs.Together.{AreAllRows}
+use Rattle.disk_index.specs.Together.{AreAllRows, IsDocumentsFault}
 use Rattle.disk_index.proofs.RebuildLemmas.{documents-outlines, range-again}
 use Rattle.disk_index.proofs.TogetherLemmas.{block-apart, untold-token}
 use Rattle.disk_index.proofs.index.DiskIndex.documents.Goals as goal
@@ -55,13 +56,14 @@ returns-clause-honest g c = λ docs b kept.
 pub returns-clause-fault : goal.returns-clause-fault
 returns-clause-fault g c = λ f is_told.
     let files = g.T.Store.files c.args.store.now in
-    untold-token f c.args.cache.now c.args.self.now c.args.range c.in_ok-told.told.last c.in_ok-told.told.rows.items c.malformed.result
+    subst (λ (e : SegFault). IsDocumentsFault f c.args.cache.now c.args.self.now c.args.range e) (sym c.noted.ensures.same)
+    (untold-token f c.args.cache.now c.args.self.now c.args.range c.in_ok-told.told.last c.in_ok-told.told.rows.items c.malformed.result
     (subst (λ (t : Option Files). AreAllRows t c.args.cache.now c.args.self.now c.args.range c.in_ok-told.told.rows.items) is_told c.in_ok-told.ensures.told)
     (sym (shown c.args.self.now.dictionary _ c.outlines.result.now _ c.deref.result.now _ c.dictionary.ensures c.outlines.ensures.are c.deref.ensures.value) ∙ sym c.in_ok-docs.ensures ∙ c.in-None.is)
-    c.in_ok-told.ensures.last c.malformed.ensures
+    c.in_ok-told.ensures.last c.malformed.ensures)
 
 pub returns-clause-store : goal.returns-clause-store
-returns-clause-store g c = λ is. absurd (block-apart c.args.self.now.number _ c.malformed.result c.malformed.ensures cc)
+returns-clause-store g c = λ is. absurd (block-apart c.args.self.now.number _ c.noted.result (c.noted.ensures.same ∙ c.malformed.ensures) cc)
 
 pub returns-in-Some-clause-told : goal.returns-in-Some-clause-told
 returns-in-Some-clause-told g c = record {

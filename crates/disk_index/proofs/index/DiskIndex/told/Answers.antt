@@ -1,11 +1,11 @@
-use Rattle.std.proofs.Common.{◌≡◌, ◌∷◌, ◌++◌, [], ℕ, List, Option, None, Ok, Err, length, map, take, get_or, replicate, refl, subst, sym, ap, ◌∙◌, arith}
+use Rattle.std.proofs.Common.{Contains, ◌≡◌, ◌∷◌, ◌++◌, [], ℕ, List, Option, None, Ok, Err, length, map, take, get_or, replicate, refl, subst, sym, ap, ◌∙◌, arith}
 use Rattle.std.proofs.lemmas.List.{take_all, take_more}
 use Rattle.std.proofs.lemmas.Result.{err_from_is_err_and}
 use Rattle.seg_codec.specs.declared.blocks.BlockEntry.{BlockEntry}
 use Rattle.seg_codec.specs.declared.documents.Entry.{Entry}
 use Rattle.store_ends.specs.Files.{Files}
 use Rattle.disk_index.specs.Blocks.{block_of, of_range}
-use Rattle.disk_index.specs.Cache.{IsCacheBacked}
+use Rattle.disk_index.specs.Cache.{KeptBlock, IsCacheBacked}
 use Rattle.disk_index.specs.Faults.{IsTermBlock}
 use Rattle.disk_index.specs.QuietLaws.{IsQuiet-same, IsQuiet-then}
 use Rattle.disk_index.specs.Ranks.{term_of}
@@ -14,7 +14,7 @@ use Rattle.disk_index.specs.Rebuild.{lengths, put_block, rows_of}
 use Rattle.disk_index.specs.Together.{AreRows, last_begin}
 use Rattle.disk_index.proofs.RankLemmas.{ranks-before, ranks-inside}
 use Rattle.disk_index.proofs.RebuildLemmas.{entries-lengths, rank-more, untold-lengths, untold-range}
-use Rattle.disk_index.proofs.TogetherLemmas.{AllKept-then, block-before, last-more, rows-more, unput, unput-apart, unread}
+use Rattle.disk_index.proofs.TogetherLemmas.{block-before, last-more, rows-more, unput, unput-apart, unread}
 use Rattle.disk_index.proofs.index.DiskIndex.told.Goals as goal
 
 pub loop-rank-init : goal.loop-rank-init
@@ -26,6 +26,7 @@ loop-rank-init g c =
       later = omega arith;
       same = refl;
       cache = λ e h. h;
+      undamaged = refl;
       within = omega arith;
       told = rows;
       last = c.blocks_at-last.ensures;
@@ -57,7 +58,7 @@ returns-in_err-block-clause-fault g c = λ f told.
     (subst (λ (t : Option Files). AreRows t c.args.cache.now c.args.self.now c.args.range ks i c.loop-rank.rows.items) told inv.told) (c.in_err-block.ensures.fault f (inv.quiet.same_files ∙ told)))
 
 pub returns-in_err-block-clause-cache : goal.returns-in_err-block-clause-cache
-returns-in_err-block-clause-cache g c = AllKept-then _ _ _ c.loop-rank.invariant.cache c.in_err-block.ensures.cache
+returns-in_err-block-clause-cache g c = λ e h. c.loop-rank.invariant.cache e (c.in_err-block.ensures.cache e h)
 
 pub returns-in_err-put-clause-honest : goal.returns-in_err-put-clause-honest
 returns-in_err-put-clause-honest g c = λ docs b kept.
@@ -90,7 +91,7 @@ returns-in_err-put-clause-fault g c = λ f told.
     (subst (λ (t : Option Files). IsTermBlock t c.args.cache.now c.args.self.now (term_of c.args.self.now.dictionary (get_or ks i 0)) c.args.range c.in_ok-block.block) told block) c.in_err-put.ensures.err)
 
 pub returns-in_err-put-clause-cache : goal.returns-in_err-put-clause-cache
-returns-in_err-put-clause-cache g c = AllKept-then _ _ _ c.loop-rank.invariant.cache c.in_ok-block.ensures.cache
+returns-in_err-put-clause-cache g c = λ e h. c.loop-rank.invariant.cache e (c.in_ok-block.ensures.cache e (subst (λ (l : List KeptBlock). Contains l e) c.put.ensures.kept h))
 
 pub returns-in_err-put-clause-store : goal.returns-in_err-put-clause-store
 returns-in_err-put-clause-store g c = λ is.
@@ -112,7 +113,8 @@ loop-rank-preserved g c =
       quiet = IsQuiet-then g.T.Store.files g.T.Store.layers g.T.Store.clock g.T.Store.since g.T.Store.longest g.T.Store.held g.T.Store.faults _ _ _ inv.quiet c.in_ok-block.ensures.quiet;
       later = omega (arith, inv.later, c.in_ok-block.ensures.later);
       same = c.in_ok-block.ensures.none (λ is. absurd cc) ∙ inv.same;
-      cache = AllKept-then _ _ _ inv.cache c.in_ok-block.ensures.cache;
+      cache = λ e h. inv.cache e (c.in_ok-block.ensures.cache e (subst (λ (l : List KeptBlock). Contains l e) c.put.ensures.kept h));
+      undamaged = c.in_ok-put.ensures.undamaged ∙ c.in_ok-block.ensures.undamaged ∙ inv.undamaged;
       within = omega (arith, c.loop-rank-test.true);
       told = rows-more files c.args.cache.now c.args.self.now c.args.range ks i c.loop-rank.rows.items c.put.new.rows.items inv.told (record {
         entries = c.in_ok-block.block;

@@ -15,6 +15,7 @@ invariant-loop-rank g l = record {
   later : g.T.Store.faults l.initial.store ≤ g.T.Store.faults l.store;
   same : g.T.Store.faults l.store ≡ g.T.Store.faults l.initial.store;
   cache : AllKept l.initial.cache l.cache;
+  undamaged : l.cache.damage ≡ l.initial.cache.damage;
   within : l.rank-index ≤ length l.ranks;
   told : AreRows (g.T.Store.files l.initial.store) l.initial.cache l.self l.range l.ranks l.rank-index l.rows.items;
   last : l.last ≡ last_begin l.self l.range l.ranks l.rank-index;

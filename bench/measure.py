@@ -100,7 +100,9 @@ class AddBound:
     files: float
 
 
-EXPONENT = 1.1
+# The slope of a linear body scatters, since its times are tenths of a second: it was 0.86 to 1.16. Of a body that looks at its text again and
+# again it is near 2.
+EXPONENT = 1.2
 
 TEXTS = ("rain", "#1(the launch)", "#uw8(the launch)", "launch.head")
 NEWSWIRE_SCAN = Bound(4.5, 12)
@@ -128,7 +130,7 @@ PIECES = {PLAIN: (Bound(5, 56), Bound(6, 80)), "</doc ": (Bound(6.5, 64), Bound(
 
 # A text of more than 14 bytes lies behind a pointer, in two allocations: these words have 15.
 LARGE = (Bound(4, 128), Bound(5, 128))
-DISTINCT = (Bound(4.5, 128), Bound(12, 500))
+DISTINCT = (Bound(4.5, 128), Bound(20, 500))
 
 ADD_TO_SCAN = 5
 BYTES_A_TOKEN = 80

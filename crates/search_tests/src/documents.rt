@@ -2,7 +2,7 @@
 ghost use Rattle.std.specs.Prelude.{◌<◌, ◌≤◌, length, IfSome};
 ghost use Rattle.ri_base.specs.Documents.{AreFields};
 
-use crate::made::made_terms;
+use crate::made::{SIZE, made_terms};
 use ri_base::{Doc, Docno, FieldSpan, Name, Spans, Term, Terms};
 use std::alloc::Global;
 
@@ -74,7 +74,8 @@ fn first_word(alloc: Global, words: u32) -> Option<Spans>
 }
 
 pub fn docno(alloc: Global, number: u32) -> Option<Docno> {
-    let text = format!(in alloc; "d{}", 1000 - number % 1000).ok()?;
+    let size = if number < 1000 { 1000 } else { SIZE };
+    let text = format!(in alloc; "d{}", size - number % size).ok()?;
     Docno::new(alloc, text.as_bytes()).ok()?
 }
 

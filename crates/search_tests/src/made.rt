@@ -1,8 +1,11 @@
-// The words of documents that are made by their numbers, a thousand for each collection. Collections have five shapes in turn.
+// The words of documents that are made by their numbers. Collections have five shapes in turn.
 ghost use Rattle.std.specs.Prelude.{◌<◌, ◌≤◌, length, IfSome};
 
 use ri_base::{Term, Terms};
 use std::alloc::Global;
+
+/// How many documents a collection has.
+pub const SIZE: u32 = 2000;
 
 /// How a collection's documents differ in their lengths, and in how many of their words are searched for.
 #[derive(Clone, Copy)]
@@ -30,7 +33,7 @@ fn next(state: u64) -> u64 {
 }
 
 fn shape_of(number: u32) -> Shape {
-    match number / 1000 % 5 {
+    match number / SIZE % 5 {
         0 => Shape::Alike,
         1 => Shape::Mixed,
         2 => Shape::Growing,
@@ -41,7 +44,7 @@ fn shape_of(number: u32) -> Shape {
 
 /// How many words a document has, and how many of sixteen of these are searched for, nearly.
 fn measures_of(shape: Shape, number: u32, state: u64) -> (u64, u64) {
-    let place = number % 1000;
+    let place = number % SIZE;
     match shape {
         Shape::Alike => (9, 8),
         Shape::Mixed => (4 + (state >> 33) % 28, (state >> 40) % 8),
@@ -55,9 +58,9 @@ fn measures_of(shape: Shape, number: u32, state: u64) -> (u64, u64) {
 fn seed_of(shape: Shape, number: u32) -> u64 {
     let place = match shape {
         Shape::Alike => number % 7,
-        _ => number % 1000,
+        _ => number % SIZE,
     };
-    next(next(u64::from(number / 1000) * 1000 + u64::from(place)))
+    next(next(u64::from(number / SIZE * SIZE) + u64::from(place)))
 }
 
 /// A word that is searched for, in some of sixteen cases, else another one.

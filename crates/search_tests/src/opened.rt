@@ -31,8 +31,8 @@ fn made(alloc: Global, store: &mut MemStore, part: u32) -> Option<Repository> {
     }
     let limits = Limits {
         part_docs: part,
-        held_docs: 1000,
-        held_tokens: 100_000,
+        held_docs: 2000,
+        held_tokens: 200_000,
     };
     Repository::open(alloc, store, limits).ok()?
 }

@@ -1,4 +1,5 @@
 // Results are the same whether ranges are skipped or not.
+use crate::made::SIZE;
 use crate::opened::{Documents, Opened, cache_of, open};
 use crate::searches::{Wanted, found};
 use ri_base::Hit;
@@ -21,15 +22,15 @@ pub static QUERIES: [&str; 11] = [
     "#combine[passage8:6](a c)",
 ];
 
-/// A collection of a thousand documents, by its number: two parts in files and one in memory, all with deleted documents. Numbers that
+/// A collection of two thousand documents, by its number: two parts in files and one in memory, all with deleted documents. Numbers that
 /// differ by five have the same shape.
 pub fn collection(number: u8) -> Documents {
-    let first = 1000 * u32::from(number);
+    let first = SIZE * u32::from(number);
     Documents {
-        part: 400,
+        part: 800,
         first,
-        in_files: first + 800,
-        all: first + 1000,
+        in_files: first + 1600,
+        all: first + SIZE,
     }
 }
 
@@ -135,7 +136,7 @@ fn first_other(alloc: Global, first: u8, last: u8, counts: &[u32]) -> Option<u8>
 
 #[test]
 fn in_each_shape(rt: HostRuntime) {
-    assert_eq!(rt; first_other(rt.alloc(), 1, 5, &[1, 10, 2000]), None);
+    assert_eq!(rt; first_other(rt.alloc(), 1, 5, &[1, 10, 4000]), None);
 }
 
 #[test]

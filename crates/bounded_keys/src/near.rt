@@ -1,5 +1,5 @@
 // Items that are kept beside the first ones.
-ghost use Rattle.std.specs.Prelude.{◌≡◌, ◌≤◌, ◌∷◌, ◌++◌, [], ℕ, true, OnOk, not};
+ghost use Rattle.std.specs.Prelude.{◌≡◌, ◌≤◌, ◌∷◌, ◌++◌, [], ℕ, true, None, OnOk, not};
 ghost use Rattle.std.specs.List.{filter};
 ghost use Rattle.bounded_keys.specs.Kept.{LeavesOut, beats};
 ghost use Rattle.bounded_keys.specs.Runs.{IsFull, count_before};
@@ -11,11 +11,11 @@ use std::alloc::{AllocError, Global};
 use std::mem;
 
 /// Items of which none is known to be behind so many others. They are looked through when they are more than the limit. From then on
-/// `full` tells of some of them, in their order, that so many stand before what one of these stands before.
+/// `full` tells of one of them that so many stand before what it stands before.
 #[derive(Drop)]
 pub struct Near<T: Leading> {
     pub items: Vec<T>,
-    pub full: Vec<usize>,
+    pub full: Option<usize>,
     limit: usize,
 }
 
@@ -36,38 +36,27 @@ pub fn drop_above<T: Leading + Drop>(items: &mut Vec<T>, threshold: Threshold)
     items.retain(|x| !threshold.beats(x.leading()));
 }
 
-/// Whether the item at a place is ahead of another in the order of runs.
-fn is_ahead<T: Leading>(items: &[T], place: usize, item: &T) -> bool {
-    match items.get(place) {
-        Some(other) => other.in_runs(item).is_lt(),
-        None => false,
-    }
-}
-
 impl<T: Leading + Drop> Near<T> {
     /// None is kept yet.
     pub fn new(alloc: Global, most: usize) -> Near<T>
         ensures items { result.items.items ≡ [] }
-        ensures full { result.full.items ≡ [] }
+        ensures full { result.full ≡ None }
     {
         Near {
             items: Vec::new(alloc),
-            full: Vec::new(alloc),
+            full: None,
             limit: limit_of(0, most),
         }
     }
 
     /// Whether it is known that so many stand before an item.
     fn is_passed(&self, item: &T) -> bool
-        ensures { result ≡ true → (most : ℕ) → IsFull T.before most self.now.full.items self.now.items.items → most ≤ count_before T.before self.now.items.items item.now }
+        ensures { result ≡ true → (most : ℕ) → IsFull T.before most self.now.full self.now.items.items → most ≤ count_before T.before self.now.items.items item.now }
     {
-        let ends = self
-            .full
-            .partition_point(|place| is_ahead(&self.items, *place, item));
-        let Some(place) = self.full[..ends].last() else {
+        let Some(place) = self.full else {
             return false;
         };
-        match self.items.get(*place) {
+        match self.items.get(place) {
             Some(last) => last.is_before(item),
             None => false,
         }
@@ -75,13 +64,13 @@ impl<T: Leading + Drop> Near<T> {
 
     /// Looks the items through: those that are above the threshold go, and so do those that aren't among the first of their run.
     fn purge(&mut self, most: usize, threshold: Threshold) -> Result<(), AllocError>
-        ensures full { IsFull T.before most self.new.full.items self.new.items.items }
+        ensures full { IsFull T.before most self.new.full self.new.items.items }
         ensures left { OnOk result (LeavesOut T.number T.before most threshold self.old.items.items self.new.items.items) }
     {
         drop_above(&mut self.items, threshold);
         let alloc = *self.items.allocator();
         let items = mem::replace(&mut self.items, Vec::new(alloc));
-        self.full.clear();
+        self.full = None;
         let runs = first_of_runs(alloc, items, most)?;
         self.items = runs.items;
         self.full = runs.full;
@@ -91,8 +80,8 @@ impl<T: Leading + Drop> Near<T> {
 
     /// Keeps an item too, unless it is known to be behind so many others.
     pub fn keep(&mut self, most: usize, threshold: Threshold, item: T) -> Result<(), AllocError>
-        requires { IsFull T.before most self.old.full.items self.old.items.items }
-        ensures full { IsFull T.before most self.new.full.items self.new.items.items }
+        requires { IsFull T.before most self.old.full self.old.items.items }
+        ensures full { IsFull T.before most self.new.full self.new.items.items }
         ensures left { OnOk result (LeavesOut T.number T.before most threshold (self.old.items.items ++ item ∷ []) self.new.items.items) }
     {
         if threshold.beats(item.leading()) || self.is_passed(&item) {

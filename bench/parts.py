@@ -31,8 +31,10 @@ than 1,000 results of 1,000 the row only says what they take, since the program 
 few ranges have no document that may be among the first 10 by what is known of the range, or none: there the tables are made for little
 or for nothing.
 
---instructions measures nothing but how many instructions a search for 10 results takes, with tables and without, and what the tables take, by
-valgrind. These numbers are the same on a machine that does other things meanwhile, where times aren't. The bounds are those of the times.
+--instructions measures nothing but how many instructions a search takes, by valgrind: for 1,000 results by one step and by steps of one,
+and for 10 results with tables and without, and what the tables take. These numbers are the same on a machine that does other things meanwhile,
+where times aren't. The bounds are those of the times. Where nothing is found one step passes all documents at once, so there it is bounded
+what a step of one takes.
 
 A row of memory has how much more the peak is of a search for thousands of results than of one for 10, for each result more and each
 leaf of the query. The search is the first of its process. The numbers of results stand on both sides of those at which its list is moved.
@@ -69,6 +71,8 @@ TENTHS, RARE, FEW = (1, 2, 3), 4, 500
 ALL_TENTHS = " ".join(f"w{word}" for word in TENTHS)
 SEARCHED = {"absent": 0.1, f"w{RARE}": 3, ALL_TENTHS: 60}
 STEPS, SEARCH_EXPONENT = 1.3, 0.3
+# The queries that find something, and how many instructions a step of one document may take where nothing is found.
+FOUND, STEP = (f"w{RARE}", ALL_TENTHS), 20
 MANY, TEN, HALF = 1000, 10, 0.5
 DEARER, TABLES = 1.1, 0.1
 # Blocks from this size on are given back once they are freed.
@@ -326,21 +330,32 @@ class Table:
         )
         print(f"{'  with tables':<24}", "   ".join(cells), flush=True)
 
-    def instructions_of(self, *words):
+    def instructions_of(self, query, *words):
         """How many instructions a query takes once its words are counted and its blocks are kept: those of a second one."""
         counts = []
         for lines in (1, 2):
             command = ["valgrind", "--tool=callgrind", "--callgrind-out-file=/dev/null", self.program, *map(str, words)]
-            run = subprocess.run(command, input=f"{ALL_TENTHS}\n" * lines, capture_output=True, text=True, check=True)
+            run = subprocess.run(command, input=f"{query}\n" * lines, capture_output=True, text=True, check=True)
             counts.append(int(re.search(r"Collected : (\d+)", run.stderr)[1]))
         return counts[1] - counts[0]
+
+    def instructions_of_steps(self, folder, documents, query):
+        """A search by one step and by steps of one, in instructions."""
+        whole, by_one = (self.instructions_of(query, "search", folder, documents, MANY, step) for step in (documents, 1))
+        each = (by_one - whole) / documents
+        cells = [f"{whole / 1e6:6.2f} million"]
+        if query in FOUND:
+            cells.append(self.bounded(f"by steps of one {by_one / 1e6:6.2f}, {by_one / whole:5.3f} times", by_one <= STEPS * whole, f"at most {STEPS}"))
+        else:
+            cells.append(self.bounded(f"by steps of one {by_one / 1e6:6.2f}, {each:4.1f} a step more", each <= STEP, f"at most {STEP}"))
+        print(f"{'instructions, ' + query:<24}", "   ".join(cells), flush=True)
 
     def instructions(self, name, documents):
         """The first ten of documents of a shape, in instructions."""
         folder = self.made(f"{name} {documents}")
         (folder / NAME).write_bytes(segment(documents, shaped_tokens(SHAPES[name]))[0])
-        search, both = (self.instructions_of(command, folder, documents, TEN, documents) for command in ("search", "skip"))
-        tables = self.instructions_of("table", folder, documents)
+        search, both = (self.instructions_of(ALL_TENTHS, command, folder, documents, TEN, documents) for command in ("search", "skip"))
+        tables = self.instructions_of(ALL_TENTHS, "table", folder, documents)
         most = HALF if name == "early" else DEARER
         cells = (
             f"{search / 1e6:6.2f} million",
@@ -415,6 +430,10 @@ def main():
     with tempfile.TemporaryDirectory() as folder:
         table = Table(chosen.program.resolve(), chosen.rounds, Path(folder))
         if chosen.instructions:
+            folder = table.made("searched")
+            (folder / NAME).write_bytes(segment(chosen.documents, searched_tokens(chosen.documents))[0])
+            for query in SEARCHED:
+                table.instructions_of_steps(folder, chosen.documents, query)
             for name in SHAPES:
                 table.instructions(name, chosen.documents)
             sys.exit(0 if table.is_within else 1)

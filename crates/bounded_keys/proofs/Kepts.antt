@@ -1,5 +1,5 @@
 -- What is kept of items, one after the other.
-use Rattle.std.proofs.Common.{◌≡◌, ◌⊎◌, inl, inr, Option, ◌||◌, ◌<◌, ◌≤◌, ℕ, ◌+◌, ◌-◌, ◌*◌, ◌/◌, ◌%◌, ◌^◌, Bool, true, false, List, [], ◌∷◌, ◌++◌, length, refl, sym, ap, subst, ◌∙◌, arith, nat_lt, get_or, ⊎_elim, not, append_assoc, append-nil}
+use Rattle.std.proofs.Common.{◌≡◌, ◌⊎◌, inl, inr, ◌||◌, ◌<◌, ◌≤◌, ℕ, ◌+◌, ◌-◌, ◌*◌, ◌/◌, ◌%◌, ◌^◌, Bool, true, false, List, [], ◌∷◌, ◌++◌, length, refl, sym, ap, subst, ◌∙◌, arith, nat_lt, get_or, ⊎_elim, not, append_assoc, append-nil}
 use Rattle.std.specs.BinaryHeap.{IsUpperBound}
 use Rattle.std.specs.Cmp.{IsTotalOrder}
 use Rattle.std.specs.List.{All, filter}
@@ -190,7 +190,7 @@ module _ {X : Type 0} (order : X → X → Ordering) (total : IsTotalOrder order
       leave xs = All-weaker (λ x. goes x ≡ true) (Gone all) (λ x e. Gone-beaten all x (now x ∙ e)) (filter goes xs) (filter_passes goes xs)
 
       -- of those that aren't beaten the first of each run are the contenders
-      pub Keeps-contenders : (run : ℕ) (full : Option ℕ) (middle taken : List X) → middle ≡ filter stays (held ++ near) → HoldsRuns before k middle run full taken
+      pub Keeps-contenders : (run : ℕ) (full : List ℕ) (middle taken : List X) → middle ≡ filter stays (held ++ near) → HoldsRuns before k middle run full taken
           → AreContenders number scale before k all taken
       Keeps-contenders run full middle taken made runs = record {
         passed = runs.out ++ (filter goes (held ++ near) ++ h.gone);
@@ -269,7 +269,7 @@ module _ {X : Type 0} (number : X → ℕ) (before : X → X → Bool) (k : ℕ)
   }
 
   -- those above the threshold go, and of the others those that aren't among the first of their run
-  pub LeavesOut-purged : (run : ℕ) (full : Option ℕ) (xs middle ys : List X) → middle ≡ filter (λ x. not (beats t (number x))) xs → HoldsRuns before k middle run full ys → LeavesOut number before k t xs ys
+  pub LeavesOut-purged : (run : ℕ) (full : List ℕ) (xs middle ys : List X) → middle ≡ filter (λ x. not (beats t (number x))) xs → HoldsRuns before k middle run full ys → LeavesOut number before k t xs ys
   LeavesOut-purged run full xs middle ys made runs = record {
     out = runs.out ++ filter (λ x. beats t (number x)) xs;
     split = split;

@@ -1,15 +1,20 @@
 -- What is kept of runs, one item after the other.
-use Rattle.std.proofs.Common.{◌≡◌, ◌<◌, ◌≤◌, ◌+◌, ◌-◌, ℕ, Bool, true, false, is_some, List, [], ◌∷◌, ◌++◌, length, get_or, Option, None, refl, sym, ap, subst, ◌∙◌, arith, append_assoc, ⊎_elim}
-use Rattle.std.specs.Option.{SomeIff}
+use Rattle.std.proofs.Common.{◌≡◌, Some, zero, suc, ◌<◌, ◌≤◌, ◌+◌, ◌-◌, ℕ, Bool, true, List, [], ◌∷◌, ◌++◌, length, get_or, sym, ap, subst, ◌∙◌, arith, append_assoc, ⊎_elim}
+use Rattle.std.specs.List.{slice_get}
 use Rattle.std.specs.List.Sorted.{IsPermutation}
-use Rattle.std.proofs.lemmas.Bool.{both_ways}
 use Rattle.std.proofs.lemmas.List.{get_or_append_left, get_or_default, length-append}
 use Rattle.std.proofs.Math.Seq.{get_or-append_seam}
-use Rattle.std.proofs.lemmas.List.Elements.{All-cons, All-nil, All-weaker}
+use Rattle.std.proofs.lemmas.List.Elements.{All-append, All-cons, All-get_or, All-nil, All-weaker}
+use Rattle.std.proofs.lemmas.Option.{slice_get_within}
 use Rattle.std.proofs.lemmas.List.Sorted.{IsPermutation-append_left, IsPermutation-cons, IsPermutation-middle, IsPermutation-refl, IsPermutation-sym, IsPermutation-to_front, IsPermutation-trans}
 use Rattle.bounded_keys.specs.Runs.{Continues, HoldsRuns, IsFull, Reaches, count_before}
 use Rattle.bounded_keys.specs.Kept.{AreAmong}
 use Rattle.bounded_keys.proofs.Counts.{bit, count_append, count_cons, count_permutation}
+
+some_get : {X : Type 0} (xs : List X) (n : ℕ) (x : X) → slice_get xs n ≡ Some x → get_or xs n x ≡ x
+some_get [] n x h = absurd cc
+some_get (y ∷ ys) zero x h = cc
+some_get (y ∷ ys) (suc n) x h = some_get ys n x h
 
 module _ {X : Type 0} (before : X → X → Bool) where
   -- more items, of which as many or more stand before an item
@@ -30,18 +35,28 @@ module _ {X : Type 0} (before : X → X → Bool) where
       omega (arith, h x (subst (λ y. before y x ≡ true) same f), before_more xs ys x)
 
   -- a place stays full when more comes
-  pub full_more : (k : ℕ) (full : Option ℕ) (xs ys : List X) → IsFull before k full xs → IsFull before k full (xs ++ ys)
-  full_more k full xs ys h i e =
-      let g = h i e in
-      let longer : length (xs ++ ys) ≡ length xs + length ys = length-append xs ys in
-      (omega (arith, g.0, longer), reaches_more k i xs ys g.0 g.1)
+  pub full_more : (k : ℕ) (full : List ℕ) (xs ys : List X) → IsFull before k full xs → IsFull before k full (xs ++ ys)
+  full_more k full xs ys h = All-weaker (λ i. (i < length xs) × Reaches before k i xs) (λ i. (i < length (xs ++ ys)) × Reaches before k i (xs ++ ys)) (λ i g. more i g) full h
+    where
+      more : (i : ℕ) → (i < length xs) × Reaches before k i xs → (i < length (xs ++ ys)) × Reaches before k i (xs ++ ys)
+      more i g =
+          let longer : length (xs ++ ys) ≡ length xs + length ys = length-append xs ys in
+          (omega (arith, g.0, longer), reaches_more k i xs ys g.0 g.1)
 
-  pub full_none : (k : ℕ) (full : Option ℕ) (xs : List X) → full ≡ None → IsFull before k full xs
-  full_none k full xs e i f = absurd (both_ways false refl (sym (ap is_some e) ∙ ap is_some f))
+  -- what an item at a full place stands before has so many before it
+  pub full_at : (k n place : ℕ) (full : List ℕ) (xs : List X) (x : X) → IsFull before k full xs → Some place ≡ slice_get full n → before (get_or xs place x) x ≡ true → k ≤ count_before before xs x
+  full_at k n place full xs x whole at e =
+      let inside : n < length full = slice_get_within full n place (sym at) in
+      let there : (get_or full n place < length xs) × Reaches before k (get_or full n place) xs = All-get_or (λ i. (i < length xs) × Reaches before k i xs) full n place inside whole in
+      let same : get_or full n place ≡ place = some_get full n place (sym at) in
+      subst (λ i. Reaches before k i xs) same there.1 x e
+
+  pub full_none : (k : ℕ) (full : List ℕ) (xs : List X) → full ≡ [] → IsFull before k full xs
+  full_none k full xs e = subst (λ l. IsFull before k l xs) (sym e) (All-nil _)
 
   -- ---- one item after the other
 
-  pub runs_none : (k : ℕ) (full : Option ℕ) → full ≡ None → HoldsRuns before k [] 0 full []
+  pub runs_none : (k : ℕ) (full : List ℕ) → full ≡ [] → HoldsRuns before k [] 0 full []
   runs_none k full e = record {
     out = [];
     split = IsPermutation-refl [];
@@ -52,7 +67,7 @@ module _ {X : Type 0} (before : X → X → Bool) where
 
   module _ (follow : (a b c : X) → before a b ≡ true → before b c ≡ true → before a c ≡ true) where
     -- what the last item stands before, the items of its run stand before
-    pub runs_kept : (k run next : ℕ) (full : Option ℕ) (taken kept : List X) (z : X) → Continues before kept run z next → HoldsRuns before k taken run full kept
+    pub runs_kept : (k run next : ℕ) (full : List ℕ) (taken kept : List X) (z : X) → Continues before kept run z next → HoldsRuns before k taken run full kept
         → HoldsRuns before k (z ∷ taken) next full (kept ++ z ∷ [])
     runs_kept k run next full taken kept z more h = record {
       out = h.out;
@@ -79,14 +94,14 @@ module _ {X : Type 0} (before : X → X → Bool) where
             omega (arith, many, one)
 
     -- one of whose run so many are kept
-    pub runs_reach : (k run next : ℕ) (full : Option ℕ) (taken kept : List X) (z : X) → Continues before kept run z next → k < next → HoldsRuns before k taken run full kept
+    pub runs_reach : (k run next : ℕ) (full : List ℕ) (taken kept : List X) (z : X) → Continues before kept run z next → k < next → HoldsRuns before k taken run full kept
         → Reaches before k (length kept - 1) kept
     runs_reach k run next full taken kept z more long h x f = ⊎_elim
         (λ begun. omega (arith, begun, long))
         (λ goes. h.last k (omega (arith, goes.2, long)) (omega arith) x f)
         more
 
-    pub runs_left : (k run next : ℕ) (full now : Option ℕ) (taken kept : List X) (z : X) → Continues before kept run z next → k < next → IsFull before k now kept
+    pub runs_left : (k run next : ℕ) (full now : List ℕ) (taken kept : List X) (z : X) → Continues before kept run z next → k < next → IsFull before k now kept
         → HoldsRuns before k taken run full kept → HoldsRuns before k (z ∷ taken) next now kept
     runs_left k run next full now taken kept z more long whole h = record {
       out = z ∷ h.out;
@@ -100,14 +115,16 @@ module _ {X : Type 0} (before : X → X → Bool) where
     }
 
   -- the last place
-  pub full_last : (k : ℕ) (full : Option ℕ) (kept : List X) → Reaches before k (length kept - 1) kept → SomeIff full (1 ≤ length kept) (length kept - 1) → IsFull before k full kept
-  full_last k full kept h at i e =
-      let g : (1 ≤ length kept) × (i ≡ length kept - 1) = subst (λ (o : Option ℕ). SomeIff o (1 ≤ length kept) (length kept - 1)) e at in
-      (omega (arith, g.0, g.1), subst (λ j. Reaches before k j kept) (sym g.1) h)
+  pub full_last : (k last : ℕ) (full : List ℕ) (kept : List X) → (1 ≤ length kept) × (last ≡ length kept - 1) → Reaches before k (length kept - 1) kept → IsFull before k full kept
+      → IsFull before k (full ++ last ∷ []) kept
+  full_last k last full kept at h whole = All-append (λ i. (i < length kept) × Reaches before k i kept) full (last ∷ []) whole (All-cons (λ i. (i < length kept) × Reaches before k i kept) last [] here (All-nil _))
+    where
+      here : (last < length kept) × Reaches before k last kept
+      here = (omega (arith, at.0, at.1), subst (λ j. Reaches before k j kept) (sym at.1) h)
 
   -- ---- what is kept at the end
 
-  pub runs_among : (k run : ℕ) (full : Option ℕ) (taken kept all : List X) → HoldsRuns before k taken run full kept → AreAmong taken all → AreAmong kept all
+  pub runs_among : (k run : ℕ) (full : List ℕ) (taken kept all : List X) → HoldsRuns before k taken run full kept → AreAmong taken all → AreAmong kept all
   runs_among k run full taken kept all h among = record {
     others = h.out ++ among.others;
     split = subst (λ ys. IsPermutation all ys) (append_assoc kept h.out among.others)
@@ -115,5 +132,5 @@ module _ {X : Type 0} (before : X → X → Bool) where
   }
 
   -- items in another order
-  pub runs_same : (k run : ℕ) (full : Option ℕ) (taken other kept : List X) → IsPermutation other taken → HoldsRuns before k taken run full kept → HoldsRuns before k other run full kept
+  pub runs_same : (k run : ℕ) (full : List ℕ) (taken other kept : List X) → IsPermutation other taken → HoldsRuns before k taken run full kept → HoldsRuns before k other run full kept
   runs_same k run full taken other kept p h = record { out = h.out; split = IsPermutation-trans _ _ _ p h.split; behind = h.behind; last = h.last; whole = h.whole }

@@ -34,7 +34,7 @@ impl<T: Leading> Model for Contenders<T> {
 
     ghost view = { λ c. record { most = c.most; scale = c.scale; held = heap_items c.heap; near = c.near.items.items } };
 
-    ghost invariant = { λ c. IsHeap T.cmp (heap_items c.heap) × (heap_len c.heap ≤ c.most) × IsFull T.before c.most c.near.full c.near.items.items };
+    ghost invariant = { λ c. IsHeap T.cmp (heap_items c.heap) × (heap_len c.heap ≤ c.most) × IsFull T.before c.most c.near.full.items c.near.items.items };
 }
 
 /// How much room is made where so many items are held, of a limit: it is halved as often as it stays above these, and above a few. So the

@@ -62,9 +62,11 @@ impl<W: Ord> Leading for Entry<W> {
     }
 
     fn in_runs(&self, other: &Entry<W>) -> Ordering {
-        by_beliefs(self.leaves.as_slice(), other.leaves.as_slice()).then(
-            self.window.cmp(&other.window),
-        )
+        let order = by_beliefs(self.leaves.as_slice(), other.leaves.as_slice());
+        if order.is_ne() {
+            return order;
+        }
+        self.window.cmp(&other.window)
     }
 
     ghost by_number = { λ a b. refl };

@@ -1,19 +1,18 @@
 // The first items of each run of those that stand before each other whatever their further digits are.
-ghost use Rattle.std.specs.Prelude.{◌≡◌, ◌∷◌, [], List, IfOk, OnOk};
-ghost use Rattle.bounded_keys.specs.Runs.{Continues, HoldsRuns};
+ghost use Rattle.std.specs.Prelude.{◌≡◌, ◌<◌, ◌-◌, ◌∷◌, [], List, IfOk, OnOk, length};
+ghost use Rattle.bounded_keys.specs.Runs.{Continues, HoldsRuns, IsFull, Reaches};
 
 use crate::Leading;
 use std::alloc::{AllocError, Global};
 
-/// Of items that were taken the first of each run, at most so many. It tells where the last item stands that is kept of the longest run
-/// of which some were left out.
+/// Of items that were taken the first of each run, at most so many. It tells of each run of which some were left out where the last item
+/// stands that is kept, in the order of the runs.
 #[derive(Drop)]
 pub struct Runs<T: Leading> {
     pub items: Vec<T>,
-    pub full: Option<usize>,
+    pub full: Vec<usize>,
     most: usize,
     run: usize,
-    longest: usize,
 }
 
 /// How many items a run has with this one, which continues the run of the last of some items or begins one.
@@ -30,31 +29,43 @@ impl<T: Leading + Drop> Runs<T> {
     /// None was taken yet; there is room for so many.
     fn new(alloc: Global, most: usize, room: usize) -> Result<Runs<T>, AllocError>
         ensures most { IfOk result (λ runs. runs.most ≡ most) }
-        ensures runs { IfOk result (λ runs. HoldsRuns T.before most [] runs.run runs.full runs.items.items) }
+        ensures runs { IfOk result (λ runs. HoldsRuns T.before most [] runs.run runs.full.items runs.items.items) }
     {
         Ok(Runs {
             items: Vec::with_capacity(alloc, room)?,
-            full: None,
+            full: Vec::new(alloc),
             most,
             run: 0,
-            longest: most,
         })
+    }
+
+    /// Tells where the last item stands that is kept, where the one that is left out is the first of its run.
+    fn end_run(&mut self) -> Result<(), AllocError>
+        requires { self.old.most < self.old.run }
+        ensures most { self.new.most ≡ self.old.most }
+        ensures run { self.new.run ≡ self.old.run }
+        ensures items { self.new.items.items ≡ self.old.items.items }
+        ensures full { OnOk result (Reaches T.before self.old.most (length self.old.items.items - 1) self.old.items.items
+            → IsFull T.before self.old.most self.old.full.items self.old.items.items → IsFull T.before self.old.most self.new.full.items self.old.items.items) }
+    {
+        match self.items.len().checked_sub(1) {
+            Some(last) if self.run - self.most == 1 => Ok(self.full.push(last)?),
+            _ => Ok(()),
+        }
     }
 
     /// Takes the next item in, unless so many of its run are kept.
     fn take(&mut self, item: T) -> Result<(), AllocError>
         ensures most { self.new.most ≡ self.old.most }
-        ensures runs { OnOk result ((taken : List T) → HoldsRuns T.before self.old.most taken self.old.run self.old.full self.old.items.items
-            → HoldsRuns T.before self.old.most (item ∷ taken) self.new.run self.new.full self.new.items.items) }
+        ensures runs { OnOk result ((taken : List T) → HoldsRuns T.before self.old.most taken self.old.run self.old.full.items self.old.items.items
+            → HoldsRuns T.before self.old.most (item ∷ taken) self.new.run self.new.full.items self.new.items.items) }
     {
         self.run = run_with(&self.items, self.run, &item);
         if self.run <= self.most {
             self.items.push(item)?;
-        } else if self.run > self.longest {
-            self.longest = self.run;
-            self.full = self.items.len().checked_sub(1);
+            return Ok(());
         }
-        Ok(())
+        self.end_run()
     }
 }
 
@@ -64,7 +75,7 @@ pub fn first_of_runs<T: Leading + Drop>(
     mut items: Vec<T>,
     most: usize,
 ) -> Result<Runs<T>, AllocError>
-    ensures { IfOk result (λ runs. HoldsRuns T.before most items.items runs.run runs.full runs.items.items) }
+    ensures { IfOk result (λ runs. HoldsRuns T.before most items.items runs.run runs.full.items runs.items.items) }
 {
     // A sort that goes on with what is in order: of items that are looked through again most are.
     items.sort_by(|a, b| b.in_runs(a))?;

@@ -87,7 +87,8 @@ impl<F: Fn(u32, u32, u64, u64) -> Fraction> Desk<F> {
         // Where it is refused, all that is kept stays as it is.
         ensures unchanged { IfOk result (λ reply. StaysIfRefused reply self.old.kept self.new.kept) }
 
-        // Whatever the files are, a reply says that reading met no malformed and no missing file, and one that is told is the one that was met.
+        // Whatever the files are, a reply leaves what the desk's cache notes of damage as it was, and a malformed or missing file that is told is
+        // noted there.
         ensures undamaged { OnOk result (self.new.kept.cache.damage ≡ self.old.kept.cache.damage) }
         ensures damaged { IfErr result (TellsDamage self.old.kept.cache.damage self.new.kept.cache.damage) }
 

@@ -27,8 +27,8 @@ use crate::asking::{NotTaken, ask, ask_expr};
 use crate::blocks::block_cache;
 use crate::query::{MAX_QUERIES, OpenQuery};
 use crate::scanning::scan;
-use crate::search::new_search;
-use crate::{Refusal, Reply, all_stats, explain_hit, hit_of_rank, names_of, ranking_is_true};
+use crate::search::counted_search;
+use crate::{Refusal, Reply, explain_hit, hit_of_rank, names_of, ranking_is_true};
 use belief_nodes::BeliefNode;
 use counts::Counts;
 use disk_index::BlockCache;
@@ -440,20 +440,20 @@ impl Kept {
         if self.queries.len() >= MAX_QUERIES {
             return Ok(Reply::Refused(Refusal::DeskFull(name)));
         }
+        let told = name.clone_in(alloc)?;
         let snapshot = self.repository.snapshot(alloc)?;
         let live = u64::from(snapshot.live_count());
         let generation = self.repository.generation();
-        let stats = all_stats(
+        let search = counted_search(
             alloc,
-            &checked.leaves,
-            &snapshot,
+            snapshot,
+            checked,
             generation,
+            k,
             &mut self.counts,
             store,
             &mut self.cache,
         )?;
-        let told = name.clone_in(alloc)?;
-        let search = new_search(alloc, snapshot, checked, &stats, k, store, &mut self.cache)?;
         self.queries
             .push(OpenQuery { name, search })
             .map_err(AllocError::from)?;

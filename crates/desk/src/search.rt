@@ -1,5 +1,5 @@
 // A search over all documents of a snapshot.
-ghost use Rattle.std.specs.Prelude.{◌≡◌, ◌⊎◌, [], true, length, map, All, Err, IfErr, IfOk, List, Option, OnOk};
+ghost use Rattle.std.specs.Prelude.{◌≡◌, ◌⊎◌, ◌<◌, ◌-◌, ◌^◌, [], true, length, map, All, Contains, Err, IfErr, IfOk, List, Option, OnOk};
 ghost use Rattle.ri_base.specs.Faults.{IsOutside, TellsDamage};
 ghost use Rattle.ri_base.specs.Keeps.{Rose};
 ghost use Rattle.ri_base.specs.Ratio.{ratio_of};
@@ -8,18 +8,23 @@ ghost use Rattle.smoothing.specs.Counts.{AreCounts};
 ghost use Rattle.smoothing.specs.Fractions.{IsMu, dirichlet};
 ghost use Rattle.smoothing.specs.declared.rule.RuleKind.{RuleKind};
 ghost use Rattle.query_check.specs.Answers.{whole_checked};
+ghost use Rattle.query_check.specs.Leaves.{leaf_tree};
 ghost use Rattle.belief_nodes.specs.Leaves.{AreLeafStats};
 ghost use Rattle.belief_nodes.specs.Network.{network_of, network_tree};
 ghost use Rattle.belief_nodes.specs.Priors.{Prior};
 ghost use Rattle.disk_index.specs.Cache.{IsCacheBacked};
-ghost use Rattle.disk_index.specs.Snapshots.{AreBacked, IsFileAmong};
+ghost use Rattle.disk_index.specs.Snapshots.{AreBacked, IsFileAmong, live};
+ghost use Rattle.document_scoring.specs.Counts.{stats_of};
+ghost use Rattle.counts.specs.Kept.{AreSums, Kept};
 ghost use Rattle.counts.specs.Reading.{OnlyReads};
 ghost use Rattle.ranker.specs.Searches.{IsAnswerOf, IsTaken, searched};
 ghost use Rattle.ranker.specs.Windows.{AreWindows};
 ghost use Rattle.desk.specs.Answer.{IsRule};
 ghost use Rattle.desk.specs.Searching.{HasSearched};
 
+use crate::all_stats;
 use belief_nodes::BeliefNode;
+use counts::Counts;
 use disk_index::{BlockCache, MarkedPart, Snapshot};
 use query_check::Checked;
 use range_tables::tables;
@@ -99,6 +104,48 @@ pub(crate) fn new_search<T: Store>(
     let tables = tables(alloc, &checked.leaves, parts, store, cache)?;
     let search = Search::new(alloc, snapshot, checked, stats, tables, most)?;
     Ok(search)
+}
+
+/// The same once how often the leaves occur is counted, or known by sums that are kept.
+pub(crate) fn counted_search<T: Store>(
+    alloc: Global,
+    snapshot: Snapshot,
+    checked: Checked,
+    generation: u64,
+    most: u32,
+    counts: &mut Counts,
+    store: &mut T,
+    cache: &mut BlockCache,
+) -> Result<Search, SegFault>
+    ensures snapshot { IfOk result (λ s. s.snapshot ≡ snapshot) }
+    ensures checked { IfOk result (λ s. s.checked ≡ checked) }
+    ensures network { IfOk result (λ s. network_tree s.network ≡ network_of checked (network_tree s.network).stats) }
+    ensures most { IfOk result (λ s. s.most ≡ most) }
+    ensures credit { IfOk result (λ s. s.at.credit ≡ 0) }
+    ensures usable { IfOk result (λ s. s.usable ≡ true) }
+    ensures exact { AreBacked (T.files store.old) snapshot → IsCacheBacked (T.files store.old) cache.old → AreSums (live (T.files store.old) snapshot) generation counts.old
+        → IfOk result (λ s. (network_tree s.network).stats ≡ map (stats_of (live (T.files store.old) snapshot)) (map leaf_tree checked.leaves.items)) }
+    ensures taken { AreBacked (T.files store.old) snapshot → IsCacheBacked (T.files store.old) cache.old
+        → IfOk result (λ s. (kind : RuleKind) (priors : List Prior) → IsTaken kind priors (T.files store.old) s) }
+    ensures kept { AreBacked (T.files store.old) snapshot → IsCacheBacked (T.files store.old) cache.old → AreSums (live (T.files store.old) snapshot) generation counts.old
+        → OnOk result (AreSums (live (T.files store.old) snapshot) generation counts.new) }
+    ensures adds { (e : Kept) → Contains counts.new e → Contains counts.old e ⊎ (e.generation < 2 ^ 64 - 1) }
+    ensures honest { AreBacked (T.files store.old) snapshot → IsCacheBacked (T.files store.old) cache.old → IfErr result IsOutside }
+    ensures undamaged { OnOk result (cache.new.damage ≡ cache.old.damage) }
+    ensures damaged { IfErr result (TellsDamage cache.old.damage cache.new.damage) }
+    ensures reads { OnlyReads T.files T.layers T.clock T.since T.longest T.held T.faults (IsFileAmong snapshot) store.old store.new cache.old cache.new }
+    ensures store { result ≡ Err SegFault.Store → Rose (T.faults store.old) (T.faults store.new) }
+{
+    let stats = all_stats(
+        alloc,
+        &checked.leaves,
+        &snapshot,
+        generation,
+        counts,
+        store,
+        cache,
+    )?;
+    new_search(alloc, snapshot, checked, &stats, most, store, cache)
 }
 
 /// A search for the first results over the documents of a snapshot, `most` of them at most, that has passed them all. The

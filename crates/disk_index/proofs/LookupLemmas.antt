@@ -95,6 +95,11 @@ pub term_at-own : (xs : List TermBlocks) (i : ℕ) (d : TermBlocks) → AllPairs
 term_at-own xs i d all inside =
     find_at (slice_cmp nat_cmp) nat_list_cmp_total (λ a b. exact_bytes a b) bytes_eq bytes-yes bytes-no (λ (y : TermBlocks). y.term) (get_or xs i d).term xs i d all inside refl
 
+-- a term is found at a place where it stands
+pub term_at-same : (xs : List TermBlocks) (t : List ℕ) (i : ℕ) (d : TermBlocks) → AllPairs (λ a b. IsTermBefore a.term b.term) xs → i < length xs → bytes_eq (get_or xs i d).term t ≡ true → find (λ y. bytes_eq y.term t) xs ≡ Some (get_or xs i d)
+term_at-same xs t i d all inside same =
+    find_at (slice_cmp nat_cmp) nat_list_cmp_total (λ a b. exact_bytes a b) bytes_eq bytes-yes bytes-no (λ (y : TermBlocks). y.term) t xs i d all inside ((bytes_eq-Decides (get_or xs i d).term t).0 same)
+
 less : (a b : ℕ) → a < b → nat_cmp a b ≡ Less
 less a b h = let t = lt-ltb a b h in rw t refl
 

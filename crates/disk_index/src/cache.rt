@@ -1,5 +1,8 @@
 // Blocks that were read, kept for a while.
 ghost use Rattle.std.specs.Prelude.{◌≡◌, ◌≢◌, ◌<◌, ◌≤◌, ◌+◌, ◌^◌, ◌⊎◌, ◌↔◌, List, [], Some, Err, IsTrue, IfOk, IfErr, IfSome, OnOk, length};
+ghost use Rattle.std.proofs.Common.{rules};
+ghost use Rattle.std.specs.Cmp.Rules.{hashing};
+ghost use Rattle.std.specs.Hash as fed;
 ghost use Rattle.std.specs.List.{Contains};
 ghost use Rattle.ri_base.specs.Faults.{TellsDamage};
 ghost use Rattle.ri_base.specs.Keeps.{Rose};
@@ -16,17 +19,29 @@ use lru::LruCache;
 use ri_base::{NoMemory, SegFault};
 use seg_codec::Documents;
 use std::alloc::Global;
+use std::hash::{Hash, Hasher};
 use std::marker::Model;
 use std::num::NonZeroUsize;
 use store_ends::Store;
 
 /// Where a block was read: the number of its file, its range of 64 ids, its place in the file and its length.
-#[derive(Clone, Copy, Debug, PartialEq, Eq, Hash)]
+#[derive(Clone, Copy, Debug, PartialEq, Eq)]
 pub struct BlockKey {
     pub number: u64,
     pub range: u32,
     pub place: u64,
     pub length: u32,
+}
+
+/// Blocks of a file are told apart by their places, and few of different files have the same.
+impl Hash for BlockKey {
+    ghost hash_input = { λ key. fed.u64 key.place };
+
+    ghost respects_eq = { Prim.search (hashing, rules) };
+
+    fn hash<H: Hasher>(&self, state: &mut H) {
+        self.place.hash(state);
+    }
 }
 
 /// Blocks that were read, as many as it has slots, seen as the list of them with their keys. Of a full cache the block that wasn't

@@ -22,7 +22,7 @@ ghost use Rattle.disk_index.specs.Ranks.{ranks_of, term_of};
 ghost use Rattle.disk_index.specs.Reads.{HasSegment, IsBacked, rebuilt};
 ghost use Rattle.disk_index.specs.Together.{begin_of};
 
-use crate::lookup::{next_place, of_range, place_of, ranked_place};
+use crate::lookup::{fronts_of, next_place, of_range, place_of, ranked_place};
 use crate::opening::{KeptParts, docs_within, kept_within, read_kept};
 use crate::ranks::{Ranks, ranks_by_range};
 use crate::reading::file_length;
@@ -43,6 +43,8 @@ pub struct DiskIndex {
     dictionary: Dictionary,
     /// The ranks of the terms that have a block for each range.
     ranks: Vec<Ranks>,
+    /// The first bytes of each term as a number, by which it is found sooner.
+    fronts: Vec<u64>,
     /// Where the blocks begin in the file.
     blocks_at: u64,
 }
@@ -109,11 +111,13 @@ impl DiskIndex {
         } = parts;
         let docs = documents.as_slice().len() as u32;
         let ranks = ranks_by_range(alloc, dictionary.as_slice(), docs)?;
+        let fronts = fronts_of(alloc, dictionary.as_slice())?;
         Ok(DiskIndex {
             number,
             documents,
             dictionary,
             ranks,
+            fronts,
             blocks_at,
         })
     }
@@ -167,7 +171,7 @@ impl DiskIndex {
         ensures key { result ≡ option_map (key_of self.now.number range) (place_of self.now.dictionary term.now range) }
         ensures fits { IfSome result (λ key. key.place + key.length < 2 ^ 64) }
     {
-        match place_of(self.dictionary.as_slice(), term, range) {
+        match place_of(self.dictionary.as_slice(), &self.fronts, term, range) {
             Some(place) => Some(self.key_at(range, place)),
             None => None,
         }
@@ -177,7 +181,7 @@ impl DiskIndex {
     pub fn next_block(&self, term: &Term, from: u32) -> Option<u32>
         ensures { IsNext (λ range. is_some (place_of self.now.dictionary term.now range)) from result }
     {
-        next_place(self.dictionary.as_slice(), term, from)
+        next_place(self.dictionary.as_slice(), &self.fronts, term, from)
     }
 
     /// The number of its file.
@@ -404,7 +408,7 @@ impl DiskIndex {
     fn block_place(&self, term: &Term, range: u32) -> u64
         ensures { result ≡ option_map_or (λ p. p.place) (place_of self.now.dictionary term.now range) 0 }
     {
-        match place_of(self.dictionary.as_slice(), term, range) {
+        match place_of(self.dictionary.as_slice(), &self.fronts, term, range) {
             Some(found) => found.place,
             None => 0,
         }

@@ -2,10 +2,8 @@
 use crate::run_words;
 use indri_app::Status;
 use ri_base::ArgList;
-use ri_ends::{MemSink, MemSource, SinkFail, Source};
+use ri_ends::{MemSink, MemSource, Source};
 use std::alloc::Global;
-use std::process::Abort;
-use std::test::Fail;
 use store_ends::MemStore;
 
 const TWO: &[u8] = b"<DOC><DOCNO>d1</DOCNO>a b</DOC><DOC><DOCNO>d2</DOCNO>a</DOC>";
@@ -13,72 +11,34 @@ const TWO: &[u8] = b"<DOC><DOCNO>d1</DOCNO>a b</DOC><DOC><DOCNO>d2</DOCNO>a</DOC
 pub const USAGE: &str =
     "usage: indri DIR scan|create|add|delete|merge|prior|query|explain|session|gen\n";
 
-fn words_of(alloc: Global, texts: &[&str]) -> Result<ArgList, Fail> {
+fn words_of(alloc: Global, texts: &[&str]) -> Option<ArgList> {
     let mut words = ArgList::new(alloc);
     for text in texts {
-        words.push(text)?;
+        words.push(text).ok()?;
     }
-    Ok(words)
+    Some(words)
 }
 
-/// The words of a run, its input and the size of its pieces, and which calls of its source and its sink fail.
-#[derive(Clone, Copy)]
-struct Case<'a> {
-    texts: &'a [&'a str],
-    input: &'a [u8],
-    piece: usize,
-    read_fails: &'a [u64],
-    write_fails: &'a [SinkFail],
+/// An input that comes in pieces of so many bytes.
+fn source_of(alloc: Global, input: &[u8], piece: usize) -> Option<MemSource> {
+    let input = input.to_vec(alloc).ok()?;
+    Some(MemSource::new(input, piece.max(1), Vec::new(alloc)))
 }
 
-fn case_of<'a>(texts: &'a [&'a str], input: &'a [u8], piece: usize) -> Case<'a> {
-    Case {
-        texts,
-        input,
-        piece,
-        read_fails: &[],
-        write_fails: &[],
-    }
-}
-
-fn source_of(alloc: Global, case: Case<'_>) -> Result<MemSource, Fail> {
-    let input = case.input.to_vec(alloc)?;
-    let fails = case.read_fails.to_vec(alloc)?;
-    Ok(MemSource::new(input, case.piece.max(1), fails))
-}
-
-/// What the words answer and write over a source.
-fn ran(
+/// Whether the words end so over a source and a store without a file.
+fn ends(
     alloc: Global,
     words: &ArgList,
     source: &mut MemSource,
-    fails: &[SinkFail],
-) -> Result<(Status, Vec<u8>), Fail> {
-    let mut sink = MemSink::new(alloc, fails.to_vec(alloc)?);
-    let mut store = MemStore::new(alloc, Vec::new(alloc), Vec::new(alloc));
-    let status = run_words(alloc, words, source, &mut sink, &mut store)?;
-    Ok((status, sink.bytes().to_vec(alloc)?))
-}
-
-/// What a case answers and writes.
-fn answered(alloc: Global, case: Case<'_>) -> Result<(Status, Vec<u8>), Fail> {
-    let words = words_of(alloc, case.texts)?;
-    let mut source = source_of(alloc, case)?;
-    ran(alloc, &words, &mut source, case.write_fails)
-}
-
-/// The case ends with this status and has written this text.
-fn assert_ends(
-    rt: &impl Abort,
-    alloc: Global,
-    case: Case<'_>,
     status: Status,
     text: &[u8],
-) -> Result<(), Fail> {
-    let (answer, written) = answered(alloc, case)?;
-    assert_eq!(rt; answer, status);
-    assert_eq!(rt; written.as_slice(), text);
-    Ok(())
+) -> bool {
+    let mut sink = MemSink::new(alloc, Vec::new(alloc));
+    let mut store = MemStore::new(alloc, Vec::new(alloc), Vec::new(alloc));
+    match run_words(alloc, words, source, &mut sink, &mut store) {
+        Ok(answer) => answer == status && sink.bytes() == text,
+        Err(_) => false,
+    }
 }
 
 const NEWSWIRE: &[u8] = b"<DOC>
@@ -234,21 +194,41 @@ static SCANS: [Row; 38] = [
     ),
 ];
 
-#[test]
-fn scans(rt: HostRuntime) -> Result<(), Fail> {
-    for (text, input, status, lines) in &SCANS {
-        for piece in [1, 2, 3, 7, 100] {
-            let texts = [".", "scan", *text];
-            assert_ends(
-                &rt,
-                rt.alloc(),
-                case_of(&texts, input, piece),
-                *status,
-                lines,
-            )?;
+/// Whether a scan for the text of a row ends so, where its input comes in pieces of so many bytes.
+fn is_scanned(alloc: Global, row: &Row, piece: usize) -> bool {
+    let (text, input, status, lines) = row;
+    let Some(words) = words_of(alloc, &[".", "scan", *text]) else {
+        return false;
+    };
+    match source_of(alloc, input, piece) {
+        Some(mut source) => ends(alloc, &words, &mut source, *status, lines),
+        None => false,
+    }
+}
+
+/// The same whatever the pieces are.
+fn is_scanned_so(alloc: Global, row: &Row) -> bool {
+    for piece in [1, 2, 3, 7, 100] {
+        if !is_scanned(alloc, row, piece) {
+            return false;
         }
     }
-    Ok(())
+    true
+}
+
+/// The first of these scans that ends otherwise, if one does.
+fn first_wrong_scan(alloc: Global) -> Option<usize> {
+    for (place, row) in SCANS.iter().enumerate() {
+        if !is_scanned_so(alloc, row) {
+            return Some(place);
+        }
+    }
+    None
+}
+
+#[test]
+fn scans(rt: HostRuntime) {
+    assert_eq!(rt; first_wrong_scan(rt.alloc()), None);
 }
 
 /// Words that are no command, and texts that are refused: the words, the status, and what is written.
@@ -345,190 +325,96 @@ static REFUSED: [(&[&str], Status, &str); 26] = [
     ),
 ];
 
-/// What the words answer and write, and how many bytes of the input are left.
-fn left(alloc: Global, texts: &[&str]) -> Result<(Status, Vec<u8>, usize), Fail> {
-    let words = words_of(alloc, texts)?;
-    let mut source = source_of(alloc, case_of(texts, TWO, 100))?;
-    let (status, text) = ran(alloc, &words, &mut source, &[])?;
+/// Whether these words end so, and read nothing.
+fn is_refused(alloc: Global, texts: &[&str], status: Status, line: &str) -> bool {
+    let Some(words) = words_of(alloc, texts) else {
+        return false;
+    };
+    match source_of(alloc, TWO, 100) {
+        Some(mut source) => {
+            ends(alloc, &words, &mut source, status, line.as_bytes()) && is_whole(&mut source)
+        }
+        None => false,
+    }
+}
+
+/// Whether all bytes of the input are left.
+fn is_whole(source: &mut MemSource) -> bool {
     let mut rest = [0; 100];
-    let left = source.read(&mut rest).map_err(|_| "the source failed")?;
-    Ok((status, text, left))
-}
-
-#[test]
-fn refused(rt: HostRuntime) -> Result<(), Fail> {
-    for (texts, status, line) in &REFUSED {
-        let (answer, text, left) = left(rt.alloc(), texts)?;
-        assert_eq!(rt; answer, *status, "at {line}");
-        assert_eq!(rt; text.as_slice(), line.as_bytes());
-        assert_eq!(rt; left, TWO.len(), "no byte was read");
+    match source.read(&mut rest) {
+        Ok(count) => &rest[..count] == TWO,
+        Err(_) => false,
     }
-    Ok(())
 }
 
-const SCAN: [&str; 3] = [".", "scan", "a"];
-
-/// The case ends with a read fault and has written a front of the text, and behind it the last line.
-fn assert_read_fault(
-    rt: &impl Abort,
-    alloc: Global,
-    case: Case<'_>,
-    whole: &[u8],
-) -> Result<(), Fail> {
-    let (status, text) = answered(alloc, case)?;
-    assert_eq!(rt; status, Status::ReadFault);
-    let front = text.strip_suffix(b"fault read\n").ok_or("no last line")?;
-    assert!(rt; whole.starts_with(front));
-    Ok(())
-}
-
-const LINES: &[u8] = b"d1 0 1\nd2 0 1\n";
-
-#[test]
-fn reads_that_fail(rt: HostRuntime) -> Result<(), Fail> {
-    for call in 1..12 {
-        let failing = Case {
-            read_fails: &[call],
-            ..case_of(&SCAN, TWO, 7)
-        };
-        assert_read_fault(&rt, rt.alloc(), failing, LINES)?;
-    }
-    Ok(())
-}
-
-/// A sink fails at each of its calls in turn, having taken so many bytes of that call. What is written then is a front of
-/// the text.
-fn assert_write_faults(
-    rt: &impl Abort,
-    alloc: Global,
-    case: Case<'_>,
-    lines: &[&[u8]],
-    taken: usize,
-) -> Result<(), Fail> {
-    let mut text = Vec::new(alloc);
-    for (before, line) in lines.iter().enumerate() {
-        let call = before as u64 + 1;
-        let fails = [SinkFail { call, taken }];
-        let mut front = text.clone()?;
-        front.extend_from_slice(&line[..taken.min(line.len())])?;
-        let failing = Case {
-            write_fails: &fails,
-            ..case
-        };
-        assert_ends(rt, alloc, failing, Status::WriteFault, &front)?;
-        text.extend_from_slice(line)?;
-    }
-    Ok(())
-}
-
-/// Words, an input, and the two texts that its two writing calls are given.
-static WRITINGS: [(&[&str], &[u8], [&[u8]; 2]); 2] = [
-    (&SCAN, TWO, [b"d1 0 1\n", b"d2 0 1\n"]),
-    (
-        &SCAN,
-        b"<DOC><DOCNO>d1</DOCNO>a b</DOC>x",
-        [b"d1 0 1\n", b"refused NotADoc 31\n"],
-    ),
-];
-
-#[test]
-fn writes_that_fail(rt: HostRuntime) -> Result<(), Fail> {
-    for (texts, input, lines) in &WRITINGS {
-        for taken in [0, 1, 99] {
-            assert_write_faults(&rt, rt.alloc(), case_of(texts, input, 9), lines, taken)?;
+/// The first of these rows that ends otherwise, if one does.
+fn first_wrong_refusal(alloc: Global) -> Option<usize> {
+    for (place, (texts, status, line)) in REFUSED.iter().enumerate() {
+        if !is_refused(alloc, texts, *status, line) {
+            return Some(place);
         }
     }
-    Ok(())
+    None
 }
 
-/// Runs whose source or sink is to fail at some calls, their status, and what they write.
-static FAILING: [(Case<'static>, Status, &[u8]); 3] = [
-    // the twelfth read and the third write aren't made
-    (
-        Case {
-            texts: &SCAN,
-            input: TWO,
-            piece: 7,
-            read_fails: &[12],
-            write_fails: &[],
-        },
-        Status::Done,
-        LINES,
-    ),
-    (
-        Case {
-            texts: &SCAN,
-            input: TWO,
-            piece: 9,
-            read_fails: &[],
-            write_fails: &[SinkFail { call: 3, taken: 0 }],
-        },
-        Status::Done,
-        LINES,
-    ),
-    // the write of the last line fails too
-    (
-        Case {
-            texts: &SCAN,
-            input: TWO,
-            piece: 40,
-            read_fails: &[2],
-            write_fails: &[SinkFail { call: 2, taken: 3 }],
-        },
-        Status::ReadFault,
-        b"d1 0 1\nfau",
-    ),
-];
-
 #[test]
-fn calls_that_fail(rt: HostRuntime) -> Result<(), Fail> {
-    for (case, status, text) in &FAILING {
-        let (answer, written) = answered(rt.alloc(), *case)?;
-        assert_eq!(rt; answer, *status);
-        assert_eq!(rt; written.as_slice(), *text);
-    }
-    Ok(())
+fn refused(rt: HostRuntime) {
+    assert_eq!(rt; first_wrong_refusal(rt.alloc()), None);
 }
 
 /// A document with this text so many times, and behind it one of the word `a`.
-fn repeated(alloc: Global, text: &str, count: usize) -> Result<Vec<u8>, Fail> {
-    let mut input = b"<DOC><DOCNO>d1</DOCNO>".to_vec(alloc)?;
+fn repeated(alloc: Global, text: &str, count: usize) -> Option<Vec<u8>> {
+    let mut input = b"<DOC><DOCNO>d1</DOCNO>".to_vec(alloc).ok()?;
     for _ in 0..count {
-        input.extend_from_slice(text.as_bytes())?;
+        input.extend_from_slice(text.as_bytes()).ok()?;
     }
-    input.extend_from_slice(b"</DOC><DOC><DOCNO>d2</DOCNO>a</DOC>")?;
-    Ok(input)
+    input
+        .extend_from_slice(b"</DOC><DOC><DOCNO>d2</DOCNO>a</DOC>")
+        .ok()?;
+    Some(input)
 }
 
 /// A text, how often it stands in a document, the status, and what a scan for `a` writes.
-static LIMITS: [(&str, usize, Status, &[u8]); 4] = [
-    ("b ", 1_048_576, Status::Done, b"d2 0 1\n"),
+static LIMITS: [(&str, usize, Status, &str); 4] = [
+    ("b ", 1_048_576, Status::Done, "d2 0 1\n"),
     (
         "b ",
         1_048_577,
         Status::SomeRefused,
-        b"refused TooManyTokens d1\nd2 0 1\n",
+        "refused TooManyTokens d1\nd2 0 1\n",
     ),
-    ("<f>x</f>", 65_535, Status::Done, b"d2 0 1\n"),
+    ("<f>x</f>", 65_535, Status::Done, "d2 0 1\n"),
     (
         "<f>x</f>",
         65_536,
         Status::SomeRefused,
-        b"refused TooManyFields d1\nd2 0 1\n",
+        "refused TooManyFields d1\nd2 0 1\n",
     ),
 ];
 
-#[test]
-fn documents_with_too_much(rt: HostRuntime) -> Result<(), Fail> {
-    for (text, count, status, lines) in &LIMITS {
-        let input = repeated(rt.alloc(), text, *count)?;
-        assert_ends(
-            &rt,
-            rt.alloc(),
-            case_of(&SCAN, &input, 65_536),
-            *status,
-            lines,
-        )?;
+/// Whether a scan for `a` ends so over the documents of such a text.
+fn is_limited(alloc: Global, text: &str, count: usize, status: Status, lines: &str) -> bool {
+    let Some(input) = repeated(alloc, text, count) else {
+        return false;
+    };
+    let Some(words) = words_of(alloc, &[".", "scan", "a"]) else {
+        return false;
+    };
+    let mut source = MemSource::new(input, 65_536, Vec::new(alloc));
+    ends(alloc, &words, &mut source, status, lines.as_bytes())
+}
+
+/// The first of these limits that is another one, if one is.
+fn first_wrong_limit(alloc: Global) -> Option<usize> {
+    for (place, (text, count, status, lines)) in LIMITS.iter().enumerate() {
+        if !is_limited(alloc, text, *count, *status, lines) {
+            return Some(place);
+        }
     }
-    Ok(())
+    None
+}
+
+#[test]
+fn documents_with_too_much(rt: HostRuntime) {
+    assert_eq!(rt; first_wrong_limit(rt.alloc()), None);
 }

@@ -13,7 +13,7 @@ ghost use Rattle.manifest.specs.Priors.{PriorTable, belief, is_p, is_q, prior_fi
 
 use crate::prior::PriorRows;
 use ri_base::file_fields::{
-    Broken, byte_at, docno_behind_at, fault_of, kept, magic_at, u32_at, u64_at,
+    Broken, byte_at, docno_behind_at, kept, magic_at, part_answer, u32_at, u64_at,
 };
 use ri_base::limits::{MAX_PRIOR_ROWS, PRIOR_LIMIT};
 use ri_base::{Docno, FileName, Fraction, PartName, SegFault};
@@ -131,19 +131,16 @@ fn prior_of(alloc: Global, bytes: &[u8]) -> Result<PriorRows, Broken>
     }
 }
 
-#[tactic(auto, using(ri_base::proofs::FieldFaults::fault_answers))]
+#[tactic(auto, using(ri_base::proofs::FieldFaults::answers_part))]
 fn prior_answer(alloc: Global, bytes: &[u8], number: u64) -> Result<PriorRows, SegFault>
     ensures { AnswersPart (λ p. p) result (prior_file bytes.now) (files.Prior number) parts.Prior (length bytes.now) }
 {
-    match prior_of(alloc, bytes) {
-        Ok(rows) => Ok(rows),
-        Err(broken) => Err(fault_of(
-            broken,
-            FileName::Prior(number),
-            PartName::Prior,
-            bytes.len() as u64,
-        )),
-    }
+    part_answer(
+        prior_of(alloc, bytes),
+        FileName::Prior(number),
+        PartName::Prior,
+        bytes.len() as u64,
+    )
 }
 
 /// The rows of a prior, of the bytes of the file of this number.

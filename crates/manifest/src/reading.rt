@@ -12,7 +12,7 @@ ghost use Rattle.manifest.specs.declared.manifest.Manifest.{Manifest};
 
 use crate::entries::{priors_at, segments_at, stale_at};
 use crate::manifest::{Manifest, PriorEntry, SegEntry};
-use ri_base::file_fields::{Broken, fault_of, kept, magic_at, u32_at, u64_at};
+use ri_base::file_fields::{Broken, kept, magic_at, part_answer, u32_at, u64_at};
 use ri_base::{FileName, List, PartName, SegFault};
 use std::alloc::Global;
 
@@ -101,19 +101,16 @@ fn manifest_of(alloc: Global, bytes: &[u8]) -> Result<Manifest, Broken>
     }
 }
 
-#[tactic(auto, using(ri_base::proofs::FieldFaults::fault_answers))]
+#[tactic(auto, using(ri_base::proofs::FieldFaults::answers_part))]
 fn answer(alloc: Global, bytes: &[u8]) -> Result<Manifest, SegFault>
     ensures { AnswersPart (λ m. m) result (manifest bytes.now) files.Manifest parts.Manifest (length bytes.now) }
 {
-    match manifest_of(alloc, bytes) {
-        Ok(manifest) => Ok(manifest),
-        Err(broken) => Err(fault_of(
-            broken,
-            FileName::Manifest,
-            PartName::Manifest,
-            bytes.len() as u64,
-        )),
-    }
+    part_answer(
+        manifest_of(alloc, bytes),
+        FileName::Manifest,
+        PartName::Manifest,
+        bytes.len() as u64,
+    )
 }
 
 /// The manifest that these bytes are.

@@ -29,3 +29,8 @@ AnswersPart view (Err faults.Memory) read file part end = Unit {0}
 abbrev pub IsFault : Broken → SegFault → FileName → PartName → ℕ → Type 0
 IsFault (At left) fault file part end = fault ≡ faults.Malformed file part (end - left)
 IsFault Memory fault file part end = fault ≡ faults.Memory
+
+-- the answer of a call by what the fields of a part were read as: the same value, or the fault of the part
+abbrev pub IsAnswer : {X : Type 0} → Result X Broken → Result X SegFault → FileName → PartName → ℕ → Type 0
+IsAnswer (Ok x) answer file part end = answer ≡ Ok x
+IsAnswer (Err broken) answer file part end = (fault : SegFault) × (answer ≡ Err fault) × IsFault broken fault file part end

@@ -1,6 +1,6 @@
 // Why a part of a file can't be read.
 ghost use Rattle.std.specs.Prelude.{◌≡◌};
-ghost use Rattle.ri_base.specs.FieldAnswers.{IsFault};
+ghost use Rattle.ri_base.specs.FieldAnswers.{IsAnswer, IsFault};
 ghost use Rattle.ri_base.specs.declared.broken.Broken.TheVariants.{Memory};
 
 use crate::{FileName, PartName, SegFault};
@@ -30,7 +30,7 @@ impl<T: Drop> From<AllocFailed<T>> for Broken {
 }
 
 /// The fault of a part that ends at this place of its file.
-pub fn fault_of(broken: Broken, file: FileName, part: PartName, end: u64) -> SegFault
+fn fault_of(broken: Broken, file: FileName, part: PartName, end: u64) -> SegFault
     ensures { IsFault broken result file part end }
 {
     match broken {
@@ -40,5 +40,20 @@ pub fn fault_of(broken: Broken, file: FileName, part: PartName, end: u64) -> Seg
             place: end.saturating_sub(left as u64),
         },
         Broken::Memory => SegFault::Memory,
+    }
+}
+
+/// What the fields of a part were read as, or the fault of the part, which ends at this place of its file.
+pub fn part_answer<T>(
+    fields: Result<T, Broken>,
+    file: FileName,
+    part: PartName,
+    end: u64,
+) -> Result<T, SegFault>
+    ensures { IsAnswer fields result file part end }
+{
+    match fields {
+        Ok(value) => Ok(value),
+        Err(broken) => Err(fault_of(broken, file, part, end)),
     }
 }

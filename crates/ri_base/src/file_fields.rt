@@ -1,5 +1,5 @@
 //! Fields of files: one definition of a field that tells both how it is read and how it is spelled.
-pub use crate::broken::{Broken, fault_of};
+pub use crate::broken::{Broken, part_answer};
 pub use crate::field_bytes::{byte_at, front_at, kept, magic_at};
 pub use crate::field_numbers::{u16_at, u32_at, u64_at};
 pub use crate::field_rising::rising_numbers_at;

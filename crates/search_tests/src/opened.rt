@@ -87,13 +87,22 @@ fn snapshot(alloc: Global, repository: &mut Repository) -> Option<Snapshot> {
     repository.snapshot(alloc).ok()
 }
 
+/// Whether the documents are added, written where they are to be, and the dead ones deleted.
+fn fill(
+    alloc: Global,
+    store: &mut MemStore,
+    repository: &mut Repository,
+    documents: Documents,
+) -> bool {
+    add_all(alloc, repository, documents.first, documents.in_files)
+        && flush(alloc, store, repository)
+        && add_all(alloc, repository, documents.in_files, documents.all)
+        && delete_dead(alloc, repository, documents.first, documents.all)
+}
+
 fn snapshot_of(alloc: Global, store: &mut MemStore, documents: Documents) -> Option<Snapshot> {
     let mut repository = made(alloc, store, documents.part)?;
-    if add_all(alloc, &mut repository, documents.first, documents.in_files)
-        && flush(alloc, store, &mut repository)
-        && add_all(alloc, &mut repository, documents.in_files, documents.all)
-        && delete_dead(alloc, &mut repository, documents.first, documents.all)
-    {
+    if fill(alloc, store, &mut repository, documents) {
         snapshot(alloc, &mut repository)
     } else {
         None

@@ -17,18 +17,20 @@ use crate::blocks::{Block, block_of};
 use crate::dictionary::{Dictionary, dictionary_of};
 use crate::documents::{Documents, documents_of};
 use crate::header::{Header, header_of};
-use ri_base::file_fields::fault_of;
+use ri_base::file_fields::part_answer;
 use ri_base::{FileName, PartName, SegFault};
 use std::alloc::Global;
 
-#[tactic(auto, using(ri_base::proofs::FieldFaults::fault_answers))]
+#[tactic(auto, using(ri_base::proofs::FieldFaults::answers_part))]
 fn header_answer(bytes: &[u8], file: FileName, docs: u32, size: u64) -> Result<Header, SegFault>
     ensures { AnswersPart (λ v. v) result (header docs size bytes.now) file parts.Header (length bytes.now) }
 {
-    match header_of(docs, size, bytes) {
-        Ok(header) => Ok(header),
-        Err(broken) => Err(fault_of(broken, file, PartName::Header, bytes.len() as u64)),
-    }
+    part_answer(
+        header_of(docs, size, bytes),
+        file,
+        PartName::Header,
+        bytes.len() as u64,
+    )
 }
 
 /// The header that these bytes are, of a segment of so many documents in a file of so many bytes.
@@ -43,7 +45,7 @@ pub fn read_header(bytes: &[u8], file: FileName, docs: u32, size: u64) -> Result
     header_answer(bytes, file, docs, size)
 }
 
-#[tactic(auto, using(ri_base::proofs::FieldFaults::fault_answers))]
+#[tactic(auto, using(ri_base::proofs::FieldFaults::answers_part))]
 fn documents_answer(
     alloc: Global,
     bytes: &[u8],
@@ -53,15 +55,12 @@ fn documents_answer(
     requires { header.now.documents_at + length bytes.now < 2 ^ 64 }
     ensures { AnswersPart (λ v. v) result (documents header.now bytes.now) file parts.Documents (header.now.documents_at + length bytes.now) }
 {
-    match documents_of(alloc, header, bytes) {
-        Ok(documents) => Ok(documents),
-        Err(broken) => Err(fault_of(
-            broken,
-            file,
-            PartName::Documents,
-            header.documents_at + bytes.len() as u64,
-        )),
-    }
+    part_answer(
+        documents_of(alloc, header, bytes),
+        file,
+        PartName::Documents,
+        header.documents_at + bytes.len() as u64,
+    )
 }
 
 /// The documents part that these bytes are, behind this header.
@@ -82,7 +81,7 @@ pub fn read_documents(
     documents_answer(alloc, bytes, file, header)
 }
 
-#[tactic(auto, using(ri_base::proofs::FieldFaults::fault_answers))]
+#[tactic(auto, using(ri_base::proofs::FieldFaults::answers_part))]
 fn dictionary_answer(
     alloc: Global,
     bytes: &[u8],
@@ -92,15 +91,12 @@ fn dictionary_answer(
     requires { header.now.dictionary_at + length bytes.now < 2 ^ 64 }
     ensures { AnswersPart (λ v. v) result (dictionary header.now bytes.now) file parts.Dictionary (header.now.dictionary_at + length bytes.now) }
 {
-    match dictionary_of(alloc, header, bytes) {
-        Ok(dictionary) => Ok(dictionary),
-        Err(broken) => Err(fault_of(
-            broken,
-            file,
-            PartName::Dictionary,
-            header.dictionary_at + bytes.len() as u64,
-        )),
-    }
+    part_answer(
+        dictionary_of(alloc, header, bytes),
+        file,
+        PartName::Dictionary,
+        header.dictionary_at + bytes.len() as u64,
+    )
 }
 
 /// The dictionary that these bytes are, behind this header.
@@ -121,7 +117,7 @@ pub fn read_dictionary(
     dictionary_answer(alloc, bytes, file, header)
 }
 
-#[tactic(auto, using(ri_base::proofs::FieldFaults::fault_answers))]
+#[tactic(auto, using(ri_base::proofs::FieldFaults::answers_part))]
 fn block_answer(
     alloc: Global,
     bytes: &[u8],
@@ -133,10 +129,12 @@ fn block_answer(
     requires { place + length bytes.now < 2 ^ 64 }
     ensures { AnswersPart (λ v. v.entries) result (block documents.now range bytes.now) file parts.Block (place + length bytes.now) }
 {
-    match block_of(alloc, documents.as_slice(), range, bytes) {
-        Ok(block) => Ok(block),
-        Err(broken) => Err(fault_of(broken, file, PartName::Block, place + bytes.len() as u64)),
-    }
+    part_answer(
+        block_of(alloc, documents.as_slice(), range, bytes),
+        file,
+        PartName::Block,
+        place + bytes.len() as u64,
+    )
 }
 
 /// The block that these bytes are, at a place of the file, of this range of 64 ids.

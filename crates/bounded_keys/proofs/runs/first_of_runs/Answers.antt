@@ -9,5 +9,5 @@ returns g c =
     let runs = c.loop-item.runs in
     let before = c.loop-item.invariant.runs in
     let left : c.loop-item.items.items ≡ [] = nil_from_length _ (grind arith) in
-    runs_same g.T.Leading.before c.args.most runs.run runs.full before.0 c.args.items.items runs.items.items
+    runs_same g.T.Leading.before c.args.most runs.run runs.full.items before.0 c.args.items.items runs.items.items
     (subst (λ xs. IsPermutation c.args.items.items (xs ++ before.0)) left before.1) before.2

@@ -15,7 +15,7 @@ returns-clause-contenders g c = λ all h.
     let made = c.drop_above.ensures ∙ ap (filter (λ x. not (beats t (g.T.Leading.number x)))) both in
     let runs = c.in_ok-runs.runs in
     let now = Keeps-contenders g.T.Ord.cmp g.met.T.Ord.total g.T.Leading.number g.met.T.Leading.by_number b.most b.scale g.T.Leading.before all (heap_items b.heap) b.near.items.items t
-    c.threshold_of-threshold.ensures kept runs.run runs.full c.drop_above.new.items.items runs.items.items made c.in_ok-runs.ensures in
+    c.threshold_of-threshold.ensures kept runs.run runs.full.items c.drop_above.new.items.items runs.items.items made c.in_ok-runs.ensures in
     subst (λ (v : Kept g.row.T.Denot). AreContenders g.T.Leading.number v.scale g.T.Leading.before v.most all runs.items.items) c.self.view_is now
 
 pub returns-clause-among : goal.returns-clause-among
@@ -26,6 +26,6 @@ returns-clause-among g c =
     let made = c.drop_above.ensures ∙ ap (filter (λ x. not (beats t (g.T.Leading.number x)))) both in
     let stay = among_filter (λ x. not (beats t (g.T.Leading.number x))) (λ x. beats t (g.T.Leading.number x)) (λ x. sym (not_twice (beats t (g.T.Leading.number x)))) (heap_items b.heap ++ b.near.items.items) in
     let runs = c.in_ok-runs.runs in
-    let now = runs_among g.T.Leading.before b.most runs.run runs.full c.drop_above.new.items.items runs.items.items (heap_items b.heap ++ b.near.items.items) c.in_ok-runs.ensures
+    let now = runs_among g.T.Leading.before b.most runs.run runs.full.items c.drop_above.new.items.items runs.items.items (heap_items b.heap ++ b.near.items.items) c.in_ok-runs.ensures
     (subst (λ ys. AreAmong ys (heap_items b.heap ++ b.near.items.items)) (sym made) stay) in
     subst (λ (v : Kept g.row.T.Denot). AreAmong runs.items.items (v.held ++ v.near)) c.self.view_is now

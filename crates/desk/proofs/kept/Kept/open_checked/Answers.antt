@@ -1,23 +1,13 @@
-use Rattle.std.proofs.Common.{◌≡◌, ◌∙◌, ◌<◌, ◌++◌, ◌∷◌, [], ap, arith, false, true, length, map, refl, rules, subst, sym, List, Option}
+use Rattle.std.proofs.Common.{◌≡◌, ◌∙◌, ◌<◌, ◌++◌, ◌∷◌, [], ap, arith, false, true, length, refl, rules, subst, sym, List}
 use Rattle.std.specs.Prelude.{is_some, nat_le}
 use Rattle.std.specs.List.{All}
 use Rattle.std.proofs.lemmas.Bool.{le-leb, lt-leb}
 use Rattle.std.proofs.lemmas.Result.{err_from_is_err_and}
 use Rattle.ri_base.specs.Documents.{Document}
-use Rattle.store_ends.specs.Files.{Files}
-use Rattle.smoothing.specs.declared.rule.RuleKind.{RuleKind}
 use Rattle.query_check.specs.Answers.{whole_checked}
-use Rattle.query_check.specs.Leaves.{leaf_tree}
-use Rattle.query_check.specs.declared.leaf_kind.LeafKind.{LeafKind}
-use Rattle.belief_nodes.specs.Priors.{Prior}
-use Rattle.disk_index.specs.Cache.{IsCacheBacked}
-use Rattle.disk_index.specs.QuietLaws.{IsCacheBacked-kept}
 use Rattle.disk_index.specs.Snapshots as snapshots
-use Rattle.disk_index.specs.Snapshots.{AreBacked, IsFileAmong}
-use Rattle.document_scoring.specs.Counts.{stats_of}
 use Rattle.counts.specs.Kept.{AreSums}
-use Rattle.counts.proofs.ReadingLemmas.{cache-backed, reads-then}
-use Rattle.ranker.specs.Searches.{IsTaken}
+use Rattle.belief_nodes.specs.Network.{network_tree}
 use Rattle.repository.specs.States as repositories
 use Rattle.desk.specs.declared.reply.Refusal.TheVariants.{DeskFull, NameTaken}
 use Rattle.desk.specs.Backed.{IsDeskBacked, Keeps}
@@ -30,8 +20,6 @@ use Rattle.desk.proofs.Found.{found-as, seen}
 use Rattle.desk.proofs.KeptLemmas.{kept-pushed}
 use Rattle.desk.proofs.OpenExits.{full-refused, new-search, open-accepted-by, open-done, open-new, open-refusal, open-refused-by, taken-refused}
 use Rattle.desk.proofs.Exits.{leaves-failed}
-use Rattle.ri_base.specs.Faults.{TellsDamage}
-use Rattle.ri_base.specs.declared.seg_fault.SegFault.{SegFault}
 use Rattle.desk.proofs.kept.Kept.open_checked.Goals as goal
 
 pub returns-then-is_some-clause-steps : goal.returns-then-is_some-clause-steps
@@ -70,30 +58,18 @@ invariant_of-self g c =
     let s = c.self.inside in
     snapped-kept c.snapshot.result s.repository c.snapshot.new.self s.queries.items s.counts c.snapshot.ensures.closed c.snapshot.ensures.left (c.self.invariant usable (sym c.snapshot.ensures.usable ∙ there))
 
-pub invariant_of-self-in_err-stats : goal.invariant_of-self-in_err-stats
-invariant_of-self-in_err-stats g c =
-    λ usable there.
-    let s = c.self.inside in
-    summed-kept c.snapshot.result s.repository c.snapshot.new.self s.queries.items s.counts c.all_stats.new.counts c.snapshot.ensures.closed c.snapshot.ensures.left c.all_stats.ensures.adds (c.self.invariant usable (sym c.snapshot.ensures.usable ∙ there))
-
 pub invariant_of-self-in_err-search : goal.invariant_of-self-in_err-search
 invariant_of-self-in_err-search g c =
     λ usable there.
     let s = c.self.inside in
-    summed-kept c.snapshot.result s.repository c.snapshot.new.self s.queries.items s.counts c.all_stats.new.counts c.snapshot.ensures.closed c.snapshot.ensures.left c.all_stats.ensures.adds (c.self.invariant usable (sym c.snapshot.ensures.usable ∙ there))
-
-pub invariant_of-self-in_err-told : goal.invariant_of-self-in_err-told
-invariant_of-self-in_err-told g c =
-    λ usable there.
-    let s = c.self.inside in
-    summed-kept c.snapshot.result s.repository c.snapshot.new.self s.queries.items s.counts c.all_stats.new.counts c.snapshot.ensures.closed c.snapshot.ensures.left c.all_stats.ensures.adds (c.self.invariant usable (sym c.snapshot.ensures.usable ∙ there))
+    summed-kept c.snapshot.result s.repository c.snapshot.new.self s.queries.items s.counts c.counted_search.new.counts c.snapshot.ensures.closed c.snapshot.ensures.left c.counted_search.ensures.adds (c.self.invariant usable (sym c.snapshot.ensures.usable ∙ there))
 
 pub invariant_of-self-in_err-map_err : goal.invariant_of-self-in_err-map_err
 invariant_of-self-in_err-map_err g c =
     λ usable there.
     let s = c.self.inside in
     let same : c.push.new.self.items ≡ s.queries.items = search rules in
-    subst (λ (qs : List OpenQuery). AreKept c.snapshot.new.self qs c.all_stats.new.counts) (sym same) (summed-kept c.snapshot.result s.repository c.snapshot.new.self s.queries.items s.counts c.all_stats.new.counts c.snapshot.ensures.closed c.snapshot.ensures.left c.all_stats.ensures.adds (c.self.invariant usable (sym c.snapshot.ensures.usable ∙ there)))
+    subst (λ (qs : List OpenQuery). AreKept c.snapshot.new.self qs c.counted_search.new.counts) (sym same) (summed-kept c.snapshot.result s.repository c.snapshot.new.self s.queries.items s.counts c.counted_search.new.counts c.snapshot.ensures.closed c.snapshot.ensures.left c.counted_search.ensures.adds (c.self.invariant usable (sym c.snapshot.ensures.usable ∙ there)))
 
 pub invariant_of-self-2 : goal.invariant_of-self-2
 invariant_of-self-2 g c =
@@ -104,46 +80,27 @@ invariant_of-self-2 g c =
     let few : length s.queries.items < MAX_QUERIES = omega (arith, c.len.ensures, c.if-len-ge-MAX_QUERIES.false) in
     let q : OpenQuery = record { name = c.args.name; search = c.in_ok-search.search } in
     let snapshot = c.in_ok-snapshot.snapshot in
-    let stats = c.deref-2.result.now in
+    let stats = (network_tree c.in_ok-search.search.network).stats in
     let made = c.in_ok-search.ensures in
     let new = new-search snapshot c.args.checked stats c.args.k q.search made.snapshot made.checked made.network made.most made.credit made.usable in
     let asks = subst (λ (x : Keeps). All (AsksFor (length x.repository.priors)) (whole_checked c.args.checked).leaves) (sym c.self.view_is) c.requires.asks in
     let one : IsOpen (length c.snapshot.new.self.priors) q = open-new (length c.snapshot.new.self.priors) name snapshot c.args.checked stats c.args.k q new c.in_ok-snapshot.ensures.distinct c.requires.k.1
     (subst (λ n. All (AsksFor n) (whole_checked c.args.checked).leaves) (sym (ap length priors)) asks) in
     let pushed : c.push.new.self.items ≡ s.queries.items ++ q ∷ [] = search rules in
-    subst (λ (qs : List OpenQuery). AreKept c.snapshot.new.self qs c.all_stats.new.counts) (sym pushed)
-    (kept-pushed c.snapshot.new.self s.queries.items c.all_stats.new.counts q few one (summed-kept c.snapshot.result s.repository c.snapshot.new.self s.queries.items s.counts c.all_stats.new.counts c.snapshot.ensures.closed c.snapshot.ensures.left c.all_stats.ensures.adds (c.self.invariant usable (sym c.snapshot.ensures.usable ∙ there))))
-
-pub returns-in_err-stats-clause-honest : goal.returns-in_err-stats-clause-honest
-returns-in_err-stats-clause-honest g c = λ backed.
-    let told = g.T.Store.files c.args.store.now in
-    let view = seen c.self.inside in
-    let b : IsDeskBacked told view = subst (IsDeskBacked told) (sym c.self.view_is) backed in
-    let p = err_from_is_err_and c.from_residual-in_err-stats.result c.from_residual-in_err-stats.ensures.1 in
-    rw (p.1, p.2) (c.in_err-stats.ensures.honest (c.in_ok-snapshot.ensures.stored told b.repository) b.cache.backed)
+    subst (λ (qs : List OpenQuery). AreKept c.snapshot.new.self qs c.counted_search.new.counts) (sym pushed)
+    (kept-pushed c.snapshot.new.self s.queries.items c.counted_search.new.counts q few one (summed-kept c.snapshot.result s.repository c.snapshot.new.self s.queries.items s.counts c.counted_search.new.counts c.snapshot.ensures.closed c.snapshot.ensures.left c.counted_search.ensures.adds (c.self.invariant usable (sym c.snapshot.ensures.usable ∙ there))))
 
 pub returns-in_err-search-clause-honest : goal.returns-in_err-search-clause-honest
 returns-in_err-search-clause-honest g c = λ backed.
     let told = g.T.Store.files c.args.store.now in
     let b : IsDeskBacked told (seen c.self.inside) = subst (IsDeskBacked told) (sym c.self.view_is) backed in
-    let reads = c.in_ok-stats.ensures.reads in
-    let stored = subst (λ (f : Option Files). AreBacked f c.in_ok-snapshot.snapshot) (sym reads.quiet.same_files) (c.in_ok-snapshot.ensures.stored told b.repository) in
     let p = err_from_is_err_and c.from_residual-in_err-search.result c.from_residual-in_err-search.ensures.1 in
-    rw (p.1, p.2) (c.in_err-search.ensures.honest stored (cache-backed _ _ _ _ _ _ _ _ _ _ _ _ reads b.cache.backed))
-
-pub returns-in_err-search-clause-quiet : goal.returns-in_err-search-clause-quiet
-returns-in_err-search-clause-quiet g c = (reads-then _ _ _ _ _ _ _ _ _ _ _ _ _ _ c.in_ok-stats.ensures.reads c.in_err-search.ensures.reads).quiet
-
-pub returns-in_err-map_err-clause-quiet : goal.returns-in_err-map_err-clause-quiet
-returns-in_err-map_err-clause-quiet g c = (reads-then _ _ _ _ _ _ _ _ _ _ _ _ _ _ c.in_ok-stats.ensures.reads c.in_ok-search.ensures.reads).quiet
-
-pub returns-clause-quiet : goal.returns-clause-quiet
-returns-clause-quiet g c = (reads-then _ _ _ _ _ _ _ _ _ _ _ _ _ _ c.in_ok-stats.ensures.reads c.in_ok-search.ensures.reads).quiet
+    rw (p.1, p.2) (c.in_err-search.ensures.honest (c.in_ok-snapshot.ensures.stored told b.repository) b.cache.backed)
 
 pub returns-clause-steps : goal.returns-clause-steps
 returns-clause-steps g c = λ backed.
     let told = g.T.Store.files c.args.store.now in
-    let after = g.T.Store.files c.new_search.new.store in
+    let after = g.T.Store.files c.counted_search.new.store in
     let s = c.self.inside in
     let name = c.args.name in
     let view = seen c.self.inside in
@@ -151,7 +108,7 @@ returns-clause-steps g c = λ backed.
     let room : nat_le MAX_QUERIES (length s.queries.items) ≡ false = lt-leb MAX_QUERIES (length s.queries.items) (omega (arith, c.len.ensures, c.if-len-ge-MAX_QUERIES.false)) in
     let q : OpenQuery = record { name = c.args.name; search = c.in_ok-search.search } in
     let snapshot = c.in_ok-snapshot.snapshot in
-    let stats = c.deref-2.result.now in
+    let stats = (network_tree c.in_ok-search.search.network).stats in
     let made = c.in_ok-search.ensures in
     let new = new-search snapshot c.args.checked stats c.args.k q.search made.snapshot made.checked made.network made.most made.credit made.usable in
     let documents = c.in_ok-snapshot.ensures.documents told in
@@ -160,16 +117,14 @@ returns-clause-steps g c = λ backed.
     let generation : c.generation-generation.result ≡ s.repository.held.generation = c.generation-generation.ensures ∙ ap (λ (x : repositories.State). x.held.generation) c.in_ok-snapshot.ensures.closed in
     let sums : IsDeskBacked told view → AreSums (snapshots.live told snapshot) c.generation-generation.result s.counts = λ b.
     subst (λ n. AreSums (snapshots.live told snapshot) n s.counts) (sym generation) (subst (λ (docs : List Document). AreSums docs s.repository.held.generation s.counts) (sym documents) b.counts) in
-    let counted = c.in_ok-stats.ensures.reads in
-    let reads = reads-then _ _ _ _ _ _ _ _ _ _ _ _ _ _ counted made.reads in
-    let taken = subst (λ (f : Option Files). AreBacked f snapshot → IsCacheBacked f c.all_stats.new.cache → (kind : RuleKind) (priors : List Prior) → IsTaken kind priors f q.search) counted.quiet.same_files made.taken in
-    open-done told view name c.args.k c.args.checked snapshot stats q new refl documents after c.args.self.now c.snapshot.new.self c.push.new.self.items c.all_stats.new.counts c.new_search.new.cache c.from-live.result c.in_ok-told.told
+    let reads = made.reads in
+    open-done told view name c.args.k c.args.checked snapshot stats q new refl documents after c.args.self.now c.snapshot.new.self c.push.new.self.items c.counted_search.new.counts c.counted_search.new.cache c.from-live.result c.in_ok-told.told
     c.self.view_is c.in_ok-snapshot.ensures.closed pushed c.in_ok-told.ensures reads.quiet.same_files free room (wide ∙ c.live_count.ensures told) c.in_ok-snapshot.ensures.numbers
     (λ b. c.in_ok-snapshot.ensures.stored told b.repository)
-    (λ b. taken (c.in_ok-snapshot.ensures.stored told b.repository) (IsCacheBacked-kept told (IsFileAmong snapshot) s.cache c.all_stats.new.cache counted.cache b.cache.backed))
-    (λ b. c.deref-2.ensures.value ∙ c.in_ok-stats.ensures.exact (c.in_ok-snapshot.ensures.stored told b.repository) b.cache.backed (sums b) ∙ ap (λ (ls : List LeafKind). map (stats_of (snapshots.live told snapshot)) (map leaf_tree ls)) c.deref.ensures.value)
-    (λ b. subst (λ n. AreSums (snapshots.live told snapshot) n c.all_stats.new.counts) generation (c.in_ok-stats.ensures.kept (c.in_ok-snapshot.ensures.stored told b.repository) b.cache.backed (sums b)))
-    (λ b. cache-read told s.repository snapshot s.cache c.new_search.new.cache (listed-now s.repository snapshot c.in_ok-snapshot.ensures.numbers) reads.cache b.cache) backed
+    (λ b. made.taken (c.in_ok-snapshot.ensures.stored told b.repository) b.cache.backed)
+    (λ b. made.exact (c.in_ok-snapshot.ensures.stored told b.repository) b.cache.backed (sums b))
+    (λ b. subst (λ n. AreSums (snapshots.live told snapshot) n c.counted_search.new.counts) generation (made.kept (c.in_ok-snapshot.ensures.stored told b.repository) b.cache.backed (sums b)))
+    (λ b. cache-read told s.repository snapshot s.cache c.counted_search.new.cache (listed-now s.repository snapshot c.in_ok-snapshot.ensures.numbers) reads.cache b.cache) backed
 
 pub returns-clause-refuses : goal.returns-clause-refuses
 returns-clause-refuses g c = λ told.
@@ -179,24 +134,10 @@ returns-clause-refuses g c = λ told.
     let room : nat_le MAX_QUERIES (length s.queries.items) ≡ false = lt-leb MAX_QUERIES (length s.queries.items) (omega (arith, c.len.ensures, c.if-len-ge-MAX_QUERIES.false)) in
     open-accepted-by told view c.args.self.now c.args.name c.args.k (whole_checked c.args.checked) c.self.view_is free room
 
-pub returns-in_err-stats-clause-keeps : goal.returns-in_err-stats-clause-keeps
-returns-in_err-stats-clause-keeps g c =
-    let p = err_from_is_err_and c.from_residual-in_err-stats.result c.from_residual-in_err-stats.ensures.1 in
-    rw (p.1, p.2) (leaves-failed _ (seen c.self.inside) c.args.self.now _ c.self.view_is refl c.in_err-stats.ensures.damaged)
-
 pub returns-in_err-search-clause-keeps : goal.returns-in_err-search-clause-keeps
 returns-in_err-search-clause-keeps g c =
     let p = err_from_is_err_and c.from_residual-in_err-search.result c.from_residual-in_err-search.ensures.1 in
-    let fault = c.in_err-search.field-0.0 in
-    let tells = subst (λ (before : Option SegFault). TellsDamage before c.new_search.new.cache.damage fault) c.in_ok-stats.ensures.undamaged c.in_err-search.ensures.damaged in
-    rw (p.1, p.2) (record {
-      form = tt;
-      kind = ap (λ (x : Keeps). x.kind) c.self.view_is;
-      unchanged = tt;
-      usable = tt;
-      undamaged = tt;
-      damaged = subst (λ (x : Keeps). TellsDamage x.cache.damage c.new_search.new.cache.damage fault) c.self.view_is tells;
-    })
+    rw (p.1, p.2) (leaves-failed _ (seen c.self.inside) c.args.self.now _ c.self.view_is refl c.in_err-search.ensures.damaged)
 
 pub returns-clause-keeps : goal.returns-clause-keeps
 returns-clause-keeps g c = record {
@@ -204,7 +145,7 @@ returns-clause-keeps g c = record {
   kind = ap (λ (x : Keeps). x.kind) c.self.view_is;
   unchanged = tt;
   usable = search rules;
-  undamaged = c.in_ok-search.ensures.undamaged ∙ c.in_ok-stats.ensures.undamaged ∙ ap (λ (x : Keeps). x.cache.damage) c.self.view_is;
+  undamaged = c.in_ok-search.ensures.undamaged ∙ ap (λ (x : Keeps). x.cache.damage) c.self.view_is;
   damaged = tt;
 }
 
@@ -217,5 +158,5 @@ returns-in_err-map_err-clause-keeps g c =
       unchanged = tt;
       usable = tt;
       undamaged = tt;
-      damaged = c.in_ok-search.ensures.undamaged ∙ c.in_ok-stats.ensures.undamaged ∙ ap (λ (x : Keeps). x.cache.damage) c.self.view_is;
+      damaged = c.in_ok-search.ensures.undamaged ∙ ap (λ (x : Keeps). x.cache.damage) c.self.view_is;
     })

@@ -174,7 +174,7 @@ STEP_MICROSECONDS = 12
 # Sessions: the most milliseconds a line of the longest one, its peak in MiB, and the exponent of the cost. A longer session asks more queries over
 # more documents, so that is between 1 and 2 by itself.
 SESSION_LINES = (2_500, 5_000, 10_000)
-SESSION_LINE_MILLISECONDS = 1
+SESSION_LINE_MILLISECONDS = 0.3
 SESSION_EXPONENT = 1.8
 SESSION_PEAK = 120
 

@@ -31,10 +31,13 @@ than 1,000 results of 1,000 the row only says what they take, since the program 
 few ranges have no document that may be among the first 10 by what is known of the range, or none: there the tables are made for little
 or for nothing.
 
+Of the documents of `searched` nearly all that have one of the three words have one of three beliefs, so that the first 10 are told by
+their ids. There a search for 10 may take at most 1.6 times what it takes where documents are alike.
+
 --instructions measures nothing but how many instructions a search takes, by valgrind: for 1,000 results by one step and by steps of one,
-and for 10 results with tables and without, and what the tables take. These numbers are the same on a machine that does other things meanwhile,
+and for 10 results with tables and without, what the tables take, and a search for 10 of `searched`. These numbers are the same on a machine that does other things meanwhile,
 where times aren't. The bounds are those of the times. Where nothing is found one step passes all documents at once, so there it is bounded
-what a step of one takes.
+what it takes by itself, and what a step of one takes.
 
 A row of memory has how much more the peak is of a search for thousands of results than of one for 10, for each result more and each
 leaf of the query. The search is the first of its process. The numbers of results stand on both sides of those at which its list is moved.
@@ -73,8 +76,10 @@ SEARCHED = {"absent": 0.1, f"w{RARE}": 3, ALL_TENTHS: 60}
 STEPS, SEARCH_EXPONENT = 1.3, 0.3
 # The queries that find something, and how many instructions a step of one document may take where nothing is found.
 FOUND, STEP = (f"w{RARE}", ALL_TENTHS), 20
+# How many instructions one step of all documents may take there.
+NOWHERE = 1_500_000
 MANY, TEN, HALF = 1000, 10, 0.5
-DEARER, TABLES = 1.1, 0.1
+DEARER, TABLES, TIED = 1.1, 0.1, 1.6
 # Blocks from this size on are given back once they are freed.
 KEPT = "MALLOC_MMAP_THRESHOLD_"
 HELD, MOST_HELD = 200, (5_000, 9_000, 10_000, 12_000, 20_000)
@@ -310,8 +315,13 @@ class Table:
         self.wanted("said with tables", said_with, said)
         return folder, without, both
 
+    def few_beliefs(self, found, alike, unit):
+        """A search for ten where few different beliefs tie, beside one where documents are alike."""
+        times = self.bounded(f"{found / alike:5.3f} times documents alike", found <= TIED * alike, f"at most {TIED}")
+        print(f"{'10 of few beliefs':<24}", f"{found:6.2f} {unit}", " ", times, flush=True)
+
     def first_ten(self, name, documents):
-        """The first ten of documents of a shape, without tables and with them."""
+        """The first ten of documents of a shape, without tables and with them. Gives the seconds without."""
         _, fewer_without, fewer_both = self.ten_of(name, documents // 4)
         folder, without, both = self.ten_of(name, documents)
         opening, counts = self.first_times(ALL_TENTHS, folder, documents)
@@ -329,6 +339,7 @@ class Table:
             self.bounded(f"with the search {1000 * both:6.2f} ms, {both / without:4.2f} times", both <= most * without, f"at most {most}"),
         )
         print(f"{'  with tables':<24}", "   ".join(cells), flush=True)
+        return without
 
     def instructions_of(self, query, *words):
         """How many instructions a query takes once its words are counted and its blocks are kept: those of a second one."""
@@ -343,15 +354,16 @@ class Table:
         """A search by one step and by steps of one, in instructions."""
         whole, by_one = (self.instructions_of(query, "search", folder, documents, MANY, step) for step in (documents, 1))
         each = (by_one - whole) / documents
-        cells = [f"{whole / 1e6:6.2f} million"]
+        shown, steps = f"{whole / 1e6:6.2f} million", f"by steps of one {by_one / 1e6:6.2f}"
         if query in FOUND:
-            cells.append(self.bounded(f"by steps of one {by_one / 1e6:6.2f}, {by_one / whole:5.3f} times", by_one <= STEPS * whole, f"at most {STEPS}"))
+            cells = shown, self.bounded(f"{steps}, {by_one / whole:5.3f} times", by_one <= STEPS * whole, f"at most {STEPS}")
         else:
-            cells.append(self.bounded(f"by steps of one {by_one / 1e6:6.2f}, {each:4.1f} a step more", each <= STEP, f"at most {STEP}"))
+            most = f"at most {NOWHERE / 1e6}"
+            cells = self.bounded(shown, whole <= NOWHERE, most), self.bounded(f"{steps}, {each:4.1f} a step more", each <= STEP, f"at most {STEP}")
         print(f"{'instructions, ' + query:<24}", "   ".join(cells), flush=True)
 
     def instructions(self, name, documents):
-        """The first ten of documents of a shape, in instructions."""
+        """The first ten of documents of a shape, in instructions. Gives those of the search without tables."""
         folder = self.made(f"{name} {documents}")
         (folder / NAME).write_bytes(segment(documents, shaped_tokens(SHAPES[name]))[0])
         search, both = (self.instructions_of(ALL_TENTHS, command, folder, documents, TEN, documents) for command in ("search", "skip"))
@@ -363,6 +375,7 @@ class Table:
             self.bounded(f"tables {tables / 1e6:5.2f}, {tables / search:5.3f} times", tables <= TABLES * search, f"at most {TABLES}"),
         )
         print(f"{'instructions, ' + name:<24}", "   ".join(cells), flush=True)
+        return search
 
     def tables_shown(self, query, folder, documents, search, is_bounded=True):
         """What the tables take, beside a search without them."""
@@ -434,14 +447,16 @@ def main():
             (folder / NAME).write_bytes(segment(chosen.documents, searched_tokens(chosen.documents))[0])
             for query in SEARCHED:
                 table.instructions_of_steps(folder, chosen.documents, query)
-            for name in SHAPES:
-                table.instructions(name, chosen.documents)
+            counts = {name: table.instructions(name, chosen.documents) for name in SHAPES}
+            found = table.instructions_of(ALL_TENTHS, "search", folder, chosen.documents, TEN, chosen.documents)
+            table.few_beliefs(found / 1e6, counts["alike"] / 1e6, "million instructions")
             sys.exit(0 if table.is_within else 1)
         table.usual_words(chosen.mega * MEGA)
         table.documents(chosen.documents)
         table.searched(chosen.documents)
-        for name in SHAPES:
-            table.first_ten(name, chosen.documents)
+        times = {name: table.first_ten(name, chosen.documents) for name in SHAPES}
+        found = table.best(ALL_TENTHS, "search", table.folder / f"searched {chosen.documents}", chosen.documents, TEN, chosen.documents)[1]
+        table.few_beliefs(1000 * found, 1000 * times["alike"], "ms")
         table.held(chosen.documents)
     sys.exit(0 if table.is_within else 1)
 

@@ -2,12 +2,13 @@
 use Rattle.std.proofs.Common.{◌≡◌, Some, zero, suc, ◌<◌, ◌≤◌, ◌+◌, ◌-◌, ℕ, Bool, true, List, [], ◌∷◌, ◌++◌, length, get_or, sym, ap, subst, ◌∙◌, arith, append_assoc, ⊎_elim}
 use Rattle.std.specs.List.{slice_get}
 use Rattle.std.specs.List.Sorted.{IsPermutation}
+use Rattle.std.proofs.lemmas.Bool.{cases_lt}
 use Rattle.std.proofs.lemmas.List.{get_or_append_left, get_or_default, length-append}
 use Rattle.std.proofs.Math.Seq.{get_or-append_seam}
 use Rattle.std.proofs.lemmas.List.Elements.{All-append, All-cons, All-get_or, All-nil, All-weaker}
 use Rattle.std.proofs.lemmas.Option.{slice_get_within}
 use Rattle.std.proofs.lemmas.List.Sorted.{IsPermutation-append_left, IsPermutation-cons, IsPermutation-middle, IsPermutation-refl, IsPermutation-sym, IsPermutation-to_front, IsPermutation-trans}
-use Rattle.bounded_keys.specs.Runs.{Continues, HoldsRuns, IsFull, Reaches, count_before}
+use Rattle.bounded_keys.specs.Runs.{AreNeighbours, AreSeen, AreShort, Continues, HoldsRuns, IsFull, Reaches, count_before}
 use Rattle.bounded_keys.specs.Kept.{AreAmong}
 use Rattle.bounded_keys.proofs.Counts.{bit, count_append, count_cons, count_permutation}
 
@@ -62,55 +63,112 @@ module _ {X : Type 0} (before : X → X → Bool) where
     split = IsPermutation-refl [];
     behind = All-nil _;
     last = λ m few _ x f. omega (arith, few);
+    short = λ i n within _. omega (arith, within);
+    seen = λ i n ends _. omega (arith, ends);
     whole = full_none k full [] e;
   }
 
+  -- ---- neighbours
+
+  -- with one more item behind
+  fewer : (xs : List X) (z : X) (i m n : ℕ) → m ≤ n → i + m ≤ length xs → AreNeighbours before i n (xs ++ z ∷ []) → AreNeighbours before i m xs
+  fewer xs z i m n less within near j above below x =
+      let here : get_or (xs ++ z ∷ []) j x ≡ get_or xs j x = get_or_append_left xs (z ∷ []) x j (omega (arith, within, below)) in
+      let next : get_or (xs ++ z ∷ []) (j + 1) x ≡ get_or xs (j + 1) x = get_or_append_left xs (z ∷ []) x (j + 1) (omega (arith, within, below)) in
+      let both = near j above (omega (arith, below, less)) x in
+      subst (λ b. before (get_or xs j x) b ≡ true) next (subst (λ a. before a (get_or (xs ++ z ∷ []) (j + 1) x) ≡ true) here both)
+
+  -- the last two
+  last_two : (xs : List X) (z : X) (i n : ℕ) → 2 ≤ n → i + n ≡ length xs + 1 → AreNeighbours before i n (xs ++ z ∷ []) → Continues before xs z
+  last_two xs z i n two ends near =
+      let some : 0 < length xs = omega (arith, two, ends) in
+      let j = length xs - 1 in
+      let back : j + 1 ≡ length xs = omega (arith, some) in
+      let here : get_or (xs ++ z ∷ []) j z ≡ get_or xs j z = get_or_append_left xs (z ∷ []) z j (omega (arith, some)) in
+      let at : get_or (xs ++ z ∷ []) (j + 1) z ≡ z = ap (λ i. get_or (xs ++ z ∷ []) i z) back ∙ get_or-append_seam xs z [] z in
+      let both = near j (omega (arith, two, ends, some)) (omega (arith, ends, some)) z in
+      (some, subst (λ b. before (get_or xs j z) b ≡ true) at (subst (λ a. before a (get_or (xs ++ z ∷ []) (j + 1) z) ≡ true) here both))
+
+  seen_with : (run seen : ℕ) (xs : List X) (z : X) → AreSeen before xs run z seen → ((i n : ℕ) → i + n ≡ length xs → AreNeighbours before i n xs → n ≤ run)
+      → (i n : ℕ) → i + n ≡ length xs + 1 → AreNeighbours before i n (xs ++ z ∷ []) → n ≤ seen + 1
+  seen_with run seen xs z more h i zero ends near = omega arith
+  seen_with run seen xs z more h i (suc zero) ends near = omega arith
+  seen_with run seen xs z more h i (suc (suc m)) ends near =
+      let on = last_two xs z i (suc (suc m)) (omega arith) ends near in
+      ⊎_elim
+      (λ goes.
+      let few = h i (suc m) (omega (arith, ends)) (fewer xs z i (suc m) (suc (suc m)) (omega arith) (omega (arith, ends)) near) in
+      omega (arith, few, goes.1))
+      (λ begins. absurd (begins.0 on))
+      more
+
+  short_with : (k seen : ℕ) (xs : List X) (z : X) → seen < k → AreShort before k xs
+      → ((i n : ℕ) → i + n ≡ length xs + 1 → AreNeighbours before i n (xs ++ z ∷ []) → n ≤ seen + 1) → AreShort before k (xs ++ z ∷ [])
+  short_with k seen xs z room h ends i n within near =
+      let longer : length (xs ++ z ∷ []) ≡ length xs + 1 = length-append xs (z ∷ []) in
+      ⊎_elim
+      (λ outside. let few = ends i n (omega (arith, within, outside, longer)) near in omega (arith, few, room))
+      (λ inside. h i n inside (fewer xs z i n n (omega arith) inside near))
+      (cases_lt (length xs) (i + n))
+
   module _ (follow : (a b c : X) → before a b ≡ true → before b c ≡ true → before a c ≡ true) where
     -- what the last item stands before, the items of its run stand before
-    pub runs_kept : (k run next : ℕ) (full : List ℕ) (taken kept : List X) (z : X) → Continues before kept run z next → HoldsRuns before k taken run full kept
+    pub runs_kept : (k run seen next : ℕ) (full : List ℕ) (taken kept : List X) (z : X) → AreSeen before kept run z seen → seen < k → next ≡ seen + 1 → HoldsRuns before k taken run full kept
         → HoldsRuns before k (z ∷ taken) next full (kept ++ z ∷ [])
-    runs_kept k run next full taken kept z more h = record {
+    runs_kept k run seen next full taken kept z more room one_more h = record {
       out = h.out;
       split = IsPermutation-trans _ _ _ (IsPermutation-cons z _ _ h.split) (IsPermutation-append_left h.out (z ∷ kept) (kept ++ z ∷ []) (IsPermutation-sym _ _ (IsPermutation-to_front kept z)));
       behind = All-weaker (λ x. k ≤ count_before before kept x) (λ x. k ≤ count_before before (kept ++ z ∷ []) x) (λ x e. omega (arith, e, before_more kept (z ∷ []) x)) h.out h.behind;
       last = λ m few small x f.
-          let place : length (kept ++ z ∷ []) - 1 ≡ length kept = let l : length (kept ++ z ∷ []) ≡ length kept + 1 = length-append kept (z ∷ []) in omega (arith, l) in
           let at : get_or (kept ++ z ∷ []) (length (kept ++ z ∷ []) - 1) x ≡ z = ap (λ i. get_or (kept ++ z ∷ []) i x) place ∙ get_or-append_seam kept z [] x in
           let now : before z x ≡ true = subst (λ y. before y x ≡ true) at f in
           let one = before_one kept z x now in
           ⊎_elim
-          (λ begun. omega (arith, few, begun, one))
           (λ goes. reach m few small x now one goes)
+          (λ begins. omega (arith, few, one_more, begins.1, one))
           more;
+      short = short_with k seen kept z room h.short ends;
+      seen = λ i n all near. let few = ends i n (omega (arith, all, longer)) near in omega (arith, few, one_more);
       whole = full_more k full kept (z ∷ []) h.whole;
     }
       where
+        longer : length (kept ++ z ∷ []) ≡ length kept + 1
+        longer = length-append kept (z ∷ [])
+
+        place : length (kept ++ z ∷ []) - 1 ≡ length kept
+        place = omega (arith, longer)
+
+        ends : (i n : ℕ) → i + n ≡ length kept + 1 → AreNeighbours before i n (kept ++ z ∷ []) → n ≤ seen + 1
+        ends = seen_with run seen kept z more h.seen
+
         reach : (m : ℕ) → m ≤ next → m ≤ k → (x : X) → before z x ≡ true → count_before before kept x + 1 ≤ count_before before (kept ++ z ∷ []) x
-            → (0 < length kept) × (before (get_or kept (length kept - 1) z) z ≡ true) × (next ≤ run + 1) → m ≤ count_before before (kept ++ z ∷ []) x
+            → Continues before kept z × (seen ≡ run) → m ≤ count_before before (kept ++ z ∷ []) x
         reach m few small x now one goes =
-            let on = follow (get_or kept (length kept - 1) z) z x goes.1 now in
-            let at : get_or kept (length kept - 1) z ≡ get_or kept (length kept - 1) x = get_or_default kept (length kept - 1) z x (omega (arith, goes.0)) in
-            let many = h.last (m - 1) (omega (arith, few, goes.2)) (omega (arith, small)) x (subst (λ y. before y x ≡ true) at on) in
+            let on = follow (get_or kept (length kept - 1) z) z x goes.0.1 now in
+            let at : get_or kept (length kept - 1) z ≡ get_or kept (length kept - 1) x = get_or_default kept (length kept - 1) z x (omega (arith, goes.0.0)) in
+            let many = h.last (m - 1) (omega (arith, few, goes.1, one_more)) (omega (arith, small)) x (subst (λ y. before y x ≡ true) at on) in
             omega (arith, many, one)
 
     -- one of whose run so many are kept
-    pub runs_reach : (k run next : ℕ) (full : List ℕ) (taken kept : List X) (z : X) → Continues before kept run z next → k < next → HoldsRuns before k taken run full kept
+    pub runs_reach : (k run seen : ℕ) (full : List ℕ) (taken kept : List X) (z : X) → AreSeen before kept run z seen → k ≤ seen → HoldsRuns before k taken run full kept
         → Reaches before k (length kept - 1) kept
-    runs_reach k run next full taken kept z more long h x f = ⊎_elim
-        (λ begun. omega (arith, begun, long))
-        (λ goes. h.last k (omega (arith, goes.2, long)) (omega arith) x f)
+    runs_reach k run seen full taken kept z more long h x f = ⊎_elim
+        (λ goes. h.last k (omega (arith, goes.1, long)) (omega arith) x f)
+        (λ begins. omega (arith, begins.1, long))
         more
 
-    pub runs_left : (k run next : ℕ) (full now : List ℕ) (taken kept : List X) (z : X) → Continues before kept run z next → k < next → IsFull before k now kept
+    pub runs_left : (k run seen next : ℕ) (full now : List ℕ) (taken kept : List X) (z : X) → AreSeen before kept run z seen → k ≤ seen → seen ≤ next → IsFull before k now kept
         → HoldsRuns before k taken run full kept → HoldsRuns before k (z ∷ taken) next now kept
-    runs_left k run next full now taken kept z more long whole h = record {
+    runs_left k run seen next full now taken kept z more long up whole h = record {
       out = z ∷ h.out;
       split = IsPermutation-trans _ _ _ (IsPermutation-cons z _ _ h.split) (IsPermutation-sym _ _ (IsPermutation-middle kept z h.out));
       behind = All-cons (λ x. k ≤ count_before before kept x) z h.out
-          (⊎_elim (λ begun. omega (arith, begun, long)) (λ goes. h.last k (omega (arith, goes.2, long)) (omega arith) z goes.1) more) h.behind;
+          (⊎_elim (λ goes. h.last k (omega (arith, goes.1, long)) (omega arith) z goes.0.1) (λ begins. omega (arith, begins.1, long)) more) h.behind;
       last = λ m few small x f.
-          let many = runs_reach k run next full taken kept z more long h x f in
+          let many = runs_reach k run seen full taken kept z more long h x f in
           omega (arith, many, small);
+      short = h.short;
+      seen = λ i n all near. let few = h.short i n (omega (arith, all)) near in omega (arith, few, long, up);
       whole = whole;
     }
 
@@ -133,4 +191,4 @@ module _ {X : Type 0} (before : X → X → Bool) where
 
   -- items in another order
   pub runs_same : (k run : ℕ) (full : List ℕ) (taken other kept : List X) → IsPermutation other taken → HoldsRuns before k taken run full kept → HoldsRuns before k other run full kept
-  runs_same k run full taken other kept p h = record { out = h.out; split = IsPermutation-trans _ _ _ p h.split; behind = h.behind; last = h.last; whole = h.whole }
+  runs_same k run full taken other kept p h = record { out = h.out; split = IsPermutation-trans _ _ _ p h.split; behind = h.behind; last = h.last; short = h.short; seen = h.seen; whole = h.whole }

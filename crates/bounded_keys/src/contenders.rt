@@ -5,6 +5,7 @@ ghost use Rattle.std.specs.List.{All};
 ghost use Rattle.std.specs.List.Sorted.{IsPermutation};
 ghost use Rattle.std.specs.Ordering.{is_lt};
 ghost use Rattle.bounded_keys.specs.Kept.{AreAmong, AreContenders, IsApart, IsKept, beats, is_beaten_by};
+ghost use Rattle.bounded_keys.specs.Runs.{AreShort};
 
 use crate::Leading;
 use crate::near::{LEAST_ROOM, Near, drop_above, limit_of};
@@ -195,6 +196,7 @@ impl<T: Leading + Drop> Contenders<T> {
     pub fn into_contenders(self, alloc: Global) -> Result<Vec<T>, AllocError>
         ensures contenders { IfOk result (λ v. (all : List T) → IsKept T.cmp T.number T.before all self → AreContenders T.number self.scale T.before self.most all v.items) }
         ensures among { IfOk result (λ v. AreAmong v.items (self.held ++ self.near)) }
+        ensures short { IfOk result (λ v. AreShort T.before self.most v.items) }
     {
         let threshold = threshold_of(&self.heap, self.most, self.scale);
         let Contenders {

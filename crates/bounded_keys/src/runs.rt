@@ -1,6 +1,6 @@
 // The first items of each run of those that stand before each other whatever their further digits are.
-ghost use Rattle.std.specs.Prelude.{◌≡◌, ◌<◌, ◌-◌, ◌∷◌, [], List, IfOk, OnOk, length};
-ghost use Rattle.bounded_keys.specs.Runs.{Continues, HoldsRuns, IsFull, Reaches};
+ghost use Rattle.std.specs.Prelude.{◌≡◌, ◌-◌, ◌∷◌, [], true, false, List, IfOk, OnOk, length};
+ghost use Rattle.bounded_keys.specs.Runs.{AreSeen, Continues, HoldsRuns, IsFull, Reaches};
 
 use crate::Leading;
 use std::alloc::{AllocError, Global};
@@ -15,14 +15,22 @@ pub struct Runs<T: Leading> {
     run: usize,
 }
 
-/// How many items a run has with this one, which continues the run of the last of some items or begins one.
-fn run_with<T: Leading + Drop>(items: &[T], run: usize, item: &T) -> usize
-    ensures { Continues T.before items.now run item.now result }
+/// Whether an item continues the run of the last of some items.
+fn continues<T: Leading + Drop>(items: &[T], item: &T) -> bool
+    ensures yes { result ≡ true → Continues T.before items.now item.now }
+    ensures no { result ≡ false → Continues T.before items.now item.now → ⊥ }
 {
     match items.last() {
-        Some(last) if last.is_before(item) => run.saturating_add(1),
-        _ => 1,
+        Some(last) => last.is_before(item),
+        None => false,
     }
+}
+
+/// How many items of an item's run were seen, where so many were seen of the last one's.
+fn seen_of_run<T: Leading + Drop>(items: &[T], run: usize, item: &T) -> usize
+    ensures { AreSeen T.before items.now run item.now result }
+{
+    if continues(items, item) { run } else { 0 }
 }
 
 impl<T: Leading + Drop> Runs<T> {
@@ -39,9 +47,9 @@ impl<T: Leading + Drop> Runs<T> {
         })
     }
 
-    /// Tells where the last item stands that is kept, where the one that is left out is the first of its run.
-    fn end_run(&mut self) -> Result<(), AllocError>
-        requires { self.old.most < self.old.run }
+    /// Tells where the last item stands that is kept, where the one that is left out, before which so many of its run were seen, is the
+    /// first of them to be so.
+    fn end_run(&mut self, seen: usize) -> Result<(), AllocError>
         ensures most { self.new.most ≡ self.old.most }
         ensures run { self.new.run ≡ self.old.run }
         ensures items { self.new.items.items ≡ self.old.items.items }
@@ -49,7 +57,7 @@ impl<T: Leading + Drop> Runs<T> {
             → IsFull T.before self.old.most self.old.full.items self.old.items.items → IsFull T.before self.old.most self.new.full.items self.old.items.items) }
     {
         match self.items.len().checked_sub(1) {
-            Some(last) if self.run - self.most == 1 => Ok(self.full.push(last)?),
+            Some(last) if seen == self.most => Ok(self.full.push(last)?),
             _ => Ok(()),
         }
     }
@@ -60,12 +68,13 @@ impl<T: Leading + Drop> Runs<T> {
         ensures runs { OnOk result ((taken : List T) → HoldsRuns T.before self.old.most taken self.old.run self.old.full.items self.old.items.items
             → HoldsRuns T.before self.old.most (item ∷ taken) self.new.run self.new.full.items self.new.items.items) }
     {
-        self.run = run_with(&self.items, self.run, &item);
-        if self.run <= self.most {
+        let seen = seen_of_run(&self.items, self.run, &item);
+        self.run = seen.saturating_add(1);
+        if seen < self.most {
             self.items.push(item)?;
             return Ok(());
         }
-        self.end_run()
+        self.end_run(seen)
     }
 }
 

@@ -106,26 +106,6 @@ pub fn whole_count(found: &LeafExtents<'_>, spans: &[FieldSpan], tokens: u32) ->
     counter.count_whole(tokens)
 }
 
-/// The counts of what is found of all leaves in a document with these fields and so many tokens, as a whole.
-pub fn whole_counts(
-    alloc: Global,
-    found: &[LeafExtents<'_>],
-    spans: &[FieldSpan],
-    tokens: u32,
-) -> Result<Vec<LeafCount>, NoMemory>
-    requires fields { AllPairs IsBefore spans.now }
-    requires found { All (IsFound spans.now) found.now }
-    requires few { tokens ≤ MAX_DOC_TOKENS }
-    ensures exact { IfOk result (λ v. v.items ≡ map (found_count spans.now (pair 0 tokens)) found.now) }
-    ensures range { IfOk result (λ v. All (λ n. IsLeafCount n) v.items) }
-{
-    let mut counts = Vec::with_capacity(alloc, found.len())?;
-    for each in found {
-        counts.push(whole_count(each, spans, tokens))?;
-    }
-    Ok(counts)
-}
-
 /// The counters of what is found of all leaves in a document with these fields.
 pub fn counters_of<'a>(
     alloc: Global,

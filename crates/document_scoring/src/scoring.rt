@@ -15,13 +15,13 @@ ghost use Rattle.document_scoring.specs.Counters.{IsFound, IsReady, counter_coun
 ghost use Rattle.document_scoring.specs.Rows.{Adds, AddsRows, AddsWindows, row_candidate, window_candidate};
 ghost use Rattle.document_scoring.specs.Told.{IsDocumentTold};
 
-use crate::counters::{Counter, count_all, counters_of, whole_counts};
+use crate::counters::{Counter, count_all, counters_of};
 use crate::counts::some_occurs;
 use crate::filters::all_pass;
 use crate::found::{LeafExtents, all_found};
 use belief_nodes::{BeliefNode, LeafCount, Network};
 use ri_base::{
-    Docno, Extent, FieldSpan, Filter, Fraction, Fractions, NoMemory, Postings, Range, SegFault,
+    Docno, Extent, FieldSpan, Filter, Fraction, Fractions, NoMemory, Postings, SegFault,
 };
 use smoothing::Rule;
 use std::alloc::Global;
@@ -65,34 +65,6 @@ fn scored<F: Fn(u32, u32, u64, u64) -> Fraction>(
     })
 }
 
-/// Adds the candidate of a window with these counts, where some leaf occurs in it.
-fn score_counts<F: Fn(u32, u32, u64, u64) -> Fraction>(
-    alloc: Global,
-    network: &Network,
-    rule: &Rule<F>,
-    plugs: &mut [Box<dyn BeliefNode>],
-    docno: &Docno,
-    tokens: u32,
-    counts: &[LeafCount],
-    window: Extent,
-    rows: &mut Vec<Row>,
-) -> Result<(), NoMemory>
-    requires rule { Computes F.pre F.post rule.now.kind rule.now.f }
-    requires plugs { All (HasPrior (length plugs.old)) (network_tree network.now).leaves }
-    requires each { length counts.now ≡ length (network_tree network.now).leaves }
-    requires counts { All (λ n. IsLeafCount n) counts.now }
-    ensures adds { OnOk result
-        (AddsWindows rule.now.kind (map (λ plug. meaning plug) plugs.old) (network_tree network.now) docno.now tokens (λ _. counts.now) (window ∷ []) rows.old.items rows.new.items) }
-    ensures stay { map (λ plug. meaning plug) plugs.new ≡ map (λ plug. meaning plug) plugs.old }
-{
-    if !some_occurs(counts) {
-        return Ok(());
-    }
-    let row = scored(alloc, network, rule, plugs, docno, tokens, counts, window)?;
-    rows.push(row)?;
-    Ok(())
-}
-
 /// Adds the candidate of one window, where some leaf occurs in it. No window may begin before an earlier one.
 fn score_window<F: Fn(u32, u32, u64, u64) -> Fraction>(
     alloc: Global,
@@ -117,13 +89,15 @@ fn score_window<F: Fn(u32, u32, u64, u64) -> Fraction>(
     ensures stay { map (λ plug. meaning plug) plugs.new ≡ map (λ plug. meaning plug) plugs.old }
 {
     let counts = count_all(alloc, counters, window)?;
-    score_counts(
-        alloc, network, rule, plugs, docno, tokens, &counts, window, rows,
-    )
+    if !some_occurs(&counts) {
+        return Ok(());
+    }
+    let row = scored(alloc, network, rule, plugs, docno, tokens, &counts, window)?;
+    rows.push(row)?;
+    Ok(())
 }
 
-/// Adds the candidates of a document of this docno, so many tokens and these fields, by what is found of the leaves in it. Of a
-/// document as a whole no counters are made.
+/// Adds the candidates of a document of this docno, so many tokens and these fields, by what is found of the leaves in it.
 fn score_found<F: Fn(u32, u32, u64, u64) -> Fraction>(
     alloc: Global,
     network: &Network,
@@ -146,13 +120,6 @@ fn score_found<F: Fn(u32, u32, u64, u64) -> Fraction>(
         (AddsWindows rule.now.kind (map (λ plug. meaning plug) plugs.old) (network_tree network.now) docno.now tokens (λ w. map (found_count spans.now w) found.now) (windows (network_tree network.now).range tokens spans.now) rows.old.items rows.new.items) }
     ensures stay { map (λ plug. meaning plug) plugs.new ≡ map (λ plug. meaning plug) plugs.old }
 {
-    if tokens > 0 && matches!(network.range(), Range::Whole) {
-        let counts = whole_counts(alloc, found, spans, tokens)?;
-        let window = Extent::new(0, tokens);
-        return score_counts(
-            alloc, network, rule, plugs, docno, tokens, &counts, window, rows,
-        );
-    }
     let mut all = counters_of(alloc, found, spans)?;
     let counters = all.as_mut_slice();
     for window in Contexts::new(network.range(), tokens, spans) {

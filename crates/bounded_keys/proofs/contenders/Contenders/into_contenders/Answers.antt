@@ -2,6 +2,7 @@ use Rattle.std.proofs.Common.{rules, ◌≡◌, ◌++◌, ap, not, subst, sym, �
 use Rattle.std.specs.BinaryHeap.{heap_items}
 use Rattle.std.specs.List.{filter}
 use Rattle.bounded_keys.specs.Kept.{AreAmong, AreContenders, IsKept, Kept, beats}
+use Rattle.bounded_keys.specs.Runs.{AreShort}
 use Rattle.bounded_keys.proofs.Kepts.{Keeps-contenders, among_filter, not_twice}
 use Rattle.bounded_keys.proofs.RunLemmas.{runs_among}
 use Rattle.bounded_keys.proofs.contenders.Contenders.into_contenders.Goals as goal
@@ -29,3 +30,7 @@ returns-clause-among g c =
     let now = runs_among g.T.Leading.before b.most runs.run runs.full.items c.drop_above.new.items.items runs.items.items (heap_items b.heap ++ b.near.items.items) c.in_ok-runs.ensures
     (subst (λ ys. AreAmong ys (heap_items b.heap ++ b.near.items.items)) (sym made) stay) in
     subst (λ (v : Kept g.row.T.Denot). AreAmong runs.items.items (v.held ++ v.near)) c.self.view_is now
+
+pub returns-clause-short : goal.returns-clause-short
+returns-clause-short g c =
+    subst (λ (v : Kept g.row.T.Denot). AreShort g.T.Leading.before v.most c.in_ok-runs.runs.items.items) c.self.view_is c.in_ok-runs.ensures.short

@@ -32,7 +32,8 @@ The inputs are made in a temporary folder, the same ones each time, and so are t
     session       sessions of 2,500, 5,000 and 10,000 lines: three of four lines add a document of 25 words, the others delete, flush,
                   merge in turns, and ask queries of which some stay open; and the exponent of their cost
     prior         100,000 rows of a prior, and a query with it, against the same query without
-    windows       one document of 1,000,000 tokens, half of which are words of the windows: scans and queries
+    windows       one document of 1,000,000 tokens, half of which are words of the windows: scans and queries; and a scan for any of
+                  500 words
     fields        65,535 fields of distinct names, one inside the other; as many of one name, one inside the other and one
                   behind the other, for what lies in them and for windows over them: scans, `add` and queries
     parts         passages of one document of 1,000,000 tokens, against the query of whole documents; and 65,535 fields as
@@ -185,6 +186,7 @@ WITH_PRIOR = 3
 
 WINDOWS = ("a", "#uw8(a b c)", "#1(a b)")
 WINDOW = Bound(12, 80)
+ANY_WORDS = 500
 WINDOW_QUERY = Bound(12, 160)
 
 MOST_FIELDS = 65_535
@@ -788,6 +790,10 @@ def measure_windows(table):
     for words, shown in ((inputs.mixed(tokens), "mixed"), (inputs.in_runs(tokens), "in runs")):
         inputs.one_document(path, inputs.in_lines(words))
         measure_texts(table, WINDOWS, path, (WINDOW, WINDOW_QUERY), f"1,000,000 tokens {shown}")
+    inputs.one_document(path, inputs.in_lines(inputs.mixed(tokens)))
+    any_words = f"#syn({' '.join(f'w{i}' for i in range(ANY_WORDS))})"
+    _, cells = table.measure(table.scan(any_words, path), WINDOW)
+    table.row(f"scan for any of {ANY_WORDS} words, 1,000,000 tokens mixed", *cells)
 
 
 def measure_fields(table):

@@ -16,7 +16,8 @@ ranges or searches for it, once for each line that it is sent. `rt run` in crate
 A row of an opening has MB of what is read in a second of processor time, the best of the rounds, and the peak of memory for
 each byte of that. Only the header, the documents and the dictionary may be read, and one page beside them: the store reads its
 files by pages. A row of a word has how many bytes are read where it is counted first, at most a page for each of its blocks, and how
-many where it is counted again, which must be none. What the system counted for the process is compared, less the line that it was sent.
+many where it is counted again, which must be none, and take a millisecond at most, since its sums are kept. What the system counted for the
+process is compared, less the line that it was sent.
 
 A row of a search has the time of the best of the rounds in five processes, once its words are counted and its blocks are kept, by one step of all
 documents and by steps of one. The exponent is the logarithm of how much more time a word of 500 documents takes among four times as
@@ -34,8 +35,11 @@ or for nothing.
 Of the documents of `searched` nearly all that have one of the three words have one of three beliefs, so that the first 10 are told by
 their ids. There a search for 10 may take at most 1.6 times as long as where documents are alike, and 1.4 times as many instructions.
 
+Where each of the three words stands three times in the query, a search for 10 documents alike may take at most twice as many instructions
+as where it stands once: a leaf that stands in the query before is looked up once in a document.
+
 --instructions measures nothing but how many instructions a search takes, by valgrind: for 1,000 results by one step and by steps of one,
-and for 10 results with tables and without, what the tables take, and a search for 10 of `searched`. These numbers are the same on a machine that does other things meanwhile,
+for 10 results with tables and without, what the tables take, a search for 10 of `searched`, and one with each word three times. These numbers are the same on a machine that does other things meanwhile,
 where times aren't. The bounds are those of the times but where another is named. Where nothing is found one step passes all documents at once, so there it is bounded
 what it takes by itself, and what a step of one takes. What a search for 10 takes without tables is bounded by itself too, for each document: where terms aren't found by their first bytes it is a seventh more.
 
@@ -84,6 +88,10 @@ PROCESSES = 5
 DEARER, TABLES = 1.1, 0.1
 # How many times what a search takes of documents alike one may take where few different beliefs tie, in time and in instructions.
 TIED, TIED_INSTRUCTIONS = 1.6, 1.4
+# How many seconds a word may take that was counted before.
+AGAIN = 0.001
+# How often each word stands in a query that repeats its words, and how many times what it takes once it may take then.
+OFTEN, REPEATED = 3, 2
 # Blocks from this size on are given back once they are freed.
 KEPT = "MALLOC_MMAP_THRESHOLD_"
 HELD, MOST_HELD = 200, (5_000, 9_000, 10_000, 12_000, 20_000)
@@ -260,7 +268,8 @@ class Table:
         cells = (
             f"{count} times in {total} words",
             f"{reads.size} bytes in {reads.calls} reads, then {again.size} in {again.calls}",
-            f"{1000 * first.seconds:5.2f} ms, then {1000 * second.seconds:5.2f} ms",
+            f"{1000 * first.seconds:5.2f} ms",
+            self.bounded(f"then {1000 * second.seconds:5.2f} ms", second.seconds <= AGAIN, f"at most {1000 * AGAIN:.0f}"),
         )
         print(f"{'count, ' + word:<24}", "   ".join(cells), flush=True)
 
@@ -385,6 +394,13 @@ class Table:
         print(f"{'instructions, ' + name:<24}", "   ".join(cells), flush=True)
         return search
 
+    def repeated(self, once, documents):
+        """A search for ten of documents alike with each word several times, beside one with each of them once."""
+        query = " ".join([ALL_TENTHS] * OFTEN)
+        found = self.instructions_of(query, "search", self.folder / f"alike {documents}", documents, TEN, documents)
+        times = self.bounded(f"{found / once:5.3f} times those of each word once", found <= REPEATED * once, f"at most {REPEATED}")
+        print(f"{f'each word {OFTEN} times':<24}", f"{found / 1e6:6.2f} million instructions", " ", times, flush=True)
+
     def tables_shown(self, query, folder, documents, search, is_bounded=True):
         """What the tables take, beside a search without them."""
         tables = self.best(query, "table", folder, documents)[1]
@@ -458,6 +474,7 @@ def main():
             counts = {name: table.instructions(name, chosen.documents) for name in SHAPES}
             found = table.instructions_of(ALL_TENTHS, "search", folder, chosen.documents, TEN, chosen.documents)
             table.few_beliefs(found / 1e6, counts["alike"] / 1e6, "million instructions", TIED_INSTRUCTIONS)
+            table.repeated(counts["alike"], chosen.documents)
             sys.exit(0 if table.is_within else 1)
         table.usual_words(chosen.mega * MEGA)
         table.documents(chosen.documents)

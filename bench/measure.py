@@ -44,8 +44,9 @@ The inputs are made in a temporary folder, the same ones each time, and so are t
     passed        63,666 documents of 25 words, for words that no document has; and 200,000 documents of 5 words, for 40 words:
                   what each word costs beyond a query of one word that no document has
     instructions  machine instructions a byte of a scan and of `add`, counted by cachegrind of valgrind, which must be
-                  installed, on 1/4 MiB of newswire and of thin text; and one document of twice the size. They are the same in
-                  each run
+                  installed, on 1/4 MiB of newswire and of thin text; and one document of twice the size; and those of opening and
+                  closing a query in a session over 64 segments; and how often a query of a word that none has calls the system for
+                  each segment. They are the same in each run
 
 A row of text has the processor time, its ratio to that of `LC_ALL=C wc -w` on the same file, and the peak of memory, with the
 bounds of these two. That of an `add` has MB of text and documents in a second of processor time too, and the size of the
@@ -219,6 +220,11 @@ FORTY_TO_ONE = 15
 # Those of a scan and those of `add`.
 INSTRUCTIONS = {"newswire": (240, 400), "thin": (245, 400)}
 INSTRUCTIONS_TO_HALF = 2.1
+# Those of opening and closing a query over the most segments, by sessions of so many openings.
+OPENINGS = (100, 300)
+OPENING_INSTRUCTIONS = 60_000
+# How often the system is called for each segment that is opened.
+SEGMENT_CALLS = 7.5
 
 
 # One run.
@@ -305,6 +311,17 @@ def instructions(command, path):
     if done.returncode or not found:
         sys.exit(f"{' '.join(counted)} ended with status {done.returncode}")
     return int(found[1].replace(",", ""))
+
+
+def system_calls(command):
+    """How often a run calls the system."""
+    traced = ["valgrind", "--tool=none", "--trace-syscalls=yes", *command]
+    done = subprocess.run(traced, stdin=subprocess.DEVNULL, capture_output=True, text=True)
+    # (where a call ends later, a second line without its name says so)
+    found = len(re.findall(r"SYSCALL\[[\d,]+\]\( *\d+\) \w", done.stderr))
+    if done.returncode or not found:
+        sys.exit(f"{' '.join(traced)} ended with status {done.returncode}")
+    return found
 
 
 # Rows.
@@ -896,6 +913,26 @@ def measure_instructions(table):
     for name, half, whole in zip(("scan rain", "add"), *(counted(table, path) for path in halves)):
         cell = table.at_most(f"{whole / half:4.2f} times those of 1/4 MiB", whole / half, INSTRUCTIONS_TO_HALF)
         table.row(f"{name}, one document of 1/2 MiB", cell)
+    measure_openings(table)
+
+
+def measure_openings(table):
+    """What a query takes that is opened and closed in a session, beyond a session of fewer; and what a segment more takes."""
+    paths = [table.folder / f"small{i}" for i in range(SEGMENTS[-1])]
+    for i, path in enumerate(paths):
+        inputs.short_documents(path, 5 * i, 5, 25)
+    folder, found = table.collection("small", *paths), []
+    for openings in OPENINGS:
+        session = table.session(folder, "openings", "open q 5 nowhere\nclose q\n" * openings + "end\n")
+        copied(session.begun, session.changed)
+        found.append(instructions(session.command, session.path))
+    each = (found[1] - found[0]) / (OPENINGS[1] - OPENINGS[0])
+    cell = table.at_most(f"{each:7.0f} instructions", each, OPENING_INSTRUCTIONS)
+    table.row(f"open and close a query over {SEGMENTS[-1]} segments", cell)
+    few, many = (system_calls(table.query(one, "nowhere").command) for one in (table.collection("one small", paths[0]), folder))
+    each = (many - few) / (len(paths) - 1)
+    cell = table.at_most(f"{each:4.2f} calls of the system a segment", each, SEGMENT_CALLS)
+    table.row(f"query nowhere, {SEGMENTS[-1]} segments", cell)
 
 
 GROUPS = {

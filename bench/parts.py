@@ -26,7 +26,7 @@ take. These searches are for 1,000 results.
 
 A search for 10 results has two rows: what the opening, the first counts and the search take without tables; and with tables, what these
 and the search take, and how many times as much this is as the search without. Both have the exponent, by a quarter of the documents.
-With tables no search may take more than a tenth more than without, and the tables no more than a tenth of it; but where there are fewer
+With tables no search may take more than a tenth more instructions than without, and a fifth more time, and the tables no more than a tenth of it; but where there are fewer
 than 1,000 results of 1,000 the row only says what they take, since the program makes none then. For the documents of
 `early` the tables and the search may take half of it at most. Where documents are alike, or their counts and lengths vary in no order,
 few ranges have no document that may be among the first 10 by what is known of the range, or none: there the tables are made for little
@@ -44,7 +44,7 @@ where times aren't. The bounds are those of the times but where another is named
 what it takes by itself, and what a step of one takes. What a search for 10 takes without tables is bounded by itself too, for each document: where terms aren't found by their first bytes it is a seventh more.
 
 A row of memory has how much more the peak is of a search for thousands of results than of one for 10, for each result more and each
-leaf of the query. The search is the first of its process. The numbers of results stand on both sides of those at which its list is moved.
+leaf of the query. The search is the first of its process, and a peak is the least of five processes. The numbers of results stand on both sides of those at which its list is moved.
 There the C library gives blocks of 32 KiB and more back as soon as they are freed (MALLOC_MMAP_THRESHOLD_): by itself it keeps more and larger ones
 the larger the first ones were, and the peak would tell what it keeps, not what a search holds.
 
@@ -83,9 +83,10 @@ FOUND, STEP = (f"w{RARE}", ALL_TENTHS), 20
 # How many instructions one step of all documents may take there, and a search for 10 results without tables for each document.
 NOWHERE, FOR_TEN = 1_500_000, 1_450
 MANY, TEN, HALF = 1000, 10, 0.5
-# In how many processes a search is timed: one may take twice what another does, by where its memory lies.
+# In how many processes a search is timed and its peak is looked at: one may take twice what another does, by where its memory lies.
 PROCESSES = 5
-DEARER, TABLES = 1.1, 0.1
+# How many times what it takes without tables a search may take with them, in time and in instructions, and what part of it the tables.
+DEARER, DEARER_INSTRUCTIONS, TABLES = 1.2, 1.1, 0.1
 # How many times what a search takes of documents alike one may take where few different beliefs tie, in time and in instructions.
 TIED, TIED_INSTRUCTIONS = 1.6, 1.4
 # How many seconds a word may take that was counted before.
@@ -385,7 +386,7 @@ class Table:
         (folder / NAME).write_bytes(segment(documents, shaped_tokens(SHAPES[name]))[0])
         search, both = (self.instructions_of(ALL_TENTHS, command, folder, documents, TEN, documents) for command in ("search", "skip"))
         tables = self.instructions_of(ALL_TENTHS, "table", folder, documents)
-        most, for_ten = HALF if name == "early" else DEARER, FOR_TEN * documents
+        most, for_ten = HALF if name == "early" else DEARER_INSTRUCTIONS, FOR_TEN * documents
         cells = (
             self.bounded(f"{search / 1e6:6.2f} million", search <= for_ten, f"at most {for_ten / 1e6:.1f}"),
             self.bounded(f"with tables {both / 1e6:6.2f}, {both / search:5.3f} times", both <= most * search, f"at most {most}"),
@@ -409,11 +410,14 @@ class Table:
         return self.bounded(shown, share <= TABLES, f"at most {TABLES}") if is_bounded else shown
 
     def peak(self, query, folder, documents, most):
-        """The peak of the first search of a process, for so many results, where freed blocks are given back."""
-        with given_back(), Reader(self.program, "search", folder, documents, most, documents) as run:
-            first = run.ask(query)
-        self.wanted("results", first.said.split()[0], str(most))
-        return first.peak
+        """The peak of the first search of a process, for so many results, where freed blocks are given back: the least of some processes."""
+        peaks = []
+        for _ in range(PROCESSES):
+            with given_back(), Reader(self.program, "search", folder, documents, most, documents) as run:
+                first = run.ask(query)
+            self.wanted("results", first.said.split()[0], str(most))
+            peaks.append(first.peak)
+        return min(peaks)
 
     def held(self, documents):
         """What a search holds for each result and leaf."""

@@ -1,6 +1,5 @@
 pub mod AlikeLemmas
 pub mod AmongLemmas
-pub mod BackedLemmas
 pub mod CacheLemmas
 pub mod CutLaws
 pub mod EntryLemmas

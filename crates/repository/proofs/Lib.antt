@@ -9,7 +9,6 @@ pub mod FirstLemmas
 pub mod FlushLemmas
 pub mod FrameLemmas
 pub mod GoingLemmas
-pub mod IntactLemmas
 pub mod KeepLemmas
 pub mod ListedLemmas
 pub mod ManifestLemmas

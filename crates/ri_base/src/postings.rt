@@ -26,8 +26,6 @@ pub trait Postings {
 
     ghost sound: { Self → Type 0 };
 
-    ghost intact: { Self → Type 0 };
-
     ghost quiet: { Self → Self → Type 0 };
 
     ghost told: { Self → List ℕ → ℕ → Type 0 };
@@ -58,7 +56,7 @@ pub trait Postings {
     fn positions(&mut self, alloc: Global, term: &Term, id: u32) -> Result<Positions, SegFault>
         requires { id < length (documents self.old) }
 
-        ensures keeps { Keeps documents faults sound intact quiet self.old self.new }
+        ensures keeps { Keeps documents faults sound quiet self.old self.new }
 
         // Also of a part that isn't sound, what is told are places of that document.
         ensures rising { IfOk result IsStrictlyIncreasing }
@@ -70,12 +68,10 @@ pub trait Postings {
 
         ensures exact { sound self.old → IfOk result
             (λ ps. ps ≡ places term.now (document_at (documents self.old) id)) }
-        ensures honest { intact self.old → IfErr result IsOutside }
+        ensures honest { sound self.old → IfErr result IsOutside }
         ensures store { result ≡ Err SegFault.Store → Rose (faults self.old) (faults self.new) };
 
     // laws
-    ghost intact_sound: { (s : Self) → intact s → sound s };
-
     ghost quiet_same: { (s : Self) → quiet s s };
 
     ghost quiet_then: { (r s t : Self) → quiet r s → quiet s t → quiet r t };

@@ -46,7 +46,8 @@ The inputs are made in a temporary folder, the same ones each time, and so are t
     instructions  machine instructions a byte of a scan and of `add`, counted by cachegrind of valgrind, which must be
                   installed, on 1/4 MiB of newswire and of thin text; and one document of twice the size; and those of opening and
                   closing a query in a session over 64 segments; and how often a query of a word that none has calls the system for
-                  each segment. They are the same in each run
+                  each segment; those of a filter of eight windows, each inside the next, for each of 4,096 documents; and the
+                  bytes of memory that a `merge` of documents of 300 words asks for, for each document. They are the same in each run
 
 A row of text has the processor time, its ratio to that of `LC_ALL=C wc -w` on the same file, and the peak of memory, with the
 bounds of these two. That of an `add` has MB of text and documents in a second of processor time too, and the size of the
@@ -225,6 +226,12 @@ OPENINGS = (100, 300)
 OPENING_INSTRUCTIONS = 60_000
 # How often the system is called for each segment that is opened.
 SEGMENT_CALLS = 7.5
+# Those of a filter of so many windows, each inside the next, for each of so many documents that pass it.
+WINDOWS_INSIDE, FILTERED = 8, 4096
+FILTER_INSTRUCTIONS = 18_700
+# The bytes that a merge asks for, for each document of so many words, by merges of so many documents.
+MERGED_WORDS, MERGES = 300, (200, 400)
+MERGE_BYTES = 61_000
 
 
 # One run.
@@ -322,6 +329,16 @@ def system_calls(command):
     if done.returncode or not found:
         sys.exit(f"{' '.join(traced)} ended with status {done.returncode}")
     return found
+
+
+def bytes_asked_for(command):
+    """How many bytes of memory a run asks for, all together."""
+    traced = ["valgrind", "--tool=memcheck", "--leak-check=no", "--undef-value-errors=no", *command]
+    done = subprocess.run(traced, stdin=subprocess.DEVNULL, capture_output=True, text=True)
+    found = re.search(r"total heap usage: .* ([\d,]+) bytes allocated", done.stderr)
+    if done.returncode or not found:
+        sys.exit(f"{' '.join(traced)} ended with status {done.returncode}")
+    return int(found[1].replace(",", ""))
 
 
 # Rows.
@@ -914,6 +931,35 @@ def measure_instructions(table):
         cell = table.at_most(f"{whole / half:4.2f} times those of 1/4 MiB", whole / half, INSTRUCTIONS_TO_HALF)
         table.row(f"{name}, one document of 1/2 MiB", cell)
     measure_openings(table)
+    measure_filter(table)
+    measure_merge_bytes(table)
+
+
+def measure_filter(table):
+    """What a filter of windows inside one another takes for each document, beyond the same query without."""
+    path = table.folder / "filtered"
+    inputs.matched_documents(path, FILTERED, [FILTERED])
+    folder, word = table.collection("filtered folder", path), f"one{FILTERED}"
+    window = word
+    for _ in range(WINDOWS_INSIDE):
+        window = f"#uw8({window} two{FILTERED})"
+    texts = word, f"#filreq({window} {word})"
+    alone, found = (instructions(table.query(folder, text).command, os.devnull) for text in texts)
+    each = (found - alone) / FILTERED
+    table.row(f"filter of {WINDOWS_INSIDE} windows", table.at_most(f"{each:7.0f} instructions a document", each, FILTER_INSTRUCTIONS))
+
+
+def measure_merge_bytes(table):
+    """What a merge asks for, for each document more."""
+    found = []
+    for documents in MERGES:
+        paths = [table.folder / f"half{i} of {documents}" for i in range(2)]
+        for i, path in enumerate(paths):
+            inputs.short_documents(path, i * documents // 2, documents // 2, MERGED_WORDS)
+        found.append(bytes_asked_for(table.words(table.collection(f"merged {documents}", *paths), "merge")))
+    each = (found[1] - found[0]) / (MERGES[1] - MERGES[0])
+    cell = table.at_most(f"{each:7.0f} bytes a document", each, MERGE_BYTES)
+    table.row(f"merge, documents of {MERGED_WORDS} words", cell)
 
 
 def measure_openings(table):

@@ -1,7 +1,10 @@
 -- Faults of some causes are faults of others, as the lists of causes tell.
-use Rattle.std.proofs.Common.{◌≡◌, Bool, true, false, ◌||◌, ◌&&◌, not, List, [], ◌∷◌, refl}
+use Rattle.std.proofs.Common.{◌≡◌, ◌⊎◌, inl, inr, Bool, true, false, ◌||◌, ◌&&◌, not, List, [], ◌∷◌, refl, subst}
 use Rattle.std.specs.Prelude.{MatchBool, ⊤}
-use Rattle.command_pieces.specs.CommandFaults.{IsCreateFault, IsDamage, IsExistsFault, IsItemsFault}
+use Rattle.ri_base.specs.Faults.{IsOutside}
+use Rattle.ri_base.specs.declared.seg_fault.SegFault.{SegFault}
+use Rattle.ri_base.specs.declared.seg_fault.SegFault.TheVariants as files
+use Rattle.command_pieces.specs.CommandFaults.{IsCreateFault, IsDamage, IsExistsFault, IsItemsFault, of_files}
 use Rattle.command_pieces.specs.declared.command_fault.CommandFault.{CommandFault}
 use Rattle.command_pieces.specs.declared.command_fault.CommandFault.TheVariants as fault
 use Rattle.collection_commands.specs.FaultCauses.{Cause, IsOf, absent, cause_of, damaged, is_among, memory, present, read, store, write}
@@ -92,3 +95,20 @@ undamaged-create why h d = of-both create_causes damage_causes [] refl why ((as-
 
 pub undamaged-exists : (why : CommandFault) → IsExistsFault why → IsDamage why → ⊥
 undamaged-exists why h d = of-both exists_causes damage_causes [] refl why ((as-causes why).exists h) ((as-causes why).damage d)
+
+outside-undamaged : (e : SegFault) → IsOutside e → IsDamage (of_files e) → ⊥
+outside-undamaged (files.Malformed file part place) outside d = outside
+outside-undamaged (files.Missing file) outside d = outside
+outside-undamaged files.Store outside d = d
+outside-undamaged files.Memory outside d = d
+
+-- a call on files is refused whose files aren't to blame
+pub undamaged-files : (e : SegFault) (why : CommandFault) → why ≡ of_files e → IsOutside e → IsDamage why → ⊥
+undamaged-files e why is outside d = outside-undamaged e outside (subst IsDamage is d)
+
+-- the store or memory is to blame
+pub undamaged-swept : (why : CommandFault) → (why ≡ fault.Store) ⊎ (why ≡ fault.Memory) → IsDamage why → ⊥
+undamaged-swept why which d = elim which [
+  | inl is ↦ subst IsDamage is d
+  | inr is ↦ subst IsDamage is d
+]

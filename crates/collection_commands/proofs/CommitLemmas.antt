@@ -2,7 +2,6 @@
 use Rattle.std.proofs.Common.{◌≡◌, ◌≤◌, ◌⊎◌, inl, inr, ℕ, List, [], ◌∷◌, Option, Some, refl, sym, ap, subst, ◌∙◌, append-nil}
 use Rattle.std.specs.Io.KnownBytes.{append_known}
 use Rattle.std.specs.Prelude.{take}
-use Rattle.ri_base.specs.Faults.{IsOutside}
 use Rattle.ri_base.specs.declared.seg_fault.SegFault.{SegFault}
 use Rattle.store_ends.specs.Files.{Files, Leaves}
 use Rattle.store_ends.proofs.Files.{Leaves-now, Leaves-same, Leaves-then, SameWhere-told}
@@ -60,11 +59,11 @@ module _ (kept c : Collection) (p : Plain) where
   flush-stops past since leaves = Along-flush past since StandsFor kept c p leaves
 
   -- the files weren't all changed, and nothing is written
-  pub flush-refused : (e : SegFault) (r : CommandFault) (taken : Option (List ℕ)) (f : Option Files) → r ≡ of_files e → IsOutside e → StandsFor kept f ⊎ StandsFor c f
+  pub flush-refused : (e : SegFault) (r : CommandFault) (taken : Option (List ℕ)) (f : Option Files) → r ≡ of_files e → StandsFor kept f ⊎ StandsFor c f
       → IsBrokenBy r StandsFor kept (with_flush c p ∷ []) taken taken f
-  flush-refused e r taken f is outside either =
+  flush-refused e r taken f is either =
       subst (λ (x : CommandFault). IsBrokenBy x StandsFor kept (with_flush c p ∷ []) taken taken f) (sym is)
-      (by-files e StandsFor kept (with_flush c p ∷ []) taken taken f outside (StoppedBetween-flush StandsFor kept c p taken taken f refl either))
+      (by-files e StandsFor kept (with_flush c p ∷ []) taken taken f (StoppedBetween-flush StandsFor kept c p taken taken f refl either))
 
   -- memory is wanting, and nothing is written
   pub flush-unwritten : (taken : Option (List ℕ)) (f : Option Files) → StandsFor kept f ⊎ StandsFor c f → IsBrokenBy command.Memory StandsFor kept (with_flush c p ∷ []) taken taken f

@@ -3,7 +3,6 @@ use Rattle.std.proofs.Common.{◌≡◌, ◌⊎◌, inl, inr, ℕ, true, false, 
 use Rattle.std.specs.Io.KnownBytes.{append_known}
 use Rattle.std.specs.Option.{option_map}
 use Rattle.std.specs.Prelude.{codes, is_some, not, take}
-use Rattle.ri_base.specs.Faults.{IsOutside}
 use Rattle.ri_base.specs.declared.seg_fault.SegFault.{SegFault}
 use Rattle.store_ends.specs.Files.{Files, Leaves, OldOrNew, with_file}
 use Rattle.store_ends.proofs.Files.{Leaves-same, Leaves-then}
@@ -30,9 +29,9 @@ abbrev created : Plain
 created = told_piece (codes "created\n")
 
 -- where it is there, an answer that it was made is right
-pub found-there : (f : Files) → f manifest_name ≡ None → false ≡ not (is_some (f manifest_name)) → ⊥
+pub found-there : (f : Files) → (f manifest_name).read ≡ None → false ≡ not (is_some (f manifest_name).read) → ⊥
 found-there f none found =
-    let made : not (is_some (f manifest_name)) ≡ true = rw none refl in
+    let made : not (is_some (f manifest_name).read) ≡ true = rw none refl in
     cc
 
 module _ (f : Files) where
@@ -51,11 +50,11 @@ module _ (f : Files) where
       (Leaves-then past past since (λ g. IsMade (Some f) None g ⊎ IsMade (Some f) (Some empty_collection) g) (OldOrNew manifest_name (Some empty_text) before) (Leaves-same past _) leaves (λ g step. made-either before g told step))
 
   -- nothing is written
-  pub create-refused : (e : SegFault) (r : CommandFault) (taken : Option (List ℕ)) (before now : Option Files) → r ≡ of_files e → IsOutside e → before ≡ Some f → OldOrNew manifest_name (Some empty_text) before now
+  pub create-refused : (e : SegFault) (r : CommandFault) (taken : Option (List ℕ)) (before now : Option Files) → r ≡ of_files e → before ≡ Some f → OldOrNew manifest_name (Some empty_text) before now
       → IsBrokenBy r (IsMade (Some f)) None create_pieces taken taken now
-  create-refused e r taken before now is outside told step =
+  create-refused e r taken before now is told step =
       subst (λ (x : CommandFault). IsBrokenBy x (IsMade (Some f)) None create_pieces taken taken now) (sym is)
-      (by-files e (IsMade (Some f)) None create_pieces taken taken now outside (StoppedBetween-flush (IsMade (Some f)) None (Some empty_collection) created taken taken now refl (made-either before now told step)))
+      (by-files e (IsMade (Some f)) None create_pieces taken taken now (StoppedBetween-flush (IsMade (Some f)) None (Some empty_collection) created taken taken now refl (made-either before now told step)))
 
   pub create-unwritten : (taken : Option (List ℕ)) (before now : Option Files) → before ≡ Some f → OldOrNew manifest_name (Some empty_text) before now → IsBrokenBy command.Memory (IsMade (Some f)) None create_pieces taken taken now
   create-unwritten taken before now told step = StoppedBetween-flush (IsMade (Some f)) None (Some empty_collection) created taken taken now refl (made-either before now told step)

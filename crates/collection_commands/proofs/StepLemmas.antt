@@ -2,7 +2,6 @@
 use Rattle.std.proofs.Common.{◌≡◌, ◌≤◌, ◌⊎◌, inl, inr, ℕ, List, [], ◌∷◌, Option, Some, Ok, Err, sym, subst}
 use Rattle.std.specs.Io.KnownBytes.{append_known}
 use Rattle.std.specs.Prelude.{take}
-use Rattle.ri_base.specs.Faults.{IsOutside}
 use Rattle.ri_base.specs.declared.seg_fault.SegFault.{SegFault}
 use Rattle.store_ends.specs.Files.{Files, Leaves}
 use Rattle.store_ends.proofs.Files.{Leaves-same}
@@ -15,7 +14,7 @@ use Rattle.command_pieces.specs.declared.fault.Fault.{Fault}
 use Rattle.command_pieces.specs.declared.fault.Fault.TheVariants as fault
 use Rattle.repository.specs.RealLimits.{AreReal, StandsFor}
 use Rattle.repository.specs.Stands.{Collection}
-use Rattle.repository.specs.States.{IsBacked, ReadsAs, State}
+use Rattle.repository.specs.States.{ReadsAs, State}
 use Rattle.repository.specs.Writes.{Writes, Wrote}
 use Rattle.repository.proofs.RealLemmas.{stands-for}
 use Rattle.collection_commands.specs.Ahead.{IsAhead}
@@ -43,10 +42,10 @@ module _ (into : Collection → Collection) (piece : Collection → Plain) where
 
     -- it is refused
     pub change-refused : ((t : ℕ) (f : Files) → t ≤ clock new → files new ≡ Some f → since new t f) → ((f : Files) → since old (clock old) f → files old ≡ Some f) → clock old ≤ clock new
-        → (e : SegFault) (r : CommandFault) (taken : Option (List ℕ)) → r ≡ of_files e → (IsBacked (files old) s → IsOutside e) → Does {A = Unit {0}} (files old) s pieces (Err r) taken taken (files new) (since old) (since new)
-    change-refused honest still later e r taken is outside = record {
+        → (e : SegFault) (r : CommandFault) (taken : Option (List ℕ)) → r ≡ of_files e → Does {A = Unit {0}} (files old) s pieces (Err r) taken taken (files new) (since old) (since new)
+    change-refused honest still later e r taken is = record {
       finished = λ kept c ahead. tt;
-      broken = λ kept c ahead. flush-refused kept (into c) (piece c) e r taken (files new) is (outside ahead.backed) (ahead-now files clock since own into s old new kept c honest still later writes ahead);
+      broken = λ kept c ahead. flush-refused kept (into c) (piece c) e r taken (files new) is (ahead-now files clock since own into s old new kept c honest still later writes ahead);
       stops = change-stops;
     }
 

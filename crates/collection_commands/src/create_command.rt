@@ -28,19 +28,19 @@ pub fn create_repository<K: Sink, T: Store>(
     store: &mut T,
 ) -> Result<(), CommandFault>
     // Where there is no manifest.
-    ensures finished { (f : Files) → T.files store.old ≡ Some f → f manifest_name ≡ None
+    ensures finished { (f : Files) → T.files store.old ≡ Some f → (f manifest_name).read ≡ None
         → OnOk result (Finished (IsMade (Some f)) None create_pieces (K.taken sink.old) (K.taken sink.new) (T.files store.new)) }
-    ensures broken { (f : Files) → T.files store.old ≡ Some f → f manifest_name ≡ None
+    ensures broken { (f : Files) → T.files store.old ≡ Some f → (f manifest_name).read ≡ None
         → IfErr result (λ fault. IsBrokenBy fault (IsMade (Some f)) None create_pieces (K.taken sink.old) (K.taken sink.new) (T.files store.new)) }
-    ensures stops { (f : Files) → T.files store.old ≡ Some f → f manifest_name ≡ None
+    ensures stops { (f : Files) → T.files store.old ≡ Some f → (f manifest_name).read ≡ None
         → Leaves (T.since store.old) (T.since store.new) (StandsAlong (IsMade (Some f)) None create_pieces) }
 
     // Where there is one.
-    ensures exists { (f : Files) → T.files store.old ≡ Some f → IsTrue (is_some (f manifest_name)) → IfErr result IsExistsFault × OnOk result ⊥
+    ensures exists { (f : Files) → T.files store.old ≡ Some f → IsTrue (is_some (f manifest_name).read) → IfErr result IsExistsFault × OnOk result ⊥
         × IsQuiet T.files T.layers T.clock T.since T.longest T.held store.old store.new × (K.taken sink.new ≡ K.taken sink.old) }
 
     ensures only { IfErr result IsCreateFault }
-    ensures there { (f : Files) → T.files store.old ≡ Some f → IsErrOf result CommandFault.Exists → IsTrue (is_some (f manifest_name)) }
+    ensures there { (f : Files) → T.files store.old ≡ Some f → IsErrOf result CommandFault.Exists → IsTrue (is_some (f manifest_name).read) }
     ensures same { IsErrOf result CommandFault.Exists → IsQuiet T.files T.layers T.clock T.since T.longest T.held store.old store.new × (K.taken sink.new ≡ K.taken sink.old) }
     ensures goes_on { GoesOn T.layers T.clock T.longest T.held store.old store.new }
     ensures write { IsErrOf result CommandFault.Write → Rose (K.faults sink.old) (K.faults sink.new) }

@@ -7,7 +7,7 @@ ghost use Rattle.command_pieces.specs.Pieces.{Finished, StandsAlong};
 ghost use Rattle.repository.specs.Merges.{without_dead};
 ghost use Rattle.repository.specs.RealLimits.{StandsFor};
 ghost use Rattle.repository.specs.Stands.{Collection};
-ghost use Rattle.repository.specs.States.{ReadsAs};
+ghost use Rattle.repository.specs.States.{IsStateIntact, ReadsAs};
 ghost use Rattle.collection_commands.specs.Ahead.{IsAhead};
 ghost use Rattle.collection_commands.specs.Merging.{IsMergeFault, merge_pieces, merged_piece, merged_text};
 ghost use Rattle.collection_commands.specs.Steps.{CountsFault, Does};
@@ -50,8 +50,9 @@ fn merge_and_tell<K: Sink, T: Store>(
     ensures ahead { (kept c : Collection) → IsAhead (T.files store.old) repository.old kept c → OnOk result (IsAhead (T.files store.new) repository.new (without_dead c) (without_dead c)) }
     ensures only { IfErr result IsMergeFault }
 
-    // Damage is found before anything is written.
+    // Damage is found before anything is written, and only in files that aren't read as they were put.
     ensures damage { IfErr result (λ fault. IsDamage fault → IsQuiet T.files T.layers T.clock T.since T.longest T.held store.old store.new × (sink.new ≡ sink.old)) }
+    ensures honest { IsStateIntact (T.files store.old) repository.old → IfErr result (λ fault. IsDamage fault → ⊥) }
     ensures usable { OnOk result (repository.new.usable ≡ true) }
     ensures goes_on { GoesOn T.layers T.clock T.longest T.held store.old store.new }
     ensures write { CountsFault CommandFault.Write result (K.faults sink.old) (K.faults sink.new) }
@@ -89,8 +90,9 @@ pub fn merge<K: Sink, T: Store>(
     ensures none_stale { OnOk result (repository.new.stale ≡ []) }
     ensures only { IfErr result IsMergeFault }
 
-    // Damage is found before anything is written.
+    // Damage is found before anything is written, and only in files that aren't read as they were put.
     ensures damage { IfErr result (λ fault. IsDamage fault → IsQuiet T.files T.layers T.clock T.since T.longest T.held store.old store.new × (sink.new ≡ sink.old)) }
+    ensures honest { IsStateIntact (T.files store.old) repository.old → IfErr result (λ fault. IsDamage fault → ⊥) }
     ensures goes_on { GoesOn T.layers T.clock T.longest T.held store.old store.new }
     ensures write { IsErrOf result CommandFault.Write → Rose (K.faults sink.old) (K.faults sink.new) }
     ensures store { IsErrOf result CommandFault.Store → Rose (T.faults store.old) (T.faults store.new) }

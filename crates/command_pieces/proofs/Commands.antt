@@ -1,6 +1,5 @@
 -- Pieces of a command over files, which is broken off at some of them.
 use Rattle.std.proofs.Common.{◌≡◌, ◌⊎◌, inl, inr, ℕ, List, [], ◌∷◌, ◌++◌, Option, Bool, ◌||◌, true, false, append-nil, refl, sym, ap, subst, ◌∙◌}
-use Rattle.ri_base.specs.Faults.{IsOutside}
 use Rattle.ri_base.specs.declared.seg_fault.SegFault.{SegFault}
 use Rattle.ri_base.specs.declared.seg_fault.SegFault.TheVariants as files
 use Rattle.store_ends.specs.Files.{Files, Leaves}
@@ -23,13 +22,13 @@ by-items fault.Read stands kept ps before now f b = b
 by-items fault.Write stands kept ps before now f b = b
 by-items fault.Memory stands kept ps before now f b = b
 
--- a call on files is refused whose files aren't to blame
+-- a call on files is refused
 pub by-files : {C : Type 0} (e : SegFault) (stands : C → Option Files → Type 0) (kept : C) (ps : List (Piece C)) (before now : Option (List ℕ)) (f : Option Files)
-    → IsOutside e → StoppedBetween stands kept ps before now f → IsBrokenBy (of_files e) stands kept ps before now f
-by-files (files.Malformed file part place) stands kept ps before now f outside b = absurd outside
-by-files (files.Missing file) stands kept ps before now f outside b = absurd outside
-by-files files.Store stands kept ps before now f outside b = b
-by-files files.Memory stands kept ps before now f outside b = b
+    → StoppedBetween stands kept ps before now f → IsBrokenBy (of_files e) stands kept ps before now f
+by-files (files.Malformed file part place) stands kept ps before now f b = b
+by-files (files.Missing file) stands kept ps before now f b = b
+by-files files.Store stands kept ps before now f b = b
+by-files files.Memory stands kept ps before now f b = b
 
 -- some pieces are finished, and others are broken off
 pub by-then : {C : Type 0} (e : CommandFault) (stands : C → Option Files → Type 0) (kept : C) (ps qs : List (Piece C)) (before mid now : Option (List ℕ)) (f g : Option Files)
@@ -37,8 +36,8 @@ pub by-then : {C : Type 0} (e : CommandFault) (stands : C → Option Files → T
 by-then command.Read stands kept ps qs before mid now f g a b = StoppedBetween-then stands kept ps qs before mid now f g a b
 by-then command.Write stands kept ps qs before mid now f g a b = BrokenOff-then stands kept ps qs before mid now f g a b
 by-then command.Store stands kept ps qs before mid now f g a b = StoppedBetween-then stands kept ps qs before mid now f g a b
-by-then (command.Malformed file part place) stands kept ps qs before mid now f g a b = b
-by-then (command.Missing file) stands kept ps qs before mid now f g a b = b
+by-then (command.Malformed file part place) stands kept ps qs before mid now f g a b = StoppedBetween-then stands kept ps qs before mid now f g a b
+by-then (command.Missing file) stands kept ps qs before mid now f g a b = StoppedBetween-then stands kept ps qs before mid now f g a b
 by-then command.NoRepository stands kept ps qs before mid now f g a b = b
 by-then command.Exists stands kept ps qs before mid now f g a b = b
 by-then command.Memory stands kept ps qs before mid now f g a b = StoppedBetween-then stands kept ps qs before mid now f g a b
@@ -49,17 +48,17 @@ pub by-more : {C : Type 0} (e : CommandFault) (stands : C → Option Files → T
 by-more command.Read stands kept ps qs before now f b = StoppedBetween-more stands kept ps qs before now f b
 by-more command.Write stands kept ps qs before now f b = BrokenOff-more stands kept ps qs before now f b
 by-more command.Store stands kept ps qs before now f b = StoppedBetween-more stands kept ps qs before now f b
-by-more (command.Malformed file part place) stands kept ps qs before now f b = b
-by-more (command.Missing file) stands kept ps qs before now f b = b
+by-more (command.Malformed file part place) stands kept ps qs before now f b = StoppedBetween-more stands kept ps qs before now f b
+by-more (command.Missing file) stands kept ps qs before now f b = StoppedBetween-more stands kept ps qs before now f b
 by-more command.NoRepository stands kept ps qs before now f b = b
 by-more command.Exists stands kept ps qs before now f b = b
 by-more command.Memory stands kept ps qs before now f b = StoppedBetween-more stands kept ps qs before now f b
 
 -- All pieces are finished, and what follows is refused: the files are changed, and stand for the same.
 pub by-behind : {C : Type 0} (e : SegFault) (stands : C → Option Files → Type 0) (kept : C) (ps : List (Piece C)) (before now : Option (List ℕ)) (f g : Option Files)
-    → IsOutside e → Finished stands kept ps before now f → stands (kept_behind kept ps) g → IsBrokenBy (of_files e) stands kept ps before now g
-by-behind e stands kept ps before now f g outside a s =
-    by-files e stands kept ps before now g outside (StoppedBetween-all stands kept ps before now g (record { written = a.written; files_stand = s }))
+    → Finished stands kept ps before now f → stands (kept_behind kept ps) g → IsBrokenBy (of_files e) stands kept ps before now g
+by-behind e stands kept ps before now f g a s =
+    by-files e stands kept ps before now g (StoppedBetween-all stands kept ps before now g (record { written = a.written; files_stand = s }))
 
 -- ---- one piece that is a flush point
 

@@ -23,14 +23,13 @@ of_files files.Store = Store
 of_files files.Memory = Memory
 
 -- What is done by then, of a command over files that stand for something: only where the sink failed may a front of a piece be
--- written. These files aren't malformed, none that is listed is missing, and whether there is a manifest is asked before the first
--- piece.
+-- written. So it is too where damage of a file is found. Whether there is a manifest is asked before the first piece.
 abbrev pub IsBrokenBy : {C : Type 0} → CommandFault → (C → Option Files → Type 0) → C → List (Piece C) → Option (List ℕ) → Option (List ℕ) → Option Files → Type 0
 IsBrokenBy Read stands kept pieces before now told = StoppedBetween stands kept pieces before now told
 IsBrokenBy Write stands kept pieces before now told = BrokenOff stands kept pieces before now told
 IsBrokenBy Store stands kept pieces before now told = StoppedBetween stands kept pieces before now told
-IsBrokenBy (Malformed file part place) stands kept pieces before now told = ⊥
-IsBrokenBy (Missing file) stands kept pieces before now told = ⊥
+IsBrokenBy (Malformed file part place) stands kept pieces before now told = StoppedBetween stands kept pieces before now told
+IsBrokenBy (Missing file) stands kept pieces before now told = StoppedBetween stands kept pieces before now told
 IsBrokenBy NoRepository stands kept pieces before now told = ⊥
 IsBrokenBy Exists stands kept pieces before now told = ⊥
 IsBrokenBy Memory stands kept pieces before now told = StoppedBetween stands kept pieces before now told

@@ -5,7 +5,7 @@ ghost use Rattle.ri_base.specs.Faults.{IsOutside, TellsDamage};
 ghost use Rattle.ri_base.specs.Keeps.{Rose};
 ghost use Rattle.store_ends.specs.Files.{IsQuiet};
 ghost use Rattle.disk_index.specs.Cache.{CacheKeeps, IsCacheBacked};
-ghost use Rattle.disk_index.specs.Snapshots.{AreBacked, IsFileAmong, live};
+ghost use Rattle.disk_index.specs.Snapshots.{AreBacked, IsFileAmong, live, AreIntact};
 ghost use Rattle.counts.specs.Kept.{AreSums, IsKept, IsNew, Kept, all_kept};
 ghost use Rattle.counts.specs.Reading.{IsFaultOf};
 ghost use Rattle.counts.specs.Sums.{AreBounded, sums};
@@ -86,7 +86,7 @@ impl Counts {
             ⊎ ArePartsTold (T.files store.old) cache.old (expr_tree expr.now) snapshot.now) }
 
         ensures fault { IfErr result (IsFaultOf (T.files store.old) snapshot.now cache.old) }
-        ensures honest { AreBacked (T.files store.old) snapshot.now → IsCacheBacked (T.files store.old) cache.old → IfErr result IsOutside }
+        ensures honest { AreIntact (T.files store.old) snapshot.now → IsCacheBacked (T.files store.old) cache.old → IfErr result IsOutside }
         ensures cache { CacheKeeps (T.files store.old) (IsFileAmong snapshot.now) cache.old cache.new }
         ensures undamaged { OnOk result (cache.new.damage ≡ cache.old.damage) }
         ensures damaged { IfErr result (TellsDamage cache.old.damage cache.new.damage) }

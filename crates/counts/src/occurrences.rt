@@ -36,7 +36,7 @@ pub fn occurrences<P: Postings>(
     id: u32,
 ) -> Result<u32, SegFault>
     requires { id < length (P.documents part.old) }
-    ensures keeps { Keeps P.documents P.faults P.sound P.quiet part.old part.new }
+    ensures keeps { Keeps P.documents P.faults P.sound P.intact P.quiet part.old part.new }
     ensures exact { P.sound part.old → IfOk result
         (λ n. n ≡ occurrences (expr_tree expr.now) (option_copied context.entry) (document_at (P.documents part.old) id)) }
     ensures few { IfOk result (λ n. n ≤ counted_tokens (option_copied context.entry) (document_at (P.documents part.old) id)) }
@@ -44,7 +44,7 @@ pub fn occurrences<P: Postings>(
     // Also of a part that isn't sound, each term's places were told, so no malformed block is passed by.
     ensures told { IfOk result (λ _. EachWord (λ t. P.told part.old t id) (expr_tree expr.now)) }
 
-    ensures honest { P.sound part.old → IfErr result IsOutside }
+    ensures honest { P.intact part.old → IfErr result IsOutside }
     ensures undamaged { OnOk result (P.damage part.new ≡ P.damage part.old) }
     ensures damaged { IfErr result (TellsDamage (P.damage part.old) (P.damage part.new)) }
     ensures store { result ≡ Err SegFault.Store → Rose (P.faults part.old) (P.faults part.new) }

@@ -7,7 +7,7 @@ ghost use Rattle.ri_base.specs.Keeps.{Rose};
 ghost use Rattle.ri_base.specs.declared.limits.TheConstants.{MAX_HELD_TOKENS};
 ghost use Rattle.store_ends.specs.Files.{Files};
 ghost use Rattle.disk_index.specs.Cache.{IsCacheBacked};
-ghost use Rattle.disk_index.specs.Parts.{IsFileOf, IsPartBacked, IsReadableOf, reads, size, source_of};
+ghost use Rattle.disk_index.specs.Parts.{IsFileOf, IsPartBacked, IsReadableOf, reads, size, source_of, IsPartIntact};
 ghost use Rattle.disk_index.specs.Snapshots.{AreBacked, IsFileAmong, IsSnapshot, live, live_in};
 ghost use Rattle.counts.specs.PartSums.{living, sum_first};
 ghost use Rattle.counts.specs.Reading.{IsFaultOf, OnlyReads};
@@ -37,7 +37,7 @@ fn in_document<T: Store>(
         → IfOk result (λ n. n ≡ occurrences (expr_tree expr.now) (option_copied context.entry) (document_at (reads (T.files store.old) (source_of part.now)) id)) }
     ensures few { IfOk result (λ n. n ≤ counted_tokens (option_copied context.entry) (document_at (reads (T.files store.old) (source_of part.now)) id)) }
     ensures told { IfOk result (λ _. EachWord (λ t. IsReadableOf (T.files store.old) cache.old (source_of part.now) t id) (expr_tree expr.now)) }
-    ensures honest { IsPartBacked (T.files store.old) (source_of part.now) → IsCacheBacked (T.files store.old) cache.old → IfErr result IsOutside }
+    ensures honest { IsPartIntact (T.files store.old) (source_of part.now) → IsCacheBacked (T.files store.old) cache.old → IfErr result IsOutside }
     ensures undamaged { OnOk result (cache.new.damage ≡ cache.old.damage) }
     ensures damaged { IfErr result (TellsDamage cache.old.damage cache.new.damage) }
     ensures reads { OnlyReads T.files T.layers T.clock T.since T.longest T.held T.faults (IsFileOf (source_of part.now)) store.old store.new cache.old cache.new }
@@ -62,7 +62,7 @@ fn in_live_document<T: Store>(
         → IfOk result (λ n. n ≡ living (occurrences (expr_tree expr.now) (option_copied context.entry)) (T.files store.old) marked.now id) }
     ensures few { IfOk result (λ n. n ≤ living (counted_tokens (option_copied context.entry)) (T.files store.old) marked.now id) }
     ensures told { IfOk result (λ _. IsLiveTold (T.files store.old) cache.old (expr_tree expr.now) marked.now id) }
-    ensures honest { IsPartBacked (T.files store.old) marked.now.source → IsCacheBacked (T.files store.old) cache.old → IfErr result IsOutside }
+    ensures honest { IsPartIntact (T.files store.old) marked.now.source → IsCacheBacked (T.files store.old) cache.old → IfErr result IsOutside }
     ensures undamaged { OnOk result (cache.new.damage ≡ cache.old.damage) }
     ensures damaged { IfErr result (TellsDamage cache.old.damage cache.new.damage) }
     ensures reads { OnlyReads T.files T.layers T.clock T.since T.longest T.held T.faults (IsFileOf marked.now.source) store.old store.new cache.old cache.new }
@@ -94,7 +94,7 @@ fn in_range<T: Store>(
         ≤ sum_first (counted_tokens (option_copied context.entry)) (T.files store.old) marked.now (64 * range + 64)) }
     ensures told { IfOk result
         (λ _. (id : ℕ) → id < size marked.now.source → id / 64 ≡ range → IsLiveTold (T.files store.old) cache.old (expr_tree expr.now) marked.now id) }
-    ensures honest { IsPartBacked (T.files store.old) marked.now.source → IsCacheBacked (T.files store.old) cache.old → IfErr result IsOutside }
+    ensures honest { IsPartIntact (T.files store.old) marked.now.source → IsCacheBacked (T.files store.old) cache.old → IfErr result IsOutside }
     ensures undamaged { OnOk result (cache.new.damage ≡ cache.old.damage) }
     ensures damaged { IfErr result (TellsDamage cache.old.damage cache.new.damage) }
     ensures reads { OnlyReads T.files T.layers T.clock T.since T.longest T.held T.faults (IsFileOf marked.now.source) store.old store.new cache.old cache.new }
@@ -129,7 +129,7 @@ fn in_part<T: Store>(
         → IfOk result (λ n. n ≡ sum_by (occurrences (expr_tree expr.now) (option_copied context.entry)) (live_in (T.files store.old) marked.now)) }
     ensures few { IfOk result (λ n. n ≤ sum_by (counted_tokens (option_copied context.entry)) (live_in (T.files store.old) marked.now)) }
     ensures told { IfOk result (λ _. IsPartTold (T.files store.old) cache.old (expr_tree expr.now) marked.now) }
-    ensures honest { IsPartBacked (T.files store.old) marked.now.source → IsCacheBacked (T.files store.old) cache.old → IfErr result IsOutside }
+    ensures honest { IsPartIntact (T.files store.old) marked.now.source → IsCacheBacked (T.files store.old) cache.old → IfErr result IsOutside }
     ensures undamaged { OnOk result (cache.new.damage ≡ cache.old.damage) }
     ensures damaged { IfErr result (TellsDamage cache.old.damage cache.new.damage) }
     ensures reads { OnlyReads T.files T.layers T.clock T.since T.longest T.held T.faults (IsFileOf marked.now.source) store.old store.new cache.old cache.new }

@@ -3,9 +3,10 @@ use Rattle.std.proofs.Common.{◌≡◌, ◌∙◌, ℕ, Bool, true, false, List
 use Rattle.std.specs.Prelude.{◌==◌, is_some, nat_lt}
 use Rattle.std.specs.List.{position}
 use Rattle.store_ends.specs.Files.{Files}
+use Rattle.disk_index.specs.Snapshots.{AreIntact}
 use Rattle.ranker.specs.Searches.{searched}
 use Rattle.session_events.specs.declared.event.Event.TheVariants as event
-use Rattle.desk.specs.Backed.{IsDeskBacked, IsUsable, Keeps, state_of}
+use Rattle.desk.specs.Backed.{IsDeskBacked, IsDeskIntact, IsUsable, Keeps, state_of}
 use Rattle.desk.specs.Keeping.{AreKept, IsOpen}
 use Rattle.desk.specs.Queries.{IsQueryBacked, query_of}
 use Rattle.desk.specs.State.{named}
@@ -43,6 +44,10 @@ module _ (view now : Keeps) (name : List ℕ) (i : ℕ) (q : OpenQuery) (same : 
   -- and backed, where the desk is
   pub backed-of : (told : Option Files) → q ≡ get_or view.queries i q → IsDeskBacked told view → IsQueryBacked told view.repository view.kind q
   backed-of told there b = at-place (IsQueryBacked told view.repository view.kind) view.queries i q place-of.within there b.queries
+
+  -- and the files of its snapshot are read as they were put, where those of the desk are
+  pub intact-of : (told : Option Files) → q ≡ get_or view.queries i q → IsDeskIntact told view → AreIntact told q.search.snapshot
+  intact-of told there whole = at-place (λ (x : OpenQuery). AreIntact told x.search.snapshot) view.queries i q place-of.within there whole.queries
 
   -- documents of it are left
   module _ (told : Option Files) (there : q ≡ get_or view.queries i q) (kept : view.usable ≡ true → view.repository.usable ≡ true → AreKept view.repository view.queries view.counts) (usable : IsUsable now) (b : Bool)

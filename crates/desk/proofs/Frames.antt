@@ -3,7 +3,7 @@ use Rattle.std.proofs.Common.{◌≡◌, ◌<◌, ◌^◌, inl, inr, ℕ, zero, 
 use Rattle.std.specs.Prelude.{Contains, drop, take, unwrap_or}
 use Rattle.std.proofs.lemmas.List.Elements.{All-cons, All-head, All-nil, All-tail}
 use Rattle.ri_base.specs.Documents.{Document}
-use Rattle.store_ends.specs.Files.{Files, SameWhere}
+use Rattle.store_ends.specs.Files.{File, Files, SameWhere}
 use Rattle.store_ends.proofs.Files.{SameWhere-at, SameWhere-told}
 use Rattle.seg_codec.specs.declared.blocks.BlockEntry.{BlockEntry}
 use Rattle.manifest.specs.Files.{numbers_of}
@@ -12,9 +12,9 @@ use Rattle.manifest.proofs.ListingLaws.{listing-of}
 use Rattle.disk_index.specs.Blocks.{IsBlockIn, told_file}
 use Rattle.disk_index.specs.Cache.{Cached, IsCacheBacked, KeptBlock}
 use Rattle.disk_index.specs.Names.{segment_name}
-use Rattle.disk_index.specs.Parts.{InMemory, IsPartBacked, OnDisk, Source, reads}
-use Rattle.disk_index.specs.Reads.{HasSegment, rebuilt}
-use Rattle.disk_index.specs.Snapshots.{AreBacked, Marked, live, unmarked}
+use Rattle.disk_index.specs.Parts.{InMemory, IsPartBacked, IsPartIntact, OnDisk, Source, reads}
+use Rattle.disk_index.specs.Reads.{HasSegment, IsIntact, ShowsDamage, rebuilt}
+use Rattle.disk_index.specs.Snapshots.{AreBacked, AreIntact, Marked, live, unmarked}
 use Rattle.disk_index.specs.declared.cache.BlockKey.{BlockKey}
 use Rattle.smoothing.specs.declared.rule.RuleKind.{RuleKind}
 use Rattle.belief_nodes.specs.Network.{network_tree}
@@ -39,11 +39,17 @@ file-same : (P : List ℕ → Type 0) (a b : Option Files) (j : ℕ) → SameWhe
 file-same P None None j same p = refl
 file-same P None (Some g) j same p = absurd same
 file-same P (Some f) None j same p = absurd same
-file-same P (Some f) (Some g) j same p = ap (λ (o : Option (List ℕ)). unwrap_or o []) (same (segment_name j) p)
+file-same P (Some f) (Some g) j same p = ap (λ (x : File). unwrap_or x.put []) (same (segment_name j) p)
 
 -- the files of these numbers stay
 abbrev pub Stay : (List ℕ → Type 0) → List ℕ → Type 0
 Stay P ns = (j : ℕ) → is_among j ns ≡ true → P (segment_name j)
+
+same-back : (P : List ℕ → Type 0) (a b : Option Files) → SameWhere P a b → SameWhere P b a
+same-back P None None same = tt
+same-back P None (Some g) same = same
+same-back P (Some f) None same = same
+same-back P (Some f) (Some g) same = λ name p. sym (same name p)
 
 module _ (P : List ℕ → Type 0) (a b : Option Files) (same : SameWhere P a b) where
   reads-same : (s : Source) → Stay P (numbers_in s) → reads b s ≡ reads a s
@@ -53,12 +59,30 @@ module _ (P : List ℕ → Type 0) (a b : Option Files) (same : SameWhere P a b)
   has-same : (n : ℕ) (docs : List Document) → P (segment_name n) → HasSegment a n docs → HasSegment b n docs
   has-same n docs p h =
       let t = SameWhere-told P a b h.files same h.is_told in
-      record { files = t.0; is_told = t.1; file = SameWhere-at P a b h.files t.0 (segment_name n) same h.is_told t.1 p ∙ h.file; part = h.part }
+      let at : t.0 (segment_name n) ≡ h.files (segment_name n) = SameWhere-at P a b h.files t.0 (segment_name n) same h.is_told t.1 p in
+      record {
+        files = t.0;
+        is_told = t.1;
+        file = ap (λ (x : File). x.put) at ∙ h.file;
+        part = h.part;
+        small = h.small;
+        shows = subst (λ (x : File). ShowsDamage docs x.read) (sym at) h.shows;
+      }
 
   part-same : (s : Source) → Stay P (numbers_in s) → IsPartBacked a s → IsPartBacked b s
   part-same (InMemory docs) stay backed = tt
   part-same (OnDisk kept) stay backed =
       (backed.0, record { has = has-same kept.number backed.0 (stay kept.number (among-own kept.number [])) backed.1.has; same = backed.1.same })
+
+  intact-at : (n : ℕ) → P (segment_name n) → IsIntact a n → IsIntact b n
+  intact-at n p h = λ g is.
+      let t = SameWhere-told P b a g (same-back P a b same) is in
+      let at : g (segment_name n) ≡ t.0 (segment_name n) = SameWhere-at P a b t.0 g (segment_name n) same t.1 is p in
+      ap (λ (x : File). x.read) at ∙ h t.0 t.1 ∙ sym (ap (λ (x : File). x.put) at)
+
+  part-intact : (s : Source) → Stay P (numbers_in s) → IsPartIntact a s → IsPartIntact b s
+  part-intact (InMemory docs) stay here = tt
+  part-intact (OnDisk kept) stay here = (part-same (OnDisk kept) stay here.0, intact-at kept.number (stay kept.number (among-own kept.number [])) here.1)
 
   first-stays : (m : Marked) (ms : List Marked) → Stay P (part_numbers (m ∷ ms)) → Stay P (numbers_in m.source)
   first-stays m ms stay = λ j h. stay j (among-left j (numbers_in m.source) (part_numbers ms) h)
@@ -76,6 +100,13 @@ module _ (P : List ℕ → Type 0) (a b : Option Files) (same : SameWhere P a b)
   backed-same (m ∷ ms) stay backed =
       All-cons (λ m. IsPartBacked b m.source) m ms (part-same m.source (first-stays m ms stay) (All-head (λ m. IsPartBacked a m.source) m ms backed))
       (backed-same ms (rest-stays m ms stay) (All-tail (λ m. IsPartBacked a m.source) m ms backed))
+
+  -- and are read as they were put where they were
+  pub intact-same : (ms : List Marked) → Stay P (part_numbers ms) → AreIntact a ms → AreIntact b ms
+  intact-same [] stay intact = All-nil (λ m. IsPartIntact b m.source)
+  intact-same (m ∷ ms) stay intact =
+      All-cons (λ m. IsPartIntact b m.source) m ms (part-intact m.source (first-stays m ms stay) (All-head (λ m. IsPartIntact a m.source) m ms intact))
+      (intact-same ms (rest-stays m ms stay) (All-tail (λ m. IsPartIntact a m.source) m ms intact))
 
   -- ---- what a search has taken
 
@@ -119,7 +150,7 @@ module _ (P : List ℕ → Type 0) (a b : Option Files) (same : SameWhere P a b)
 -- a cache keeps the blocks of files that stay
 block-same : (P : List ℕ → Type 0) (f g : Files) (key : BlockKey) (es : List BlockEntry) → ((name : List ℕ) → P name → g name ≡ f name) → P (segment_name key.number) → IsBlockIn f key es → IsBlockIn g key es
 block-same P f g key es same p is = record {
-  bytes = ap (λ (o : Option (List ℕ)). take key.length (drop key.place (unwrap_or o []))) (same (segment_name key.number) p) ∙ is.bytes;
+  bytes = ap (λ (x : File). take key.length (drop key.place (unwrap_or x.read []))) (same (segment_name key.number) p) ∙ is.bytes;
   docs = is.docs;
   fit = is.fit;
 }
@@ -128,7 +159,11 @@ pub cache-same : (P : List ℕ → Type 0) (a b : Option Files) (cache : Cached)
 cache-same P None None cache same stay backed = backed
 cache-same P None (Some g) cache same stay backed = absurd same
 cache-same P (Some f) None cache same stay backed = absurd same
-cache-same P (Some f) (Some g) cache same stay backed = λ h e k c. subst (λ (x : Files). IsBlockIn x k.0 k.1) (told_is g h e) (block-same P f g k.0 k.1 same (stay k c) (backed f refl k c))
+cache-same P (Some f) (Some g) cache same stay backed = λ h e k c.
+    let was = backed f refl k c in (
+      subst (λ (x : Files). IsBlockIn x k.0 k.1) (told_is g h e) (block-same P f g k.0 k.1 same (stay k c) was.0),
+      λ docs s. was.1 docs (has-same P (Some g) (Some f) (same-back P (Some f) (Some g) same) k.0.number docs (stay k c) s),
+    )
   where
     told_is : (x y : Files) → ◌≡◌ {A = Option Files} (Some x) (Some y) → x ≡ y
     told_is x y e = ap (λ (o : Option Files). unwrap_or o x) e

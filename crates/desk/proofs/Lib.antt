@@ -13,6 +13,7 @@ pub mod FlushExits
 pub mod Found
 pub mod FormLemmas
 pub mod Frames
+pub mod IntactLemmas
 pub mod Keeping
 pub mod KeptLemmas
 pub mod Known

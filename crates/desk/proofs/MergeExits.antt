@@ -105,10 +105,10 @@ mergeopen-step told d some = let m = some-of d.repository.merge some in step-mer
 pub if-some : {X : Type 0} (P : X → Type 0) (o : Option X) (x : X) → o ≡ Some x → IfSome o P → P x
 if-some {X} P o x is h = subst (λ (p : Option X). IfSome p P) is h
 
-some-if : {X : Type 0} (P : X → Type 0) (o : Option X) (x : X) → o ≡ Some x → P x → IfSome o P
+pub some-if : {X : Type 0} (P : X → Type 0) (o : Option X) (x : X) → o ≡ Some x → P x → IfSome o P
 some-if {X} P o x is h = subst (λ (p : Option X). IfSome p P) (sym is) h
 
-none-if : {X : Type 0} (P : X → Type 0) (o : Option X) → o ≡ None → IfSome o P
+pub none-if : {X : Type 0} (P : X → Type 0) (o : Option X) → o ≡ None → IfSome o P
 none-if {X} P o is = subst (λ (p : Option X). IfSome p P) (sym is) tt
 
 same-some : {X : Type 0} (o : Option X) (x y : X) → o ≡ Some x → o ≡ Some y → x ≡ y

@@ -10,7 +10,7 @@ use Rattle.store_ends.specs.Files.{Files}
 use Rattle.belief_nodes.specs.Priors.{Prior, no_prior}
 use Rattle.manifest.specs.Priors.{PriorTable}
 use Rattle.manifest.specs.declared.manifest.PriorEntry.{PriorEntry}
-use Rattle.repository.specs.Stands.{IsPriorListed, Prior as Kept}
+use Rattle.repository.specs.Stands.{IsPriorRead, Prior as Kept}
 use Rattle.desk.specs.Priors.{kept_prior, length_prior, priors_with, run_priors}
 use Rattle.desk.proofs.ListLemmas.{mapped-more, read-inside, taken-more, zip-push}
 
@@ -54,17 +54,17 @@ module _ {B : Type 0} (f : B → Prior) (plugs : List B) (n : ℕ) (few : n < 8)
       plug-next (map told_prior (take n ps)) new (told_prior p) (length-map (take n ps) told_prior ∙ length-take-le n ps (omega (arith, inside))) is (told ∙ ap kept_prior (own p at))
       ∙ ap (λ qs. qs ++ drop (n + 1) run_priors) (sym (mapped-more told_prior ps n p inside at))
 
-  pub listed-next : (files : Option Files) (es : List PriorEntry) (qs : List Kept) (new : B) (rows : PriorTable) → n < length es → AllZip (IsPriorListed files) (take n es) qs
-      → map f plugs ≡ map told_prior qs ++ drop n run_priors → f new ≡ kept_prior rows → ((e : PriorEntry) → e ≡ get_or es n e → IsPriorListed files e (record { name = e.name; table = rows }))
-      → (ps : List Kept) × AllZip (IsPriorListed files) (take (n + 1) es) ps × (map f (slice_set plugs n new) ≡ map told_prior ps ++ drop (n + 1) run_priors)
+  pub listed-next : (files : Option Files) (es : List PriorEntry) (qs : List Kept) (new : B) (rows : PriorTable) → n < length es → AllZip (IsPriorRead files) (take n es) qs
+      → map f plugs ≡ map told_prior qs ++ drop n run_priors → f new ≡ kept_prior rows → ((e : PriorEntry) → e ≡ get_or es n e → IsPriorRead files e (record { name = e.name; table = rows }))
+      → (ps : List Kept) × AllZip (IsPriorRead files) (take (n + 1) es) ps × (map f (slice_set plugs n new) ≡ map told_prior ps ++ drop (n + 1) run_priors)
   listed-next files es qs new rows inside listed is told own =
       let none : PriorEntry = record { name = []; number = 0 } in
       let e : PriorEntry = get_or es n none in
       let at : e ≡ get_or es n e = read-inside es n none e inside in
       let p : Kept = record { name = e.name; table = rows } in
-      let long : length qs ≡ n = AllZip-long (IsPriorListed files) (take n es) qs listed ∙ length-take-le n es (omega (arith, inside)) in (
+      let long : length qs ≡ n = AllZip-long (IsPriorRead files) (take n es) qs listed ∙ length-take-le n es (omega (arith, inside)) in (
         qs ++ p ∷ [],
-        subst (λ (xs : List PriorEntry). AllZip (IsPriorListed files) xs (qs ++ p ∷ [])) (sym (taken-more es n e inside at)) (zip-push (IsPriorListed files) (take n es) qs e p listed (own e at)),
+        subst (λ (xs : List PriorEntry). AllZip (IsPriorRead files) xs (qs ++ p ∷ [])) (sym (taken-more es n e inside at)) (zip-push (IsPriorRead files) (take n es) qs e p listed (own e at)),
         plug-next (map told_prior qs) new (told_prior p) (length-map qs told_prior ∙ long) is told ∙ ap (λ xs. xs ++ drop (n + 1) run_priors) (sym (map-append told_prior qs (p ∷ []))),
       )
 

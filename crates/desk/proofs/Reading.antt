@@ -1,7 +1,7 @@
 -- What a desk reads as is what its repository reads as.
 use Rattle.std.proofs.Common.{◌≡◌, List, [], ◌∷◌, refl, sym, ap, subst, ◌∙◌, Option}
 use Rattle.std.specs.List.{AllZip}
-use Rattle.store_ends.specs.Files.{Files}
+use Rattle.store_ends.specs.Files.{File, Files}
 use Rattle.manifest.specs.declared.manifest.PriorEntry.{PriorEntry}
 use Rattle.manifest.proofs.PriorLaws.{prior_again}
 use Rattle.repository.specs.Stands.{IsPriorListed, Prior}
@@ -14,7 +14,7 @@ use Rattle.desk.specs.State.{collection_of}
 
 table-read : (told : Option Files) (e : PriorEntry) (p : Prior) → IsPriorListed told e p → table_in told e.number ≡ p.table
 table-read told e p h =
-    ap (λ (f : Option Files). table_in f e.number) h.is_told ∙ ap table_of h.file ∙ ap read_table (prior_again p.table h.form)
+    ap (λ (f : Option Files). table_in f e.number) h.is_told ∙ ap (λ (f : File). table_of f.read) h.file ∙ ap read_table (prior_again p.table h.form)
 
 prior-read : (told : Option Files) (e : PriorEntry) (p : Prior) → IsPriorListed told e p → p ≡ record { name = e.name; table = table_in told e.number }
 prior-read told e p h = λ i. record { name = h.name i; table = sym (table-read told e p h) i }

@@ -49,7 +49,7 @@ with_cache d cache = record { repository = d.repository; kind = d.kind; queries 
 -- ---- a scan
 
 -- with that repository, and other blocks
-abbrev with_read : Keeps → repositories.State → Cached → Keeps
+abbrev pub with_read : Keeps → repositories.State → Cached → Keeps
 with_read d r cache = record { repository = r; kind = d.kind; queries = d.queries; counts = d.counts; cache = cache; usable = d.usable }
 
 module _ (told : Option Files) (d : Keeps) (backed : IsDeskBacked told d) where

@@ -9,8 +9,8 @@ use Rattle.query_check.specs.Leaves.{LeafTree}
 use Rattle.belief_nodes.specs.Network.{network_tree}
 use Rattle.disk_index.specs.Blocks.{IsBlockIn}
 use Rattle.disk_index.specs.Cache.{CacheKeeps, Cached, KeptBlock}
-use Rattle.disk_index.specs.Parts.{IsPartBacked, reads}
-use Rattle.disk_index.specs.Snapshots.{AreBacked, IsFileAmong, Marked}
+use Rattle.disk_index.specs.Parts.{IsPartBacked, IsPartIntact, reads}
+use Rattle.disk_index.specs.Snapshots.{AreBacked, AreIntact, IsFileAmong, Marked}
 use Rattle.range_bounds.specs.Tables.{AreTablesOf, IsTableOf}
 use Rattle.range_bounds.specs.declared.table.RangeTable.{RangeTable}
 use Rattle.ranker.specs.Passed.{part_at}
@@ -51,6 +51,11 @@ pub chosen-backed : (told : Option Files) (parts chosen : List Marked) → (chos
 chosen-backed told parts chosen (inl none) backed = subst (λ (ms : List Marked). AreBacked told ms) (sym none) (All-nil (λ (m : Marked). IsPartBacked told m.source))
 chosen-backed told parts chosen (inr whole) backed = subst (λ (ms : List Marked). AreBacked told ms) (sym whole) backed
 
+-- and so is what is read as it was put
+pub chosen-intact : (told : Option Files) (parts chosen : List Marked) → (chosen ≡ []) ⊎ (chosen ≡ parts) → AreIntact told parts → AreIntact told chosen
+chosen-intact told parts chosen (inl none) intact = subst (λ (ms : List Marked). AreIntact told ms) (sym none) (All-nil (λ (m : Marked). IsPartIntact told m.source))
+chosen-intact told parts chosen (inr whole) intact = subst (λ (ms : List Marked). AreIntact told ms) (sym whole) intact
+
 -- what was added to a cache for those chosen is of files of the parts
 pub chosen-kept : (told : Option Files) (parts chosen : List Marked) (c d : Cached) → (chosen ≡ []) ⊎ (chosen ≡ parts)
     → CacheKeeps told (IsFileAmong chosen) c d → CacheKeeps told (IsFileAmong parts) c d
@@ -58,8 +63,8 @@ chosen-kept told parts chosen c d (inl none) keeps =
     let kept : CacheKeeps told (IsFileAmong []) c d = subst (λ (ms : List Marked). CacheKeeps told (IsFileAmong ms) c d) none keeps in
     record { each = λ e there. of-none (kept.each e there) }
   where
-    of-none : {e : KeptBlock} → Contains c.kept e ⊎ IsFileAmong [] e.0.number × ((files : Files) → told ≡ Some files → IsBlockIn files e.0 e.1)
-        → Contains c.kept e ⊎ IsFileAmong parts e.0.number × ((files : Files) → told ≡ Some files → IsBlockIn files e.0 e.1)
+    of-none : {e : KeptBlock} → Contains c.kept e ⊎ IsFileAmong [] e × ((files : Files) → told ≡ Some files → IsBlockIn files e.0 e.1)
+        → Contains c.kept e ⊎ IsFileAmong parts e × ((files : Files) → told ≡ Some files → IsBlockIn files e.0 e.1)
     of-none (inl old) = inl old
     of-none (inr new) = absurd (Contains-none new.0.0 new.0.1)
 chosen-kept told parts chosen c d (inr whole) keeps = subst (λ (ms : List Marked). CacheKeeps told (IsFileAmong ms) c d) whole keeps

@@ -7,7 +7,7 @@ use Rattle.ri_base.specs.Faults.{IsOutside}
 use Rattle.ri_base.specs.declared.seg_fault.SegFault.{SegFault}
 use Rattle.store_ends.specs.Files.{Files, IsQuiet, Leaves, SameWhere}
 use Rattle.disk_index.specs.Cache.{CacheKeeps, Cached, IsCacheBacked}
-use Rattle.disk_index.specs.Snapshots.{IsFileAmong}
+use Rattle.disk_index.specs.Snapshots.{AreIntact, IsFileAmong}
 use Rattle.holdings.specs.Parts.{live}
 use Rattle.merge_job.specs.Merge.{Merging, size_of}
 use Rattle.repository.specs.Merges.{IsMergedTo, IsOpenMerging, IsTurnedOn, IsTurnedOver, IsTurnedTo, turned, without_dead_of}
@@ -23,7 +23,7 @@ use Rattle.session_events.specs.declared.event.Event.TheVariants as event
 use Rattle.desk.specs.Replied.{IsReply}
 use Rattle.desk.specs.declared.reply.Reply.TheVariants as reply
 use Rattle.desk.specs.declared.reply.Refusal.TheVariants.{NoMerge}
-use Rattle.desk.specs.Backed.{IsDeskBacked, IsMergeBacked, Keeps, Steps, merge_of, state_of}
+use Rattle.desk.specs.Backed.{IsDeskBacked, IsDeskIntact, IsMergeBacked, Keeps, Steps, merge_of, state_of}
 use Rattle.desk.specs.Keeping.{StaysIfRefused}
 use Rattle.desk.specs.Points.{kept_behind}
 use Rattle.desk.specs.Replying.{turned_reply}
@@ -165,10 +165,12 @@ module _ {S : Type 0} (files : S → Option Files) (layers : S → Option (List 
       turn-now files clock since old new d now docs kept same some (same-below files layers clock since longest held old new d.repository.merge docs quiet) (none-below files layers clock since longest held old new d.repository.merge docs quiet) stay stops backed stands honest still later
 
 -- a fault is none of the files
-pub turn-honest : (told : Option Files) (d now : Keeps) (why : SegFault) → d ≡ now → (IsOpenMerging told d.repository → IsCacheBacked told d.cache → IsOutside why) → IsDeskBacked told now → IsOutside why
-turn-honest told d now why same honest backed =
+pub turn-honest : (told : Option Files) (d now : Keeps) (why : SegFault) → d ≡ now → (IfSome d.repository.merge (λ m. AreIntact told m.snapshot) → IsCacheBacked told d.cache → IsOutside why)
+    → IsDeskBacked told now → IsDeskIntact told now → IsOutside why
+turn-honest told d now why same honest backed intact =
     let inside : IsDeskBacked told d = subst (IsDeskBacked told) (sym same) backed in
-    honest (merge-condition told d.repository d.repository.merge inside.merge) inside.cache.backed
+    let whole : IsDeskIntact told d = subst (IsDeskIntact told) (sym same) intact in
+    honest whole.merge inside.cache.backed
 
 -- ---- below the size
 
@@ -194,7 +196,7 @@ module _ (before after : Option Files) (d now : Keeps) (docs credit size : ℕ) 
       let m = on.before in
       let merging : IsMergeBacked before s m = if-some (IsMergeBacked before s) s.merge m on.was inside.merge in
       let turns = over (merge-condition before s s.merge inside.merge) inside.cache.backed in
-      let kept = cache-read before s m.snapshot d.cache cache merging.listed (if-some (λ (k : Merging). CacheKeeps before (IsFileAmong k.snapshot) d.cache cache) s.merge m on.was keeps) inside.cache in
+      let kept = cache-read before s m.snapshot d.cache cache merging.listed merging.merging.snapshot (if-some (λ (k : Merging). CacheKeeps before (IsFileAmong k.snapshot) d.cache cache) s.merge m on.was keeps) inside.cache in
       let c = collection_of (state_of before d) in
       let shown : reply.Turned credit size ≡ reply.Turned (length m.copied + docs) (size_of m) = λ i. reply.Turned (shown-on.0 i) (shown-on.1 i) in
       subst (λ x. Steps (event.Turn docs) before after d (with_merged d r cache) x) (sym shown)
@@ -223,7 +225,7 @@ module _ (before after : Option Files) (d now : Keeps) (docs : ℕ) (r : reposit
       let m = to.before in
       let merging : IsMergeBacked before s m = if-some (IsMergeBacked before s) s.merge m to.was inside.merge in
       let turns = over (merge-condition before s s.merge inside.merge) inside.cache.backed in
-      let kept = cache-read before s m.snapshot d.cache cache merging.listed (if-some (λ (k : Merging). CacheKeeps before (IsFileAmong k.snapshot) d.cache cache) s.merge m to.was keeps) inside.cache in
+      let kept = cache-read before s m.snapshot d.cache cache merging.listed merging.merging.snapshot (if-some (λ (k : Merging). CacheKeeps before (IsFileAmong k.snapshot) d.cache cache) s.merge m to.was keeps) inside.cache in
       let c = collection_of (state_of before d) in
       let read : ReadsAs after r (without_dead_of (Some m) c) = subst (λ (o : Option Merging). ReadsAs after r (without_dead_of o c)) to.was (turns.reads c (reads-state before d inside.repository)) in
       merged-exit before after d docs r cache m to.was kept inside past-to stay to read turns.backed count is) backed

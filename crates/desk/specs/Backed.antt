@@ -6,7 +6,7 @@ use Rattle.std.specs.Option.{option_map}
 use Rattle.store_ends.specs.Files.{Files}
 use Rattle.smoothing.specs.declared.rule.RuleKind.{RuleKind}
 use Rattle.disk_index.specs.Cache.{Cached}
-use Rattle.disk_index.specs.Snapshots.{documents_held}
+use Rattle.disk_index.specs.Snapshots.{AreIntact, documents_held}
 use Rattle.holdings.specs.MarkedParts.{tokens_held}
 use Rattle.holdings.specs.Parts.{all_parts, live}
 use Rattle.counts.specs.Kept.{AreSums, Kept}
@@ -71,6 +71,13 @@ pub record IsDeskBacked (told : Option Files) (d : Keeps) : Type 0 where
   pub merge : IfSome d.repository.merge (IsMergeBacked told d.repository)
   pub counts : AreSums (live told d.repository.held.parts) d.repository.held.generation d.counts
   pub cache : IsCacheKept told d.repository d.cache
+
+-- Each file is read as it was put, of the parts of its repository, of those of the snapshots of its open queries, and of those of the
+-- snapshot of its merge.
+pub record IsDeskIntact (told : Option Files) (d : Keeps) : Type 0 where
+  pub parts : AreIntact told d.repository.held.parts.closed
+  pub queries : All (λ q. AreIntact told q.search.snapshot) d.queries
+  pub merge : IfSome d.repository.merge (λ m. AreIntact told m.snapshot)
 
 abbrev pub IsUsable : Keeps → Type 0
 IsUsable d = (d.usable ≡ true) × (d.repository.usable ≡ true)

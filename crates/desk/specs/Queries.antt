@@ -34,7 +34,7 @@ table_of (Some bytes) = read_table (prior_file bytes)
 
 abbrev pub table_in : Option Files → ℕ → PriorTable
 table_in None n = no_rows
-table_in (Some files) n = table_of (files (prior_name n))
+table_in (Some files) n = table_of (files (prior_name n)).read
 
 abbrev pub priors_in : Option Files → List PriorEntry → List Prior
 priors_in told entries = map (λ e. record { name = e.name; table = table_in told e.number }) entries

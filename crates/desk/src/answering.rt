@@ -11,7 +11,7 @@ ghost use Rattle.query_check.specs.Answers.{whole_checked};
 ghost use Rattle.belief_nodes.specs.Network.{network_tree};
 ghost use Rattle.belief_nodes.specs.Priors.{Prior};
 ghost use Rattle.disk_index.specs.Cache.{IsCacheBacked};
-ghost use Rattle.disk_index.specs.Snapshots.{AreBacked, IsFileAmong};
+ghost use Rattle.disk_index.specs.Snapshots.{AreBacked, AreIntact, IsFileAmong};
 ghost use Rattle.disk_index.specs.Snapshots as snapshots;
 ghost use Rattle.document_scoring.specs.Counts.{stats_of};
 ghost use Rattle.counts.specs.Reading.{OnlyReads};
@@ -87,7 +87,7 @@ fn explanation<T: Store>(
         → IsTaken kind priors (T.files store.old) search.now
         → (network_tree search.now.network).stats ≡ map (stats_of (searched (T.files store.old) search.now)) (whole_checked search.now.checked).leaves
         → IfOk result (λ text. IsAnswerText kind priors names.now (explanation rank) (whole_checked search.now.checked) (searched (T.files store.old) search.now) (option_map (λ t. t.items) text)) }
-    ensures honest { AreBacked (T.files store.old) search.now.snapshot → IsCacheBacked (T.files store.old) cache.old → IfErr result IsOutside }
+    ensures honest { AreIntact (T.files store.old) search.now.snapshot → IsCacheBacked (T.files store.old) cache.old → IfErr result IsOutside }
     ensures undamaged { OnOk result (cache.new.damage ≡ cache.old.damage) }
     ensures damaged { IfErr result (TellsDamage cache.old.damage cache.new.damage) }
     ensures reads { OnlyReads T.files T.layers T.clock T.since T.longest T.held T.faults (IsFileAmong search.now.snapshot) store.old store.new cache.old cache.new }
@@ -130,7 +130,7 @@ fn show<T: Store>(
         → IsTaken kind priors (T.files store.old) search.now
         → (network_tree search.now.network).stats ≡ map (stats_of (searched (T.files store.old) search.now)) (whole_checked search.now.checked).leaves
         → IfOk result (λ text. IsAnswerText kind priors names.now (told_shown shown.now) (whole_checked search.now.checked) (searched (T.files store.old) search.now) (option_map (λ t. t.items) text)) }
-    ensures honest { AreBacked (T.files store.old) search.now.snapshot → IsCacheBacked (T.files store.old) cache.old → IfErr result IsOutside }
+    ensures honest { AreIntact (T.files store.old) search.now.snapshot → IsCacheBacked (T.files store.old) cache.old → IfErr result IsOutside }
     ensures undamaged { OnOk result (cache.new.damage ≡ cache.old.damage) }
     ensures damaged { IfErr result (TellsDamage cache.old.damage cache.new.damage) }
     ensures reads { OnlyReads T.files T.layers T.clock T.since T.longest T.held T.faults (IsFileAmong search.now.snapshot) store.old store.new cache.old cache.new }
@@ -161,7 +161,7 @@ pub fn answer<T: Store>(
     requires nine { length plugs.old ≡ 9 }
     ensures exact { AreBacked (T.files store.old) snapshot → IsCacheBacked (T.files store.old) cache.old
         → IfOk result (λ text. IsAnswerText kind (map (λ plug. meaning plug) plugs.old) names.now (told_shown shown.now) (whole_checked checked) (snapshots.live (T.files store.old) snapshot) (option_map (λ t. t.items) text)) }
-    ensures honest { AreBacked (T.files store.old) snapshot → IsCacheBacked (T.files store.old) cache.old → IfErr result IsOutside }
+    ensures honest { AreIntact (T.files store.old) snapshot → IsCacheBacked (T.files store.old) cache.old → IfErr result IsOutside }
     ensures undamaged { OnOk result (cache.new.damage ≡ cache.old.damage) }
     ensures damaged { IfErr result (TellsDamage cache.old.damage cache.new.damage) }
     ensures stay { map (λ plug. meaning plug) plugs.new ≡ map (λ plug. meaning plug) plugs.old }

@@ -5,10 +5,11 @@ ghost use Rattle.ri_base.specs.Keeps.{Rose};
 ghost use Rattle.store_ends.specs.Files.{Files, GoesOn, IsQuiet, Leaves};
 ghost use Rattle.session_events.specs.Events.{IsSessionEvent, is_end};
 ghost use Rattle.smoothing.specs.Fractions.{Computes};
+ghost use Rattle.disk_index.specs.Snapshots.{AreIntact};
 ghost use Rattle.repository.specs.Stands.{Collection, Stands};
 ghost use Rattle.repository.specs.States.{IsBacked};
 ghost use Rattle.repository.specs.Writes.{AreGone, IsEither};
-ghost use Rattle.desk.specs.Backed.{IsDeskBacked, IsMergeBacked, IsUsable, Steps, state_of};
+ghost use Rattle.desk.specs.Backed.{IsDeskBacked, IsDeskIntact, IsMergeBacked, IsUsable, Steps, state_of};
 ghost use Rattle.desk.specs.Keeping.{StaysIfRefused};
 ghost use Rattle.desk.specs.Points.{is_inside, kept_behind, may_write, needs_hits};
 ghost use Rattle.desk.specs.Queries.{priors_in};
@@ -46,6 +47,7 @@ impl<F: Fn(u32, u32, u64, u64) -> Fraction> Desk<F> {
         ensures repository { IfOk result (λ d. d.kept.repository ≡ repository) }
         ensures queries { IfOk result (λ d. d.kept.queries ≡ []) }
         ensures backed { (told : Option Files) → IsBacked told repository → IfSome repository.merge (IsMergeBacked told repository) → IfOk result (λ d. IsDeskBacked told d.kept) }
+        ensures intact { (told : Option Files) → AreIntact told repository.held.parts.closed → IfSome repository.merge (λ m. AreIntact told m.snapshot) → IfOk result (λ d. IsDeskIntact told d.kept) }
     {
         let kept = Kept::new(alloc, repository, rule.kind)?;
         Ok(Desk { rule, kept })
@@ -115,7 +117,12 @@ impl<F: Fn(u32, u32, u64, u64) -> Fraction> Desk<F> {
         ensures quiet { may_write event ≡ false → IsQuiet T.files T.layers T.clock T.since T.longest T.held store.old store.new }
         ensures stay { map (λ plug. meaning plug) plugs.new ≡ map (λ plug. meaning plug) plugs.old }
         ensures goes_on { GoesOn T.layers T.clock T.longest T.held store.old store.new }
-        ensures honest { IsDeskBacked (T.files store.old) self.old.kept → IfErr result IsOutside }
+
+        // Over files that back it, no malformed or missing file is told where those of its parts are read as they were put.
+        ensures honest { IsDeskBacked (T.files store.old) self.old.kept → IsDeskIntact (T.files store.old) self.old.kept → IfErr result IsOutside }
+
+        // Behind a reply these are read so too.
+        ensures intact { OnOk result (IsDeskBacked (T.files store.old) self.old.kept → IsDeskIntact (T.files store.old) self.old.kept → IsDeskIntact (T.files store.new) self.new.kept) }
         ensures later { T.faults store.old ≤ T.faults store.new }
         ensures store { result ≡ Err SegFault.Store → Rose (T.faults store.old) (T.faults store.new) }
     {

@@ -6,8 +6,8 @@ ghost use Rattle.ri_base.specs.Faults.{IsOutside, TellsDamage};
 ghost use Rattle.ri_base.specs.Keeps.{Rose};
 ghost use Rattle.query_check.specs.Answers.{whole_checked};
 ghost use Rattle.disk_index.specs.Cache.{IsCacheBacked};
-ghost use Rattle.disk_index.specs.Parts.{IsFileOf, IsPartBacked, reads, size};
-ghost use Rattle.disk_index.specs.Snapshots.{AreBacked, IsFileAmong, live};
+ghost use Rattle.disk_index.specs.Parts.{IsFileOf, IsPartBacked, IsPartIntact, reads, size};
+ghost use Rattle.disk_index.specs.Snapshots.{AreBacked, AreIntact, IsFileAmong, live};
 ghost use Rattle.counts.specs.Reading.{OnlyReads};
 ghost use Rattle.ranker.specs.Ranking.{candidate_of};
 ghost use Rattle.ranker.specs.Windows.{IsWindowIn};
@@ -55,7 +55,7 @@ fn explain_in<T: Store>(
     ensures exact { IsPartBacked (T.files store.old) marked.now.source → IsCacheBacked (T.files store.old) cache.old
         → IfOk result (IsExplanation names.now (whole_checked checked.now) stats.now (document_at (reads (T.files store.old) marked.now.source) id) rank hit) }
     ensures scale { IfOk result (λ explained. explained.scale ≡ checked.now.scale) }
-    ensures honest { IsPartBacked (T.files store.old) marked.now.source → IsCacheBacked (T.files store.old) cache.old → IfErr result IsOutside }
+    ensures honest { IsPartIntact (T.files store.old) marked.now.source → IsCacheBacked (T.files store.old) cache.old → IfErr result IsOutside }
     ensures undamaged { OnOk result (cache.new.damage ≡ cache.old.damage) }
     ensures damaged { IfErr result (TellsDamage cache.old.damage cache.new.damage) }
     ensures reads { OnlyReads T.files T.layers T.clock T.since T.longest T.held T.faults (IsFileOf marked.now.source) store.old store.new cache.old cache.new }
@@ -85,7 +85,7 @@ fn explain_at<T: Store>(
     ensures exact { AreBacked (T.files store.old) parts.now → IsCacheBacked (T.files store.old) cache.old
         → IfOk result (IsExplanation names.now (whole_checked checked.now) stats.now (document_in (T.files store.old) parts.now place) rank hit) }
     ensures scale { IfOk result (λ explained. explained.scale ≡ checked.now.scale) }
-    ensures honest { AreBacked (T.files store.old) parts.now → IsCacheBacked (T.files store.old) cache.old → IfErr result IsOutside }
+    ensures honest { AreIntact (T.files store.old) parts.now → IsCacheBacked (T.files store.old) cache.old → IfErr result IsOutside }
     ensures undamaged { OnOk result (cache.new.damage ≡ cache.old.damage) }
     ensures damaged { IfErr result (TellsDamage cache.old.damage cache.new.damage) }
     ensures reads { OnlyReads T.files T.layers T.clock T.since T.longest T.held T.faults (IsFileAmong parts.now) store.old store.new cache.old cache.new }
@@ -116,7 +116,7 @@ pub fn explain_hit<T: Store>(
         → IfOk result (λ explained. (d : Document) × (document_with hit.docno (live (T.files store.old) parts.now) ≡ Some d)
         × IsExplanation names.now (whole_checked checked.now) stats.now d rank hit explained) }
     ensures scale { IfOk result (λ explained. explained.scale ≡ checked.now.scale) }
-    ensures honest { AreBacked (T.files store.old) parts.now → IsCacheBacked (T.files store.old) cache.old → IfErr result IsOutside }
+    ensures honest { AreIntact (T.files store.old) parts.now → IsCacheBacked (T.files store.old) cache.old → IfErr result IsOutside }
     ensures undamaged { OnOk result (cache.new.damage ≡ cache.old.damage) }
     ensures damaged { IfErr result (TellsDamage cache.old.damage cache.new.damage) }
     ensures reads { OnlyReads T.files T.layers T.clock T.since T.longest T.held T.faults (IsFileAmong parts.now) store.old store.new cache.old cache.new }

@@ -9,9 +9,10 @@ ghost use Rattle.session_events.specs.declared.event.TheConstants.{MAX_RESULTS};
 ghost use Rattle.session_events.specs.declared.event.Event.TheVariants as event;
 ghost use Rattle.smoothing.specs.Fractions.{Computes};
 ghost use Rattle.query_check.specs.Answers.{whole_checked};
+ghost use Rattle.disk_index.specs.Snapshots.{AreIntact};
 ghost use Rattle.repository.specs.States.{IsBacked};
 ghost use Rattle.repository.specs.Writes.{AreGone};
-ghost use Rattle.desk.specs.Backed.{IsDeskBacked, IsMergeBacked, IsUsable, Steps, StepsTo, state_of, with_usable};
+ghost use Rattle.desk.specs.Backed.{IsDeskBacked, IsDeskIntact, IsMergeBacked, IsUsable, Steps, StepsTo, state_of, with_usable};
 ghost use Rattle.desk.specs.Leaving.{LeavesFiles, LeavesKept};
 ghost use Rattle.desk.specs.Points.{is_inside, may_write, needs_hits};
 ghost use Rattle.desk.specs.Queries.{priors_in};
@@ -123,6 +124,7 @@ impl Kept {
         ensures kind { IfOk result (λ d. d.kind ≡ kind) }
         ensures queries { IfOk result (λ d. d.queries ≡ []) }
         ensures backed { (told : Option Files) → IsBacked told repository → IfSome repository.merge (IsMergeBacked told repository) → IfOk result (IsDeskBacked told) }
+        ensures intact { (told : Option Files) → AreIntact told repository.held.parts.closed → IfSome repository.merge (λ m. AreIntact told m.snapshot) → IfOk result (IsDeskIntact told) }
     {
         Ok(Kept {
             repository,
@@ -184,7 +186,8 @@ impl Kept {
         ensures quiet { may_write event ≡ false → IsQuiet T.files T.layers T.clock T.since T.longest T.held store.old store.new }
         ensures stay { map (λ plug. meaning plug) plugs.new ≡ map (λ plug. meaning plug) plugs.old }
         ensures goes_on { GoesOn T.layers T.clock T.longest T.held store.old store.new }
-        ensures honest { IsDeskBacked (T.files store.old) self.old → IfErr result IsOutside }
+        ensures honest { IsDeskBacked (T.files store.old) self.old → IsDeskIntact (T.files store.old) self.old → IfErr result IsOutside }
+        ensures intact { OnOk result (IsDeskBacked (T.files store.old) self.old → IsDeskIntact (T.files store.old) self.old → IsDeskIntact (T.files store.new) self.new) }
         ensures later { T.faults store.old ≤ T.faults store.new }
         ensures store { result ≡ Err SegFault.Store → Rose (T.faults store.old) (T.faults store.new) }
     {
@@ -218,7 +221,8 @@ impl Kept {
         ensures inside { is_inside event ≡ true → IfErr result (λ fault. fault ≡ SegFault.Memory) }
         ensures quiet { IsQuiet T.files T.layers T.clock T.since T.longest T.held store.old store.new }
         ensures stay { map (λ plug. meaning plug) plugs.new ≡ map (λ plug. meaning plug) plugs.old }
-        ensures honest { IsDeskBacked (T.files store.old) self.old → IfErr result IsOutside }
+        ensures honest { IsDeskBacked (T.files store.old) self.old → IsDeskIntact (T.files store.old) self.old → IfErr result IsOutside }
+        ensures intact { OnOk result ((told : Option Files) → IsDeskIntact told self.old → IsDeskIntact told self.new) }
         ensures later { T.faults store.old ≤ T.faults store.new }
         ensures store { result ≡ Err SegFault.Store → Rose (T.faults store.old) (T.faults store.new) }
     {
@@ -237,6 +241,7 @@ impl Kept {
         ensures refuses { IfOk result (λ reply. (told : Option Files) → RefusesAs reply (step (state_of told self.old) event).1) }
         ensures memory { IfErr result (λ fault. fault ≡ SegFault.Memory) }
         ensures keeps { LeavesKept result self.old self.new }
+        ensures intact { OnOk result ((told : Option Files) → IsDeskIntact told self.old → IsDeskIntact told self.new) }
     {
         match event {
             Event::Document(doc) => self.add(alloc, doc),
@@ -271,7 +276,8 @@ impl Kept {
         ensures keeps { LeavesKept result self.old self.new }
         ensures quiet { IsQuiet T.files T.layers T.clock T.since T.longest T.held store.old store.new }
         ensures stay { map (λ plug. meaning plug) plugs.new ≡ map (λ plug. meaning plug) plugs.old }
-        ensures honest { IsDeskBacked (T.files store.old) self.old → IfErr result IsOutside }
+        ensures honest { IsDeskBacked (T.files store.old) self.old → IsDeskIntact (T.files store.old) self.old → IfErr result IsOutside }
+        ensures intact { OnOk result ((told : Option Files) → IsDeskIntact told self.old → IsDeskIntact told self.new) }
         ensures later { T.faults store.old ≤ T.faults store.new }
         ensures store { result ≡ Err SegFault.Store → Rose (T.faults store.old) (T.faults store.new) }
     {
@@ -299,7 +305,8 @@ impl Kept {
         ensures swept { is_end event ≡ true → OnOk result ((self.new.repository.stale ≡ []) × AreGone self.old.repository.stale (T.files store.new)) }
         ensures keeps { LeavesKept result self.old self.new }
         ensures goes_on { GoesOn T.layers T.clock T.longest T.held store.old store.new }
-        ensures honest { IsDeskBacked (T.files store.old) self.old → IfErr result IsOutside }
+        ensures honest { IsDeskBacked (T.files store.old) self.old → IsDeskIntact (T.files store.old) self.old → IfErr result IsOutside }
+        ensures intact { OnOk result (IsDeskBacked (T.files store.old) self.old → IsDeskIntact (T.files store.old) self.old → IsDeskIntact (T.files store.new) self.new) }
         ensures later { T.faults store.old ≤ T.faults store.new }
         ensures store { result ≡ Err SegFault.Store → Rose (T.faults store.old) (T.faults store.new) }
     {
@@ -317,6 +324,7 @@ impl Kept {
         ensures refuses { IfOk result (λ reply. (told : Option Files) → RefusesAs reply (step (state_of told self.old) (event.Document doc)).1) }
         ensures memory { IfErr result (λ fault. fault ≡ SegFault.Memory) }
         ensures keeps { LeavesKept result self.old self.new }
+        ensures intact { OnOk result ((told : Option Files) → IsDeskIntact told self.old → IsDeskIntact told self.new) }
     {
         let docno = doc.docno().clone_in(alloc)?;
         match self.repository.add(alloc, &doc) {
@@ -330,6 +338,7 @@ impl Kept {
         ensures steps { (told : Option Files) → IsDeskBacked told self.old → Steps (event.Delete docno) told told self.old self.new result }
         ensures refuses { (told : Option Files) → RefusesAs result (step (state_of told self.old) (event.Delete docno)).1 }
         ensures keeps { LeavesKept (Ok result) self.old self.new }
+        ensures intact { (told : Option Files) → IsDeskIntact told self.old → IsDeskIntact told self.new }
     {
         if self.repository.delete(&docno).is_err() {
             return Reply::Refused(Refusal::NoSuchDoc(docno));
@@ -345,6 +354,7 @@ impl Kept {
         ensures keeps { LeavesKept result self.old self.new }
         ensures goes_on { GoesOn T.layers T.clock T.longest T.held store.old store.new }
         ensures honest { IsDeskBacked (T.files store.old) self.old → IfErr result IsOutside }
+        ensures intact { OnOk result (IsDeskBacked (T.files store.old) self.old → IsDeskIntact (T.files store.old) self.old → IsDeskIntact (T.files store.new) self.new) }
         ensures later { T.faults store.old ≤ T.faults store.new }
         ensures store { result ≡ Err SegFault.Store → Rose (T.faults store.old) (T.faults store.new) }
     {
@@ -358,6 +368,7 @@ impl Kept {
         ensures refuses { IfOk result (λ reply. (told : Option Files) → RefusesAs reply (step (state_of told self.old) event.Merge).1) }
         ensures memory { IfErr result (λ fault. fault ≡ SegFault.Memory) }
         ensures keeps { LeavesKept result self.old self.new }
+        ensures intact { OnOk result ((told : Option Files) → IsDeskIntact told self.old → IsDeskIntact told self.new) }
     {
         if self.repository.merge_open() {
             return Ok(Reply::Refused(Refusal::MergeOpen));
@@ -375,7 +386,8 @@ impl Kept {
         ensures files { LeavesFiles (event.Turn docs) result (T.files store.old) (T.files store.new) (T.since store.old) (T.since store.new) self.old }
         ensures keeps { LeavesKept result self.old self.new }
         ensures goes_on { GoesOn T.layers T.clock T.longest T.held store.old store.new }
-        ensures honest { IsDeskBacked (T.files store.old) self.old → IfErr result IsOutside }
+        ensures honest { IsDeskBacked (T.files store.old) self.old → IsDeskIntact (T.files store.old) self.old → IfErr result IsOutside }
+        ensures intact { OnOk result (IsDeskBacked (T.files store.old) self.old → IsDeskIntact (T.files store.old) self.old → IsDeskIntact (T.files store.new) self.new) }
         ensures later { T.faults store.old ≤ T.faults store.new }
         ensures store { result ≡ Err SegFault.Store → Rose (T.faults store.old) (T.faults store.new) }
     {
@@ -402,7 +414,8 @@ impl Kept {
         ensures refuses { IfOk result (λ reply. (told : Option Files) → RefusesAs reply (step (state_of told self.old) (event.Open name k text.now)).1) }
         ensures keeps { LeavesKept result self.old self.new }
         ensures quiet { IsQuiet T.files T.layers T.clock T.since T.longest T.held store.old store.new }
-        ensures honest { IsDeskBacked (T.files store.old) self.old → IfErr result IsOutside }
+        ensures honest { IsDeskBacked (T.files store.old) self.old → IsDeskIntact (T.files store.old) self.old → IfErr result IsOutside }
+        ensures intact { OnOk result ((told : Option Files) → IsDeskIntact told self.old → IsDeskIntact told self.new) }
         ensures later { T.faults store.old ≤ T.faults store.new }
         ensures store { result ≡ Err SegFault.Store → Rose (T.faults store.old) (T.faults store.new) }
     {
@@ -430,7 +443,8 @@ impl Kept {
         ensures refuses { IfOk result (λ reply. (told : Option Files) → RefusesAs reply (open_step (state_of told self.old) name k (Ok (whole_checked checked))).1) }
         ensures keeps { LeavesKept result self.old self.new }
         ensures quiet { IsQuiet T.files T.layers T.clock T.since T.longest T.held store.old store.new }
-        ensures honest { IsDeskBacked (T.files store.old) self.old → IfErr result IsOutside }
+        ensures honest { IsDeskBacked (T.files store.old) self.old → IsDeskIntact (T.files store.old) self.old → IfErr result IsOutside }
+        ensures intact { OnOk result ((told : Option Files) → IsDeskIntact told self.old → IsDeskIntact told self.new) }
         ensures later { T.faults store.old ≤ T.faults store.new }
         ensures store { result ≡ Err SegFault.Store → Rose (T.faults store.old) (T.faults store.new) }
     {
@@ -479,7 +493,8 @@ impl Kept {
         ensures stay { map (λ plug. meaning plug) plugs.new ≡ map (λ plug. meaning plug) plugs.old }
         ensures keeps { LeavesKept result self.old self.new }
         ensures quiet { IsQuiet T.files T.layers T.clock T.since T.longest T.held store.old store.new }
-        ensures honest { IsDeskBacked (T.files store.old) self.old → IfErr result IsOutside }
+        ensures honest { IsDeskBacked (T.files store.old) self.old → IsDeskIntact (T.files store.old) self.old → IfErr result IsOutside }
+        ensures intact { OnOk result ((told : Option Files) → IsDeskIntact told self.old → IsDeskIntact told self.new) }
         ensures later { T.faults store.old ≤ T.faults store.new }
         ensures store { result ≡ Err SegFault.Store → Rose (T.faults store.old) (T.faults store.new) }
     {
@@ -528,7 +543,8 @@ impl Kept {
         ensures early { IfOk result (λ reply. (told : Option Files) → reply_early reply ≡ told_early (step (state_of told self.old) (event.Explain name rank)).1) }
         ensures keeps { LeavesKept result self.old self.new }
         ensures quiet { IsQuiet T.files T.layers T.clock T.since T.longest T.held store.old store.new }
-        ensures honest { IsDeskBacked (T.files store.old) self.old → IfErr result IsOutside }
+        ensures honest { IsDeskBacked (T.files store.old) self.old → IsDeskIntact (T.files store.old) self.old → IfErr result IsOutside }
+        ensures intact { OnOk result ((told : Option Files) → IsDeskIntact told self.old → IsDeskIntact told self.new) }
         ensures later { T.faults store.old ≤ T.faults store.new }
         ensures store { result ≡ Err SegFault.Store → Rose (T.faults store.old) (T.faults store.new) }
     {
@@ -569,7 +585,8 @@ impl Kept {
         ensures refuses { IfOk result (λ reply. (told : Option Files) → RefusesAs reply (step (state_of told self.old) (event.Scan text.now)).1) }
         ensures keeps { LeavesKept result self.old self.new }
         ensures quiet { IsQuiet T.files T.layers T.clock T.since T.longest T.held store.old store.new }
-        ensures honest { IsDeskBacked (T.files store.old) self.old → IfErr result IsOutside }
+        ensures honest { IsDeskBacked (T.files store.old) self.old → IsDeskIntact (T.files store.old) self.old → IfErr result IsOutside }
+        ensures intact { OnOk result ((told : Option Files) → IsDeskIntact told self.old → IsDeskIntact told self.new) }
         ensures later { T.faults store.old ≤ T.faults store.new }
         ensures store { result ≡ Err SegFault.Store → Rose (T.faults store.old) (T.faults store.new) }
     {
@@ -588,6 +605,7 @@ impl Kept {
         ensures steps { (told : Option Files) → IsDeskBacked told self.old → Steps (event.Close name) told told self.old self.new result }
         ensures refuses { (told : Option Files) → RefusesAs result (step (state_of told self.old) (event.Close name)).1 }
         ensures keeps { LeavesKept (Ok result) self.old self.new }
+        ensures intact { (told : Option Files) → IsDeskIntact told self.old → IsDeskIntact told self.new }
     {
         match self.find(&name) {
             Some(place) => {
@@ -608,6 +626,7 @@ impl Kept {
         ensures keeps { LeavesKept result self.old self.new }
         ensures goes_on { GoesOn T.layers T.clock T.longest T.held store.old store.new }
         ensures honest { IsDeskBacked (T.files store.old) self.old → IfErr result IsOutside }
+        ensures intact { OnOk result (IsDeskBacked (T.files store.old) self.old → IsDeskIntact (T.files store.old) self.old → IsDeskIntact (T.files store.new) self.new) }
         ensures later { T.faults store.old ≤ T.faults store.new }
         ensures store { result ≡ Err SegFault.Store → Rose (T.faults store.old) (T.faults store.new) }
     {

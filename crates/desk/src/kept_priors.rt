@@ -7,7 +7,7 @@ ghost use Rattle.ri_base.specs.Ratio.{ratio_of};
 ghost use Rattle.store_ends.specs.Files.{Files, IsQuiet};
 ghost use Rattle.belief_nodes.specs.Priors.{has_row, no_prior, with_rest, with_row};
 ghost use Rattle.manifest.specs.declared.manifest.PriorEntry.{PriorEntry};
-ghost use Rattle.repository.specs.Stands.{Collection, IsPriorListed, Prior};
+ghost use Rattle.repository.specs.Stands.{Collection, IsPriorRead, Prior};
 ghost use Rattle.repository.specs.States.{IsBacked, ReadsAs};
 ghost use Rattle.desk.specs.Priors.{IsPriorsFault, kept_prior, priors_with, run_priors};
 
@@ -78,7 +78,7 @@ pub fn take_priors<T: Store>(
 
     // Whatever the files are: the file of each prior was read by its grammar.
     ensures listed { (f : Files) → T.files store.old ≡ Some f → OnOk result
-        ((ps : List Prior) × AllZip (IsPriorListed (T.files store.old)) repository.now.priors ps × (map (λ plug. meaning plug) plugs.new ≡ priors_with ps)) }
+        ((ps : List Prior) × AllZip (IsPriorRead (T.files store.old)) repository.now.priors ps × (map (λ plug. meaning plug) plugs.new ≡ priors_with ps)) }
     ensures nine { length plugs.new ≡ 9 }
     ensures honest { IsBacked (T.files store.old) repository.now → IfErr result IsOutside }
     ensures fault { (f : Files) → T.files store.old ≡ Some f → IfErr result (IsPriorsFault f repository.now.priors) }

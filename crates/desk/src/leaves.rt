@@ -5,7 +5,7 @@ ghost use Rattle.ri_base.specs.Keeps.{Rose};
 ghost use Rattle.query_check.specs.Leaves.{leaf_tree};
 ghost use Rattle.belief_nodes.specs.Leaves.{AreLeafStats};
 ghost use Rattle.disk_index.specs.Cache.{IsCacheBacked};
-ghost use Rattle.disk_index.specs.Snapshots.{AreBacked, IsFileAmong, live};
+ghost use Rattle.disk_index.specs.Snapshots.{AreBacked, AreIntact, IsFileAmong, live};
 ghost use Rattle.document_scoring.specs.Counts.{stats_of};
 ghost use Rattle.counts.specs.Kept.{AreSums, Kept};
 ghost use Rattle.counts.specs.Reading.{OnlyReads};
@@ -33,7 +33,7 @@ fn leaf_stats<T: Store>(
         → AreSums (live (T.files store.old) snapshot.now) generation counts.new }
     ensures adds { (e : Kept) → Contains counts.new e → Contains counts.old e ⊎ (e.generation < 2 ^ 64 - 1) }
     ensures range { IfOk result (λ s. AreLeafStats s) }
-    ensures honest { AreBacked (T.files store.old) snapshot.now → IsCacheBacked (T.files store.old) cache.old → IfErr result IsOutside }
+    ensures honest { AreIntact (T.files store.old) snapshot.now → IsCacheBacked (T.files store.old) cache.old → IfErr result IsOutside }
     ensures undamaged { OnOk result (cache.new.damage ≡ cache.old.damage) }
     ensures damaged { IfErr result (TellsDamage cache.old.damage cache.new.damage) }
     ensures reads { OnlyReads T.files T.layers T.clock T.since T.longest T.held T.faults (IsFileAmong snapshot.now) store.old store.new cache.old cache.new }
@@ -67,7 +67,7 @@ pub fn all_stats<T: Store>(
     ensures adds { (e : Kept) → Contains counts.new e → Contains counts.old e ⊎ (e.generation < 2 ^ 64 - 1) }
     ensures each { IfOk result (λ stats. length stats.items ≡ length leaves.now) }
     ensures range { IfOk result (λ stats. All (λ s. AreLeafStats s) stats.items) }
-    ensures honest { AreBacked (T.files store.old) snapshot.now → IsCacheBacked (T.files store.old) cache.old → IfErr result IsOutside }
+    ensures honest { AreIntact (T.files store.old) snapshot.now → IsCacheBacked (T.files store.old) cache.old → IfErr result IsOutside }
     ensures undamaged { OnOk result (cache.new.damage ≡ cache.old.damage) }
     ensures damaged { IfErr result (TellsDamage cache.old.damage cache.new.damage) }
     ensures reads { OnlyReads T.files T.layers T.clock T.since T.longest T.held T.faults (IsFileAmong snapshot.now) store.old store.new cache.old cache.new }

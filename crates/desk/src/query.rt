@@ -7,7 +7,7 @@ ghost use Rattle.smoothing.specs.Fractions.{Computes};
 ghost use Rattle.belief_nodes.specs.Leaves.{HasPrior};
 ghost use Rattle.belief_nodes.specs.Network.{network_tree};
 ghost use Rattle.disk_index.specs.Cache.{CacheKeeps, IsCacheBacked};
-ghost use Rattle.disk_index.specs.Snapshots.{IsFileAmong};
+ghost use Rattle.disk_index.specs.Snapshots.{AreIntact, IsFileAmong};
 ghost use Rattle.ranker.specs.Searches.{IsSameSearch, searched};
 ghost use Rattle.repository.specs.States.{State};
 ghost use Rattle.desk.specs.Queries.{IsQueryBacked, priors_in, query_of};
@@ -56,7 +56,7 @@ impl OpenQuery {
         ensures same { IsSameSearch self.old.search self.new.search }
         ensures usable { self.new.search.usable ≡ is_ok result }
         ensures stay { map (λ plug. meaning plug) plugs.new ≡ map (λ plug. meaning plug) plugs.old }
-        ensures honest { (s : State) → IsQueryBacked (T.files store.old) s rule.now.kind self.old → IsCacheBacked (T.files store.old) cache.old → IfErr result IsOutside }
+        ensures honest { (s : State) → IsQueryBacked (T.files store.old) s rule.now.kind self.old → AreIntact (T.files store.old) self.old.search.snapshot → IsCacheBacked (T.files store.old) cache.old → IfErr result IsOutside }
         ensures cache { CacheKeeps (T.files store.old) (IsFileAmong self.old.search.snapshot) cache.old cache.new }
         ensures undamaged { OnOk result (cache.new.damage ≡ cache.old.damage) }
         ensures damaged { IfErr result (TellsDamage cache.old.damage cache.new.damage) }

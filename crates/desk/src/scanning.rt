@@ -7,8 +7,8 @@ ghost use Rattle.ri_base.specs.Faults.{IsOutside, TellsDamage};
 ghost use Rattle.ri_base.specs.Keeps.{Rose};
 ghost use Rattle.extent_evaluation.specs.Listed.{extent_list};
 ghost use Rattle.disk_index.specs.Cache.{IsCacheBacked};
-ghost use Rattle.disk_index.specs.Parts.{IsFileOf, IsPartBacked, reads, size, source_of};
-ghost use Rattle.disk_index.specs.Snapshots.{AreBacked, IsFileAmong, live, live_in};
+ghost use Rattle.disk_index.specs.Parts.{IsFileOf, IsPartBacked, IsPartIntact, reads, size, source_of};
+ghost use Rattle.disk_index.specs.Snapshots.{AreBacked, AreIntact, IsFileAmong, live, live_in};
 ghost use Rattle.counts.specs.Reading.{OnlyReads};
 ghost use Rattle.ranker.specs.Passed.{live_before};
 ghost use Rattle.desk.specs.Scanning.{extents_in, lines_of};
@@ -32,7 +32,7 @@ fn extents_of<T: Store>(
     requires { id < size (source_of part.now) }
     ensures exact { IsPartBacked (T.files store.old) (source_of part.now) → IsCacheBacked (T.files store.old) cache.old
         → IfOk result (λ found. found ≡ extent_list (expr_tree expr.now) (document_at (reads (T.files store.old) (source_of part.now)) id)) }
-    ensures honest { IsPartBacked (T.files store.old) (source_of part.now) → IsCacheBacked (T.files store.old) cache.old → IfErr result IsOutside }
+    ensures honest { IsPartIntact (T.files store.old) (source_of part.now) → IsCacheBacked (T.files store.old) cache.old → IfErr result IsOutside }
     ensures undamaged { OnOk result (cache.new.damage ≡ cache.old.damage) }
     ensures damaged { IfErr result (TellsDamage cache.old.damage cache.new.damage) }
     ensures reads { OnlyReads T.files T.layers T.clock T.since T.longest T.held T.faults (IsFileOf (source_of part.now)) store.old store.new cache.old cache.new }
@@ -73,7 +73,7 @@ fn put_document<T: Store>(
     ensures exact { IsPartBacked (T.files store.old) marked.now.source → IsCacheBacked (T.files store.old) cache.old → OnOk result ((docs : List Document)
         → lines.old ≡ extents_in (expr_tree expr.now) (docs ++ live_before (T.files store.old) marked.now id)
         → lines.new ≡ extents_in (expr_tree expr.now) (docs ++ live_before (T.files store.old) marked.now (id + 1))) }
-    ensures honest { IsPartBacked (T.files store.old) marked.now.source → IsCacheBacked (T.files store.old) cache.old → IfErr result IsOutside }
+    ensures honest { IsPartIntact (T.files store.old) marked.now.source → IsCacheBacked (T.files store.old) cache.old → IfErr result IsOutside }
     ensures undamaged { OnOk result (cache.new.damage ≡ cache.old.damage) }
     ensures damaged { IfErr result (TellsDamage cache.old.damage cache.new.damage) }
     ensures reads { OnlyReads T.files T.layers T.clock T.since T.longest T.held T.faults (IsFileOf marked.now.source) store.old store.new cache.old cache.new }
@@ -99,7 +99,7 @@ fn put_part<T: Store>(
 ) -> Result<(), SegFault>
     ensures exact { IsPartBacked (T.files store.old) marked.now.source → IsCacheBacked (T.files store.old) cache.old → OnOk result ((docs : List Document)
         → lines.old ≡ extents_in (expr_tree expr.now) docs → lines.new ≡ extents_in (expr_tree expr.now) (docs ++ live_in (T.files store.old) marked.now)) }
-    ensures honest { IsPartBacked (T.files store.old) marked.now.source → IsCacheBacked (T.files store.old) cache.old → IfErr result IsOutside }
+    ensures honest { IsPartIntact (T.files store.old) marked.now.source → IsCacheBacked (T.files store.old) cache.old → IfErr result IsOutside }
     ensures undamaged { OnOk result (cache.new.damage ≡ cache.old.damage) }
     ensures damaged { IfErr result (TellsDamage cache.old.damage cache.new.damage) }
     ensures reads { OnlyReads T.files T.layers T.clock T.since T.longest T.held T.faults (IsFileOf marked.now.source) store.old store.new cache.old cache.new }
@@ -121,7 +121,7 @@ pub(crate) fn scan<T: Store>(
 ) -> Result<Scanned, SegFault>
     ensures exact { AreBacked (T.files store.old) parts.now → IsCacheBacked (T.files store.old) cache.old
         → IfOk result (λ lines. lines ≡ extents_in (expr_tree expr.now) (live (T.files store.old) parts.now)) }
-    ensures honest { AreBacked (T.files store.old) parts.now → IsCacheBacked (T.files store.old) cache.old → IfErr result IsOutside }
+    ensures honest { AreIntact (T.files store.old) parts.now → IsCacheBacked (T.files store.old) cache.old → IfErr result IsOutside }
     ensures undamaged { OnOk result (cache.new.damage ≡ cache.old.damage) }
     ensures damaged { IfErr result (TellsDamage cache.old.damage cache.new.damage) }
     ensures reads { OnlyReads T.files T.layers T.clock T.since T.longest T.held T.faults (IsFileAmong parts.now) store.old store.new cache.old cache.new }

@@ -13,7 +13,7 @@ ghost use Rattle.belief_nodes.specs.Leaves.{AreLeafStats};
 ghost use Rattle.belief_nodes.specs.Network.{network_of, network_tree};
 ghost use Rattle.belief_nodes.specs.Priors.{Prior};
 ghost use Rattle.disk_index.specs.Cache.{IsCacheBacked};
-ghost use Rattle.disk_index.specs.Snapshots.{AreBacked, IsFileAmong, live};
+ghost use Rattle.disk_index.specs.Snapshots.{AreBacked, AreIntact, IsFileAmong, live};
 ghost use Rattle.document_scoring.specs.Counts.{stats_of};
 ghost use Rattle.counts.specs.Kept.{AreSums, Kept};
 ghost use Rattle.counts.specs.Reading.{OnlyReads};
@@ -94,7 +94,7 @@ pub(crate) fn new_search<T: Store>(
     ensures usable { IfOk result (λ s. s.usable ≡ true) }
     ensures taken { AreBacked (T.files store.old) snapshot → IsCacheBacked (T.files store.old) cache.old
         → IfOk result (λ s. (kind : RuleKind) (priors : List Prior) → IsTaken kind priors (T.files store.old) s) }
-    ensures honest { AreBacked (T.files store.old) snapshot → IsCacheBacked (T.files store.old) cache.old → IfErr result IsOutside }
+    ensures honest { AreIntact (T.files store.old) snapshot → IsCacheBacked (T.files store.old) cache.old → IfErr result IsOutside }
     ensures undamaged { OnOk result (cache.new.damage ≡ cache.old.damage) }
     ensures damaged { IfErr result (TellsDamage cache.old.damage cache.new.damage) }
     ensures reads { OnlyReads T.files T.layers T.clock T.since T.longest T.held T.faults (IsFileAmong snapshot) store.old store.new cache.old cache.new }
@@ -130,7 +130,7 @@ pub(crate) fn counted_search<T: Store>(
     ensures kept { AreBacked (T.files store.old) snapshot → IsCacheBacked (T.files store.old) cache.old → AreSums (live (T.files store.old) snapshot) generation counts.old
         → OnOk result (AreSums (live (T.files store.old) snapshot) generation counts.new) }
     ensures adds { (e : Kept) → Contains counts.new e → Contains counts.old e ⊎ (e.generation < 2 ^ 64 - 1) }
-    ensures honest { AreBacked (T.files store.old) snapshot → IsCacheBacked (T.files store.old) cache.old → IfErr result IsOutside }
+    ensures honest { AreIntact (T.files store.old) snapshot → IsCacheBacked (T.files store.old) cache.old → IfErr result IsOutside }
     ensures undamaged { OnOk result (cache.new.damage ≡ cache.old.damage) }
     ensures damaged { IfErr result (TellsDamage cache.old.damage cache.new.damage) }
     ensures reads { OnlyReads T.files T.layers T.clock T.since T.longest T.held T.faults (IsFileAmong snapshot) store.old store.new cache.old cache.new }
@@ -169,7 +169,7 @@ pub fn search_all<T: Store>(
     ensures taken { AreBacked (T.files store.old) snapshot → IsCacheBacked (T.files store.old) cache.old
         → IfOk result (λ s. IsTaken kind (map (λ plug. meaning plug) plugs.old) (T.files store.old) s) }
     ensures stay { map (λ plug. meaning plug) plugs.new ≡ map (λ plug. meaning plug) plugs.old }
-    ensures honest { AreBacked (T.files store.old) snapshot → IsCacheBacked (T.files store.old) cache.old → IfErr result IsOutside }
+    ensures honest { AreIntact (T.files store.old) snapshot → IsCacheBacked (T.files store.old) cache.old → IfErr result IsOutside }
     ensures undamaged { OnOk result (cache.new.damage ≡ cache.old.damage) }
     ensures damaged { IfErr result (TellsDamage cache.old.damage cache.new.damage) }
     ensures reads { OnlyReads T.files T.layers T.clock T.since T.longest T.held T.faults (IsFileAmong snapshot) store.old store.new cache.old cache.new }

@@ -8,8 +8,9 @@ use Rattle.seg_codec.specs.Fits.{FitBlock}
 use Rattle.seg_codec.specs.declared.blocks.BlockEntry.{BlockEntry}
 use Rattle.seg_codec.specs.declared.documents.Entry.{Entry}
 use Rattle.disk_index.specs.Blocks.{IsBlockIn}
-use Rattle.disk_index.specs.Cache.{AllKept, CacheKeeps, Cached, IsCacheBacked, KeptBlock, nothing_cached}
+use Rattle.disk_index.specs.Cache.{AllKept, CacheKeeps, Cached, IsBlockOf, IsCacheBacked, KeptBlock, nothing_cached}
 use Rattle.disk_index.specs.Faults.{CameFrom}
+use Rattle.disk_index.specs.Kept.{Kept}
 use Rattle.disk_index.specs.declared.cache.BlockKey.{BlockKey}
 use Rattle.lru.specs.LruCache.{LruCache, lru_cache, promoted, put_entries}
 use Rattle.lru.proofs.CallerLemmas.{Contains-promoted, Contains-put_entries}
@@ -57,23 +58,29 @@ key_is a b p q r s =
     ap (λ n. record { number = n; range = a.range; place = a.place; length = a.length }) p ∙ ap (λ n. record { number = b.number; range = n; place = a.place; length = a.length }) q
     ∙ ap (λ n. record { number = b.number; range = b.range; place = n; length = a.length }) r ∙ ap (λ n. record { number = b.number; range = b.range; place = b.place; length = n }) s
 
-pub fetched : (told : Option Files) (key : BlockKey) (now mid new : Cached) (block stored : List BlockEntry) → AllKept now mid
-    → ((e : KeptBlock) → Contains new.kept e → Contains mid.kept e ⊎ (e ≡ (key, stored))) → stored ≡ block → ((files : Files) → told ≡ Some files → IsBlockIn files key block)
-    → CacheKeeps told (λ n. n ≡ key.number) now new
-fetched told key now mid new block stored stay put same right = record {
+pub fetched : (told : Option Files) (key : BlockKey) (docs : List Entry) (now mid new : Cached) (block stored : List BlockEntry) → AllKept now mid
+    → ((e : KeptBlock) → Contains new.kept e → Contains mid.kept e ⊎ (e ≡ (key, stored))) → stored ≡ block → FitBlock docs key.range block → ((files : Files) → told ≡ Some files → IsBlockIn files key block)
+    → CacheKeeps told (λ e. (e.0 ≡ key) × FitBlock docs e.0.range e.1) now new
+fetched told key docs now mid new block stored stay put same fits right = record {
   each = λ e h. elim (put e h) [
     | inl was ↦ inl (stay e was)
     | inr is ↦ inr (
-      ap (λ (x : KeptBlock). x.0.number) is,
+      (ap (λ (x : KeptBlock). x.0) is, subst (λ (x : KeptBlock). FitBlock docs x.0.range x.1) (sym is) (subst (λ (b : List BlockEntry). FitBlock docs key.range b) (sym same) fits)),
       λ files is_told.
           subst (λ (x : KeptBlock). IsBlockIn files x.0 x.1) (sym is) (subst (λ (b : List BlockEntry). IsBlockIn files key b) (sym same) (right files is_told)),
     )
   ];
 }
 
--- the files of another number may be named by an equal one
-pub CacheKeeps-number : (told : Option Files) (m n : ℕ) (c d : Cached) → m ≡ n → CacheKeeps told (λ k. k ≡ m) c d → CacheKeeps told (λ k. k ≡ n) c d
-CacheKeeps-number told m n c d same keeps = subst (λ (x : ℕ). CacheKeeps told (λ k. k ≡ x) c d) same keeps
+-- a block of the documents of a part, under a key of its file
+pub CacheKeeps-block : (told : Option Files) (key : BlockKey) (kept : Kept) (docs : List Entry) (c d : Cached) → key.number ≡ kept.number → docs ≡ kept.outlines
+    → CacheKeeps told (λ e. (e.0 ≡ key) × FitBlock docs e.0.range e.1) c d → CacheKeeps told (IsBlockOf kept) c d
+CacheKeeps-block told key kept docs c d same outlines keeps = record {
+  each = λ e h. elim (keeps.each e h) [
+    | inl was ↦ inl was
+    | inr new ↦ inr ((ap (λ (k : BlockKey). k.number) new.0.0 ∙ same, subst (λ (os : List Entry). FitBlock os e.0.range e.1) outlines new.0.1), new.1)
+  ];
+}
 
 -- a block that was read came from its file
 pub came-read : {E : Type 0} (told : Option Files) (kept : Cached) (docs : List Entry) (key : BlockKey) (r : Result (List BlockEntry) E) → IfOk r (FitBlock docs key.range) → ((f : Files) → told ≡ Some f → IfOk r (IsBlockIn f key))

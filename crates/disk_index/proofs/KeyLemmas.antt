@@ -1,7 +1,7 @@
 -- What the dictionary says of a block of a backed part.
 use Rattle.std.proofs.Common.{◌≡◌, ◌<◌, ◌+◌, ◌*◌, ◌^◌, ◌==◌, ℕ, suc, Bool, true, false, cond, List, [], ◌∷◌, ◌++◌, length, map, take, drop, Option, Some, None, Result, Ok, Err, IfOk, IfErr, Contains, inl, inr, refl, sym, ap, subst, ◌∙◌, arith, length-drop}
 use Rattle.std.specs.List.{All, find}
-use Rattle.std.specs.Option.{MatchOption, option_and_then, option_map}
+use Rattle.std.specs.Option.{MatchOption, option_and_then, option_map, unwrap_or}
 use Rattle.std.specs.Str.{bytes_eq}
 use Rattle.std.proofs.lemmas.List.{length-take}
 use Rattle.std.proofs.lemmas.Slice.Eq.{bytes_eq-Decides}
@@ -9,7 +9,7 @@ use Rattle.ri_base.specs.Collection.{document_at}
 use Rattle.ri_base.specs.Documents.{Document}
 use Rattle.ri_base.specs.Faults.{IsOutside}
 use Rattle.ri_base.specs.Places.{places}
-use Rattle.ri_base.specs.Vocabulary.{Occurs}
+use Rattle.ri_base.specs.Vocabulary.{Occurs, vocabulary_of}
 use Rattle.ri_base.specs.declared.seg_fault.SegFault.{SegFault}
 use Rattle.ri_base.specs.declared.seg_fault.SegFault.TheVariants.{Malformed, Missing, Store, Memory}
 use Rattle.ri_base.proofs.ListLemmas.{Contains-cases, Contains-none}
@@ -17,14 +17,14 @@ use Rattle.ri_base.proofs.PlacesLemmas.{places-absent}
 use Rattle.store_ends.specs.Files.{Files}
 use Rattle.seg_codec.specs.Blocks.{block}
 use Rattle.seg_codec.specs.Fits.{FitBlock}
-use Rattle.seg_codec.specs.Segment.{segment}
+use Rattle.seg_codec.specs.Segment.{blocks_at, entry_of, index}
 use Rattle.seg_codec.specs.Spelling.{block_bytes}
 use Rattle.seg_codec.specs.declared.blocks.BlockEntry.{BlockEntry}
 use Rattle.seg_codec.specs.declared.dictionary.BlockPlace.{BlockPlace}
 use Rattle.seg_codec.specs.declared.dictionary.TermBlocks.{TermBlocks}
 use Rattle.seg_codec.specs.declared.documents.Entry.{Entry}
 use Rattle.seg_codec.proofs.BlockLaws.{block_again}
-use Rattle.disk_index.specs.Blocks.{IsBlockFault, IsBlockIn, block_of, bytes_at, entries_from, entry_of_places, file_of}
+use Rattle.disk_index.specs.Blocks.{IsBlockFault, IsBlockIn, block_of, bytes_at, entries_from, entry_of_places, file_of, put_of}
 use Rattle.disk_index.specs.Kept.{ArePlaces, Kept, key_of, place_in, place_of}
 use Rattle.disk_index.specs.Names.{segment_name}
 use Rattle.disk_index.specs.Reads.{IsBacked}
@@ -32,8 +32,7 @@ use Rattle.disk_index.specs.declared.cache.BlockKey.{BlockKey}
 use Rattle.disk_index.proofs.EntryLemmas.{document_at-range}
 use Rattle.disk_index.proofs.SegmentLaws.{HasBlocks, IsLaid, StandsAt}
 use Rattle.disk_index.proofs.LookupLemmas.{find-has}
-use Rattle.disk_index.proofs.RebuiltLemmas.{backed-laid}
-use Rattle.disk_index.proofs.SameBlock.{same_block}
+use Rattle.disk_index.proofs.RebuiltLemmas.{backed-dictionary, backed-laid}
 
 -- ---- a term that no document has
 
@@ -80,41 +79,52 @@ place-stands file kept docs t r laid = by (find (λ (x : TermBlocks). bytes_eq x
 -- the key is that of this block in the file
 pub record IsKeyOf (files : Files) (outlines : List Entry) (key : BlockKey) (es : List BlockEntry) : Type 0 where
   pub file : List ℕ
-  pub there : files (segment_name key.number) ≡ Some file
-  pub bytes : bytes_at files key ≡ block_bytes key.range es
+  pub there : (files (segment_name key.number)).read ≡ Some file
+  pub only : (found : List BlockEntry) → FitBlock outlines key.range found → bytes_at files key ≡ block_bytes key.range found → found ≡ es
+  pub intact : (files (segment_name key.number)).read ≡ (files (segment_name key.number)).put → bytes_at files key ≡ block_bytes key.range es
   pub fit : FitBlock outlines key.range es
 
 pub keyed : (told : Option Files) (kept : Kept) (docs : List Document) (t : List ℕ) (r : ℕ) (key : BlockKey) → Some key ≡ option_map (key_of kept.number r) (place_of kept.dictionary t r) → (b : IsBacked told kept docs)
     → IsKeyOf b.has.files kept.outlines key (block_of t r docs)
-keyed told kept docs t r key h b = by (place_of kept.dictionary t r) h (place-stands (file_of b.has.files kept.number) kept docs t r (backed-laid told kept docs b))
+keyed told kept docs t r key h b = by (place_of kept.dictionary t r) refl h (place-stands (put_of b.has.files kept.number) kept docs t r (backed-laid told kept docs b))
   where
-    by : (o : Option BlockPlace) → Some key ≡ option_map (key_of kept.number r) o → StandsAt (file_of b.has.files kept.number) kept.outlines r o (block_of t r docs) → IsKeyOf b.has.files kept.outlines key (block_of t r docs)
-    by None e s = absurd cc
-    by (Some p) e s =
+    by : (o : Option BlockPlace) → place_of kept.dictionary t r ≡ o → Some key ≡ option_map (key_of kept.number r) o → StandsAt (put_of b.has.files kept.number) kept.outlines r o (block_of t r docs) → IsKeyOf b.has.files kept.outlines key (block_of t r docs)
+    by None found e s = absurd cc
+    by (Some p) found e s =
         let same : key ≡ key_of kept.number r p = cc in
+        let shown = b.has.shows in
+        let read : file_of b.has.files kept.number ≡ shown.bytes = ap (λ (o : Option (List ℕ)). unwrap_or o []) shown.there in
+        let outlines : kept.outlines ≡ map entry_of docs = (backed-laid told kept docs b).outlines in
+        let place : place_of (index (blocks_at docs) (vocabulary_of docs) docs) t r ≡ Some p = ap (λ (ts : List TermBlocks). place_of ts t r) (sym (backed-dictionary told kept docs b)) ∙ found in
         subst (λ (k : BlockKey). IsKeyOf b.has.files kept.outlines k (block_of t r docs)) (sym same)
-        (record { file = segment docs; there = b.has.file; bytes = s.bytes; fit = s.fit })
+        (record {
+          file = shown.bytes;
+          there = shown.there;
+          only = λ es fit is. shown.each t r p es place (subst (λ (os : List Entry). FitBlock os r es) outlines fit) (ap (λ (l : List ℕ). take p.length (drop p.place l)) (sym read) ∙ is);
+          intact = λ is. ap (λ (o : Option (List ℕ)). take p.length (drop p.place (unwrap_or o []))) is ∙ s.bytes;
+          fit = s.fit;
+        })
 
 pub unkeyed : (told : Option Files) (kept : Kept) (docs : List Document) (t : List ℕ) (r : ℕ) → option_map (key_of kept.number r) (place_of kept.dictionary t r) ≡ None → IsBacked told kept docs → [] ≡ block_of t r docs
-unkeyed told kept docs t r h b = by (place_of kept.dictionary t r) h (place-stands (file_of b.has.files kept.number) kept docs t r (backed-laid told kept docs b))
+unkeyed told kept docs t r h b = by (place_of kept.dictionary t r) h (place-stands (put_of b.has.files kept.number) kept docs t r (backed-laid told kept docs b))
   where
-    by : (o : Option BlockPlace) → option_map (key_of kept.number r) o ≡ None → StandsAt (file_of b.has.files kept.number) kept.outlines r o (block_of t r docs) → [] ≡ block_of t r docs
+    by : (o : Option BlockPlace) → option_map (key_of kept.number r) o ≡ None → StandsAt (put_of b.has.files kept.number) kept.outlines r o (block_of t r docs) → [] ≡ block_of t r docs
     by None e s = sym s
     by (Some p) e s = absurd cc
 
-pub right_block : (files : Files) (outlines : List Entry) (key : BlockKey) (es : List BlockEntry) → IsKeyOf files outlines key es → {E : Type 0} (r : Result (List BlockEntry) E) → IfOk r (IsBlockIn files key) → IfOk r (λ x. x ≡ es)
-right_block files outlines key es k (Ok x) h = same_block (bytes_at files key) key.range x es h.docs outlines h.bytes h.fit k.bytes k.fit
-right_block files outlines key es k (Err e) h = tt
+pub right_block : (files : Files) (outlines : List Entry) (key : BlockKey) (es : List BlockEntry) → IsKeyOf files outlines key es → {E : Type 0} (r : Result (List BlockEntry) E) → IfOk r (IsBlockIn files key) → IfOk r (FitBlock outlines key.range) → IfOk r (λ x. x ≡ es)
+right_block files outlines key es k (Ok x) h fit = k.only x fit h.bytes
+right_block files outlines key es k (Err e) h fit = tt
 
-pub outside_fault : (files : Files) (outlines : List Entry) (key : BlockKey) (es : List BlockEntry) → IsKeyOf files outlines key es → {X : Type 0} (r : Result X SegFault) → IfErr r (IsBlockFault files key outlines) → IfErr r IsOutside
-outside_fault files outlines key es k (Ok x) h = tt
-outside_fault files outlines key es k (Err (Malformed file part place)) h =
-    let reads : block outlines key.range (bytes_at files key) ≡ Ok es = ap (block outlines key.range) k.bytes ∙ block_again outlines key.range es k.fit in
+pub outside_fault : (files : Files) (outlines : List Entry) (key : BlockKey) (es : List BlockEntry) → IsKeyOf files outlines key es → (files (segment_name key.number)).read ≡ (files (segment_name key.number)).put → {X : Type 0} (r : Result X SegFault) → IfErr r (IsBlockFault files key outlines) → IfErr r IsOutside
+outside_fault files outlines key es k intact (Ok x) h = tt
+outside_fault files outlines key es k intact (Err (Malformed file part place)) h =
+    let reads : block outlines key.range (bytes_at files key) ≡ Ok es = ap (block outlines key.range) (k.intact intact) ∙ block_again outlines key.range es k.fit in
     let fails = h.3 in
     cc
-outside_fault files outlines key es k (Err (Missing file)) h = let there = k.there in let none = h.1 in cc
-outside_fault files outlines key es k (Err Store) h = tt
-outside_fault files outlines key es k (Err Memory) h = tt
+outside_fault files outlines key es k intact (Err (Missing file)) h = let there = k.there in let none = h.1 in cc
+outside_fault files outlines key es k intact (Err Store) h = tt
+outside_fault files outlines key es k intact (Err Memory) h = tt
 
 pub match_none : {X Y : Type 0} (f : X → Y) (o : Option X) (P : Type 0) (Q : X → Type 0) → option_map f o ≡ None → P → MatchOption o P Q
 match_none f None P Q e p = p

@@ -1,5 +1,6 @@
 pub mod AlikeLemmas
 pub mod AmongLemmas
+pub mod BackedLemmas
 pub mod CacheLemmas
 pub mod CutLaws
 pub mod EntryLemmas

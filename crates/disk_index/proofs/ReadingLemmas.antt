@@ -21,29 +21,29 @@ use Rattle.disk_index.specs.Opening.{IsBroken, IsFirstBroken, IsOpenFault, dicti
 use Rattle.disk_index.specs.declared.cache.BlockKey.{BlockKey}
 
 -- a length that is told
-pub told_length : (told : Option Files) (f : Files) (name other : List ℕ) (n : ℕ) → told ≡ Some f → name ≡ other → IfSome told (λ f. Some n ≡ option_map length (f name)) → (file : List ℕ) × (f other ≡ Some file) × (n ≡ length file)
+pub told_length : (told : Option Files) (f : Files) (name other : List ℕ) (n : ℕ) → told ≡ Some f → name ≡ other → IfSome told (λ f. Some n ≡ option_map length (f name).read) → (file : List ℕ) × ((f other).read ≡ Some file) × (n ≡ length file)
 told_length None f name other n is same h = absurd cc
 told_length (Some g) f name other n is same h =
-    let here : Some n ≡ option_map length (f other) = subst (λ (o : Option Files). IfSome o (λ f. Some n ≡ option_map length (f name))) is h ∙ ap (λ (l : List ℕ). option_map length (f l)) same in
-    by (f other) here
+    let here : Some n ≡ option_map length (f other).read = subst (λ (o : Option Files). IfSome o (λ f. Some n ≡ option_map length (f name).read)) is h ∙ ap (λ (l : List ℕ). option_map length (f l).read) same in
+    by (f other).read here
   where
     by : (o : Option (List ℕ)) → Some n ≡ option_map length o → (file : List ℕ) × (o ≡ Some file) × (n ≡ length file)
     by None e = absurd cc
     by (Some file) e = (file, refl, cc)
 
-pub told_absent : (told : Option Files) (f : Files) (name other : List ℕ) → told ≡ Some f → name ≡ other → IfSome told (λ (f : Files). None ≡ option_map length (f name)) → f other ≡ None
+pub told_absent : (told : Option Files) (f : Files) (name other : List ℕ) → told ≡ Some f → name ≡ other → IfSome told (λ (f : Files). None ≡ option_map length (f name).read) → (f other).read ≡ None
 told_absent None f name other is same h = absurd cc
 told_absent (Some g) f name other is same h =
-    let here : None ≡ option_map length (f other) = subst (λ (o : Option Files). IfSome o (λ (f : Files). None ≡ option_map length (f name))) is h ∙ ap (λ (l : List ℕ). option_map length (f l)) same in
-    by (f other) here
+    let here : None ≡ option_map length (f other).read = subst (λ (o : Option Files). IfSome o (λ (f : Files). None ≡ option_map length (f name).read)) is h ∙ ap (λ (l : List ℕ). option_map length (f l).read) same in
+    by (f other).read here
   where
     by : (o : Option (List ℕ)) → None ≡ option_map length o → o ≡ None
     by None e = refl
     by (Some file) e = absurd cc
 
-pub told_bytes : (told : Option Files) (f : Files) (name : List ℕ) (number n at : ℕ) (buf : List ℕ) → told ≡ Some f → name ≡ segment_name number → IfSome told (λ f. Fills n buf at (unwrap_or (f name) [])) → take n buf ≡ take (length buf) (drop at (file_of f number))
+pub told_bytes : (told : Option Files) (f : Files) (name : List ℕ) (number n at : ℕ) (buf : List ℕ) → told ≡ Some f → name ≡ segment_name number → IfSome told (λ f. Fills n buf at (unwrap_or (f name).read [])) → take n buf ≡ take (length buf) (drop at (file_of f number))
 told_bytes told f name number n at buf is same h =
-    subst (λ (l : List ℕ). take n buf ≡ take (length buf) (drop at (unwrap_or (f l) []))) same (subst (λ (o : Option Files). IfSome o (λ f. Fills n buf at (unwrap_or (f name) []))) is h)
+    subst (λ (l : List ℕ). take n buf ≡ take (length buf) (drop at (unwrap_or (f l).read []))) same (subst (λ (o : Option Files). IfSome o (λ f. Fills n buf at (unwrap_or (f name).read []))) is h)
 
 -- ---- faults
 

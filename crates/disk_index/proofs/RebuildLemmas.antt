@@ -27,7 +27,7 @@ use Rattle.seg_codec.specs.declared.blocks.BlockEntry.{BlockEntry}
 use Rattle.seg_codec.specs.declared.dictionary.BlockPlace.{BlockPlace}
 use Rattle.seg_codec.specs.declared.dictionary.TermBlocks.{TermBlocks}
 use Rattle.seg_codec.specs.declared.documents.Entry.{Entry}
-use Rattle.disk_index.specs.Blocks.{block_of, entries_from, entry_of_places, file_of, of_range, places_of}
+use Rattle.disk_index.specs.Blocks.{block_of, entries_from, entry_of_places, of_range, places_of, put_of}
 use Rattle.disk_index.specs.Kept.{Kept, place_in}
 use Rattle.disk_index.specs.Ranks.{ranks_from, ranks_of, term_of}
 use Rattle.disk_index.specs.Reads.{IsBacked}
@@ -335,7 +335,7 @@ range-again told kept docs range b =
     ap (document_at ds) (omega arith) ∙ document_at-range (64 * range) (64 * range + k) docs (omega arith) (omega (arith, low)) in
     let own : (64 * range + k) / 64 ≡ range = omega (arith, low) in
     subst (λ (d : Document). all_terms kept.dictionary (map (rank_in kept.dictionary ks) d.tokens) ≡ Some d.tokens) (sym at)
-    (tokens-again (file_of b.has.files kept.number) kept docs laid range (64 * range + k) within own))
+    (tokens-again (put_of b.has.files kept.number) kept docs laid range (64 * range + k) within own))
 
 -- ---- what holds whatever is told
 

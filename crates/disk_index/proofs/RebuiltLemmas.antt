@@ -10,19 +10,20 @@ use Rattle.std.proofs.lemmas.Slice.Eq.{bytes_eq-Decides}
 use Rattle.ri_base.specs.Collection.{document_at}
 use Rattle.ri_base.specs.Documents.{AreFields, Document, IsDocument}
 use Rattle.ri_base.specs.Places.{places, places_from}
+use Rattle.ri_base.specs.Vocabulary.{vocabulary_of}
 use Rattle.ri_base.specs.declared.limits.TheConstants.{MAX_DOC_TOKENS}
 use Rattle.ri_base.proofs.ListLemmas.{Contains-cases}
 use Rattle.ri_base.proofs.PlacesLemmas.{occurs_at}
 use Rattle.store_ends.specs.Files.{Files}
 use Rattle.seg_codec.specs.Blocks.{block}
-use Rattle.seg_codec.specs.Segment.{entry_of, segment}
+use Rattle.seg_codec.specs.Segment.{blocks_at, entry_of, index, segment}
 use Rattle.seg_codec.specs.declared.blocks.BlockEntry.{BlockEntry}
 use Rattle.seg_codec.specs.declared.dictionary.BlockPlace.{BlockPlace}
 use Rattle.seg_codec.specs.declared.dictionary.TermBlocks.{TermBlocks}
 use Rattle.seg_codec.specs.declared.documents.Entry.{Entry}
 use Rattle.seg_codec.proofs.BlockLaws.{block_again}
-use Rattle.disk_index.specs.Blocks.{block_of, file_of, places_of, told_file}
-use Rattle.disk_index.specs.Kept.{IsOutline, Kept, place_in}
+use Rattle.disk_index.specs.Blocks.{block_of, places_of, put_of, told_file}
+use Rattle.disk_index.specs.Kept.{IsOutline, Kept, kept_of, place_in}
 use Rattle.disk_index.specs.Parts.{Source, InMemory, OnDisk, reads, size}
 use Rattle.disk_index.specs.Reads.{IsBacked, documents_from, entries_in, entries_of, is_member, rebuilt, term_at, terms_from}
 use Rattle.disk_index.proofs.EntryLemmas.{places_of-block}
@@ -213,16 +214,20 @@ rebuilt-is file kept docs laid =
     ap (λ i. term_at file kept.outlines kept.dictionary i (0 + p)) (omega arith) ∙ ap (term_at file kept.outlines kept.dictionary id) (omega arith) ∙ term_at-is file kept docs laid id p h k))
 
 -- a backed part's file
-pub backed-file : (told : Option Files) (kept : Kept) (docs : List Document) → (b : IsBacked told kept docs) → file_of b.has.files kept.number ≡ segment docs
+pub backed-file : (told : Option Files) (kept : Kept) (docs : List Document) → (b : IsBacked told kept docs) → put_of b.has.files kept.number ≡ segment docs
 backed-file told kept docs b = ap (λ (o : Option (List ℕ)). unwrap_or o []) b.has.file
 
-pub backed-laid : (told : Option Files) (kept : Kept) (docs : List Document) → (b : IsBacked told kept docs) → IsLaid (file_of b.has.files kept.number) kept docs
+pub backed-laid : (told : Option Files) (kept : Kept) (docs : List Document) → (b : IsBacked told kept docs) → IsLaid (put_of b.has.files kept.number) kept docs
 backed-laid told kept docs b =
     subst (λ (file : List ℕ). IsLaid file kept docs) (sym (backed-file told kept docs b))
     (subst (λ (k : Kept). IsLaid (segment docs) k docs) (sym b.same) (segment-laid kept.number docs b.has.part))
 
+pub backed-dictionary : (told : Option Files) (kept : Kept) (docs : List Document) → IsBacked told kept docs → kept.dictionary ≡ index (blocks_at docs) (vocabulary_of docs) docs
+unfolding kept_of
+backed-dictionary told kept docs b = ap (λ (k : Kept). k.dictionary) b.same
+
 pub reads-backed : (told : Option Files) (kept : Kept) (docs : List Document) → IsBacked told kept docs → rebuilt kept (told_file told kept.number) ≡ docs
-reads-backed told kept docs b = ap (λ (o : Option Files). rebuilt kept (told_file o kept.number)) b.has.is_told ∙ rebuilt-is (file_of b.has.files kept.number) kept docs (backed-laid told kept docs b)
+reads-backed told kept docs b = ap (λ (o : Option Files). rebuilt kept (told_file o kept.number)) b.has.is_told ∙ rebuilt-is (put_of b.has.files kept.number) kept docs (backed-laid told kept docs b)
 
 pub inside-docs : (kept : Kept) (docs : List Document) (id : ℕ) → kept.outlines ≡ map entry_of docs → id < length kept.outlines → id < length docs
 inside-docs kept docs id is h = omega (arith, ap (λ (l : List Entry). length l) is, length-map docs entry_of, h)

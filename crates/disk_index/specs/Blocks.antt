@@ -39,20 +39,24 @@ block_of term range docs = entries_from (64 * range) term (of_range range docs)
 abbrev pub places_of : ℕ → List BlockEntry → List ℕ
 places_of id es = option_map_or (λ e. e.positions) (find (λ e. e.id == id) es) []
 
--- the bytes of the file of a segment; none where there is no such file
+-- the bytes of the file of a segment, as they are read; none where there is no such file
 abbrev pub file_of : Files → ℕ → List ℕ
-file_of files number = unwrap_or (files (segment_name number)) []
+file_of files number = unwrap_or (files (segment_name number)).read []
+
+-- as they were put
+abbrev pub put_of : Files → ℕ → List ℕ
+put_of files number = unwrap_or (files (segment_name number)).put []
 
 -- the same where the files are told; none where they aren't
 abbrev pub told_file : Option Files → ℕ → List ℕ
 told_file None number = []
-told_file (Some files) number = file_of files number
+told_file (Some files) number = put_of files number
 
--- the bytes where a block stands
+-- the bytes that are read where a block stands
 abbrev pub bytes_at : Files → BlockKey → List ℕ
 bytes_at files key = take key.length (drop key.place (file_of files key.number))
 
--- the file has there the bytes of this block, which is one of some documents
+-- the bytes of this block are read there in its file, and it is one of some documents
 pub record IsBlockIn (files : Files) (key : BlockKey) (es : List BlockEntry) : Type 0 where
   pub bytes : bytes_at files key ≡ block_bytes key.range es
   pub docs : List Entry
@@ -61,7 +65,7 @@ pub record IsBlockIn (files : Files) (key : BlockKey) (es : List BlockEntry) : T
 -- why bytes of a segment's file can't be read
 abbrev pub IsReadFault : Files → ℕ → SegFault → Type 0
 IsReadFault files number (Malformed file part place) = ⊥
-IsReadFault files number (Missing file) = (file ≡ Segment number) × (files (segment_name number) ≡ None)
+IsReadFault files number (Missing file) = (file ≡ Segment number) × ((files (segment_name number)).read ≡ None)
 IsReadFault files number Store = Unit {0}
 IsReadFault files number Memory = Unit {0}
 
@@ -70,6 +74,6 @@ IsReadFault files number Memory = Unit {0}
 abbrev pub IsBlockFault : Files → BlockKey → List Entry → SegFault → Type 0
 IsBlockFault files key docs (Malformed file part place) =
     (file ≡ Segment key.number) × (part ≡ parts.Block) × (left : ℕ) × (block docs key.range (bytes_at files key) ≡ Err left) × (place ≡ (key.place + length (bytes_at files key)) - left)
-IsBlockFault files key docs (Missing file) = (file ≡ Segment key.number) × (files (segment_name key.number) ≡ None)
+IsBlockFault files key docs (Missing file) = (file ≡ Segment key.number) × ((files (segment_name key.number)).read ≡ None)
 IsBlockFault files key docs Store = Unit {0}
 IsBlockFault files key docs Memory = Unit {0}

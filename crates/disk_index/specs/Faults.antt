@@ -80,7 +80,7 @@ IsTermFault files cached kept term id fault =
 -- why the blocks of a range can't be read: one of the file is malformed, or there is no such file
 abbrev pub IsRangeFault : Files → ℕ → SegFault → Type 0
 IsRangeFault files number (Malformed file part place) = (file ≡ Segment number) × (part ≡ parts.Block)
-IsRangeFault files number (Missing file) = (file ≡ Segment number) × (files (segment_name number) ≡ None)
+IsRangeFault files number (Missing file) = (file ≡ Segment number) × ((files (segment_name number)).read ≡ None)
 IsRangeFault files number Store = Unit {0}
 IsRangeFault files number Memory = Unit {0}
 

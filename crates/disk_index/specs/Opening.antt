@@ -66,6 +66,6 @@ IsFirstBroken file docs parts.Prior place = ⊥
 -- field, or there is no such file.
 abbrev pub IsOpenFault : Files → ℕ → ℕ → SegFault → Type 0
 IsOpenFault files number docs (Malformed file part place) = (file ≡ Segment number) × IsFirstBroken (file_of files number) docs part place
-IsOpenFault files number docs (Missing file) = (file ≡ Segment number) × (files (segment_name number) ≡ None)
+IsOpenFault files number docs (Missing file) = (file ≡ Segment number) × ((files (segment_name number)).read ≡ None)
 IsOpenFault files number docs Store = Unit {0}
 IsOpenFault files number docs Memory = Unit {0}

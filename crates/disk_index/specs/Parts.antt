@@ -9,10 +9,10 @@ use Rattle.store_ends.specs.Files.{Files, IsQuiet}
 use Rattle.seg_codec.specs.Segment.{entry_of}
 use Rattle.seg_codec.specs.declared.documents.Entry.{Entry}
 use Rattle.disk_index.specs.Blocks.{of_range, told_file}
-use Rattle.disk_index.specs.Cache.{CacheKeeps, Cached}
+use Rattle.disk_index.specs.Cache.{CacheKeeps, Cached, IsBlockOf, KeptBlock}
 use Rattle.disk_index.specs.Faults.{AreTold, IsRangeFault, IsTermFault, IsTermReadable}
 use Rattle.disk_index.specs.Kept.{Kept}
-use Rattle.disk_index.specs.Reads.{IsBacked, rebuilt}
+use Rattle.disk_index.specs.Reads.{IsBacked, IsIntact, rebuilt}
 use Rattle.disk_index.specs.Together.{AreTogether, IsDocumentsFault}
 use Rattle.disk_index.specs.declared.part.Part.{Part}
 use Rattle.disk_index.specs.declared.part.Part.TheVariants.{Memory, Disk}
@@ -41,15 +41,20 @@ abbrev pub outlines_of : Source → List Entry
 outlines_of (InMemory docs) = map entry_of docs
 outlines_of (OnDisk kept) = kept.outlines
 
--- the part has the file of this number
-abbrev pub IsFileOf : Source → ℕ → Type 0
-IsFileOf (InMemory docs) n = ⊥
-IsFileOf (OnDisk kept) n = n ≡ kept.number
+-- a block of the documents of the part, in its file
+abbrev pub IsFileOf : Source → KeptBlock → Type 0
+IsFileOf (InMemory docs) e = ⊥
+IsFileOf (OnDisk kept) e = IsBlockOf kept e
 
--- its file is told and there, and is the segment of just the documents of which it keeps docnos, lengths, fields and dictionary
+-- its file is told and there, and the segment of just the documents of which it keeps docnos, lengths, fields and dictionary was put there
 abbrev pub IsPartBacked : Option Files → Source → Type 0
 IsPartBacked told (InMemory docs) = Unit {0}
 IsPartBacked told (OnDisk kept) = (docs : List Document) × IsBacked told kept docs
+
+-- and its file is read as it was put
+abbrev pub IsPartIntact : Option Files → Source → Type 0
+IsPartIntact told (InMemory docs) = Unit {0}
+IsPartIntact told (OnDisk kept) = ((docs : List Document) × IsBacked told kept docs) × IsIntact told kept.number
 
 -- why the places of a term in a document of the part can't be told; of one in memory no file is to blame
 abbrev pub IsPartFault : Files → Cached → Source → List ℕ → ℕ → SegFault → Type 0

@@ -3,46 +3,50 @@ use Rattle.std.proofs.Common.{◌≡◌, ◌/◌, ℕ, List, Option, None, Some,
 use Rattle.std.specs.Option.{MatchOption}
 use Rattle.store_ends.specs.Files.{Files, IsQuiet}
 use Rattle.seg_codec.specs.declared.dictionary.BlockPlace.{BlockPlace}
-use Rattle.disk_index.specs.Cache.{CacheKeeps, Cached, IsCacheBacked}
+use Rattle.disk_index.specs.Cache.{CacheKeeps, Cached, IsCacheBacked, KeptBlock}
 use Rattle.disk_index.specs.Faults.{IsReadable, IsTermReadable}
 use Rattle.disk_index.specs.Kept.{Kept, key_of, place_of}
-use Rattle.disk_index.specs.Parts.{InMemory, IsFileOf, IsQuietReader, IsReadableIn, IsReadableOf, OnDisk, Source}
+use Rattle.disk_index.specs.Parts.{InMemory, IsFileOf, IsPartBacked, IsPartIntact, IsQuietReader, IsReadableIn, IsReadableOf, OnDisk, Source}
 use Rattle.disk_index.specs.declared.cache.BlockKey.{BlockKey}
 
-pub CacheKeeps-same : (told : Option Files) (IsOwn : ℕ → Type 0) (c : Cached) → CacheKeeps told IsOwn c c
+pub CacheKeeps-same : (told : Option Files) (IsOwn : KeptBlock → Type 0) (c : Cached) → CacheKeeps told IsOwn c c
 CacheKeeps-same told IsOwn c = record { each = λ e h. inl h }
 
-pub CacheKeeps-then : (told : Option Files) (IsOwn : ℕ → Type 0) (c d k : Cached) → CacheKeeps told IsOwn c d → CacheKeeps told IsOwn d k → CacheKeeps told IsOwn c k
+pub CacheKeeps-then : (told : Option Files) (IsOwn : KeptBlock → Type 0) (c d k : Cached) → CacheKeeps told IsOwn c d → CacheKeeps told IsOwn d k → CacheKeeps told IsOwn c k
 CacheKeeps-then told IsOwn c d k a b = record { each = λ e h. elim (b.each e h) [ inl was ↦ a.each e was | inr new ↦ inr new ] }
 
 -- two calls in a row over a store whose files stay
-pub CacheKeeps-after : (f g : Option Files) (IsOwn : ℕ → Type 0) (c d k : Cached) → g ≡ f → CacheKeeps f IsOwn c d → CacheKeeps g IsOwn d k → CacheKeeps f IsOwn c k
+pub CacheKeeps-after : (f g : Option Files) (IsOwn : KeptBlock → Type 0) (c d k : Cached) → g ≡ f → CacheKeeps f IsOwn c d → CacheKeeps g IsOwn d k → CacheKeeps f IsOwn c k
 CacheKeeps-after f g IsOwn c d k same a b = CacheKeeps-then f IsOwn c d k a (subst (λ (x : Option Files). CacheKeeps x IsOwn d k) same b)
 
--- a backed cache stays backed, whether the part is or not
-pub IsCacheBacked-kept : (told : Option Files) (IsOwn : ℕ → Type 0) (c d : Cached) → CacheKeeps told IsOwn c d → IsCacheBacked told c → IsCacheBacked told d
-IsCacheBacked-kept told IsOwn c d keeps backed files is e h = elim (keeps.each e h) [ inl was ↦ backed files is e was | inr new ↦ new.1 files is ]
+-- a part whose file is read as it was put is backed
+pub IsPartIntact-backed : (told : Option Files) (p : Source) → IsPartIntact told p → IsPartBacked told p
+IsPartIntact-backed told (InMemory docs) here = tt
+IsPartIntact-backed told (OnDisk kept) here = here.0
+
+pub intact-backed : (told : Option Files) (p : Source) (c : Cached) → IsPartIntact told p × IsCacheBacked told c → IsPartBacked told p × IsCacheBacked told c
+intact-backed told p c here = (IsPartIntact-backed told p here.0, here.1)
 
 -- ---- what can be read after reading could be read before
 
 -- the block of a key
-IsReadable-before : (told : Option Files) (IsOwn : ℕ → Type 0) (c d : Cached) (key : BlockKey) → CacheKeeps told IsOwn c d → IsReadable told d key → IsReadable told c key
+IsReadable-before : (told : Option Files) (IsOwn : KeptBlock → Type 0) (c d : Cached) (key : BlockKey) → CacheKeeps told IsOwn c d → IsReadable told d key → IsReadable told c key
 IsReadable-before told IsOwn c d key keeps now = record {
   entries = now.entries;
   here = elim now.here [ inl kept ↦ elim (keeps.each (key, now.entries) kept) [ inl was ↦ inl was | inr new ↦ inr new.1 ] | inr file ↦ inr file ];
 }
 
 -- that of a term for a range, where there is one
-readable-before : (told : Option Files) (IsOwn : ℕ → Type 0) (c d : Cached) (number range : ℕ) (place : Option BlockPlace) → CacheKeeps told IsOwn c d
+readable-before : (told : Option Files) (IsOwn : KeptBlock → Type 0) (c d : Cached) (number range : ℕ) (place : Option BlockPlace) → CacheKeeps told IsOwn c d
     → MatchOption place (Unit {0}) (λ p. IsReadable told d (key_of number range p)) → MatchOption place (Unit {0}) (λ p. IsReadable told c (key_of number range p))
 readable-before told IsOwn c d number range None keeps now = tt
 readable-before told IsOwn c d number range (Some p) keeps now = IsReadable-before told IsOwn c d (key_of number range p) keeps now
 
-pub IsTermReadable-before : (told : Option Files) (IsOwn : ℕ → Type 0) (c d : Cached) (kept : Kept) (term : List ℕ) (range : ℕ) → CacheKeeps told IsOwn c d
+pub IsTermReadable-before : (told : Option Files) (IsOwn : KeptBlock → Type 0) (c d : Cached) (kept : Kept) (term : List ℕ) (range : ℕ) → CacheKeeps told IsOwn c d
     → IsTermReadable told d kept term range → IsTermReadable told c kept term range
 IsTermReadable-before told IsOwn c d kept term range keeps now = readable-before told IsOwn c d kept.number range (place_of kept.dictionary term range) keeps now
 
-pub IsReadableIn-before : (told : Option Files) (IsOwn : ℕ → Type 0) (c d : Cached) (p : Source) (term : List ℕ) (range : ℕ) → CacheKeeps told IsOwn c d
+pub IsReadableIn-before : (told : Option Files) (IsOwn : KeptBlock → Type 0) (c d : Cached) (p : Source) (term : List ℕ) (range : ℕ) → CacheKeeps told IsOwn c d
     → IsReadableIn told d p term range → IsReadableIn told c p term range
 IsReadableIn-before told IsOwn c d (InMemory docs) term range keeps now = tt
 IsReadableIn-before told IsOwn c d (OnDisk kept) term range keeps now = IsTermReadable-before told IsOwn c d kept term range keeps now

@@ -1,5 +1,5 @@
 -- What a part on disk reads as, together with its file.
-use Rattle.std.specs.Prelude.{◌≡◌, ℕ, zero, suc, ◌+◌, ◌/◌, ◌==◌, Bool, false, ◌||◌, List, [], ◌∷◌, Option, Some, take, drop}
+use Rattle.std.specs.Prelude.{◌≡◌, ◌<◌, ◌^◌, ℕ, zero, suc, ◌+◌, ◌/◌, ◌==◌, Bool, false, ◌||◌, List, [], ◌∷◌, Option, Some, length, map, take, drop}
 use Rattle.std.specs.List.{find}
 use Rattle.std.specs.Option.{option_map_or}
 use Rattle.std.specs.Result.{result_unwrap_or}
@@ -7,13 +7,16 @@ use Rattle.ri_base.specs.Documents.{Document}
 use Rattle.store_ends.specs.Files.{Files}
 use Rattle.seg_codec.specs.Blocks.{block}
 use Rattle.seg_codec.specs.Part.{IsPart}
-use Rattle.seg_codec.specs.Segment.{segment}
+use Rattle.ri_base.specs.Vocabulary.{vocabulary_of}
+use Rattle.seg_codec.specs.Fits.{FitBlock}
+use Rattle.seg_codec.specs.Segment.{blocks_at, entry_of, index, segment}
+use Rattle.seg_codec.specs.Spelling.{block_bytes}
 use Rattle.seg_codec.specs.declared.blocks.BlockEntry.{BlockEntry}
 use Rattle.seg_codec.specs.declared.dictionary.BlockPlace.{BlockPlace}
 use Rattle.seg_codec.specs.declared.dictionary.TermBlocks.{TermBlocks}
 use Rattle.seg_codec.specs.declared.documents.Entry.{Entry}
-use Rattle.disk_index.specs.Blocks.{places_of}
-use Rattle.disk_index.specs.Kept.{Kept, kept_of, place_in}
+use Rattle.disk_index.specs.Blocks.{block_of, places_of}
+use Rattle.disk_index.specs.Kept.{Kept, kept_of, place_in, place_of}
 use Rattle.disk_index.specs.Names.{segment_name}
 
 abbrev pub is_member : ℕ → List ℕ → Bool
@@ -47,14 +50,31 @@ documents_from at id (o ∷ os) = record { docno = o.docno; tokens = terms_from 
 unfoldable pub rebuilt : Kept → List ℕ → List Document
 rebuilt kept file = documents_from (term_at file kept.outlines kept.dictionary) 0 kept.outlines
 
--- The file of this number is told and there. It is the segment of these documents, which are some that have one.
+-- What is read of a file in which the segment of some documents was put. It has so many bytes, and all in front of its blocks is read
+-- as it was put. So is each block, unless no block of these documents is read in its place: damage of a block shows.
+pub record ShowsDamage (docs : List Document) (read : Option (List ℕ)) : Type 0 where
+  pub bytes : List ℕ
+  pub there : read ≡ Some bytes
+  pub size : length bytes ≡ length (segment docs)
+  pub front : take (blocks_at docs) bytes ≡ take (blocks_at docs) (segment docs)
+  pub each : (term : List ℕ) (range : ℕ) (p : BlockPlace) (es : List BlockEntry) → place_of (index (blocks_at docs) (vocabulary_of docs) docs) term range ≡ Some p
+      → FitBlock (map entry_of docs) range es → take p.length (drop p.place bytes) ≡ block_bytes range es → es ≡ block_of term range docs
+
+-- The file of this number is told and there. The segment of these documents was put there, which are some that have one. Damage of it
+-- shows.
 pub record HasSegment (told : Option Files) (number : ℕ) (docs : List Document) : Type 0 where
   pub files : Files
   pub is_told : told ≡ Some files
-  pub file : files (segment_name number) ≡ Some (segment docs)
+  pub file : (files (segment_name number)).put ≡ Some (segment docs)
   pub part : IsPart docs
+  pub small : length (segment docs) < 2 ^ 64
+  pub shows : ShowsDamage docs (files (segment_name number)).read
 
--- The part's file is the segment of these documents, of which the part keeps docnos, lengths, fields and dictionary.
+-- the file of this number is read as it was put
+abbrev pub IsIntact : Option Files → ℕ → Type 0
+IsIntact told number = (files : Files) → told ≡ Some files → (files (segment_name number)).read ≡ (files (segment_name number)).put
+
+-- The segment of these documents was put in the part's file, of which the part keeps docnos, lengths, fields and dictionary.
 pub record IsBacked (told : Option Files) (kept : Kept) (docs : List Document) : Type 0 where
   pub has : HasSegment told kept.number docs
   pub same : kept ≡ kept_of kept.number docs

@@ -4,7 +4,8 @@ use Rattle.ri_base.specs.Collection.{token_count}
 use Rattle.ri_base.specs.Documents.{Document}
 use Rattle.ri_base.specs.declared.limits.TheConstants.{MAX_HELD_TOKENS}
 use Rattle.store_ends.specs.Files.{Files}
-use Rattle.disk_index.specs.Parts.{IsFileOf, IsPartBacked, Source, reads, size}
+use Rattle.disk_index.specs.Cache.{KeptBlock}
+use Rattle.disk_index.specs.Parts.{IsFileOf, IsPartBacked, IsPartIntact, Source, reads, size}
 use Rattle.disk_index.specs.declared.limits.TheConstants.{MAX_HELD_DOCS}
 
 -- of a list those that aren't marked
@@ -50,6 +51,10 @@ pub record IsSnapshot (parts : List Marked) : Type 0 where
 abbrev pub AreBacked : Option Files → List Marked → Type 0
 AreBacked told parts = All (λ m. IsPartBacked told m.source) parts
 
--- some part has the file of this number
-abbrev pub IsFileAmong : List Marked → ℕ → Type 0
-IsFileAmong parts n = (m : Marked) × Contains parts m × IsFileOf m.source n
+-- and the file of each is read as it was put
+abbrev pub AreIntact : Option Files → List Marked → Type 0
+AreIntact told parts = All (λ m. IsPartIntact told m.source) parts
+
+-- a block of one of these parts
+abbrev pub IsFileAmong : List Marked → KeptBlock → Type 0
+IsFileAmong parts e = (m : Marked) × Contains parts m × IsFileOf m.source e

@@ -74,6 +74,6 @@ pub record RangeBreaks (files : Files) (cached : Cached) (kept : Kept) (range pl
 -- Why the documents of a range can't be put together: its blocks break, which is told where they do, or there is no such file.
 abbrev pub IsDocumentsFault : Files → Cached → Kept → ℕ → SegFault → Type 0
 IsDocumentsFault files cached kept range (Malformed file part place) = (file ≡ Segment kept.number) × (part ≡ parts.Block) × RangeBreaks files cached kept range place
-IsDocumentsFault files cached kept range (Missing file) = (file ≡ Segment kept.number) × (files (segment_name kept.number) ≡ None)
+IsDocumentsFault files cached kept range (Missing file) = (file ≡ Segment kept.number) × ((files (segment_name kept.number)).read ≡ None)
 IsDocumentsFault files cached kept range Store = Unit {0}
 IsDocumentsFault files cached kept range Memory = Unit {0}

@@ -1,17 +1,20 @@
 // Blocks that were read, kept for a while.
-ghost use Rattle.std.specs.Prelude.{◌≡◌, ◌≢◌, ◌<◌, ◌≤◌, ◌+◌, ◌^◌, ◌⊎◌, ◌↔◌, List, [], Some, Err, IsTrue, IfOk, IfErr, IfSome, OnOk, length};
+ghost use Rattle.std.specs.Prelude.{◌≡◌, ◌≢◌, ◌<◌, ◌≤◌, ◌+◌, ◌^◌, ◌⊎◌, ◌↔◌, List, [], Some, Err, IsTrue, IfOk, IfErr, IfSome, OnOk, length, map};
 ghost use Rattle.std.proofs.Common.{rules};
 ghost use Rattle.std.specs.Cmp.Rules.{hashing};
 ghost use Rattle.std.specs.Hash as fed;
 ghost use Rattle.std.specs.List.{Contains};
+ghost use Rattle.ri_base.specs.Documents.{Document};
 ghost use Rattle.ri_base.specs.Faults.{TellsDamage};
 ghost use Rattle.ri_base.specs.Keeps.{Rose};
 ghost use Rattle.store_ends.specs.Files.{Files, IsQuiet};
 ghost use Rattle.seg_codec.specs.Fits.{FitBlock};
+ghost use Rattle.seg_codec.specs.Segment.{entry_of};
 ghost use Rattle.seg_codec.specs.declared.blocks.BlockEntry.{BlockEntry};
 ghost use Rattle.disk_index.specs.Blocks.{IsBlockFault, IsBlockIn};
 ghost use Rattle.disk_index.specs.Cache.{AllIn, AllKept, CacheKeeps, IsCacheBacked, nothing_cached, without_blocks};
 ghost use Rattle.disk_index.specs.Faults.{CameFrom};
+ghost use Rattle.disk_index.specs.Reads.{HasSegment};
 
 use crate::Block;
 use crate::reading::read_block;
@@ -103,9 +106,13 @@ impl BlockCache {
     ) -> Result<Block, SegFault>
         requires { key.place + key.length < 2 ^ 64 }
         ensures exact { (f : Files) → T.files store.old ≡ Some f → IsCacheBacked (Some f) self.old → IfOk result (IsBlockIn f key) }
+
+        // It fits the segment that was put in its file, if these are the documents of that.
+        ensures fits { (docs : List Document) → HasSegment (T.files store.old) key.number docs → documents.now ≡ map entry_of docs → IsCacheBacked (T.files store.old) self.old → IfOk result (FitBlock documents.now key.range) }
+
         ensures fault { (f : Files) → T.files store.old ≡ Some f → IfErr result (IsBlockFault f key documents.now) }
         ensures origin { IfOk result (CameFrom (T.files store.old) self.old documents.now key) }
-        ensures cache { CacheKeeps (T.files store.old) (λ n. n ≡ key.number) self.old self.new }
+        ensures cache { CacheKeeps (T.files store.old) (λ e. (e.0 ≡ key) × FitBlock documents.now e.0.range e.1) self.old self.new }
         ensures undamaged { OnOk result (self.new.damage ≡ self.old.damage) }
         ensures damaged { IfErr result (TellsDamage self.old.damage self.new.damage) }
         ensures quiet { IsQuiet T.files T.layers T.clock T.since T.longest T.held store.old store.new }
@@ -133,6 +140,7 @@ impl BlockCache {
     ) -> Result<Block, SegFault>
         requires { key.place + key.length < 2 ^ 64 }
         ensures exact { (f : Files) → T.files store.old ≡ Some f → IsCacheBacked (Some f) self.old → IfOk result (IsBlockIn f key) }
+        ensures fits { (docs : List Document) → HasSegment (T.files store.old) key.number docs → documents.now ≡ map entry_of docs → IsCacheBacked (T.files store.old) self.old → IfOk result (FitBlock documents.now key.range) }
         ensures fault { (f : Files) → T.files store.old ≡ Some f → IfErr result (IsBlockFault f key documents.now) }
         ensures origin { IfOk result (CameFrom (T.files store.old) self.old documents.now key) }
         ensures cache { AllKept self.old self.new }

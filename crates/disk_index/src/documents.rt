@@ -10,7 +10,7 @@ ghost use Rattle.disk_index.specs.Blocks.{of_range};
 ghost use Rattle.disk_index.specs.Cache.{AllKept, IsCacheBacked};
 ghost use Rattle.disk_index.specs.Faults.{IsUnput, block_fault};
 ghost use Rattle.disk_index.specs.Ranks.{ranks_of};
-ghost use Rattle.disk_index.specs.Reads.{IsBacked};
+ghost use Rattle.disk_index.specs.Reads.{IsBacked, IsIntact};
 ghost use Rattle.disk_index.specs.Rebuild.{lengths, put_block, rows_of};
 ghost use Rattle.disk_index.specs.Together.{AreAllRows, AreTogether, IsDocumentsFault, range_end};
 
@@ -40,7 +40,7 @@ impl DiskIndex {
         requires { 64 * range < length self.now.outlines }
         ensures exact { (docs : List Document) → IsBacked (T.files store.old) self.now docs → IsCacheBacked (T.files store.old) cache.old
             → IfOk result (λ ds. ds ≡ of_range range docs) }
-        ensures honest { (docs : List Document) → IsBacked (T.files store.old) self.now docs → IsCacheBacked (T.files store.old) cache.old
+        ensures honest { (docs : List Document) → IsBacked (T.files store.old) self.now docs → IsIntact (T.files store.old) self.now.number → IsCacheBacked (T.files store.old) cache.old
             → IfErr result IsOutside }
 
         // Without their tokens they are what is kept, whatever the file has.
@@ -76,7 +76,7 @@ impl DiskIndex {
         requires { 64 * range < length self.now.outlines }
         ensures exact { (docs : List Document) → IsBacked (T.files store.old) self.now docs → IsCacheBacked (T.files store.old) cache.old
             → IfOk result (λ t. t.rows.items ≡ rows_of self.now.dictionary (ranks_of range self.now.dictionary) (of_range range docs)) }
-        ensures honest { (docs : List Document) → IsBacked (T.files store.old) self.now docs → IsCacheBacked (T.files store.old) cache.old
+        ensures honest { (docs : List Document) → IsBacked (T.files store.old) self.now docs → IsIntact (T.files store.old) self.now.number → IsCacheBacked (T.files store.old) cache.old
             → IfErr result IsOutside }
         ensures shape { IfOk result (λ t. lengths t.rows.items ≡ lengths_of (of_range range self.now.outlines)) }
         ensures told { IfOk result (λ t. AreAllRows (T.files store.old) cache.old self.now range t.rows.items) }

@@ -13,13 +13,13 @@ ghost use Rattle.ri_base.specs.declared.limits.TheConstants.{MAX_DOC_TOKENS};
 ghost use Rattle.store_ends.specs.Files.{Files, IsQuiet};
 ghost use Rattle.seg_codec.specs.Blocks.{tokens_of};
 ghost use Rattle.disk_index.specs.Blocks.{IsBlockFault, block_of, file_of, of_range};
-ghost use Rattle.disk_index.specs.Cache.{AllKept, CacheKeeps, IsCacheBacked};
+ghost use Rattle.disk_index.specs.Cache.{AllKept, CacheKeeps, IsBlockOf, IsCacheBacked};
 ghost use Rattle.disk_index.specs.Faults.{ArePlacesIn, AreTold, CameFrom, IsTermFault};
 ghost use Rattle.disk_index.specs.Kept.{AreKept, IsOutline, IsSegmentOf, kept_of, key_of, place_of};
 ghost use Rattle.disk_index.specs.Opening.{IsOpenFault, IsOpened};
 ghost use Rattle.disk_index.specs.Presence.{IsNext};
 ghost use Rattle.disk_index.specs.Ranks.{ranks_of, term_of};
-ghost use Rattle.disk_index.specs.Reads.{HasSegment, IsBacked, rebuilt};
+ghost use Rattle.disk_index.specs.Reads.{HasSegment, IsBacked, IsIntact, rebuilt};
 ghost use Rattle.disk_index.specs.Together.{begin_of};
 
 use crate::lookup::{fronts_of, next_place, of_range, place_of, ranked_place};
@@ -235,7 +235,7 @@ impl DiskIndex {
         requires { rank < length self.now.dictionary }
         ensures exact { (docs : List Document) → IsBacked (T.files store.old) self.now docs → IsCacheBacked (T.files store.old) cache.old
             → IfOk result (λ b. b ≡ block_of (term_of self.now.dictionary rank) range docs) }
-        ensures honest { (docs : List Document) → IsBacked (T.files store.old) self.now docs → IfErr result IsOutside }
+        ensures honest { (docs : List Document) → IsBacked (T.files store.old) self.now docs → IsIntact (T.files store.old) self.now.number → IfErr result IsOutside }
         ensures fault { (f : Files) → T.files store.old ≡ Some f → MatchOption (place_of self.now.dictionary (term_of self.now.dictionary rank) range)
             (IfErr result IsOutside) (λ p. IfErr result (IsBlockFault f (key_of self.now.number range p) self.now.outlines)) }
         ensures origin { MatchOption (place_of self.now.dictionary (term_of self.now.dictionary rank) range) (IfOk result (λ b. b ≡ []))
@@ -301,7 +301,7 @@ impl DiskIndex {
     ) -> Result<Block, SegFault>
         ensures exact { (docs : List Document) → IsBacked (T.files store.old) self.now docs → IsCacheBacked (T.files store.old) cache.old
             → IfOk result (λ b. b ≡ block_of term.now range docs) }
-        ensures honest { (docs : List Document) → IsBacked (T.files store.old) self.now docs → IfErr result IsOutside }
+        ensures honest { (docs : List Document) → IsBacked (T.files store.old) self.now docs → IsIntact (T.files store.old) self.now.number → IfErr result IsOutside }
         ensures fault { (f : Files) → T.files store.old ≡ Some f → MatchOption (place_of self.now.dictionary term.now range)
             (IfErr result IsOutside) (λ p. IfErr result (IsBlockFault f (key_of self.now.number range p) self.now.outlines)) }
 
@@ -312,7 +312,7 @@ impl DiskIndex {
         // One step where the dictionary has such a block, whether it is kept or read.
         ensures steps { blocks.new ≡ blocks.old + (if is_some (place_of self.now.dictionary term.now range) then 1 else 0) }
 
-        ensures cache { CacheKeeps (T.files store.old) (λ n. n ≡ self.now.number) cache.old cache.new }
+        ensures cache { CacheKeeps (T.files store.old) (IsBlockOf self.now) cache.old cache.new }
         ensures undamaged { OnOk result (cache.new.damage ≡ cache.old.damage) }
         ensures damaged { IfErr result (TellsDamage cache.old.damage cache.new.damage) }
         ensures quiet { IsQuiet T.files T.layers T.clock T.since T.longest T.held store.old store.new }
@@ -341,7 +341,7 @@ impl DiskIndex {
         requires { id < length self.now.outlines }
         ensures exact { (docs : List Document) → IsBacked (T.files store.old) self.now docs → IsCacheBacked (T.files store.old) cache.old
             → IfOk result (λ ps. ps ≡ places term.now (document_at docs id)) }
-        ensures honest { (docs : List Document) → IsBacked (T.files store.old) self.now docs → IsCacheBacked (T.files store.old) cache.old
+        ensures honest { (docs : List Document) → IsBacked (T.files store.old) self.now docs → IsIntact (T.files store.old) self.now.number → IsCacheBacked (T.files store.old) cache.old
             → IfErr result IsOutside }
 
         // They are those of such a block, so no malformed one is passed by.
@@ -350,7 +350,7 @@ impl DiskIndex {
         ensures rising { IfOk result IsStrictlyIncreasing }
         ensures below { (file : List ℕ) → IfOk result (All (λ p. p < length (document_at (rebuilt self.now file) id).tokens)) }
         ensures fault { (f : Files) → T.files store.old ≡ Some f → IfErr result (IsTermFault f cache.old self.now term.now id) }
-        ensures cache { CacheKeeps (T.files store.old) (λ n. n ≡ self.now.number) cache.old cache.new }
+        ensures cache { CacheKeeps (T.files store.old) (IsBlockOf self.now) cache.old cache.new }
         ensures undamaged { OnOk result (cache.new.damage ≡ cache.old.damage) }
         ensures damaged { IfErr result (TellsDamage cache.old.damage cache.new.damage) }
         ensures quiet { IsQuiet T.files T.layers T.clock T.since T.longest T.held store.old store.new }
@@ -377,13 +377,13 @@ impl DiskIndex {
         requires some { 0 < blank.parts }
         ensures exact { (docs : List Document) → IsBacked (T.files store.old) self.now docs → IsCacheBacked (T.files store.old) cache.old
             → IfOk result (λ ps. ps ≡ places term.now (document_at docs id)) }
-        ensures honest { (docs : List Document) → IsBacked (T.files store.old) self.now docs → IsCacheBacked (T.files store.old) cache.old
+        ensures honest { (docs : List Document) → IsBacked (T.files store.old) self.now docs → IsIntact (T.files store.old) self.now.number → IsCacheBacked (T.files store.old) cache.old
             → IfErr result IsOutside }
         ensures told { IfOk result (AreTold (T.files store.old) cache.old self.now term.now id) }
         ensures rising { IfOk result IsStrictlyIncreasing }
         ensures below { (file : List ℕ) → IfOk result (All (λ p. p < length (document_at (rebuilt self.now file) id).tokens)) }
         ensures fault { (f : Files) → T.files store.old ≡ Some f → IfErr result (IsTermFault f cache.old self.now term.now id) }
-        ensures cache { CacheKeeps (T.files store.old) (λ n. n ≡ self.now.number) cache.old cache.new }
+        ensures cache { CacheKeeps (T.files store.old) (IsBlockOf self.now) cache.old cache.new }
         ensures undamaged { OnOk result (cache.new.damage ≡ cache.old.damage) }
         ensures damaged { IfErr result (TellsDamage cache.old.damage cache.new.damage) }
         ensures quiet { IsQuiet T.files T.layers T.clock T.since T.longest T.held store.old store.new }

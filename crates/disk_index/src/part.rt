@@ -12,7 +12,7 @@ ghost use Rattle.store_ends.specs.Files.{Files, IsQuiet};
 ghost use Rattle.seg_codec.specs.Segment.{entry_of};
 ghost use Rattle.disk_index.specs.Blocks.{of_range};
 ghost use Rattle.disk_index.specs.Cache.{AllKept, CacheKeeps, IsCacheBacked};
-ghost use Rattle.disk_index.specs.Parts.{ArePlacesOf, AreRangeOf, IsFileOf, IsPartBacked, IsPartFault, IsRangeFaultOf, reads, size, source_of};
+ghost use Rattle.disk_index.specs.Parts.{ArePlacesOf, AreRangeOf, IsFileOf, IsPartBacked, IsPartFault, IsPartIntact, IsRangeFaultOf, reads, size, source_of};
 
 use crate::{BlockCache, DiskIndex};
 use ri_base::{Doc, Docno, FieldSpan, List, NoMemory, Positions, Postings, Sealed, SegFault, Term};
@@ -95,7 +95,7 @@ impl Part {
         requires { id < size (source_of self.now) }
         ensures exact { IsPartBacked (T.files store.old) (source_of self.now) → IsCacheBacked (T.files store.old) cache.old
             → IfOk result (λ ps. ps ≡ places term.now (document_at (reads (T.files store.old) (source_of self.now)) id)) }
-        ensures honest { IsPartBacked (T.files store.old) (source_of self.now) → IsCacheBacked (T.files store.old) cache.old
+        ensures honest { IsPartIntact (T.files store.old) (source_of self.now) → IsCacheBacked (T.files store.old) cache.old
             → IfErr result IsOutside }
 
         // On disk they are those of a block that was kept or read, so no malformed one is passed by.
@@ -129,7 +129,7 @@ impl Part {
         requires { 64 * range < size (source_of self.now) }
         ensures exact { IsPartBacked (T.files store.old) (source_of self.now) → IsCacheBacked (T.files store.old) cache.old
             → IfOk result (λ ds. ds ≡ of_range range (reads (T.files store.old) (source_of self.now))) }
-        ensures honest { IsPartBacked (T.files store.old) (source_of self.now) → IsCacheBacked (T.files store.old) cache.old
+        ensures honest { IsPartIntact (T.files store.old) (source_of self.now) → IsCacheBacked (T.files store.old) cache.old
             → IfErr result IsOutside }
 
         // Without their tokens they are those of the part, whatever the file has.

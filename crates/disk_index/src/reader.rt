@@ -30,13 +30,15 @@ impl<'a, T: Store> PartReader<'a, T> {
 impl<'a, T: Store> Postings for PartReader<'a, T> {
     ghost use Rattle.std.specs.Prelude.{◌≡◌};
     ghost use Rattle.disk_index.specs.Cache.{IsCacheBacked};
-    ghost use Rattle.disk_index.specs.Parts.{IsPartBacked, IsQuietReader, IsReadableOf, reads, source_of};
+    ghost use Rattle.disk_index.specs.Parts.{IsPartBacked, IsPartIntact, IsQuietReader, IsReadableOf, reads, source_of};
 
     ghost documents = { λ s. reads (T.files s.store.now) (source_of s.part.now) };
 
     ghost faults = { λ s. T.faults s.store.now };
 
     ghost sound = { λ s. IsPartBacked (T.files s.store.now) (source_of s.part.now) × IsCacheBacked (T.files s.store.now) s.cache.now };
+
+    ghost intact = { λ s. IsPartIntact (T.files s.store.now) (source_of s.part.now) × IsCacheBacked (T.files s.store.now) s.cache.now };
 
     ghost quiet = { λ r s. IsQuietReader T.files T.layers T.clock T.since T.longest T.held T.faults (source_of r.part.now) (source_of s.part.now) r.store.ghost_name s.store.ghost_name r.cache.ghost_name s.cache.ghost_name r.store.now s.store.now r.cache.now s.cache.now };
 
@@ -64,7 +66,9 @@ impl<'a, T: Store> Postings for PartReader<'a, T> {
         self.part.positions(alloc, self.store, self.cache, term, id)
     }
 
-    ghost use Rattle.disk_index.specs.QuietLaws.{IsQuietReader-readable, IsQuietReader-same, IsQuietReader-then};
+    ghost use Rattle.disk_index.specs.QuietLaws.{intact-backed, IsQuietReader-readable, IsQuietReader-same, IsQuietReader-then};
+
+    ghost intact_sound = { λ s here. intact-backed (T.files s.store.now) (source_of s.part.now) s.cache.now here };
 
     ghost quiet_same = { λ s. IsQuietReader-same _ _ _ _ _ _ _ _ _ _ _ _ };
 

@@ -24,7 +24,7 @@ pub fn count_of<P: Postings>(
     id: u32,
 ) -> Result<LeafCount, SegFault>
     requires { id < length (P.documents part.old) }
-    ensures keeps { Keeps P.documents P.faults P.sound P.quiet part.old part.new }
+    ensures keeps { Keeps P.documents P.faults P.sound P.intact P.quiet part.old part.new }
     ensures exact { P.sound part.old → IfOk result
         (λ n. n ≡ count_of (document_at (P.documents part.old) id) (leaf_tree leaf.now)) }
     ensures range { IfOk result (λ n. IsLeafCount n) }
@@ -32,7 +32,7 @@ pub fn count_of<P: Postings>(
     // Also of a part that isn't sound, no malformed block is passed by.
     ensures told { IfOk result (λ _. IsLeafTold (λ t. P.told part.old t id) (leaf_tree leaf.now)) }
 
-    ensures honest { P.sound part.old → IfErr result IsOutside }
+    ensures honest { P.intact part.old → IfErr result IsOutside }
     ensures undamaged { OnOk result (P.damage part.new ≡ P.damage part.old) }
     ensures damaged { IfErr result (TellsDamage (P.damage part.old) (P.damage part.new)) }
     ensures store { result ≡ Err SegFault.Store → Rose (P.faults part.old) (P.faults part.new) }

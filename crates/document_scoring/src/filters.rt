@@ -21,11 +21,11 @@ fn passes<P: Postings>(
     id: u32,
 ) -> Result<bool, SegFault>
     requires id { id < length (P.documents part.old) }
-    ensures keeps { Keeps P.documents P.faults P.sound P.quiet part.old part.new }
+    ensures keeps { Keeps P.documents P.faults P.sound P.intact P.quiet part.old part.new }
     ensures exact { P.sound part.old → IfOk result
         (λ b. b ≡ passes (document_at (P.documents part.old) id) (filter_tree filter.now)) }
     ensures told { IfOk result (λ _. IsFilterTold (λ t. P.told part.old t id) (filter_tree filter.now)) }
-    ensures honest { P.sound part.old → IfErr result IsOutside }
+    ensures honest { P.intact part.old → IfErr result IsOutside }
     ensures undamaged { OnOk result (P.damage part.new ≡ P.damage part.old) }
     ensures damaged { IfErr result (TellsDamage (P.damage part.old) (P.damage part.new)) }
     ensures store { result ≡ Err SegFault.Store → Rose (P.faults part.old) (P.faults part.new) }
@@ -44,14 +44,14 @@ pub fn all_pass<P: Postings>(
     id: u32,
 ) -> Result<bool, SegFault>
     requires id { id < length (P.documents part.old) }
-    ensures keeps { Keeps P.documents P.faults P.sound P.quiet part.old part.new }
+    ensures keeps { Keeps P.documents P.faults P.sound P.intact P.quiet part.old part.new }
     ensures exact { P.sound part.old → IfOk result
         (λ b. b ≡ list_all (passes (document_at (P.documents part.old) id)) (map filter_tree filters.now)) }
 
     // Also of a part that isn't sound, no malformed block is passed by.
     ensures told { IfOk result (AreFiltersTold (λ t. P.told part.old t id) (map filter_tree filters.now)) }
 
-    ensures honest { P.sound part.old → IfErr result IsOutside }
+    ensures honest { P.intact part.old → IfErr result IsOutside }
     ensures undamaged { OnOk result (P.damage part.new ≡ P.damage part.old) }
     ensures damaged { IfErr result (TellsDamage (P.damage part.old) (P.damage part.new)) }
     ensures store { result ≡ Err SegFault.Store → Rose (P.faults part.old) (P.faults part.new) }

@@ -61,14 +61,14 @@ pub fn counted<P: Postings>(
     id: u32,
 ) -> Result<Extents, SegFault>
     requires id { id < length (P.documents part.old) }
-    ensures keeps { Keeps P.documents P.faults P.sound P.quiet part.old part.new }
+    ensures keeps { Keeps P.documents P.faults P.sound P.intact P.quiet part.old part.new }
     ensures exact { P.sound part.old → IfOk result
         (λ found. found ≡ counted (expr_tree expr.now) (document_at (P.documents part.old) id) context.now) }
     ensures order { IfOk result AreInOrder }
     // No more of them begin in a window than the fields of a context cover positions of it.
     ensures few { IfOk result (λ found. IfSome context.now (IsFewer found (document_at (P.documents part.old) id).fields)) }
     ensures told { IfOk result (λ _. EachWord (λ t. P.told part.old t id) (expr_tree expr.now)) }
-    ensures honest { P.sound part.old → IfErr result IsOutside }
+    ensures honest { P.intact part.old → IfErr result IsOutside }
     ensures undamaged { OnOk result (P.damage part.new ≡ P.damage part.old) }
     ensures damaged { IfErr result (TellsDamage (P.damage part.old) (P.damage part.new)) }
     ensures store { result ≡ Err SegFault.Store → Rose (P.faults part.old) (P.faults part.new) }
@@ -89,12 +89,12 @@ pub fn found_of<'a, P: Postings>(
     id: u32,
 ) -> Result<LeafExtents<'a>, SegFault>
     requires id { id < length (P.documents part.old) }
-    ensures keeps { Keeps P.documents P.faults P.sound P.quiet part.old part.new }
+    ensures keeps { Keeps P.documents P.faults P.sound P.intact P.quiet part.old part.new }
     ensures exact { P.sound part.old → IfOk result
         (λ found. (w : Pair) → found_count (document_at (P.documents part.old) id).fields w found ≡ count_in (document_at (P.documents part.old) id) w (leaf_tree leaf.now)) }
     ensures found { IfOk result (IsFound (document_at (P.documents part.old) id).fields) }
     ensures told { IfOk result (λ _. IsLeafTold (λ t. P.told part.old t id) (leaf_tree leaf.now)) }
-    ensures honest { P.sound part.old → IfErr result IsOutside }
+    ensures honest { P.intact part.old → IfErr result IsOutside }
     ensures undamaged { OnOk result (P.damage part.new ≡ P.damage part.old) }
     ensures damaged { IfErr result (TellsDamage (P.damage part.old) (P.damage part.new)) }
     ensures store { result ≡ Err SegFault.Store → Rose (P.faults part.old) (P.faults part.new) }
@@ -124,14 +124,14 @@ fn found_at<'a, P: Postings>(
     requires number { number < length leaves.now }
     requires each { length before.now ≡ number }
     requires before { All (IsFound (document_at (P.documents part.old) id).fields) before.now }
-    ensures keeps { Keeps P.documents P.faults P.sound P.quiet part.old part.new }
+    ensures keeps { Keeps P.documents P.faults P.sound P.intact P.quiet part.old part.new }
     ensures exact { P.sound part.old
         → ((w : Pair) → map (found_count (document_at (P.documents part.old) id).fields w) before.now ≡ map (count_in (document_at (P.documents part.old) id) w) (take number (map leaf_tree leaves.now)))
         → IfOk result (λ found. (w : Pair) → found_count (document_at (P.documents part.old) id).fields w found ≡ count_in (document_at (P.documents part.old) id) w (slice_index_or (map leaf_tree leaves.now) number (prior 0))) }
     ensures found { IfOk result (IsFound (document_at (P.documents part.old) id).fields) }
     ensures told { IfOk result (λ _. IsLeafTold (λ t. P.told part.old t id) (slice_index_or (map leaf_tree leaves.now) number (prior 0))
         ⊎ Contains (take number (map leaf_tree leaves.now)) (slice_index_or (map leaf_tree leaves.now) number (prior 0))) }
-    ensures honest { P.sound part.old → IfErr result IsOutside }
+    ensures honest { P.intact part.old → IfErr result IsOutside }
     ensures undamaged { OnOk result (P.damage part.new ≡ P.damage part.old) }
     ensures damaged { IfErr result (TellsDamage (P.damage part.old) (P.damage part.new)) }
     ensures store { result ≡ Err SegFault.Store → Rose (P.faults part.old) (P.faults part.new) }
@@ -154,13 +154,13 @@ pub fn all_found<'a, P: Postings>(
 ) -> Result<Vec<LeafExtents<'a>>, SegFault>
     requires id { id < length (P.documents part.old) }
     requires firsts { length firsts.now ≡ length leaves.now }
-    ensures keeps { Keeps P.documents P.faults P.sound P.quiet part.old part.new }
+    ensures keeps { Keeps P.documents P.faults P.sound P.intact P.quiet part.old part.new }
     ensures exact { P.sound part.old → IfOk result
         (λ v. (w : Pair) → map (found_count (document_at (P.documents part.old) id).fields w) v.items ≡ map (count_in (document_at (P.documents part.old) id) w) (map leaf_tree leaves.now)) }
     ensures each { IfOk result (λ v. length v.items ≡ length leaves.now) }
     ensures found { IfOk result (λ v. All (IsFound (document_at (P.documents part.old) id).fields) v.items) }
     ensures told { IfOk result (λ _. All (IsLeafTold (λ t. P.told part.old t id)) (map leaf_tree leaves.now)) }
-    ensures honest { P.sound part.old → IfErr result IsOutside }
+    ensures honest { P.intact part.old → IfErr result IsOutside }
     ensures undamaged { OnOk result (P.damage part.new ≡ P.damage part.old) }
     ensures damaged { IfErr result (TellsDamage (P.damage part.old) (P.damage part.new)) }
     ensures store { result ≡ Err SegFault.Store → Rose (P.faults part.old) (P.faults part.new) }

@@ -27,7 +27,7 @@ pub fn extents<P: Postings>(
     id: u32,
 ) -> Result<Extents, SegFault>
     requires { id < length (P.documents postings.old) }
-    ensures keeps { Keeps P.documents P.faults P.sound P.quiet postings.old postings.new }
+    ensures keeps { Keeps P.documents P.faults P.sound P.intact P.quiet postings.old postings.new }
     ensures exact { P.sound postings.old → IfOk result
         (IsListing (Ext (expr_tree expr.now) (document_at (P.documents postings.old) id))) }
     ensures order { IfOk result AreInOrder }
@@ -35,7 +35,7 @@ pub fn extents<P: Postings>(
     // Also of a part that isn't sound, each term's places were told, so no malformed block is passed by.
     ensures told { IfOk result (λ _. EachWord (λ t. P.told postings.old t id) (expr_tree expr.now)) }
 
-    ensures honest { P.sound postings.old → IfErr result IsOutside }
+    ensures honest { P.intact postings.old → IfErr result IsOutside }
     ensures undamaged { OnOk result (P.damage postings.new ≡ P.damage postings.old) }
     ensures damaged { IfErr result (TellsDamage (P.damage postings.old) (P.damage postings.new)) }
     ensures store { result ≡ Err SegFault.Store → Rose (P.faults postings.old) (P.faults postings.new) }
@@ -51,12 +51,12 @@ fn evaluated<P: Postings>(
     id: u32,
 ) -> Result<Extents, SegFault>
     requires { id < length (P.documents postings.old) }
-    ensures keeps { Keeps P.documents P.faults P.sound P.quiet postings.old postings.new }
+    ensures keeps { Keeps P.documents P.faults P.sound P.intact P.quiet postings.old postings.new }
     ensures exact { P.sound postings.old → IfOk result
         (Lists (Ext (expr_tree expr.now) (document_at (P.documents postings.old) id))) }
     ensures ascending { IfOk result IsAscending }
     ensures told { IfOk result (λ _. EachWord (λ t. P.told postings.old t id) (expr_tree expr.now)) }
-    ensures honest { P.sound postings.old → IfErr result IsOutside }
+    ensures honest { P.intact postings.old → IfErr result IsOutside }
     ensures undamaged { OnOk result (P.damage postings.new ≡ P.damage postings.old) }
     ensures damaged { IfErr result (TellsDamage (P.damage postings.old) (P.damage postings.new)) }
     ensures store { result ≡ Err SegFault.Store → Rose (P.faults postings.old) (P.faults postings.new) }
@@ -105,12 +105,12 @@ fn all_evaluated<P: Postings>(
     id: u32,
 ) -> Result<Vec<Extents>, SegFault>
     requires { id < length (P.documents postings.old) }
-    ensures keeps { Keeps P.documents P.faults P.sound P.quiet postings.old postings.new }
+    ensures keeps { Keeps P.documents P.faults P.sound P.intact P.quiet postings.old postings.new }
     ensures exact { P.sound postings.old → IfOk result
         (λ v. AllZip (λ x xs. Lists (Ext x (document_at (P.documents postings.old) id)) xs) (map expr_tree all.now) v.items) }
     ensures ascending { IfOk result (λ v. All IsAscending v.items) }
     ensures told { IfOk result (λ _. EachWordOf (λ t. P.told postings.old t id) (expr_trees (map expr_tree all.now))) }
-    ensures honest { P.sound postings.old → IfErr result IsOutside }
+    ensures honest { P.intact postings.old → IfErr result IsOutside }
     ensures undamaged { OnOk result (P.damage postings.new ≡ P.damage postings.old) }
     ensures damaged { IfErr result (TellsDamage (P.damage postings.old) (P.damage postings.new)) }
     ensures store { result ≡ Err SegFault.Store → Rose (P.faults postings.old) (P.faults postings.new) }

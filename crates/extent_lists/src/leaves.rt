@@ -46,12 +46,12 @@ pub fn of_term<P: Postings>(
     id: u32,
 ) -> Result<Extents, SegFault>
     requires { id < length (P.documents postings.old) }
-    ensures keeps { Keeps P.documents P.faults P.sound P.quiet postings.old postings.new }
+    ensures keeps { Keeps P.documents P.faults P.sound P.intact P.quiet postings.old postings.new }
     ensures exact { P.sound postings.old → IfOk result
         (Lists (Ext (word term.now) (document_at (P.documents postings.old) id))) }
     ensures ascending { IfOk result IsAscending }
     ensures told { IfOk result (λ _. P.told postings.old term.now id) }
-    ensures honest { P.sound postings.old → IfErr result IsOutside }
+    ensures honest { P.intact postings.old → IfErr result IsOutside }
     ensures undamaged { OnOk result (P.damage postings.new ≡ P.damage postings.old) }
     ensures damaged { IfErr result (TellsDamage (P.damage postings.old) (P.damage postings.new)) }
     ensures store { result ≡ Err SegFault.Store → Rose (P.faults postings.old) (P.faults postings.new) }

@@ -28,12 +28,12 @@ fn walk_of<P: Postings>(
     id: u32,
 ) -> Result<Walk, SegFault>
     requires { id < length (P.documents postings.old) }
-    ensures keeps { Keeps P.documents P.faults P.sound P.quiet postings.old postings.new }
+    ensures keeps { Keeps P.documents P.faults P.sound P.intact P.quiet postings.old postings.new }
     ensures exact { P.sound postings.old → IfOk result
         (λ w. Gives (plan w) (expr_tree expr.now) (document_at (P.documents postings.old) id)) }
     ensures kept { IfOk result IsKept }
     ensures told { IfOk result (λ _. EachWord (λ t. P.told postings.old t id) (expr_tree expr.now)) }
-    ensures honest { P.sound postings.old → IfErr result IsOutside }
+    ensures honest { P.intact postings.old → IfErr result IsOutside }
     ensures undamaged { OnOk result (P.damage postings.new ≡ P.damage postings.old) }
     ensures damaged { IfErr result (TellsDamage (P.damage postings.old) (P.damage postings.new)) }
     ensures store { result ≡ Err SegFault.Store → Rose (P.faults postings.old) (P.faults postings.new) }
@@ -91,12 +91,12 @@ fn group_of<P: Postings>(
     id: u32,
 ) -> Result<Vec<Ahead>, SegFault>
     requires { id < length (P.documents postings.old) }
-    ensures keeps { Keeps P.documents P.faults P.sound P.quiet postings.old postings.new }
+    ensures keeps { Keeps P.documents P.faults P.sound P.intact P.quiet postings.old postings.new }
     ensures exact { P.sound postings.old → IfOk result
         (λ v. GiveEach (plans v.items) (map expr_tree all.now) (document_at (P.documents postings.old) id)) }
     ensures kept { IfOk result (λ v. AreKept v.items) }
     ensures told { IfOk result (λ _. EachWordOf (λ t. P.told postings.old t id) (expr_trees (map expr_tree all.now))) }
-    ensures honest { P.sound postings.old → IfErr result IsOutside }
+    ensures honest { P.intact postings.old → IfErr result IsOutside }
     ensures undamaged { OnOk result (P.damage postings.new ≡ P.damage postings.old) }
     ensures damaged { IfErr result (TellsDamage (P.damage postings.old) (P.damage postings.new)) }
     ensures store { result ≡ Err SegFault.Store → Rose (P.faults postings.old) (P.faults postings.new) }
@@ -139,14 +139,14 @@ impl ExtentIter {
         id: u32,
     ) -> Result<ExtentIter, SegFault>
         requires { id < length (P.documents postings.old) }
-        ensures keeps { Keeps P.documents P.faults P.sound P.quiet postings.old postings.new }
+        ensures keeps { Keeps P.documents P.faults P.sound P.intact P.quiet postings.old postings.new }
         ensures exact { P.sound postings.old → IfOk result
             (IsListing (Ext (expr_tree expr.now) (document_at (P.documents postings.old) id))) }
 
         // Also of a part that isn't sound, each term's places were told, so no malformed block is passed by.
         ensures told { IfOk result (λ _. EachWord (λ t. P.told postings.old t id) (expr_tree expr.now)) }
 
-        ensures honest { P.sound postings.old → IfErr result IsOutside }
+        ensures honest { P.intact postings.old → IfErr result IsOutside }
         ensures undamaged { OnOk result (P.damage postings.new ≡ P.damage postings.old) }
         ensures damaged { IfErr result (TellsDamage (P.damage postings.old) (P.damage postings.new)) }
         ensures store { result ≡ Err SegFault.Store → Rose (P.faults postings.old) (P.faults postings.new) }

@@ -17,13 +17,13 @@ use Rattle.repository.specs.Stands.{Collection}
 use Rattle.desk.specs.Priors.{names_with}
 use Rattle.desk.specs.Shown.{Shown, explanation, shown_for}
 use Rattle.indri_app.specs.Asked.{IsAsked, IsBrokenOver, IsIntact, IsIntactWithPriors}
-use Rattle.indri_app.specs.Command.{AreAnswer, ArePieces, IsAskedBy, MakesRepository, NeedsRepository, ShowsInOrder, query_refusal, text_refusal}
+use Rattle.indri_app.specs.Command.{AreAnswer, ArePieces, IsAskedBy, MakesRepository, NeedsRepository, ReadsBlocks, ShowsInOrder, query_refusal, text_refusal}
 use Rattle.indri_app.specs.LastLines.{IsClosed}
-use Rattle.indri_app.specs.Opened.{IsAbsentFault, IsWant}
+use Rattle.indri_app.specs.Opened.{IsAbsentFault, IsFileFault}
 use Rattle.indri_app.specs.Runs.{RunsTo, Tells, WritesDamage, WritesDamageOf, WritesBy}
 use Rattle.indri_app.specs.declared.status.Status.{Status}
 use Rattle.indri_app.specs.declared.status.Status.TheVariants as status
-use Rattle.indri_app.proofs.Closing.{closed, want-begun}
+use Rattle.indri_app.proofs.Closing.{closed, file-begun}
 use Rattle.indri_app.proofs.PlainRuns.{plain-runs, tells-runs}
 
 -- ---- which words ask so
@@ -54,6 +54,18 @@ asked-needs (session m) text mu shown by' = absurd by'
 asked-needs (gen count) text mu shown by' = absurd by'
 asked-needs (query question) text mu shown by' = tt
 asked-needs (explain rank question) text mu shown by' = tt
+
+pub asked-blocks : (asks : Asks) (text : List ℕ) (mu : ℕ) (shown : Shown) → IsAskedBy asks text mu shown → ReadsBlocks asks
+asked-blocks (scan t) text mu shown by' = absurd by'
+asked-blocks create text mu shown by' = absurd by'
+asked-blocks add text mu shown by' = absurd by'
+asked-blocks delete text mu shown by' = absurd by'
+asked-blocks merge text mu shown by' = absurd by'
+asked-blocks (prior name) text mu shown by' = absurd by'
+asked-blocks (session m) text mu shown by' = absurd by'
+asked-blocks (gen count) text mu shown by' = absurd by'
+asked-blocks (query question) text mu shown by' = tt
+asked-blocks (explain rank question) text mu shown by' = tt
 
 pub asked-in_order : (asks : Asks) (c : Collection) (left : Option (List ℕ)) (text : List ℕ) (mu : ℕ) (shown : Shown) → IsAskedBy asks text mu shown → ShowsInOrder asks c left
 asked-in_order (scan t) c left text mu shown by' = absurd by'
@@ -126,18 +138,18 @@ refused-runs told files asks c None before now a z text mu shown why s by' same 
 refused-runs told files asks c (Some bytes) before now a z text mu shown why s by' same stands refused tells =
     subst (λ f. RunsTo s told asks c bytes before now f a z) (sym same) (tells-runs told asks c bytes before now a z s why (text-as (names_with c.priors) asks text mu shown by' ∙ refused) stands tells)
 
--- ---- the store or memory is to blame
+-- ---- a file isn't read
 
-pub want-runs : (told files : Option Files) (asks : Asks) (c : Collection) (left before now : Option (List ℕ)) (a z : ℕ) (why : CommandFault) (s : Status) → a ≤ a → files ≡ told → StandsFor c told → IsWant why → IsClosed why s before now a z
+pub file-runs : (told files : Option Files) (asks : Asks) (c : Collection) (left before now : Option (List ℕ)) (a z : ℕ) (why : CommandFault) (s : Status) → a ≤ a → files ≡ told → StandsFor c told → IsFileFault why → IsClosed why s before now a z
     → IfSome left (λ bytes. RunsTo s told asks c bytes before now files a z)
-want-runs told files asks c None before now a z why s h same stands want ends = tt
-want-runs told files asks c (Some bytes) before now a z why s h same stands want ends =
-    let begun = want-begun why told asks c bytes before before files want refl (subst (λ f. StandsFor c f) (sym same) stands) in
+file-runs told files asks c None before now a z why s h same stands only ends = tt
+file-runs told files asks c (Some bytes) before now a z why s h same stands only ends =
+    let begun = file-begun why told asks c bytes before before files only refl (subst (λ f. StandsFor c f) (sym same) stands) in
     closed told asks c bytes before files a z why s begun.0 before now a h begun.1 begun.2 ends
 
 -- ---- by the manifest
 
-pub damage-over : (files : Files) (why : CommandFault) → IsDamage why → IsBrokenOver files why → files manifest_name ≡ None → ⊥
+pub damage-over : (files : Files) (why : CommandFault) → IsDamage why → IsBrokenOver files why → (files manifest_name).read ≡ None → ⊥
 damage-over files fault.Read d over none = absurd d
 damage-over files fault.Write d over none = absurd d
 damage-over files fault.Store d over none = absurd d
@@ -147,7 +159,7 @@ damage-over files fault.NoRepository d over none = absurd d
 damage-over files fault.Exists d over none = absurd d
 damage-over files fault.Memory d over none = absurd d
 
-pub over-absent : (files : Files) (why : CommandFault) → IsBrokenOver files why → files manifest_name ≡ None → IsAbsentFault why
+pub over-absent : (files : Files) (why : CommandFault) → IsBrokenOver files why → (files manifest_name).read ≡ None → IsAbsentFault why
 over-absent files fault.Read over none = absurd over
 over-absent files fault.Write over none = absurd over
 over-absent files fault.Store over none = tt

@@ -20,7 +20,7 @@ use Rattle.repository.specs.Stands.{Collection, IsPriorListed, Prior as Kept}
 use Rattle.desk.specs.Priors.{names_with, priors_with}
 use Rattle.desk.specs.Shown.{Shown}
 use Rattle.collection_commands.proofs.CauseLemmas.{of-more}
-use Rattle.indri_app.specs.Asked.{IfRefused, IsAnswerOver, IsAskBroken, IsAskFault, IsAsked, IsBrokenOver, IsFaultOver, IsOpenAskFault, ask_fault}
+use Rattle.indri_app.specs.Asked.{IfRefused, IsAnswerOver, IsAskBroken, IsAskFault, IsAskWant, IsAsked, IsBrokenOver, IsFaultOver, IsOpenAskFault, ask_fault}
 use Rattle.indri_app.specs.Command.{IsQuery, query_refusal}
 use Rattle.indri_app.specs.Opened.{IsAbsentFault, IsFileFault, IsOpenFault, file_causes, open_causes}
 use Rattle.indri_app.specs.Texts.{IsTextFault}
@@ -45,7 +45,7 @@ is-there None there none = absurd cc
 is-there (Some bytes) there none = absurd cc
 
 -- it isn't opened
-pub opened-over : (f : Files) (why : CommandFault) → IsOpenFault why → (why ≡ fault.NoRepository → f manifest_name ≡ None) → (f manifest_name ≡ None → IsAbsentFault why) → IsBrokenOver f why
+pub opened-over : (f : Files) (why : CommandFault) → IsOpenFault why → (why ≡ fault.NoRepository → (f manifest_name).read ≡ None) → ((f manifest_name).read ≡ None → IsAbsentFault why) → IsBrokenOver f why
 opened-over f fault.Read only absent without = only
 opened-over f fault.Write only absent without = only
 opened-over f fault.Store only absent without = tt
@@ -57,12 +57,12 @@ opened-over f fault.Memory only absent without = tt
 
 -- ---- the repository is open, and a file of it isn't read
 
-file-over : (f : Files) (why : CommandFault) → IsFileFault why → IsTrue (is_some (f manifest_name)) → IsBrokenOver f why
+file-over : (f : Files) (why : CommandFault) → IsFileFault why → IsTrue (is_some (f manifest_name).read) → IsBrokenOver f why
 file-over f fault.Read only there = only
 file-over f fault.Write only there = only
 file-over f fault.Store only there = tt
-file-over f (fault.Malformed file part place) only there = λ none. is-there (f manifest_name) there none
-file-over f (fault.Missing file) only there = λ none. is-there (f manifest_name) there none
+file-over f (fault.Malformed file part place) only there = λ none. is-there (f manifest_name).read there none
+file-over f (fault.Missing file) only there = λ none. is-there (f manifest_name).read there none
 file-over f fault.NoRepository only there = absurd only
 file-over f fault.Exists only there = only
 file-over f fault.Memory only there = tt
@@ -70,7 +70,7 @@ file-over f fault.Memory only there = tt
 file-open : (why : CommandFault) → IsFileFault why → IsOpenFault why
 file-open = of-more file_causes open_causes refl
 
-pub files-over : (f : Files) (why : SegFault) → IsTrue (is_some (f manifest_name)) → IsBrokenOver f (of_files why)
+pub files-over : (f : Files) (why : SegFault) → IsTrue (is_some (f manifest_name).read) → IsBrokenOver f (of_files why)
 files-over f why there = file-over f (of_files why) (file-of why) there
 
 pub broken-store : (answer : Result Plain AskFault) (told : CommandFault) (why : SegFault) → told ≡ of_files why → answer ≡ Err (Broken told) → answer ≡ Err (Broken fault.Store) → why ≡ files.Store
@@ -82,6 +82,10 @@ pub text-refused : (c : Collection) (asked : List ℕ) (names : List (List ℕ))
 text-refused c asked names (text.Refused refusal) same is = subst (λ (ns : List (List ℕ)). query_refusal ns (query_text asked) ≡ Some refusal) same is
 text-refused c asked names text.Memory same is = tt
 
+pub text-want : (why : TextFault) → IsAskWant (ask_fault why)
+text-want (text.Refused refusal) = tt
+text-want text.Memory = tt
+
 pub text-only : (why : TextFault) → IsOpenAskFault (ask_fault why)
 text-only (text.Refused refusal) = tt
 text-only text.Memory = tt
@@ -92,9 +96,9 @@ text-not_store text.Memory e = absurd cc
 
 -- ---- what an open repository answers
 
-pub answer-over : (f : Files) (answer : Result Plain AskFault) → IfErr answer IsOpenAskFault → IsTrue (is_some (f manifest_name)) → IfErr answer (IsFaultOver f)
+pub answer-over : (f : Files) (answer : Result Plain AskFault) → IfErr answer IsOpenAskFault → IsTrue (is_some (f manifest_name).read) → IfErr answer (IsFaultOver f)
 answer-over f (Ok piece) only there = tt
-answer-over f (Err (Refused why)) only there = λ none. is-there (f manifest_name) there none
+answer-over f (Err (Refused why)) only there = λ none. is-there (f manifest_name).read there none
 answer-over f (Err (Broken why)) only there = file-over f why only there
 
 pub answer-only : (answer : Result Plain AskFault) → IfErr answer IsOpenAskFault → IfErr answer IsAskBroken

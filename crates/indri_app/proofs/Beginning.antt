@@ -3,7 +3,6 @@ use Rattle.std.proofs.Common.{◌≡◌, ◌≤◌, ◌<◌, ◌+◌, ◌-◌, �
 use Rattle.std.specs.Option.{IfSome, option_map}
 use Rattle.std.proofs.lemmas.Bool.{leb-true}
 use Rattle.std.proofs.lemmas.List.{get_or-append_right, get_or-drop, get_or-map, get_or_append_left, length-map}
-use Rattle.ri_base.specs.Faults.{IsOutside}
 use Rattle.ri_base.specs.Keeps.{Rose}
 use Rattle.ri_base.specs.declared.seg_fault.SegFault.{SegFault}
 use Rattle.store_ends.specs.Files.{Files, GoesOn, IsQuiet, Leaves, LeavesNoMore}
@@ -15,6 +14,7 @@ use Rattle.command_pieces.proofs.Joining.{StoppedBetween-none}
 use Rattle.smoothing.specs.declared.rule.RuleKind.{RuleKind}
 use Rattle.belief_nodes.specs.Priors as nodes
 use Rattle.belief_nodes.specs.Priors.{no_prior}
+use Rattle.disk_index.specs.Snapshots.{AreIntact}
 use Rattle.manifest.specs.declared.manifest.PriorEntry.{PriorEntry}
 use Rattle.merge_job.specs.Merge.{Merging}
 use Rattle.repository.specs.RealLimits.{AreReal, StandsFor}
@@ -97,6 +97,9 @@ begun-all told s d plugs c kind is queries merge same ahead backed are nine = (
 pub merge-none : (told : Option Files) (s : repositories.State) → s.merge ≡ None → IfSome s.merge (IsMergeBacked told s)
 merge-none told s none = subst (λ (m : Option Merging). IfSome m (IsMergeBacked told s)) (sym none) tt
 
+pub merge-intact : (told : Option Files) (s : repositories.State) → s.merge ≡ None → IfSome s.merge (λ m. AreIntact told m.snapshot)
+merge-intact told s none = subst (λ (o : Option Merging). IfSome o (λ (m : Merging). AreIntact told m.snapshot)) (sym none) tt
+
 -- ---- the store was read
 
 pub ahead-read : (before after : Option Files) (s : repositories.State) (c : Collection) → after ≡ before → IsAhead before s c c → IsAhead after s c c
@@ -113,10 +116,10 @@ stops-quiet past mid None c pieces no_more = tt
 stops-quiet past mid (Some bytes) c pieces no_more = Leaves-none past past mid (StandsAlong StandsFor c (pieces bytes)) (Leaves-same past _) no_more
 
 -- nothing is begun
-pub none-begun : (e : SegFault) (left : Option (List ℕ)) (c : Collection) (pieces : List ℕ → List (Piece Collection)) (before now : Option (List ℕ)) (f : Option Files) → IsOutside e → now ≡ before → StandsFor c f
+pub none-begun : (e : SegFault) (left : Option (List ℕ)) (c : Collection) (pieces : List ℕ → List (Piece Collection)) (before now : Option (List ℕ)) (f : Option Files) → now ≡ before → StandsFor c f
     → IfSome left (λ bytes. IsBrokenBy (of_files e) StandsFor c (pieces bytes) before now f)
-none-begun e None c pieces before now f outside same stands = tt
-none-begun e (Some bytes) c pieces before now f outside same stands = by-files e StandsFor c (pieces bytes) before now f outside (StoppedBetween-none StandsFor c (pieces bytes) before now f same stands)
+none-begun e None c pieces before now f same stands = tt
+none-begun e (Some bytes) c pieces before now f same stands = by-files e StandsFor c (pieces bytes) before now f (StoppedBetween-none StandsFor c (pieces bytes) before now f same stands)
 
 pub files-fault : (e : SegFault) → IsSessionFault (of_files e)
 files-fault e = item-only (of_files e) (files-only e)

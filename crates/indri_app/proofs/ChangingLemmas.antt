@@ -1,12 +1,9 @@
 -- Why a command is broken off that opens a repository and changes it.
 use Rattle.std.proofs.Common.{◌≡◌, ℕ, Bool, List, Option, Result, Ok, Err, subst, [], refl}
 use Rattle.std.specs.Prelude.{IfErr, OnOk}
-use Rattle.store_ends.specs.Files.{Files}
-use Rattle.command_pieces.specs.CommandFaults.{IsBrokenBy, IsDamage, IsItemsFault}
-use Rattle.command_pieces.specs.Pieces.{Piece}
+use Rattle.command_pieces.specs.CommandFaults.{IsDamage, IsItemsFault}
 use Rattle.command_pieces.specs.declared.command_fault.CommandFault.{CommandFault}
 use Rattle.command_pieces.specs.declared.command_fault.CommandFault.TheVariants as fault
-use Rattle.repository.specs.RealLimits.{StandsFor}
 use Rattle.repository.specs.Stands.{Collection}
 use Rattle.collection_commands.specs.Merging.{IsMergeFault, merge_causes}
 use Rattle.collection_commands.proofs.CauseLemmas.{as-causes, damage_causes, items_causes, of-both, of-more, undamaged-items}
@@ -18,7 +15,6 @@ use Rattle.indri_app.specs.declared.changing.Change.{Change}
 use Rattle.indri_app.specs.declared.changing.Change.TheVariants.{Add, Delete, Merge, Prior}
 use Rattle.indri_app.specs.Opened.{IsOpenFault, IsWant, open_causes, want_causes}
 use Rattle.indri_app.specs.Faults.{IsSessionFault, session_causes}
-use Rattle.indri_app.proofs.Standing.{broken-honest}
 
 -- what is found first where a repository is open is damage
 pub session-damage : (why : CommandFault) → IsSessionFault why → IsFoundFirst why → IsDamage why
@@ -46,11 +42,6 @@ merge-session (Err why) merge = of-more merge_causes session_causes refl why mer
 
 pub merge-read : (answer : Result Bool CommandFault) → IfErr answer IsMergeFault → answer ≡ Err fault.Read → ⊥
 merge-read answer merge e = subst (λ (r : Result Bool CommandFault). IfErr r IsMergeFault) e merge
-
-pub broken-undamaged : (answer : Result Bool CommandFault) (c : Collection) (pieces : List (Piece Collection)) (start now : Option (List ℕ)) (files : Option Files) → IfErr answer (λ why. IsBrokenBy why StandsFor c pieces start now files)
-    → IfErr answer (λ why. IsDamage why → ⊥)
-broken-undamaged (Ok refused) c pieces start now files broken = tt
-broken-undamaged (Err why) c pieces start now files broken = broken-honest why c pieces start now files broken
 
 pub damage-unread : (P Q R : Type 0) (answer : Result Bool CommandFault) → Q → IfErr answer (λ why. IsDamage why → P × R) → IfErr answer (λ why. IsDamage why → P × Q × R)
 damage-unread P Q R (Ok refused) q damage = tt

@@ -5,7 +5,8 @@ use Rattle.std.specs.Option.{IfSome}
 use Rattle.store_ends.specs.Files.{Files, Leaves, LeavesNoMore}
 use Rattle.store_ends.proofs.Files.{Leaves-none, Leaves-same, Leaves-then}
 use Rattle.command_words.specs.Table.{Asks, merge, prior}
-use Rattle.command_pieces.specs.CommandFaults.{IsBrokenBy}
+use Rattle.command_pieces.specs.CommandFaults.{IsBrokenBy, IsDamage}
+use Rattle.command_pieces.specs.Lines.{WritesLine}
 use Rattle.command_pieces.specs.Pieces.{BrokenOff, Finished, Piece, StandsAlong, StoppedBetween, some_refused}
 use Rattle.command_pieces.specs.declared.command_fault.CommandFault.{CommandFault}
 use Rattle.command_pieces.specs.declared.command_fault.CommandFault.TheVariants as fault
@@ -17,11 +18,12 @@ use Rattle.collection_commands.specs.Merging.{merge_pieces}
 use Rattle.collection_commands.specs.PriorSetting.{IsPriorBroken, name_refusal}
 use Rattle.collection_commands.specs.PriorSetting as setting
 use Rattle.indri_app.specs.Command.{AreBegun, AreBegunBy, ArePieces}
-use Rattle.indri_app.specs.LastLines.{IsClosed, read_line, store_line}
-use Rattle.indri_app.specs.Opened.{IsWant}
+use Rattle.indri_app.specs.LastLines.{IsClosed, last_line, malformed_line, missing_line, read_line, store_line}
+use Rattle.indri_app.specs.Opened.{IsFileFault, IsWant}
 use Rattle.indri_app.specs.Runs.{IsBegun, IsDone, IsEnded, RunsTo, StopsAlong}
 use Rattle.indri_app.specs.declared.status.Status.{Status}
 use Rattle.indri_app.specs.declared.status.Status.TheVariants as status
+use Rattle.indri_app.proofs.OpeningLemmas.{file-want}
 
 module _ (told : Option Files) (asks : Asks) (c : Collection) (bytes : List ℕ) (start : Option (List ℕ)) (files : Option Files) (a z : ℕ) where
   pub as-status : (s t : Status) (now : Option (List ℕ)) → s ≡ t → RunsTo t told asks c bytes start now files a z → RunsTo s told asks c bytes start now files a z
@@ -29,6 +31,11 @@ module _ (told : Option Files) (asks : Asks) (c : Collection) (bytes : List ℕ)
 
   still : (pieces : List (Piece Collection)) (mid now : Option (List ℕ)) → AreBegun told asks c bytes pieces → StoppedBetween StandsFor c pieces start mid files → now ≡ mid → RunsTo status.Memory told asks c bytes start now files a z
   still pieces mid now are s e = (pieces, are, subst (λ t. StoppedBetween StandsFor c pieces start t files) (sym e) s)
+
+  -- damage is told behind whole pieces
+  damaged : (why : CommandFault) → IsDamage why → (line : List ℕ) → last_line why ≡ Some line → (pieces : List (Piece Collection)) (mid now : Option (List ℕ)) (b : ℕ) → a ≤ b → AreBegun told asks c bytes pieces → StoppedBetween StandsFor c pieces start mid files
+      → WritesLine mid now line b z → RunsTo status.Malformed told asks c bytes start now files a z
+  damaged why damage line is pieces mid now b h are stopped l = (why, damage, (line, is, (pieces, are, with-line line StandsFor c pieces start mid now files a b z h stopped l)))
 
   -- what is told of a command of these pieces
   pub closed : (why : CommandFault) (s : Status) (pieces : List (Piece Collection)) (mid now : Option (List ℕ)) (b : ℕ) → a ≤ b → AreBegunBy why told asks c bytes pieces → IsBrokenBy why StandsFor c pieces start mid files → IsClosed why s mid now b z
@@ -42,27 +49,34 @@ module _ (told : Option Files) (asks : Asks) (c : Collection) (bytes : List ℕ)
     | inl (e, l) ↦ as-status s status.StoreFault now e (pieces, are, with-line store_line StandsFor c pieces start mid now files a b z h broken l)
     | inr (e, same) ↦ as-status s status.Memory now e (still pieces mid now are broken same)
   ]
-  closed (fault.Malformed f p place) s pieces mid now b h are broken ends = absurd broken
-  closed (fault.Missing f) s pieces mid now b h are broken ends = absurd broken
+  closed (fault.Malformed f p place) s pieces mid now b h are broken ends = elim ends [
+    | inl (e, l) ↦ as-status s status.Malformed now e (damaged (fault.Malformed f p place) tt (malformed_line f p place) refl pieces mid now b h are broken l)
+    | inr (e, same) ↦ as-status s status.Memory now e (still pieces mid now are broken same)
+  ]
+  closed (fault.Missing f) s pieces mid now b h are broken ends = elim ends [
+    | inl (e, l) ↦ as-status s status.Malformed now e (damaged (fault.Missing f) tt (missing_line f) refl pieces mid now b h are broken l)
+    | inr (e, same) ↦ as-status s status.Memory now e (still pieces mid now are broken same)
+  ]
   closed fault.NoRepository s pieces mid now b h are broken ends = absurd broken
   closed fault.Exists s pieces mid now b h are broken ends = absurd broken
   closed fault.Memory s pieces mid now b h are broken (e, same) = as-status s status.Memory now e (still pieces mid now are broken same)
 
--- the store or memory is to blame, and nothing is done
-pub want-begun : (why : CommandFault) (told : Option Files) (asks : Asks) (c : Collection) (bytes : List ℕ) (start now : Option (List ℕ)) (files : Option Files) → IsWant why → now ≡ start → StandsFor c files → IsBegun why told asks c bytes start now files
-want-begun fault.Read told asks c bytes start now files want e stands = absurd want
-want-begun fault.Write told asks c bytes start now files want e stands = absurd want
-want-begun fault.Store told asks c bytes start now files want e stands = ([], inl refl, StoppedBetween-none StandsFor c [] start now files e stands)
-want-begun (fault.Malformed f p place) told asks c bytes start now files want e stands = absurd want
-want-begun (fault.Missing f) told asks c bytes start now files want e stands = absurd want
-want-begun fault.NoRepository told asks c bytes start now files want e stands = absurd want
-want-begun fault.Exists told asks c bytes start now files want e stands = absurd want
-want-begun fault.Memory told asks c bytes start now files want e stands = ([], inl refl, StoppedBetween-none StandsFor c [] start now files e stands)
+-- a file isn't read, and nothing is done
+pub file-begun : (why : CommandFault) (told : Option Files) (asks : Asks) (c : Collection) (bytes : List ℕ) (start now : Option (List ℕ)) (files : Option Files) → IsFileFault why → now ≡ start → StandsFor c files → IsBegun why told asks c bytes start now files
+file-begun fault.Read told asks c bytes start now files only e stands = absurd only
+file-begun fault.Write told asks c bytes start now files only e stands = absurd only
+file-begun fault.Store told asks c bytes start now files only e stands = ([], inl refl, StoppedBetween-none StandsFor c [] start now files e stands)
+file-begun (fault.Malformed f p place) told asks c bytes start now files only e stands = ([], inl refl, StoppedBetween-none StandsFor c [] start now files e stands)
+file-begun (fault.Missing f) told asks c bytes start now files only e stands = ([], inl refl, StoppedBetween-none StandsFor c [] start now files e stands)
+file-begun fault.NoRepository told asks c bytes start now files only e stands = absurd only
+file-begun fault.Exists told asks c bytes start now files only e stands = absurd only
+file-begun fault.Memory told asks c bytes start now files only e stands = ([], inl refl, StoppedBetween-none StandsFor c [] start now files e stands)
 
+-- the store or memory is to blame
 pub want-begun-some : (why : CommandFault) (told : Option Files) (asks : Asks) (c : Collection) (left : Option (List ℕ)) (start now : Option (List ℕ)) (files : Option Files) → IsWant why → now ≡ start → StandsFor c files
     → IfSome left (λ bytes. IsBegun why told asks c bytes start now files)
 want-begun-some why told asks c None start now files want e stands = tt
-want-begun-some why told asks c (Some bytes) start now files want e stands = want-begun why told asks c bytes start now files want e stands
+want-begun-some why told asks c (Some bytes) start now files want e stands = file-begun why told asks c bytes start now files (file-want why want) e stands
 
 -- ---- by what the command answers
 

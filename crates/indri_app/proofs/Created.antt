@@ -6,7 +6,7 @@ use Rattle.ri_base.specs.declared.limits.TheConstants.{MAX_HELD_TOKENS, MAX_PART
 use Rattle.store_ends.specs.Files.{Files}
 use Rattle.store_ends.proofs.Files.{Leaves-same}
 use Rattle.command_words.specs.Table.{Asks, add, create, delete, explain, gen, merge, prior, query, scan, session}
-use Rattle.command_pieces.specs.CommandFaults.{IsBrokenBy, IsExistsFault}
+use Rattle.command_pieces.specs.CommandFaults.{IsBrokenBy, IsDamage, IsExistsFault}
 use Rattle.command_pieces.specs.Pieces.{BrokenOff, StandsAlong, StoppedBetween}
 use Rattle.command_pieces.specs.declared.command_fault.CommandFault.{CommandFault}
 use Rattle.command_pieces.specs.declared.command_fault.CommandFault.TheVariants as fault
@@ -34,7 +34,7 @@ pub are-real : AreReal real_limits
 are-real = record { part_docs = refl; held_docs = refl; held_tokens = refl }
 
 -- files that stand for a collection have a manifest
-pub stands-there : (c : Collection) (told : Option Files) → StandsFor c told → (f : Files) × (told ≡ Some f) × (is_some (f manifest_name) ≡ true)
+pub stands-there : (c : Collection) (told : Option Files) → StandsFor c told → (f : Files) × (told ≡ Some f) × (is_some (f manifest_name).read ≡ true)
 stands-there c told stands =
     let has = (stands real_limits are-real).has in
     let file = has.file in
@@ -77,18 +77,18 @@ module _ (asks : Asks) (f : Files) (pieces : List MakingPiece) (are : AreMakingP
   as-made : (s t : Status) (now : Option (List ℕ)) → s ≡ t → MakesTo t asks (Some f) start now files a z → MakesTo s asks (Some f) start now files a z
   as-made s t now e m = subst (λ u. MakesTo u asks (Some f) start now files a z) (sym e) m
 
-  pub made-closed : (why : CommandFault) (s : Status) (mid now : Option (List ℕ)) (b : ℕ) → a ≤ b → (why ≡ fault.Read → ⊥) → IsBrokenBy why (IsMade (Some f)) None pieces start mid files → IsClosed why s mid now b z → MakesTo s asks (Some f) start now files a z
-  made-closed fault.Read s mid now b h unread broken ends = absurd (unread refl)
-  made-closed fault.Write s mid now b h unread broken (e, same) = as-made s status.WriteFault now e (pieces, are, subst (λ t. BrokenOff (IsMade (Some f)) None pieces start t files) (sym same) broken)
-  made-closed fault.Store s mid now b h unread broken ends = elim ends [
+  pub made-closed : (why : CommandFault) (s : Status) (mid now : Option (List ℕ)) (b : ℕ) → a ≤ b → (why ≡ fault.Read → ⊥) → (IsDamage why → ⊥) → IsBrokenBy why (IsMade (Some f)) None pieces start mid files → IsClosed why s mid now b z → MakesTo s asks (Some f) start now files a z
+  made-closed fault.Read s mid now b h unread undamaged broken ends = absurd (unread refl)
+  made-closed fault.Write s mid now b h unread undamaged broken (e, same) = as-made s status.WriteFault now e (pieces, are, subst (λ t. BrokenOff (IsMade (Some f)) None pieces start t files) (sym same) broken)
+  made-closed fault.Store s mid now b h unread undamaged broken ends = elim ends [
     | inl (e, l) ↦ as-made s status.StoreFault now e (pieces, are, with-line store_line (IsMade (Some f)) None pieces start mid now files a b z h broken l)
     | inr (e, same) ↦ as-made s status.Memory now e (pieces, are, subst (λ t. StoppedBetween (IsMade (Some f)) None pieces start t files) (sym same) broken)
   ]
-  made-closed (fault.Malformed x p place) s mid now b h unread broken ends = absurd broken
-  made-closed (fault.Missing x) s mid now b h unread broken ends = absurd broken
-  made-closed fault.NoRepository s mid now b h unread broken ends = absurd broken
-  made-closed fault.Exists s mid now b h unread broken ends = absurd broken
-  made-closed fault.Memory s mid now b h unread broken (e, same) = as-made s status.Memory now e (pieces, are, subst (λ t. StoppedBetween (IsMade (Some f)) None pieces start t files) (sym same) broken)
+  made-closed (fault.Malformed x p place) s mid now b h unread undamaged broken ends = absurd (undamaged tt)
+  made-closed (fault.Missing x) s mid now b h unread undamaged broken ends = absurd (undamaged tt)
+  made-closed fault.NoRepository s mid now b h unread undamaged broken ends = absurd broken
+  made-closed fault.Exists s mid now b h unread undamaged broken ends = absurd broken
+  made-closed fault.Memory s mid now b h unread undamaged broken (e, same) = as-made s status.Memory now e (pieces, are, subst (λ t. StoppedBetween (IsMade (Some f)) None pieces start t files) (sym same) broken)
 
 -- nothing is begun of it
 some-pieces : (asks : Asks) → MakesRepository asks → (pieces : List MakingPiece) × AreMakingPieces asks pieces

@@ -59,11 +59,6 @@ gen-of_items fault.Memory unread = tt
 pub silent-not_write : (why : CommandFault) → IsSilentFault why → why ≡ command.Write → ⊥
 silent-not_write why h e = subst IsSilentFault e h
 
-pub items-undamaged : (e : Fault) → IsDamage (of_items e) → ⊥
-items-undamaged fault.Read d = d
-items-undamaged fault.Write d = d
-items-undamaged fault.Memory d = d
-
 pub items-not_exists : (e : Fault) → of_items e ≡ command.Exists → ⊥
 items-not_exists fault.Read e = absurd cc
 items-not_exists fault.Write e = absurd cc

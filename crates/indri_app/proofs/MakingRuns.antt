@@ -34,13 +34,13 @@ making-gen count = record { makes = tt; needs_none = λ needs. needs; reads_none
 
 -- where there is no manifest
 pub record HasMade (asks : Asks) (s : Status) (told files : Option Files) (past since : ℕ → Files → Type 0) (before now : Option (List ℕ)) (a z : ℕ) : Type 0 where
-  pub made : (f : Files) → told ≡ Some f → f manifest_name ≡ None → MakesTo s asks (Some f) before now files a z
-  pub along : (f : Files) → told ≡ Some f → f manifest_name ≡ None → MakesAlong asks (Some f) past since
-  pub order : (f : Files) → told ≡ Some f → f manifest_name ≡ None → IsAllDone s → MakesInOrder asks
+  pub made : (f : Files) → told ≡ Some f → (f manifest_name).read ≡ None → MakesTo s asks (Some f) before now files a z
+  pub along : (f : Files) → told ≡ Some f → (f manifest_name).read ≡ None → MakesAlong asks (Some f) past since
+  pub order : (f : Files) → told ≡ Some f → (f manifest_name).read ≡ None → IsAllDone s → MakesInOrder asks
 
 -- where there is one, it is told, or the store or memory is to blame, and nothing is done
 abbrev pub IsLeft : CommandFault → Option Files → Option Files → (ℕ → Files → Type 0) → (ℕ → Files → Type 0) → Option (List ℕ) → Option (List ℕ) → Type 0
-IsLeft why told files past since before mid = (f : Files) → told ≡ Some f → IsTrue (is_some (f manifest_name)) → IsExistsFault why × (files ≡ told) × LeavesNoMore past since × (mid ≡ before)
+IsLeft why told files past since before mid = (f : Files) → told ≡ Some f → IsTrue (is_some (f manifest_name).read) → IsExistsFault why × (files ≡ told) × LeavesNoMore past since × (mid ≡ before)
 
 -- a status that says so leaves all as it was
 pub untouched-unmade : (Q : Type 0) (why : CommandFault) (s : Status) (mid now : Option (List ℕ)) (b z : ℕ) → IsClosed why s mid now b z → (why ≡ fault.NoRepository → ⊥) → (why ≡ fault.Exists → Q) → IsUntouched s → Q
@@ -57,7 +57,7 @@ untouched-unmade Q why s mid now b z ends needed same un = elim un [
 
 module _ (asks : Asks) (making : IsMaking asks) (left : Option (List ℕ)) (told files : Option Files) (past since : ℕ → Files → Type 0) (before now : Option (List ℕ)) (a z : ℕ) where
   -- it is done, so there was none
-  pub run-made : HasMade asks status.Done told files past since before now a z → ((f : Files) → told ≡ Some f → IsTrue (is_some (f manifest_name)) → ⊥) → HasRun asks status.Done left told files past since before now a z
+  pub run-made : HasMade asks status.Done told files past since before now a z → ((f : Files) → told ≡ Some f → IsTrue (is_some (f manifest_name).read) → ⊥) → HasRun asks status.Done left told files past since before now a z
   run-made done never = record {
     runs = λ k stands. let has = stands-there k told stands in absurd (never has.0 has.1 has.2);
     stops = λ k stands. let has = stands-there k told stands in absurd (never has.0 has.1 has.2);
@@ -66,7 +66,7 @@ module _ (asks : Asks) (making : IsMaking asks) (left : Option (List ℕ)) (told
     made_stops = λ makes f is none. done.along f is none;
     made_order = λ makes f is none all. done.order f is none all;
     scans = λ text is. absurd (making.scans_none text is);
-    sound = λ is k stands. absurd cc;
+    sound = λ is k stands whole. absurd cc;
     there = λ f t is. absurd cc;
     damage = λ is. absurd cc;
     intact = λ f is has needs. absurd (making.needs_none needs);
@@ -81,7 +81,7 @@ module _ (asks : Asks) (making : IsMaking asks) (left : Option (List ℕ)) (told
   }
 
   -- it is broken off
-  pub run-unmade : (why : CommandFault) (s : Status) (mid : Option (List ℕ)) (b : ℕ) → IsClosed why s mid now b z → (why ≡ fault.NoRepository → ⊥) → HasMade asks s told files past since before now a z → a ≤ b → IsLeft why told files past since before mid → ((f : Files) → told ≡ Some f → why ≡ fault.Exists → IsTrue (is_some (f manifest_name))) → (why ≡ fault.Exists → mid ≡ before)
+  pub run-unmade : (why : CommandFault) (s : Status) (mid : Option (List ℕ)) (b : ℕ) → IsClosed why s mid now b z → (why ≡ fault.NoRepository → ⊥) → HasMade asks s told files past since before now a z → a ≤ b → IsLeft why told files past since before mid → ((f : Files) → told ≡ Some f → why ≡ fault.Exists → IsTrue (is_some (f manifest_name).read)) → (why ≡ fault.Exists → mid ≡ before)
       → ((f : Files) → told ≡ Some f → IsDamage why → ⊥) → (s ≡ status.Malformed → WritesDamageOf asks before now a z) → HasRun asks s left told files past since before now a z
   run-unmade why s mid b ends needed done later untouched there same sound damage = record {
     runs = λ k stands. let has = stands-there k told stands in let e = untouched has.0 has.1 has.2 in exists-runs asks making.makes why s k left told files before mid now a b z e.0 ends e.3 later e.1 stands;
@@ -91,7 +91,7 @@ module _ (asks : Asks) (making : IsMaking asks) (left : Option (List ℕ)) (told
     made_stops = λ makes f is none. done.along f is none;
     made_order = λ makes f is none all. done.order f is none all;
     scans = λ text is. absurd (making.scans_none text is);
-    sound = λ is k stands. let has = stands-there k told stands in sound has.0 has.1 (malformed-closed why s mid now b z ends is);
+    sound = λ is k stands whole. let has = stands-there k told stands in sound has.0 has.1 (malformed-closed why s mid now b z ends is);
     there = λ f t is. absurd (sound f t (malformed-closed why s mid now b z ends is));
     damage = damage;
     intact = λ f is has needs. absurd (making.needs_none needs);

@@ -6,12 +6,13 @@ use Rattle.ri_base.specs.declared.seg_fault.SegFault.{SegFault}
 use Rattle.ri_base.specs.declared.seg_fault.SegFault.TheVariants as files
 use Rattle.store_ends.specs.Files.{Files}
 use Rattle.command_pieces.specs.CommandFaults.{of_files}
+use Rattle.command_pieces.specs.declared.command_fault.CommandFault.{CommandFault}
 use Rattle.command_pieces.specs.declared.command_fault.CommandFault.TheVariants as fault
 use Rattle.holdings.specs.declared.limits.Limits.{Limits}
 use Rattle.manifest.specs.declared.manifest.Manifest.{Manifest}
 use Rattle.repository.specs.Names.{manifest_name}
 use Rattle.repository.specs.Opening.{IsOpeningFault, of_all, of_entry, of_manifest, of_outside}
-use Rattle.repository.specs.Stands.{HasManifest}
+use Rattle.repository.specs.Stands.{IsManifestRead}
 use Rattle.collection_commands.proofs.CauseLemmas.{of-more}
 use Rattle.indri_app.specs.Opened.{IsAbsentFault, IsFileFault, IsOpenFault, IsWant, absent_causes, file_causes, open_causes, want_causes}
 
@@ -23,6 +24,9 @@ want-of files.Memory h = tt
 
 absent-of : (why : SegFault) → IsOutside why → IsAbsentFault (of_files why)
 absent-of why h = of-more want_causes absent_causes refl (of_files why) (want-of why h)
+
+pub file-want : (why : CommandFault) → IsWant why → IsFileFault why
+file-want = of-more want_causes file_causes refl
 
 pub file-of : (why : SegFault) → IsFileFault (of_files why)
 file-of (files.Malformed f p place) = tt
@@ -46,17 +50,17 @@ not-absent files.Store e = absurd cc
 not-absent files.Memory e = absurd cc
 
 -- a manifest that is there isn't absent
-has-none : (f : Files) (list : Manifest) → f manifest_name ≡ None → HasManifest (Some f) list → ⊥
-has-none f list none has = let e : Some f ≡ Some has.files = has.is_told in let file = has.file in let one : f ≡ has.files = cc in let here : has.files manifest_name ≡ None = sym (ap (λ (g : Files). g manifest_name) one) ∙ none in absurd cc
+has-none : (f : Files) (list : Manifest) → (f manifest_name).read ≡ None → IsManifestRead (Some f) list → ⊥
+has-none f list none has = let e : Some f ≡ Some has.files = has.is_told in let file = has.file in let one : f ≡ has.files = cc in let here : (has.files manifest_name).read ≡ None = sym (ap (λ (g : Files). (g manifest_name).read) one) ∙ none in absurd cc
 
-outside-without : (f : Files) (limits : Limits) (why : SegFault) → f manifest_name ≡ None → IsOpeningFault f limits why → IsOutside why
+outside-without : (f : Files) (limits : Limits) (why : SegFault) → (f manifest_name).read ≡ None → IsOpeningFault f limits why → IsOutside why
 outside-without f limits why none (of_outside h) = h
 outside-without f limits why none (of_manifest (bytes, there, answers)) = absurd cc
 outside-without f limits why none (of_entry list has entry) = absurd (has-none f list none has)
 outside-without f limits why none (of_all list has across) = absurd (has-none f list none has)
 
 -- where there is no manifest
-pub absent-opening : (f : Files) (limits : Limits) (why : SegFault) → f manifest_name ≡ None → IsOpeningFault f limits why → IsAbsentFault (of_files why)
+pub absent-opening : (f : Files) (limits : Limits) (why : SegFault) → (f manifest_name).read ≡ None → IsOpeningFault f limits why → IsAbsentFault (of_files why)
 absent-opening f limits why none h = absent-of why (outside-without f limits why none h)
 
 pub none-there : (o : Option (List ℕ)) → false ≡ is_some o → o ≡ None

@@ -30,7 +30,7 @@ memory-has_run asks left told past before a z = record {
   made_stops = λ makes f same none. none-makes asks f makes past;
   made_order = λ makes f same none all. absurd (elim all [ inl e ↦ cc | inr e ↦ cc ]);
   scans = λ text is. scans-memory text left before a z;
-  sound = λ e c stands. absurd cc;
+  sound = λ e c stands whole. absurd cc;
   there = λ f same e. absurd cc;
   damage = λ e. absurd cc;
   intact = λ f same has needs. absurd (done-not_memory has);
@@ -60,7 +60,7 @@ scan-has_run text s left told past before now a z plain scans' = record {
   made_stops = λ makes f same none. absurd makes;
   made_order = λ makes f same none all. absurd makes;
   scans = λ other is. let one : text ≡ other = cc in subst (λ t. IfSome left (λ bytes. ScansTo s t bytes before now a z)) one scans';
-  sound = λ e c stands. not-plain s status.Malformed plain e (λ h. h);
+  sound = λ e c stands whole. not-plain s status.Malformed plain e (λ h. h);
   there = λ f same e. absurd (not-plain s status.Malformed plain e (λ h. h));
   damage = λ e. absurd (not-plain s status.Malformed plain e (λ h. h));
   intact = λ f same has needs. absurd needs;

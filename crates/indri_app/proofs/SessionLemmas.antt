@@ -10,7 +10,7 @@ use Rattle.command_pieces.specs.declared.command_fault.CommandFault.TheVariants 
 use Rattle.holdings.specs.declared.limits.Limits.{Limits}
 use Rattle.repository.specs.Opening.{IsRepositoryOpened}
 use Rattle.repository.specs.RealLimits.{AreReal}
-use Rattle.repository.specs.Stands.{Collection, IsPriorListed, Prior}
+use Rattle.repository.specs.Stands.{Collection, IsPriorRead, Prior}
 use Rattle.repository.specs.States.{State}
 use Rattle.script_reader.specs.Items.{items}
 use Rattle.smoothing.specs.declared.rule.RuleKind.TheVariants.{Dirichlet}
@@ -50,7 +50,7 @@ in-order mu c limits None (Ok refused) real true' = tt
 in-order mu c limits (Some bytes) (Ok refused) real true' = (limits, real, true')
 
 -- the files of a repository that was opened, and of its priors, are in their grammar
-pub with-priors : (told : Option Files) (s : State) (answer : Result Bool CommandFault) → IsRepositoryOpened told s.held.limits s → OnOk answer ((ps : List Prior) × AllZip (IsPriorListed told) s.priors ps) → OnOk answer (IsIntactWithPriors told)
+pub with-priors : (told : Option Files) (s : State) (answer : Result Bool CommandFault) → IsRepositoryOpened told s.held.limits s → OnOk answer ((ps : List Prior) × AllZip (IsPriorRead told) s.priors ps) → OnOk answer (IsIntactWithPriors told)
 with-priors told s (Err why) opened priors = tt
 with-priors told s (Ok refused) opened priors = (s.held.limits, (s, opened, priors))
 

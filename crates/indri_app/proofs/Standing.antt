@@ -11,7 +11,6 @@ use Rattle.command_pieces.specs.CommandFaults.{IsBrokenBy, IsDamage, of_files, o
 use Rattle.command_pieces.specs.Pieces.{Finished, Piece, StandsAlong, StoppedBetween, WritesFront, kept_behind, text_of}
 use Rattle.command_pieces.specs.Written.{AllWritten, Plain}
 use Rattle.command_pieces.specs.declared.command_fault.CommandFault.{CommandFault}
-use Rattle.command_pieces.specs.declared.command_fault.CommandFault.TheVariants as command
 use Rattle.command_pieces.specs.declared.fault.Fault.{Fault}
 use Rattle.command_pieces.specs.declared.fault.Fault.TheVariants as fault
 use Rattle.command_pieces.proofs.Commands.{by-files}
@@ -45,10 +44,10 @@ module _ (kept : Collection) (s : State) (i : Item) where
   unfolding kept_behind
   piece-stopped before now f e either = record { done = []; left = item_piece s i ∷ []; are = refl; written = e ∙ sym (append_none before); files_stand = either }
 
-  -- the store is to blame, or memory
-  pub piece-refused : (e : SegFault) (before now : Option (List ℕ)) (f : Option Files) → IsOutside e → now ≡ before → StandsFor kept f ⊎ StandsFor (kept_by kept s i) f
+  -- a file isn't read or written
+  pub piece-refused : (e : SegFault) (before now : Option (List ℕ)) (f : Option Files) → now ≡ before → StandsFor kept f ⊎ StandsFor (kept_by kept s i) f
       → IsBrokenBy (of_files e) StandsFor kept (item_piece s i ∷ []) before now f
-  piece-refused e before now f outside same either = by-files e StandsFor kept (item_piece s i ∷ []) before now f outside (piece-stopped before now f same either)
+  piece-refused e before now f same either = by-files e StandsFor kept (item_piece s i ∷ []) before now f (piece-stopped before now f same either)
 
   -- it isn't written
   pub piece-unwritten : (e : Fault) (reply : Plain) (before now : Option (List ℕ)) (f : Option Files) → reply ≡ item_reply s i → (e ≡ fault.Read → ⊥) → (e ≡ fault.Write → WritesFront before now reply.text) → (e ≡ fault.Memory → now ≡ before)
@@ -106,21 +105,16 @@ item-only = of-more merge_causes session_causes refl
 
 -- ---- no file is to blame
 
-pub broken-honest : (e : CommandFault) (kept : Collection) (ps : List (Piece Collection)) (before now : Option (List ℕ)) (f : Option Files) → IsBrokenBy e StandsFor kept ps before now f → IsDamage e → ⊥
-broken-honest command.Read kept ps before now f broken damage = damage
-broken-honest command.Write kept ps before now f broken damage = damage
-broken-honest command.Store kept ps before now f broken damage = damage
-broken-honest (command.Malformed file part place) kept ps before now f broken damage = broken
-broken-honest (command.Missing file) kept ps before now f broken damage = broken
-broken-honest command.NoRepository kept ps before now f broken damage = damage
-broken-honest command.Exists kept ps before now f broken damage = damage
-broken-honest command.Memory kept ps before now f broken damage = damage
-
 pub outside-honest : (e : SegFault) → IsOutside e → IsDamage (of_files e) → ⊥
 outside-honest (files.Malformed file part place) outside damage = outside
 outside-honest (files.Missing file) outside damage = outside
 outside-honest files.Store outside damage = damage
 outside-honest files.Memory outside damage = damage
+
+pub items-undamaged : (e : Fault) → IsDamage (of_items e) → ⊥
+items-undamaged fault.Read d = d
+items-undamaged fault.Write d = d
+items-undamaged fault.Memory d = d
 
 -- ---- results
 

@@ -184,6 +184,19 @@ ReadsPriors (gen count) = ⊥
 ReadsPriors (query question) = Unit {0}
 ReadsPriors (explain rank question) = Unit {0}
 
+-- it reads blocks of the documents that are there
+abbrev pub ReadsBlocks : Asks → Type 0
+ReadsBlocks (scan text) = ⊥
+ReadsBlocks create = ⊥
+ReadsBlocks add = ⊥
+ReadsBlocks delete = ⊥
+ReadsBlocks merge = Unit {0}
+ReadsBlocks (prior name) = ⊥
+ReadsBlocks (session mu) = Unit {0}
+ReadsBlocks (gen count) = ⊥
+ReadsBlocks (query question) = Unit {0}
+ReadsBlocks (explain rank question) = Unit {0}
+
 -- what is written where the words are no command
 unfoldable pub usage_line : List ℕ
 usage_line = codes "usage: indri DIR scan|create|add|delete|merge|prior|query|explain|session|gen\n"

@@ -48,7 +48,8 @@ pub record IsTextRefused (told : Option Files) (asks : Asks) (c : Collection) (b
   pub written : Writes before now (line_of why)
   pub same : files ≡ told
 
--- What a command has done on files that stand for a collection.
+-- What a command has done on files that stand for a collection. Where damage of them is found, whole pieces were done, and the last line
+-- tells of the damage.
 abbrev pub RunsTo : Status → Option Files → Asks → Collection → List ℕ → Option (List ℕ) → Option (List ℕ) → Option Files → ℕ → ℕ → Type 0
 RunsTo Done told asks c bytes before now files count_before count_now = IsDone told asks c bytes false before now files
 RunsTo SomeRefused told asks c bytes before now files count_before count_now = IsDone told asks c bytes true before now files
@@ -61,8 +62,9 @@ RunsTo Memory told asks c bytes before now files count_before count_now =
     (pieces : List (Piece Collection)) × AreBegun told asks c bytes pieces × StoppedBetween StandsFor c pieces before now files
 RunsTo QueryRefused told asks c bytes before now files count_before count_now = IsTextRefused told asks c before now files
 RunsTo Exists told asks c bytes before now files count_before count_now = MakesRepository asks × WritesLine before now exists_line count_before count_now × (files ≡ told)
+RunsTo Malformed told asks c bytes before now files count_before count_now =
+    (why : CommandFault) × IsDamage why × ((line : List ℕ) × (last_line why ≡ Some line) × IsEndedIn line told asks c bytes before now files count_before count_now)
 RunsTo Usage told asks c bytes before now files count_before count_now = ⊥
-RunsTo Malformed told asks c bytes before now files count_before count_now = ⊥
 RunsTo NoRepository told asks c bytes before now files count_before count_now = ⊥
 
 -- What a command that makes a repository has done where there is no manifest.

@@ -8,10 +8,12 @@ ghost use Rattle.repository.specs.Names.{manifest_name};
 ghost use Rattle.repository.specs.Priors.{AreStored};
 ghost use Rattle.repository.specs.RealLimits.{StandsFor};
 ghost use Rattle.repository.specs.Stands.{Collection};
+ghost use Rattle.repository.specs.States.{IsStateIntact};
 ghost use Rattle.collection_commands.specs.Ahead.{IsAhead};
 ghost use Rattle.collection_commands.specs.Merging.{IsMergeFault, merge_pieces};
-ghost use Rattle.indri_app.specs.Asked.{IsIntact};
+ghost use Rattle.indri_app.specs.Asked.{AreWhole, IsIntact};
 ghost use Rattle.indri_app.specs.Changes.{IsFoundFirst, IsOverFault, told_change};
+ghost use Rattle.indri_app.specs.Command.{ReadsBlocks};
 ghost use Rattle.indri_app.specs.Faults.{IsSessionFault};
 ghost use Rattle.indri_app.specs.Opened.{IsAbsentFault};
 ghost use Rattle.indri_app.specs.Runs.{IsBegun, IsDone, StopsAlong};
@@ -56,6 +58,7 @@ fn merge_documents<K: Sink, T: Store>(
     ensures stops { (c : Collection) → IsAhead (T.files store.old) repository c c
         → Leaves (T.since store.old) (T.since store.new) (StandsAlong StandsFor c (merge_pieces c)) }
     ensures only { IfErr result IsMergeFault }
+    ensures honest { IsStateIntact (T.files store.old) repository → IfErr result (λ why. IsDamage why → ⊥) }
     ensures damage { IfErr result (λ why. IsDamage why → IsQuiet T.files T.layers T.clock T.since T.longest T.held store.old store.new × (K.taken sink.new ≡ K.taken sink.old)) }
     ensures goes_on { GoesOn T.layers T.clock T.longest T.held store.old store.new }
     ensures write { IsErrOf result CommandFault.Write → Rose (K.faults sink.old) (K.faults sink.new) }
@@ -89,8 +92,8 @@ fn change_repository<S: Source, K: Sink, T: Store>(
     ensures stops { (c : Collection) → IsAhead (T.files store.old) repository c c
         → IfSome (S.left source.old) (λ bytes. StopsAlong (T.files store.old) (told_change what) c bytes (T.since store.old) (T.since store.new)) }
 
-    // Damage is found before anything is done, and only in files that stand for nothing.
-    ensures honest { (c : Collection) → IsAhead (T.files store.old) repository c c → IfErr result (λ why. IsDamage why → ⊥) }
+    // Damage is found before anything is done, and only by a command that reads blocks, in files that aren't read as they were put.
+    ensures honest { (ReadsBlocks (told_change what) → IsStateIntact (T.files store.old) repository) → IfErr result (λ why. IsDamage why → ⊥) }
     ensures damage { IfErr result (λ why. IsDamage why
         → IsQuiet T.files T.layers T.clock T.since T.longest T.held store.old store.new × (source.new ≡ source.old) × (K.taken sink.new ≡ K.taken sink.old)) }
     ensures only { IfErr result IsSessionFault }
@@ -133,12 +136,12 @@ pub fn change_files<S: Source, K: Sink, T: Store>(
     ensures stops { (c : Collection) → StandsFor c (T.files store.old)
         → IfSome (S.left source.old) (λ bytes. StopsAlong (T.files store.old) (told_change what) c bytes (T.since store.old) (T.since store.new)) }
 
-    // What is found when the repository is opened is found before anything is done.
-    ensures honest { (c : Collection) → StandsFor c (T.files store.old) → IfErr result (λ why. IsFoundFirst why → ⊥) }
+    // What is found first is found before anything is done.
+    ensures honest { (c : Collection) → StandsFor c (T.files store.old) → (ReadsBlocks (told_change what) → AreWhole (T.files store.old)) → IfErr result (λ why. IsFoundFirst why → ⊥) }
     ensures first { IfErr result (λ why. IsFoundFirst why
         → IsQuiet T.files T.layers T.clock T.since T.longest T.held store.old store.new × (source.new ≡ source.old) × (K.taken sink.new ≡ K.taken sink.old)) }
-    ensures absent { (f : Files) → T.files store.old ≡ Some f → IsErrOf result CommandFault.NoRepository → f manifest_name ≡ None }
-    ensures without { (f : Files) → T.files store.old ≡ Some f → f manifest_name ≡ None → OnOk result ⊥ × IfErr result IsAbsentFault }
+    ensures absent { (f : Files) → T.files store.old ≡ Some f → IsErrOf result CommandFault.NoRepository → (f manifest_name).read ≡ None }
+    ensures without { (f : Files) → T.files store.old ≡ Some f → (f manifest_name).read ≡ None → OnOk result ⊥ × IfErr result IsAbsentFault }
     ensures intact { (f : Files) → T.files store.old ≡ Some f → OnOk result (IsIntact (T.files store.old)) }
     ensures only { IfErr result IsOverFault }
     ensures goes_on { GoesOn T.layers T.clock T.longest T.held store.old store.new }

@@ -11,7 +11,7 @@ ghost use Rattle.generated_events.specs.Documents.{kept_documents};
 ghost use Rattle.generated_events.specs.Events.{last_event};
 ghost use Rattle.generated_events.specs.declared.generator.TheConstants.{MAX_GENERATED};
 ghost use Rattle.script_reader.specs.declared.item.Item.TheVariants as item;
-ghost use Rattle.desk.specs.Backed.{IsUsable, state_of};
+ghost use Rattle.desk.specs.Backed.{IsDeskIntact, IsUsable, state_of};
 ghost use Rattle.desk.specs.Replied.{IsReply};
 ghost use Rattle.desk.specs.Step.{step};
 ghost use Rattle.desk.specs.Told.{Shows};
@@ -59,7 +59,9 @@ fn do_events<F: Fn(u32, u32, u64, u64) -> Fraction, T: Store>(
     ensures rule { desk.new.rule ≡ desk.old.rule }
     ensures stay { map (λ plug. meaning plug) plugs.new ≡ map (λ plug. meaning plug) plugs.old }
     ensures nine { length plugs.new ≡ 9 }
-    ensures honest { (kept : Collection) → IsUnderWay (T.files store.old) desk.old.kept (map (λ plug. meaning plug) plugs.old) kept → IfErr result IsOutside }
+    ensures intact { (kept : Collection) → IsUnderWay (T.files store.old) desk.old.kept (map (λ plug. meaning plug) plugs.old) kept
+        → IsDeskIntact (T.files store.old) desk.old.kept → OnOk result (IsDeskIntact (T.files store.new) desk.new.kept) }
+    ensures honest { (kept : Collection) → IsUnderWay (T.files store.old) desk.old.kept (map (λ plug. meaning plug) plugs.old) kept → IsDeskIntact (T.files store.old) desk.old.kept → IfErr result IsOutside }
     ensures goes_on { GoesOn T.layers T.clock T.longest T.held store.old store.new }
     ensures later { T.faults store.old ≤ T.faults store.new }
     ensures store { result ≡ Err SegFault.Store → Rose (T.faults store.old) (T.faults store.new) }
@@ -94,7 +96,7 @@ fn show<F: Fn(u32, u32, u64, u64) -> Fraction, T: Store>(
     ensures form { IfOk result IsReply }
     ensures quiet { IsQuiet T.files T.layers T.clock T.since T.longest T.held store.old store.new }
     ensures stay { map (λ plug. meaning plug) plugs.new ≡ map (λ plug. meaning plug) plugs.old }
-    ensures honest { (kept : Collection) → IsUnderWay (T.files store.old) desk.old.kept (map (λ plug. meaning plug) plugs.old) kept → IfErr result IsOutside }
+    ensures honest { (kept : Collection) → IsUnderWay (T.files store.old) desk.old.kept (map (λ plug. meaning plug) plugs.old) kept → IsDeskIntact (T.files store.old) desk.old.kept → IfErr result IsOutside }
     ensures later { T.faults store.old ≤ T.faults store.new }
     ensures store { result ≡ Err SegFault.Store → Rose (T.faults store.old) (T.faults store.new) }
 {
@@ -131,7 +133,7 @@ pub(crate) fn make_and_ask<F: Fn(u32, u32, u64, u64) -> Fraction, T: Store>(
         → Leaves (T.since store.old) (T.since store.new) (StandsAlong StandsFor kept (pieces_of (state_of (T.files store.old) desk.old.kept) (gen_items count))) }
 
     ensures stay { map (λ plug. meaning plug) plugs.new ≡ map (λ plug. meaning plug) plugs.old }
-    ensures honest { (kept : Collection) → IsUnderWay (T.files store.old) desk.old.kept (map (λ plug. meaning plug) plugs.old) kept → IfErr result IsOutside }
+    ensures honest { (kept : Collection) → IsUnderWay (T.files store.old) desk.old.kept (map (λ plug. meaning plug) plugs.old) kept → IsDeskIntact (T.files store.old) desk.old.kept → IfErr result IsOutside }
     ensures goes_on { GoesOn T.layers T.clock T.longest T.held store.old store.new }
     ensures later { T.faults store.old ≤ T.faults store.new }
     ensures store { result ≡ Err SegFault.Store → Rose (T.faults store.old) (T.faults store.new) }

@@ -12,6 +12,7 @@ ghost use Rattle.command_pieces.specs.Pieces.{StandsAlong, kept_behind};
 ghost use Rattle.repository.specs.Names.{manifest_name};
 ghost use Rattle.repository.specs.RealLimits.{StandsFor};
 ghost use Rattle.repository.specs.Stands.{empty_collection};
+ghost use Rattle.repository.specs.States.{IsStateIntact};
 ghost use Rattle.collection_commands.specs.Ahead.{IsAhead};
 ghost use Rattle.generated_events.specs.Events.{last_event};
 ghost use Rattle.generated_events.specs.declared.generator.TheConstants.{MAX_GENERATED};
@@ -67,7 +68,7 @@ fn fill<T: Store>(
     ensures stops { IsAhead (T.files store.old) repository empty_collection empty_collection
         → Leaves (T.since store.old) (T.since store.new) (StandsAlong StandsFor empty_collection (pieces_of (begun repository.held.limits (Dirichlet mu) empty_collection) (gen_items count))) }
 
-    ensures honest { IsAhead (T.files store.old) repository empty_collection empty_collection → IfErr result IsOutside }
+    ensures honest { IsAhead (T.files store.old) repository empty_collection empty_collection → IsStateIntact (T.files store.old) repository → IfErr result IsOutside }
     ensures goes_on { GoesOn T.layers T.clock T.longest T.held store.old store.new }
     ensures later { T.faults store.old ≤ T.faults store.new }
     ensures store { IsErrOf result SegFault.Store → Rose (T.faults store.old) (T.faults store.new) }
@@ -98,14 +99,14 @@ fn made_text<T: Store>(
     requires plugs { map (λ plug. meaning plug) plugs.old ≡ run_priors }
 
     // Where there is no manifest.
-    ensures made { (f : Files) → T.files store.old ≡ Some f → f manifest_name ≡ None → IfOk result (λ text. IsMadeWith count f text.items (T.files store.new)) }
-    ensures along { (f : Files) → T.files store.old ≡ Some f → f manifest_name ≡ None → StandsSome count f (T.files store.new) }
-    ensures stops { (f : Files) → T.files store.old ≡ Some f → f manifest_name ≡ None → StopsSome count f (T.since store.old) (T.since store.new) }
-    ensures honest { (f : Files) → T.files store.old ≡ Some f → f manifest_name ≡ None → IfErr result IsWant }
+    ensures made { (f : Files) → T.files store.old ≡ Some f → (f manifest_name).read ≡ None → IfOk result (λ text. IsMadeWith count f text.items (T.files store.new)) }
+    ensures along { (f : Files) → T.files store.old ≡ Some f → (f manifest_name).read ≡ None → StandsSome count f (T.files store.new) }
+    ensures stops { (f : Files) → T.files store.old ≡ Some f → (f manifest_name).read ≡ None → StopsSome count f (T.since store.old) (T.since store.new) }
+    ensures honest { (f : Files) → T.files store.old ≡ Some f → (f manifest_name).read ≡ None → IfErr result IsWant }
 
     // Where there is one.
-    ensures exists { (f : Files) → T.files store.old ≡ Some f → IsTrue (is_some (f manifest_name)) → IfErr result IsExistsFault × OnOk result ⊥ × IsQuiet T.files T.layers T.clock T.since T.longest T.held store.old store.new }
-    ensures there { (f : Files) → T.files store.old ≡ Some f → IsErrOf result CommandFault.Exists → IsTrue (is_some (f manifest_name)) }
+    ensures exists { (f : Files) → T.files store.old ≡ Some f → IsTrue (is_some (f manifest_name).read) → IfErr result IsExistsFault × OnOk result ⊥ × IsQuiet T.files T.layers T.clock T.since T.longest T.held store.old store.new }
+    ensures there { (f : Files) → T.files store.old ≡ Some f → IsErrOf result CommandFault.Exists → IsTrue (is_some (f manifest_name).read) }
     ensures same { IsErrOf result CommandFault.Exists → IsQuiet T.files T.layers T.clock T.since T.longest T.held store.old store.new }
     ensures only { IfErr result IsSilentFault }
     ensures goes_on { GoesOn T.layers T.clock T.longest T.held store.old store.new }
@@ -135,16 +136,16 @@ pub fn generate<K: Sink, T: Store>(
     requires plugs { map (λ plug. meaning plug) plugs.old ≡ run_priors }
 
     // Where there is no manifest.
-    ensures finished { (f : Files) → T.files store.old ≡ Some f → f manifest_name ≡ None → OnOk result (IsGenerated count f (K.taken sink.old) (K.taken sink.new) (T.files store.new)) }
-    ensures order { (f : Files) → T.files store.old ≡ Some f → f manifest_name ≡ None → OnOk result (IsInOrder count) }
-    ensures broken { (f : Files) → T.files store.old ≡ Some f → f manifest_name ≡ None → IfErr result (λ fault. IsGenBroken fault count f (K.taken sink.old) (K.taken sink.new) (T.files store.new)) }
-    ensures stops { (f : Files) → T.files store.old ≡ Some f → f manifest_name ≡ None → StopsSome count f (T.since store.old) (T.since store.new) }
+    ensures finished { (f : Files) → T.files store.old ≡ Some f → (f manifest_name).read ≡ None → OnOk result (IsGenerated count f (K.taken sink.old) (K.taken sink.new) (T.files store.new)) }
+    ensures order { (f : Files) → T.files store.old ≡ Some f → (f manifest_name).read ≡ None → OnOk result (IsInOrder count) }
+    ensures broken { (f : Files) → T.files store.old ≡ Some f → (f manifest_name).read ≡ None → IfErr result (λ fault. IsGenBroken fault count f (K.taken sink.old) (K.taken sink.new) (T.files store.new)) }
+    ensures stops { (f : Files) → T.files store.old ≡ Some f → (f manifest_name).read ≡ None → StopsSome count f (T.since store.old) (T.since store.new) }
     ensures honest { (f : Files) → T.files store.old ≡ Some f → IfErr result (λ fault. IsDamage fault → ⊥) }
 
     // Where there is one.
-    ensures exists { (f : Files) → T.files store.old ≡ Some f → IsTrue (is_some (f manifest_name)) → IfErr result IsExistsFault × OnOk result ⊥
+    ensures exists { (f : Files) → T.files store.old ≡ Some f → IsTrue (is_some (f manifest_name).read) → IfErr result IsExistsFault × OnOk result ⊥
         × IsQuiet T.files T.layers T.clock T.since T.longest T.held store.old store.new × (K.taken sink.new ≡ K.taken sink.old) }
-    ensures there { (f : Files) → T.files store.old ≡ Some f → IsErrOf result CommandFault.Exists → IsTrue (is_some (f manifest_name)) }
+    ensures there { (f : Files) → T.files store.old ≡ Some f → IsErrOf result CommandFault.Exists → IsTrue (is_some (f manifest_name).read) }
     ensures same { IsErrOf result CommandFault.Exists → IsQuiet T.files T.layers T.clock T.since T.longest T.held store.old store.new × (K.taken sink.new ≡ K.taken sink.old) }
 
     ensures only { IfErr result IsGenFault }

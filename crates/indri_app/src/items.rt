@@ -8,7 +8,7 @@ ghost use Rattle.command_pieces.specs.Pieces.{Finished, StandsAlong, some_refuse
 ghost use Rattle.repository.specs.RealLimits.{StandsFor};
 ghost use Rattle.repository.specs.Stands.{Collection};
 ghost use Rattle.script_reader.specs.Items.{items};
-ghost use Rattle.desk.specs.Backed.{IsUsable, state_of};
+ghost use Rattle.desk.specs.Backed.{IsDeskIntact, IsUsable, state_of};
 ghost use Rattle.desk.specs.State.{collection_of};
 ghost use Rattle.indri_app.specs.Faults.{IsSessionFault};
 ghost use Rattle.indri_app.specs.Items.{pieces_of, state_behind_all};
@@ -50,7 +50,8 @@ pub fn take_items<F: Fn(u32, u32, u64, u64) -> Fraction, S: Source, K: Sink, T: 
         → OnOk result (IfSome (S.left source.old) (λ bytes. AreTrue (state_of (T.files store.old) desk.old.kept) (items bytes))) }
     ensures broken { (kept : Collection) → IsUnderWay (T.files store.old) desk.old.kept (map (λ plug. meaning plug) plugs.old) kept
         → IfErr result (λ why. IfSome (S.left source.old) (λ bytes. IsBrokenBy why StandsFor kept (pieces_of (state_of (T.files store.old) desk.old.kept) (items bytes)) (K.taken sink.old) (K.taken sink.new) (T.files store.new))) }
-    ensures honest { (kept : Collection) → IsUnderWay (T.files store.old) desk.old.kept (map (λ plug. meaning plug) plugs.old) kept → IfErr result (λ why. IsDamage why → ⊥) }
+    ensures honest { (kept : Collection) → IsUnderWay (T.files store.old) desk.old.kept (map (λ plug. meaning plug) plugs.old) kept
+        → IsDeskIntact (T.files store.old) desk.old.kept → IfErr result (λ why. IsDamage why → ⊥) }
     ensures stops { (kept : Collection) → IsUnderWay (T.files store.old) desk.old.kept (map (λ plug. meaning plug) plugs.old) kept
         → IfSome (S.left source.old) (λ bytes. Leaves (T.since store.old) (T.since store.new) (StandsAlong StandsFor kept (pieces_of (state_of (T.files store.old) desk.old.kept) (items bytes)))) }
 

@@ -29,9 +29,9 @@ pub fn open_repository<T: Store>(alloc: Global, store: &mut T) -> Result<Reposit
 
     // Whatever the files are: a repository is one that was read from them by the grammar.
     ensures read { (f : Files) → T.files store.old ≡ Some f → IfOk result (λ r. IsRepositoryOpened (T.files store.old) r.held.limits r) }
-    ensures there { (f : Files) → T.files store.old ≡ Some f → OnOk result (IsTrue (is_some (f manifest_name))) }
-    ensures absent { (f : Files) → T.files store.old ≡ Some f → IsErrOf result CommandFault.NoRepository → f manifest_name ≡ None }
-    ensures without { (f : Files) → T.files store.old ≡ Some f → f manifest_name ≡ None → OnOk result ⊥ × IfErr result IsAbsentFault }
+    ensures there { (f : Files) → T.files store.old ≡ Some f → OnOk result (IsTrue (is_some (f manifest_name).read)) }
+    ensures absent { (f : Files) → T.files store.old ≡ Some f → IsErrOf result CommandFault.NoRepository → (f manifest_name).read ≡ None }
+    ensures without { (f : Files) → T.files store.old ≡ Some f → (f manifest_name).read ≡ None → OnOk result ⊥ × IfErr result IsAbsentFault }
 
     ensures only { IfErr result IsOpenFault }
     ensures quiet { IsQuiet T.files T.layers T.clock T.since T.longest T.held store.old store.new }

@@ -8,7 +8,7 @@ ghost use Rattle.query_refusals.specs.declared.refusal.QueryRefusal.TheVariants.
 ghost use Rattle.repository.specs.Names.{manifest_name};
 ghost use Rattle.repository.specs.RealLimits.{StandsFor};
 ghost use Rattle.repository.specs.Stands.{Collection};
-ghost use Rattle.repository.specs.States.{IsBacked, ReadsAs};
+ghost use Rattle.repository.specs.States.{IsBacked, IsStateIntact, ReadsAs};
 ghost use Rattle.holdings.specs.Parts.{live};
 ghost use Rattle.query_check.specs.Answers.{whole_checked};
 ghost use Rattle.std.specs.Option.{option_map};
@@ -16,7 +16,7 @@ ghost use Rattle.desk.specs.Answer.{IsRule};
 ghost use Rattle.desk.specs.Priors.{priors_with, run_priors};
 ghost use Rattle.desk.specs.Searching.{IsShowable};
 ghost use Rattle.desk.specs.Shown.{told_shown};
-ghost use Rattle.indri_app.specs.Asked.{IfRefused, IsAnswerOver, IsAskBroken, IsAskFault, IsAsked, IsFaultOver, IsOpenAskFault, IsIntactWithPriors, ask_fault};
+ghost use Rattle.indri_app.specs.Asked.{AreWhole, IfRefused, IsAnswerOver, IsAskBroken, IsAskFault, IsAskWant, IsAsked, IsFaultOver, IsOpenAskFault, IsIntactWithPriors, ask_fault};
 ghost use Rattle.indri_app.specs.Command.{answer_piece};
 ghost use Rattle.indri_app.specs.Opened.{IsFileFault, IsWant};
 
@@ -89,7 +89,7 @@ fn answer_checked<T: Store>(
     requires shown { IsShowable (told_shown shown.now) }
     requires nine { length plugs.old ≡ 9 }
     ensures answered { IsBacked (T.files store.old) repository.old → IfOk result (λ reply. IsAnswerOver (Dirichlet mu) (map (λ plug. meaning plug) plugs.old) names.now (told_shown shown.now) (whole_checked checked) (live (T.files store.old) repository.old.held.parts) reply) }
-    ensures honest { IsBacked (T.files store.old) repository.old → IfErr result IsWant }
+    ensures honest { IsStateIntact (T.files store.old) repository.old → IfErr result IsWant }
     ensures only { IfErr result IsFileFault }
     ensures quiet { IsQuiet T.files T.layers T.clock T.since T.longest T.held store.old store.new }
     ensures later { T.faults store.old ≤ T.faults store.new }
@@ -132,6 +132,7 @@ fn ask_open<T: Store>(
     ensures asked { (c : Collection) → ReadsAs (T.files store.old) repository.old c → IsBacked (T.files store.old) repository.old → map (λ plug. meaning plug) plugs.old ≡ priors_with c.priors
         → IfOk result (IsAsked c text.now mu (told_shown shown.now)) }
     ensures refused { (c : Collection) → ReadsAs (T.files store.old) repository.old c → IsBacked (T.files store.old) repository.old → IfErr result (IsAskFault c text.now) }
+    ensures honest { IsStateIntact (T.files store.old) repository.old → IfErr result IsAskWant }
     ensures only { IfErr result IsOpenAskFault }
     ensures quiet { IsQuiet T.files T.layers T.clock T.since T.longest T.held store.old store.new }
     ensures later { T.faults store.old ≤ T.faults store.new }
@@ -163,13 +164,15 @@ pub fn ask<T: Store>(
     requires shown { IsShowable (told_shown shown.now) }
     requires plugs { map (λ plug. meaning plug) plugs.old ≡ run_priors }
 
-    // Files that stand for a collection: the answer is that over its live documents, or the first fault of the text.
+    // Files that stand for a collection: the answer is that over its live documents, or the first fault of the text. Damage isn't told
+    // where all files are read as they were put.
     ensures asked { (c : Collection) → StandsFor c (T.files store.old) → IfOk result (IsAsked c text.now mu (told_shown shown.now)) }
     ensures refused { (c : Collection) → StandsFor c (T.files store.old) → IfErr result (IsAskFault c text.now) }
+    ensures honest { (c : Collection) → StandsFor c (T.files store.old) → AreWhole (T.files store.old) → IfErr result IsAskWant }
 
     // Whatever the files are.
     ensures there { (f : Files) → T.files store.old ≡ Some f → IfErr result (IsFaultOver f) }
-    ensures manifest { (f : Files) → T.files store.old ≡ Some f → f manifest_name ≡ None → OnOk result ⊥ }
+    ensures manifest { (f : Files) → T.files store.old ≡ Some f → (f manifest_name).read ≡ None → OnOk result ⊥ }
     ensures intact { (f : Files) → T.files store.old ≡ Some f → OnOk result (IsIntactWithPriors (T.files store.old)) }
     ensures intact_refused { (f : Files) → T.files store.old ≡ Some f → IfErr result (λ fault. IfRefused fault (IsIntactWithPriors (T.files store.old))) }
     ensures only { IfErr result IsAskBroken }

@@ -10,7 +10,8 @@ ghost use Rattle.smoothing.specs.declared.rule.RuleKind.TheVariants.{Dirichlet};
 ghost use Rattle.command_pieces.specs.CommandFaults.{IsBrokenBy, IsDamage};
 ghost use Rattle.command_pieces.specs.Pieces.{Finished, StandsAlong, some_refused};
 ghost use Rattle.repository.specs.RealLimits.{StandsFor};
-ghost use Rattle.repository.specs.Stands.{Collection, IsPriorListed, Prior};
+ghost use Rattle.repository.specs.Stands.{Collection, IsPriorRead, Prior};
+ghost use Rattle.repository.specs.States.{IsStateIntact};
 ghost use Rattle.collection_commands.specs.Ahead.{IsAhead};
 ghost use Rattle.desk.specs.Priors.{run_priors};
 ghost use Rattle.script_reader.specs.Items.{items};
@@ -61,12 +62,12 @@ pub fn session<S: Source, K: Sink, T: Store>(
     // Where it is broken off, and whenever it is stopped, it is done as far as some of its items.
     ensures broken { (c : Collection) → IsAhead (T.files store.old) repository c c
         → IfErr result (λ why. IfSome (S.left source.old) (λ bytes. IsBrokenBy why StandsFor c (session_pieces repository.held.limits (Dirichlet mu) c bytes) (K.taken sink.old) (K.taken sink.new) (T.files store.new))) }
-    ensures honest { (c : Collection) → IsAhead (T.files store.old) repository c c → IfErr result (λ why. IsDamage why → ⊥) }
+    ensures honest { (c : Collection) → IsAhead (T.files store.old) repository c c → IsStateIntact (T.files store.old) repository → IfErr result (λ why. IsDamage why → ⊥) }
     ensures stops { (c : Collection) → IsAhead (T.files store.old) repository c c
         → IfSome (S.left source.old) (λ bytes. Leaves (T.since store.old) (T.since store.new) (StandsAlong StandsFor c (session_pieces repository.held.limits (Dirichlet mu) c bytes))) }
 
     // Whatever the files are: the file of each prior was read by its grammar.
-    ensures listed { (f : Files) → T.files store.old ≡ Some f → OnOk result ((ps : List Prior) × AllZip (IsPriorListed (T.files store.old)) repository.priors ps) }
+    ensures listed { (f : Files) → T.files store.old ≡ Some f → OnOk result ((ps : List Prior) × AllZip (IsPriorRead (T.files store.old)) repository.priors ps) }
     ensures grows { Grows (K.taken sink.old) (K.taken sink.new) }
     ensures only { IfErr result IsSessionFault }
     ensures goes_on { GoesOn T.layers T.clock T.longest T.held store.old store.new }

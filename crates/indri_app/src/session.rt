@@ -9,7 +9,7 @@ ghost use Rattle.repository.specs.RealLimits.{StandsFor};
 ghost use Rattle.repository.specs.Stands.{Collection};
 ghost use Rattle.desk.specs.Priors.{run_priors};
 ghost use Rattle.indri_app.specs.Sessions.{Grows};
-ghost use Rattle.indri_app.specs.Asked.{IsIntactWithPriors};
+ghost use Rattle.indri_app.specs.Asked.{AreWhole, IsIntactWithPriors};
 ghost use Rattle.indri_app.specs.Changes.{IsFoundFirst, IsOverFault};
 ghost use Rattle.indri_app.specs.Command.{ShowsInOrder};
 ghost use Rattle.indri_app.specs.Opened.{IsAbsentFault};
@@ -42,12 +42,12 @@ pub fn session_files<S: Source, K: Sink, T: Store>(
         → IfSome (S.left source.old) (λ bytes. StopsAlong (T.files store.old) (asks.session mu) c bytes (T.since store.old) (T.since store.new)) }
     ensures order { (c : Collection) → StandsFor c (T.files store.old) → OnOk result (ShowsInOrder (asks.session mu) c (S.left source.old)) }
 
-    // Damage, or that there is no repository, is found only in files that stand for nothing.
-    ensures honest { (c : Collection) → StandsFor c (T.files store.old) → IfErr result (λ why. IsFoundFirst why → ⊥) }
+    // Damage is found only in files that stand for nothing, or aren't all read as they were put.
+    ensures honest { (c : Collection) → StandsFor c (T.files store.old) → AreWhole (T.files store.old) → IfErr result (λ why. IsFoundFirst why → ⊥) }
     ensures untouched { IsErrOf result CommandFault.NoRepository
         → IsQuiet T.files T.layers T.clock T.since T.longest T.held store.old store.new × (source.new ≡ source.old) × (K.taken sink.new ≡ K.taken sink.old) }
-    ensures absent { (f : Files) → T.files store.old ≡ Some f → IsErrOf result CommandFault.NoRepository → f manifest_name ≡ None }
-    ensures without { (f : Files) → T.files store.old ≡ Some f → f manifest_name ≡ None → OnOk result ⊥ × IfErr result IsAbsentFault }
+    ensures absent { (f : Files) → T.files store.old ≡ Some f → IsErrOf result CommandFault.NoRepository → (f manifest_name).read ≡ None }
+    ensures without { (f : Files) → T.files store.old ≡ Some f → (f manifest_name).read ≡ None → OnOk result ⊥ × IfErr result IsAbsentFault }
     ensures intact { (f : Files) → T.files store.old ≡ Some f → OnOk result (IsIntactWithPriors (T.files store.old)) }
     ensures grows { Grows (K.taken sink.old) (K.taken sink.new) }
     ensures only { IfErr result IsOverFault }

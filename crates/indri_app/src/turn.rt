@@ -4,7 +4,7 @@ ghost use Rattle.ri_base.specs.Faults.{IsOutside};
 ghost use Rattle.ri_ends.specs.Causes.{Rose};
 ghost use Rattle.store_ends.specs.Files.{GoesOn, Leaves};
 ghost use Rattle.smoothing.specs.Fractions.{Computes};
-ghost use Rattle.command_pieces.specs.CommandFaults.{IsBrokenBy};
+ghost use Rattle.command_pieces.specs.CommandFaults.{IsBrokenBy, IsDamage};
 ghost use Rattle.command_pieces.specs.Pieces.{Finished, StandsAlong};
 ghost use Rattle.refusals.specs.Lines.{refusal_piece};
 ghost use Rattle.repository.specs.RealLimits.{StandsFor};
@@ -13,7 +13,7 @@ ghost use Rattle.session_events.specs.Events.{IsSessionEvent};
 ghost use Rattle.desk.specs.Replied.{IsReply, reply_piece};
 ghost use Rattle.script_reader.specs.Held.{IsItem};
 ghost use Rattle.script_reader.specs.State.{is_end};
-ghost use Rattle.desk.specs.Backed.{IsUsable, state_of};
+ghost use Rattle.desk.specs.Backed.{IsDeskIntact, IsUsable, state_of};
 ghost use Rattle.desk.specs.State.{State};
 ghost use Rattle.indri_app.specs.Faults.{IsItemFault};
 ghost use Rattle.indri_app.specs.Items.{IsNoEvent, item_piece, item_reply, kept_by, state_behind, unread_name, unread_reply};
@@ -114,7 +114,9 @@ pub(crate) fn do_event<F: Fn(u32, u32, u64, u64) -> Fraction, T: Store>(
         → StandsFor kept (T.files store.new) ⊎ StandsFor (kept_by kept (state_of (T.files store.old) desk.old.kept) (Item.Event event)) (T.files store.new) }
     ensures stops { (kept : Collection) → IsUnderWay (T.files store.old) desk.old.kept (map (λ plug. meaning plug) plugs.old) kept
         → Leaves (T.since store.old) (T.since store.new) (λ f. StandsFor kept f ⊎ StandsFor (kept_by kept (state_of (T.files store.old) desk.old.kept) (Item.Event event)) f) }
-    ensures honest { (kept : Collection) → IsUnderWay (T.files store.old) desk.old.kept (map (λ plug. meaning plug) plugs.old) kept → IfErr result IsOutside }
+    ensures intact { (kept : Collection) → IsUnderWay (T.files store.old) desk.old.kept (map (λ plug. meaning plug) plugs.old) kept
+        → IsDeskIntact (T.files store.old) desk.old.kept → OnOk result (IsDeskIntact (T.files store.new) desk.new.kept) }
+    ensures honest { (kept : Collection) → IsUnderWay (T.files store.old) desk.old.kept (map (λ plug. meaning plug) plugs.old) kept → IsDeskIntact (T.files store.old) desk.old.kept → IfErr result IsOutside }
     ensures usable { OnOk result (is_end (Some (Item.Event event)) ≡ false → IsUsable desk.new.kept) }
     ensures rule { desk.new.rule ≡ desk.old.rule }
     ensures stay { map (λ plug. meaning plug) plugs.new ≡ map (λ plug. meaning plug) plugs.old }
@@ -153,7 +155,9 @@ fn do_item<F: Fn(u32, u32, u64, u64) -> Fraction, T: Store>(
         → StandsFor kept (T.files store.new) ⊎ StandsFor (kept_by kept (state_of (T.files store.old) desk.old.kept) item) (T.files store.new) }
     ensures stops { (kept : Collection) → IsUnderWay (T.files store.old) desk.old.kept (map (λ plug. meaning plug) plugs.old) kept
         → Leaves (T.since store.old) (T.since store.new) (λ f. StandsFor kept f ⊎ StandsFor (kept_by kept (state_of (T.files store.old) desk.old.kept) item) f) }
-    ensures honest { (kept : Collection) → IsUnderWay (T.files store.old) desk.old.kept (map (λ plug. meaning plug) plugs.old) kept → IfErr result IsOutside }
+    ensures intact { (kept : Collection) → IsUnderWay (T.files store.old) desk.old.kept (map (λ plug. meaning plug) plugs.old) kept
+        → IsDeskIntact (T.files store.old) desk.old.kept → OnOk result (IsDeskIntact (T.files store.new) desk.new.kept) }
+    ensures honest { (kept : Collection) → IsUnderWay (T.files store.old) desk.old.kept (map (λ plug. meaning plug) plugs.old) kept → IsDeskIntact (T.files store.old) desk.old.kept → IfErr result IsOutside }
     ensures usable { OnOk result (is_end (Some item) ≡ false → IsUsable desk.new.kept) }
     ensures rule { desk.new.rule ≡ desk.old.rule }
     ensures stay { map (λ plug. meaning plug) plugs.new ≡ map (λ plug. meaning plug) plugs.old }
@@ -197,6 +201,11 @@ pub(crate) fn take_item<F: Fn(u32, u32, u64, u64) -> Fraction, K: Sink, T: Store
         → IfErr result (λ why. IsBrokenBy why StandsFor kept (item_piece (state_of (T.files store.old) desk.old.kept) item ∷ []) (K.taken sink.old) (K.taken sink.new) (T.files store.new)) }
     ensures stops { (kept : Collection) → IsUnderWay (T.files store.old) desk.old.kept (map (λ plug. meaning plug) plugs.old) kept
         → Leaves (T.since store.old) (T.since store.new) (StandsAlong StandsFor kept (item_piece (state_of (T.files store.old) desk.old.kept) item ∷ [])) }
+
+    ensures intact { (kept : Collection) → IsUnderWay (T.files store.old) desk.old.kept (map (λ plug. meaning plug) plugs.old) kept
+        → IsDeskIntact (T.files store.old) desk.old.kept → OnOk result (IsDeskIntact (T.files store.new) desk.new.kept) }
+    ensures honest { (kept : Collection) → IsUnderWay (T.files store.old) desk.old.kept (map (λ plug. meaning plug) plugs.old) kept
+        → IsDeskIntact (T.files store.old) desk.old.kept → IfErr result (λ why. IsDamage why → ⊥) }
 
     // Whatever the files are.
     ensures grows { Grows (K.taken sink.old) (K.taken sink.new) }

@@ -86,6 +86,8 @@ impl<'a> Postings for LoneDocument<'a> {
 
     ghost sound = { λ _. ⊤ };
 
+    ghost intact = { λ _. ⊤ };
+
     ghost quiet = { λ r s. r ≡ s };
 
     ghost told = { λ _ _ _. ⊤ };
@@ -115,6 +117,8 @@ impl<'a> Postings for LoneDocument<'a> {
     }
 
     ghost use Rattle.std.proofs.Common.{◌∙◌, refl};
+
+    ghost intact_sound = { λ s intact. intact };
 
     ghost quiet_same = { λ s. refl };
 

@@ -2,7 +2,7 @@
 use Rattle.std.proofs.Common.{ℕ, List, Option, inl}
 use Rattle.ri_base.specs.declared.seg_fault.SegFault.TheVariants.{Memory}
 use Rattle.store_ends.specs.Files.{Files}
-use Rattle.disk_index.specs.Cache.{AllKept, CacheKeeps, Cached, IsCacheBacked}
+use Rattle.disk_index.specs.Cache.{AllKept, CacheKeeps, Cached, IsCacheBacked, KeptBlock}
 use Rattle.disk_index.specs.Parts.{IsRangeFaultOf, Source, InMemory, OnDisk}
 use Rattle.disk_index.proofs.TogetherLemmas.{documents-fault-before}
 use Rattle.ri_base.specs.declared.seg_fault.SegFault.{SegFault}
@@ -10,7 +10,7 @@ use Rattle.ri_base.specs.declared.seg_fault.SegFault.{SegFault}
 pub all-backed : (told : Option Files) (c d : Cached) → AllKept c d → IsCacheBacked told c → IsCacheBacked told d
 all-backed told c d keeps backed = λ files is e h. backed files is e (keeps e h)
 
-pub all-kept : (told : Option Files) (IsOwn : ℕ → Type 0) (c d : Cached) → AllKept c d → CacheKeeps told IsOwn c d
+pub all-kept : (told : Option Files) (IsOwn : KeptBlock → Type 0) (c d : Cached) → AllKept c d → CacheKeeps told IsOwn c d
 all-kept told IsOwn c d keeps = record { each = λ e h. inl (keeps e h) }
 
 -- a fault by what is kept later is one by what was kept before

@@ -7,8 +7,8 @@ ghost use Rattle.ri_base.specs.declared.limits.TheConstants.{MAX_HELD_TOKENS};
 ghost use Rattle.store_ends.specs.Files.{Files, IsQuiet};
 ghost use Rattle.seg_codec.specs.Segment.{entry_of};
 ghost use Rattle.disk_index.specs.Cache.{AllKept, IsCacheBacked};
-ghost use Rattle.disk_index.specs.Parts.{IsPartBacked, IsRangeFaultOf, reads, size};
-ghost use Rattle.disk_index.specs.Snapshots.{AreBacked};
+ghost use Rattle.disk_index.specs.Parts.{IsPartBacked, IsPartIntact, IsRangeFaultOf, reads, size};
+ghost use Rattle.disk_index.specs.Snapshots.{AreBacked, AreIntact};
 ghost use Rattle.merge_job.specs.Range.{IsRange, IsRangeNow};
 ghost use Rattle.merge_job.specs.Walk.{Grows, GrowsIn, IsFaultAmong, IsFaultOf, entries, rest, rest_in, tokens_of};
 
@@ -40,7 +40,7 @@ fn read<T: Store>(
     ensures range { IfOk result (IsRange marked.now.source) }
     ensures exact { IsPartBacked (T.files store.old) marked.now.source → IsCacheBacked (T.files store.old) cache.old
         → IfSome last (IsRangeNow (T.files store.old) marked.now.source) → IfOk result (IsRangeNow (T.files store.old) marked.now.source) }
-    ensures honest { IsPartBacked (T.files store.old) marked.now.source → IsCacheBacked (T.files store.old) cache.old → IfErr result IsOutside }
+    ensures honest { IsPartIntact (T.files store.old) marked.now.source → IsCacheBacked (T.files store.old) cache.old → IfErr result IsOutside }
     ensures fault { (f : Files) → T.files store.old ≡ Some f → IfErr result (IsRangeFaultOf f cache.old marked.now.source number) }
     ensures cache { AllKept cache.old cache.new }
     ensures undamaged { OnOk result (cache.new.damage ≡ cache.old.damage) }
@@ -84,7 +84,7 @@ fn copy_one<T: Store>(
     ensures count { length copied.new.docs ≤ length copied.old.docs + 1 }
     ensures kept { OnErr result (copied.new ≡ copied.old) }
     ensures most { copied.new.most ≡ copied.old.most }
-    ensures honest { IsPartBacked (T.files store.old) marked.now.source → IsCacheBacked (T.files store.old) cache.old → IfErr result IsOutside }
+    ensures honest { IsPartIntact (T.files store.old) marked.now.source → IsCacheBacked (T.files store.old) cache.old → IfErr result IsOutside }
     ensures fault { (f : Files) → T.files store.old ≡ Some f → IfErr result (IsRangeFaultOf f cache.old marked.now.source (id / 64)) }
     ensures cache { AllKept cache.old cache.new }
     ensures undamaged { OnOk result (cache.new.damage ≡ cache.old.damage) }
@@ -121,7 +121,7 @@ fn copy_part<T: Store>(
     ensures goal { length copied.new.docs ≤ goal }
     ensures done { OnOk result (length copied.new.docs < goal → size marked.now.source ≤ id.new) }
     ensures most { copied.new.most ≡ copied.old.most }
-    ensures honest { IsPartBacked (T.files store.old) marked.now.source → IsCacheBacked (T.files store.old) cache.old → IfErr result IsOutside }
+    ensures honest { IsPartIntact (T.files store.old) marked.now.source → IsCacheBacked (T.files store.old) cache.old → IfErr result IsOutside }
     ensures fault { (f : Files) → T.files store.old ≡ Some f → IfErr result (IsFaultOf f cache.old marked.now.source) }
     ensures cache { AllKept cache.old cache.new }
     ensures undamaged { OnOk result (cache.new.damage ≡ cache.old.damage) }
@@ -168,7 +168,7 @@ pub(crate) fn copy<T: Store>(
         → Grows (reads (T.files store.old)) parts.now copied.old.docs place.old.part place.old.id copied.new.docs place.new.part place.new.id }
     ensures done { OnOk result (length copied.new.docs ≡ goal) }
     ensures most { copied.new.most ≡ copied.old.most }
-    ensures honest { AreBacked (T.files store.old) parts.now → IsCacheBacked (T.files store.old) cache.old → IfErr result IsOutside }
+    ensures honest { AreIntact (T.files store.old) parts.now → IsCacheBacked (T.files store.old) cache.old → IfErr result IsOutside }
     ensures fault { (f : Files) → T.files store.old ≡ Some f → IfErr result (IsFaultAmong f cache.old parts.now) }
     ensures cache { AllKept cache.old cache.new }
     ensures undamaged { OnOk result (cache.new.damage ≡ cache.old.damage) }

@@ -8,7 +8,7 @@ ghost use Rattle.store_ends.specs.Files.{Files, IsQuiet};
 ghost use Rattle.seg_codec.specs.Segment.{entry_of};
 ghost use Rattle.disk_index.specs.Cache.{CacheKeeps, IsCacheBacked};
 ghost use Rattle.disk_index.specs.Parts.{size};
-ghost use Rattle.disk_index.specs.Snapshots.{AreBacked, IsFileAmong, live};
+ghost use Rattle.disk_index.specs.Snapshots.{AreBacked, AreIntact, IsFileAmong, live};
 ghost use Rattle.merge_job.specs.Marks.{HaveGrown};
 ghost use Rattle.merge_job.specs.Merge.{AreTaken, IsMerged, live_new, size_of, under};
 ghost use Rattle.merge_job.specs.Walk.{IsFaultAmong};
@@ -97,7 +97,7 @@ impl MergeJob {
             → AreTaken (T.files store.old) self.old → AreTaken (T.files store.new) self.new }
         ensures snapshot { self.new.snapshot ≡ self.old.snapshot }
         ensures most { self.new.most ≡ self.old.most }
-        ensures honest { AreBacked (T.files store.old) self.old.snapshot → IsCacheBacked (T.files store.old) cache.old → IfErr result IsOutside }
+        ensures honest { AreIntact (T.files store.old) self.old.snapshot → IsCacheBacked (T.files store.old) cache.old → IfErr result IsOutside }
         ensures fault { (f : Files) → T.files store.old ≡ Some f → IfErr result (IsFaultAmong f cache.old self.old.snapshot) }
         ensures cache { CacheKeeps (T.files store.old) (IsFileAmong self.old.snapshot) cache.old cache.new }
         ensures undamaged { OnOk result (cache.new.damage ≡ cache.old.damage) }

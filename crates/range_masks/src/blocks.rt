@@ -9,7 +9,7 @@ ghost use Rattle.ri_base.specs.Keeps.{Rose};
 ghost use Rattle.seg_codec.specs.declared.documents.Entry.{Entry};
 ghost use Rattle.store_ends.specs.Files.{Files, IsQuiet};
 ghost use Rattle.disk_index.specs.Cache.{CacheKeeps, IsCacheBacked};
-ghost use Rattle.disk_index.specs.Parts.{IsFileOf, IsPartBacked, IsReadableIn, IsSourceFault, outlines_of, reads, source_of};
+ghost use Rattle.disk_index.specs.Parts.{IsFileOf, IsPartBacked, IsReadableIn, IsSourceFault, outlines_of, reads, source_of, IsPartIntact};
 ghost use Rattle.range_masks.specs.Held.{AreAnswersOf, AreBlocksOf, FitDocuments, HoldsEach, answer, bit_answer, block_in, most_answer, most_opened};
 
 use crate::most::most_of_entries;
@@ -68,7 +68,7 @@ impl RangeBlocks {
         ensures fits { IfOk result (FitDocuments (outlines_of (source_of part.now))) }
         ensures opened { IfOk result (λ held. blocks.new ≡ blocks.old + held.opened) }
         ensures cost { blocks.new ≤ blocks.old + most_opened (source_of part.now) terms.now }
-        ensures honest { IsPartBacked (T.files store.old) (source_of part.now) → IfErr result IsOutside }
+        ensures honest { IsPartIntact (T.files store.old) (source_of part.now) → IfErr result IsOutside }
         ensures fault { (f : Files) → T.files store.old ≡ Some f → IfErr result (IsSourceFault f (source_of part.now)) }
         ensures cache { CacheKeeps (T.files store.old) (IsFileOf (source_of part.now)) cache.old cache.new }
         ensures undamaged { OnOk result (cache.new.damage ≡ cache.old.damage) }

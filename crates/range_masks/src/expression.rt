@@ -20,10 +20,10 @@ pub fn expression_mask<P: TermMasks>(
     part: &mut P,
     range: u32,
 ) -> Result<u64, SegFault>
-    ensures keeps { Keeps P.documents P.faults P.sound P.quiet part.old part.new }
+    ensures keeps { Keeps P.documents P.faults P.sound P.intact P.quiet part.old part.new }
     ensures exact { P.sound part.old → IfOk result (IsMask (may (expr_tree expr.now)) range (P.documents part.old)) }
     ensures each { P.sound part.old → IfOk result (HasEachDocument (expr_tree expr.now) range (P.documents part.old)) }
-    ensures honest { P.sound part.old → IfErr result IsOutside }
+    ensures honest { P.intact part.old → IfErr result IsOutside }
     ensures undamaged { OnOk result (P.damage part.new ≡ P.damage part.old) }
     ensures damaged { IfErr result (TellsDamage (P.damage part.old) (P.damage part.new)) }
     ensures store { result ≡ Err SegFault.Store → Rose (P.faults part.old) (P.faults part.new) }
@@ -38,9 +38,9 @@ fn mask_of<P: TermMasks>(
     part: &mut P,
     range: u32,
 ) -> Result<u64, SegFault>
-    ensures keeps { Keeps P.documents P.faults P.sound P.quiet part.old part.new }
+    ensures keeps { Keeps P.documents P.faults P.sound P.intact P.quiet part.old part.new }
     ensures exact { P.sound part.old → IfOk result (IsMask (may (expr_tree expr.now)) range (P.documents part.old)) }
-    ensures honest { P.sound part.old → IfErr result IsOutside }
+    ensures honest { P.intact part.old → IfErr result IsOutside }
     ensures undamaged { OnOk result (P.damage part.new ≡ P.damage part.old) }
     ensures damaged { IfErr result (TellsDamage (P.damage part.old) (P.damage part.new)) }
     ensures store { result ≡ Err SegFault.Store → Rose (P.faults part.old) (P.faults part.new) }
@@ -64,9 +64,9 @@ fn mask_of_each<P: TermMasks>(
     part: &mut P,
     range: u32,
 ) -> Result<u64, SegFault>
-    ensures keeps { Keeps P.documents P.faults P.sound P.quiet part.old part.new }
+    ensures keeps { Keeps P.documents P.faults P.sound P.intact P.quiet part.old part.new }
     ensures exact { P.sound part.old → IfOk result (IsMask (λ d. list_all (λ x. may (expr_tree x) d) all.now) range (P.documents part.old)) }
-    ensures honest { P.sound part.old → IfErr result IsOutside }
+    ensures honest { P.intact part.old → IfErr result IsOutside }
     ensures undamaged { OnOk result (P.damage part.new ≡ P.damage part.old) }
     ensures damaged { IfErr result (TellsDamage (P.damage part.old) (P.damage part.new)) }
     ensures store { result ≡ Err SegFault.Store → Rose (P.faults part.old) (P.faults part.new) }
@@ -90,9 +90,9 @@ fn mask_of_some<P: TermMasks>(
     part: &mut P,
     range: u32,
 ) -> Result<u64, SegFault>
-    ensures keeps { Keeps P.documents P.faults P.sound P.quiet part.old part.new }
+    ensures keeps { Keeps P.documents P.faults P.sound P.intact P.quiet part.old part.new }
     ensures exact { P.sound part.old → IfOk result (IsMask (λ d. list_any (λ x. may (expr_tree x) d) all.now) range (P.documents part.old)) }
-    ensures honest { P.sound part.old → IfErr result IsOutside }
+    ensures honest { P.intact part.old → IfErr result IsOutside }
     ensures undamaged { OnOk result (P.damage part.new ≡ P.damage part.old) }
     ensures damaged { IfErr result (TellsDamage (P.damage part.old) (P.damage part.new)) }
     ensures store { result ≡ Err SegFault.Store → Rose (P.faults part.old) (P.faults part.new) }

@@ -5,9 +5,9 @@ ghost use Rattle.ri_base.specs.Documents.{Document};
 ghost use Rattle.ri_base.specs.Faults.{IsOutside, TellsDamage};
 ghost use Rattle.ri_base.specs.Keeps.{Rose};
 ghost use Rattle.store_ends.specs.Files.{Files, IsQuiet};
-ghost use Rattle.disk_index.specs.Cache.{CacheKeeps, IsCacheBacked};
+ghost use Rattle.disk_index.specs.Cache.{CacheKeeps, IsCacheBacked, IsBlockOf};
 ghost use Rattle.disk_index.specs.Faults.{ArePlacesIn, IsRangeFault, IsTermReadable};
-ghost use Rattle.disk_index.specs.Reads.{IsBacked};
+ghost use Rattle.disk_index.specs.Reads.{IsBacked, IsIntact};
 ghost use Rattle.range_masks.specs.Held.{AreBlocksOf, FitDocuments, HasAll, IsEntryOf, block_in};
 
 use crate::RangeBlocks;
@@ -38,9 +38,9 @@ pub(crate) fn open_on_disk<T: Store, L: Ledger>(
     ensures fits { IfOk result (FitDocuments index.now.outlines) }
     ensures opened { IfOk result (λ held. blocks.new ≡ blocks.old + held.opened) }
     ensures cost { blocks.new ≤ blocks.old + length terms.now }
-    ensures honest { (docs : List Document) → IsBacked (T.files store.old) index.now docs → IfErr result IsOutside }
+    ensures honest { (docs : List Document) → IsBacked (T.files store.old) index.now docs → IsIntact (T.files store.old) index.now.number → IfErr result IsOutside }
     ensures fault { (f : Files) → T.files store.old ≡ Some f → IfErr result (IsRangeFault f index.now.number) }
-    ensures cache { CacheKeeps (T.files store.old) (λ n. n ≡ index.now.number) cache.old cache.new }
+    ensures cache { CacheKeeps (T.files store.old) (IsBlockOf index.now) cache.old cache.new }
     ensures undamaged { OnOk result (cache.new.damage ≡ cache.old.damage) }
     ensures damaged { IfErr result (TellsDamage cache.old.damage cache.new.damage) }
     ensures quiet { IsQuiet T.files T.layers T.clock T.since T.longest T.held store.old store.new }
@@ -76,9 +76,9 @@ fn open_block<T: Store, L: Ledger>(
     ensures fits { FitDocuments index.now.outlines held.old → OnOk result (FitDocuments index.now.outlines held.new) }
     ensures opened { OnOk result (blocks.new + held.old.opened ≡ blocks.old + held.new.opened) }
     ensures cost { blocks.new ≤ blocks.old + 1 }
-    ensures honest { (docs : List Document) → IsBacked (T.files store.old) index.now docs → IfErr result IsOutside }
+    ensures honest { (docs : List Document) → IsBacked (T.files store.old) index.now docs → IsIntact (T.files store.old) index.now.number → IfErr result IsOutside }
     ensures fault { (f : Files) → T.files store.old ≡ Some f → IfErr result (IsRangeFault f index.now.number) }
-    ensures cache { CacheKeeps (T.files store.old) (λ n. n ≡ index.now.number) cache.old cache.new }
+    ensures cache { CacheKeeps (T.files store.old) (IsBlockOf index.now) cache.old cache.new }
     ensures undamaged { OnOk result (cache.new.damage ≡ cache.old.damage) }
     ensures damaged { IfErr result (TellsDamage cache.old.damage cache.new.damage) }
     ensures quiet { IsQuiet T.files T.layers T.clock T.since T.longest T.held store.old store.new }

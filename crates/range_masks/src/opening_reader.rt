@@ -52,7 +52,7 @@ impl<'a, T: Store> OpeningReader<'a, T> {
 impl<'a, T: Store> Postings for OpeningReader<'a, T> {
     ghost use Rattle.std.specs.Prelude.{◌≡◌, ◌⊎◌};
     ghost use Rattle.disk_index.specs.Cache.{IsCacheBacked};
-    ghost use Rattle.disk_index.specs.Parts.{IsPartBacked, IsQuietReader, IsReadableOf, reads, source_of};
+    ghost use Rattle.disk_index.specs.Parts.{IsPartBacked, IsPartIntact, IsQuietReader, IsReadableOf, reads, source_of};
     ghost use Rattle.range_masks.specs.Held.{AreAnswersOf, IsAnswered};
 
     ghost documents = { λ s. reads (T.files s.store.now) (source_of s.part.now) };
@@ -60,6 +60,8 @@ impl<'a, T: Store> Postings for OpeningReader<'a, T> {
     ghost faults = { λ s. T.faults s.store.now };
 
     ghost sound = { λ s. IsPartBacked (T.files s.store.now) (source_of s.part.now) × IsCacheBacked (T.files s.store.now) s.cache.now × AreAnswersOf (reads (T.files s.store.now) (source_of s.part.now)) s.held.now };
+
+    ghost intact = { λ s. IsPartIntact (T.files s.store.now) (source_of s.part.now) × IsCacheBacked (T.files s.store.now) s.cache.now × AreAnswersOf (reads (T.files s.store.now) (source_of s.part.now)) s.held.now };
 
     ghost quiet = { λ r s. IsQuietReader T.files T.layers T.clock T.since T.longest T.held T.faults (source_of r.part.now) (source_of s.part.now) r.store.ghost_name s.store.ghost_name r.cache.ghost_name s.cache.ghost_name r.store.now s.store.now r.cache.now s.cache.now × s.held.now ≡ r.held.now × s.held.ghost_name ≡ r.held.ghost_name };
 
@@ -91,7 +93,9 @@ impl<'a, T: Store> Postings for OpeningReader<'a, T> {
     }
 
     ghost use Rattle.std.proofs.Common.{refl, ◌∙◌};
-    ghost use Rattle.disk_index.specs.QuietLaws.{IsQuietReader-readable, IsQuietReader-same, IsQuietReader-then};
+    ghost use Rattle.disk_index.specs.QuietLaws.{IsPartIntact-backed, IsQuietReader-readable, IsQuietReader-same, IsQuietReader-then};
+
+    ghost intact_sound = { λ s here. (IsPartIntact-backed (T.files s.store.now) (source_of s.part.now) here.0, here.1, here.2) };
 
     ghost quiet_same = { λ s. (IsQuietReader-same _ _ _ _ _ _ _ _ _ _ _ _, refl, refl) };
 

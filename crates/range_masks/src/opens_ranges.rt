@@ -29,14 +29,14 @@ pub trait OpensRanges: TermMasks {
         range: u32,
         blocks: &mut Steps<L>,
     ) -> Result<usize, SegFault>
-        ensures keeps { Keeps Self.documents Self.faults Self.sound calm self.old self.new }
+        ensures keeps { Keeps Self.documents Self.faults Self.sound Self.intact calm self.old self.new }
         ensures present { OnOk result (present self.new ≡ range) }
         ensures holds { Self.sound self.old → OnOk result ((present self.old ≡ range → ⊥) → holds self.new terms.now) }
         ensures told { OnOk result ((present self.old ≡ range → ⊥) → All (λ t. (id : ℕ) → id / 64 ≡ range → Self.told self.old t id) terms.now) }
         ensures opened { IfOk result (λ count. blocks.new ≡ blocks.old + count) }
         ensures none { present self.old ≡ range → blocks.new ≡ blocks.old }
         ensures cost { blocks.new ≤ blocks.old + length terms.now }
-        ensures honest { Self.sound self.old → IfErr result IsOutside }
+        ensures honest { Self.intact self.old → IfErr result IsOutside }
         ensures undamaged { OnOk result (Self.damage self.new ≡ Self.damage self.old) }
         ensures damaged { IfErr result (TellsDamage (Self.damage self.old) (Self.damage self.new)) }
         ensures store { result ≡ Err SegFault.Store → Rose (Self.faults self.old) (Self.faults self.new) };

@@ -7,10 +7,10 @@ ghost use Rattle.ri_base.specs.Faults.{IsOutside, TellsDamage};
 ghost use Rattle.ri_base.specs.Keeps.{Rose};
 ghost use Rattle.store_ends.specs.Files.{IsQuiet};
 ghost use Rattle.disk_index.specs.Blocks.{block_of};
-ghost use Rattle.disk_index.specs.Cache.{CacheKeeps, IsCacheBacked};
+ghost use Rattle.disk_index.specs.Cache.{CacheKeeps, IsCacheBacked, IsBlockOf};
 ghost use Rattle.disk_index.specs.Faults.{IsTermReadable};
-ghost use Rattle.disk_index.specs.Parts.{IsFileOf, IsPartBacked, IsReadableIn, reads, source_of};
-ghost use Rattle.disk_index.specs.Reads.{IsBacked};
+ghost use Rattle.disk_index.specs.Parts.{IsFileOf, IsPartBacked, IsReadableIn, reads, source_of, IsPartIntact};
+ghost use Rattle.disk_index.specs.Reads.{IsBacked, IsIntact};
 ghost use Rattle.range_masks.specs.Masks.{IsMask};
 ghost use Rattle.range_masks.specs.May.{has_term};
 
@@ -52,7 +52,7 @@ pub(crate) fn mask_in_part<T: Store>(
     ensures exact { IsPartBacked (T.files store.old) (source_of part.now) → IsCacheBacked (T.files store.old) cache.old
         → IfOk result (IsMask (has_term term.now) range (reads (T.files store.old) (source_of part.now))) }
     ensures told { IfOk result (λ _. IsReadableIn (T.files store.old) cache.old (source_of part.now) term.now range) }
-    ensures honest { IsPartBacked (T.files store.old) (source_of part.now) → IfErr result IsOutside }
+    ensures honest { IsPartIntact (T.files store.old) (source_of part.now) → IfErr result IsOutside }
     ensures cache { CacheKeeps (T.files store.old) (IsFileOf (source_of part.now)) cache.old cache.new }
     ensures undamaged { OnOk result (cache.new.damage ≡ cache.old.damage) }
     ensures damaged { IfErr result (TellsDamage cache.old.damage cache.new.damage) }
@@ -78,8 +78,8 @@ fn mask_on_disk<T: Store>(
     ensures exact { (docs : List Document) → IsBacked (T.files store.old) index.now docs → IsCacheBacked (T.files store.old) cache.old
         → IfOk result (IsMask (has_term term.now) range docs) }
     ensures told { IfOk result (λ _. IsTermReadable (T.files store.old) cache.old index.now term.now range) }
-    ensures honest { (docs : List Document) → IsBacked (T.files store.old) index.now docs → IfErr result IsOutside }
-    ensures cache { CacheKeeps (T.files store.old) (λ n. n ≡ index.now.number) cache.old cache.new }
+    ensures honest { (docs : List Document) → IsBacked (T.files store.old) index.now docs → IsIntact (T.files store.old) index.now.number → IfErr result IsOutside }
+    ensures cache { CacheKeeps (T.files store.old) (IsBlockOf index.now) cache.old cache.new }
     ensures undamaged { OnOk result (cache.new.damage ≡ cache.old.damage) }
     ensures damaged { IfErr result (TellsDamage cache.old.damage cache.new.damage) }
     ensures quiet { IsQuiet T.files T.layers T.clock T.since T.longest T.held store.old store.new }
@@ -109,8 +109,8 @@ pub(crate) fn range_block<T: Store, L: Ledger>(
     ensures exact { (docs : List Document) → IsBacked (T.files store.old) index.now docs → IsCacheBacked (T.files store.old) cache.old
         → IfOk result (λ block. block ≡ block_of term.now range docs) }
     ensures told { IfOk result (λ _. IsTermReadable (T.files store.old) cache.old index.now term.now range) }
-    ensures honest { (docs : List Document) → IsBacked (T.files store.old) index.now docs → IfErr result IsOutside }
-    ensures cache { CacheKeeps (T.files store.old) (λ n. n ≡ index.now.number) cache.old cache.new }
+    ensures honest { (docs : List Document) → IsBacked (T.files store.old) index.now docs → IsIntact (T.files store.old) index.now.number → IfErr result IsOutside }
+    ensures cache { CacheKeeps (T.files store.old) (IsBlockOf index.now) cache.old cache.new }
     ensures undamaged { OnOk result (cache.new.damage ≡ cache.old.damage) }
     ensures damaged { IfErr result (TellsDamage cache.old.damage cache.new.damage) }
     ensures quiet { IsQuiet T.files T.layers T.clock T.since T.longest T.held store.old store.new }

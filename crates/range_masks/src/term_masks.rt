@@ -15,23 +15,23 @@ use std::alloc::Global;
 pub trait TermMasks: Postings {
     /// Which documents of the range have the term: bit i is that of the document with the id `64 * range + i`.
     fn term_mask(&mut self, alloc: Global, term: &Term, range: u32) -> Result<u64, SegFault>
-        ensures keeps { Keeps Self.documents Self.faults Self.sound Self.quiet self.old self.new }
+        ensures keeps { Keeps Self.documents Self.faults Self.sound Self.intact Self.quiet self.old self.new }
         ensures exact { Self.sound self.old → IfOk result (IsMask (has_term term.now) range (Self.documents self.old)) }
 
         // Also of a part that isn't sound, it was told of the term in each document of the range, so no malformed block is passed by.
         ensures told { IfOk result (λ _. (id : ℕ) → id / 64 ≡ range → Self.told self.old term.now id) }
 
-        ensures honest { Self.sound self.old → IfErr result IsOutside }
+        ensures honest { Self.intact self.old → IfErr result IsOutside }
         ensures undamaged { OnOk result (Self.damage self.new ≡ Self.damage self.old) }
         ensures damaged { IfErr result (TellsDamage (Self.damage self.old) (Self.damage self.new)) }
         ensures store { result ≡ Err SegFault.Store → Rose (Self.faults self.old) (Self.faults self.new) };
 
     /// How many places the term has at most in one document of the range.
     fn most_places(&mut self, alloc: Global, term: &Term, range: u32) -> Result<usize, SegFault>
-        ensures keeps { Keeps Self.documents Self.faults Self.sound Self.quiet self.old self.new }
+        ensures keeps { Keeps Self.documents Self.faults Self.sound Self.intact Self.quiet self.old self.new }
         ensures exact { Self.sound self.old → IfOk result (λ most. most ≡ most_places term.now range (Self.documents self.old)) }
         ensures told { IfOk result (λ _. (id : ℕ) → id / 64 ≡ range → Self.told self.old term.now id) }
-        ensures honest { Self.sound self.old → IfErr result IsOutside }
+        ensures honest { Self.intact self.old → IfErr result IsOutside }
         ensures undamaged { OnOk result (Self.damage self.new ≡ Self.damage self.old) }
         ensures damaged { IfErr result (TellsDamage (Self.damage self.old) (Self.damage self.new)) }
         ensures store { result ≡ Err SegFault.Store → Rose (Self.faults self.old) (Self.faults self.new) };

@@ -5,8 +5,8 @@ ghost use Rattle.ri_base.specs.Keeps.{Rose};
 ghost use Rattle.store_ends.specs.Files.{IsQuiet};
 ghost use Rattle.query_check.specs.Leaves.{leaf_tree};
 ghost use Rattle.disk_index.specs.Cache.{CacheKeeps, IsCacheBacked};
-ghost use Rattle.disk_index.specs.Parts.{IsFileOf, IsPartBacked, reads, source_of};
-ghost use Rattle.disk_index.specs.Snapshots.{AreBacked, IsFileAmong};
+ghost use Rattle.disk_index.specs.Parts.{IsFileOf, IsPartBacked, reads, source_of, IsPartIntact};
+ghost use Rattle.disk_index.specs.Snapshots.{AreBacked, IsFileAmong, AreIntact};
 ghost use Rattle.range_bounds.specs.Tables.{AreTablesOf, IsTableOf};
 
 use crate::table_of;
@@ -27,7 +27,7 @@ fn part_table<T: Store>(
 ) -> Result<RangeTable, SegFault>
     ensures exact { IsPartBacked (T.files store.old) (source_of part.now) → IsCacheBacked (T.files store.old) cache.old
         → IfOk result (IsTableOf (map leaf_tree leaves.now) (reads (T.files store.old) (source_of part.now))) }
-    ensures honest { IsPartBacked (T.files store.old) (source_of part.now) → IsCacheBacked (T.files store.old) cache.old → IfErr result IsOutside }
+    ensures honest { IsPartIntact (T.files store.old) (source_of part.now) → IsCacheBacked (T.files store.old) cache.old → IfErr result IsOutside }
     ensures cache { CacheKeeps (T.files store.old) (IsFileOf (source_of part.now)) cache.old cache.new }
     ensures undamaged { OnOk result (cache.new.damage ≡ cache.old.damage) }
     ensures damaged { IfErr result (TellsDamage cache.old.damage cache.new.damage) }
@@ -50,7 +50,7 @@ pub fn tables<T: Store>(
     ensures exact { AreBacked (T.files store.old) parts.now → IsCacheBacked (T.files store.old) cache.old
         → IfOk result (λ tables. AreTablesOf (map leaf_tree leaves.now) (map (λ m. reads (T.files store.old) m.source) parts.now) tables.items) }
     ensures each { IfOk result (λ tables. length tables.items ≡ length parts.now) }
-    ensures honest { AreBacked (T.files store.old) parts.now → IsCacheBacked (T.files store.old) cache.old → IfErr result IsOutside }
+    ensures honest { AreIntact (T.files store.old) parts.now → IsCacheBacked (T.files store.old) cache.old → IfErr result IsOutside }
     ensures cache { CacheKeeps (T.files store.old) (IsFileAmong parts.now) cache.old cache.new }
     ensures undamaged { OnOk result (cache.new.damage ≡ cache.old.damage) }
     ensures damaged { IfErr result (TellsDamage cache.old.damage cache.new.damage) }

@@ -26,9 +26,9 @@ pub fn table_of<P: TermMasks>(
     part: &mut P,
     leaves: &[LeafKind],
 ) -> Result<RangeTable, SegFault>
-    ensures keeps { Keeps P.documents P.faults P.sound P.quiet part.old part.new }
+    ensures keeps { Keeps P.documents P.faults P.sound P.intact P.quiet part.old part.new }
     ensures exact { P.sound part.old → IfOk result (IsTableOf (map leaf_tree leaves.now) (P.documents part.old)) }
-    ensures honest { P.sound part.old → IfErr result IsOutside }
+    ensures honest { P.intact part.old → IfErr result IsOutside }
     ensures undamaged { OnOk result (P.damage part.new ≡ P.damage part.old) }
     ensures damaged { IfErr result (TellsDamage (P.damage part.old) (P.damage part.new)) }
     ensures store { result ≡ Err SegFault.Store → Rose (P.faults part.old) (P.faults part.new) }
@@ -50,10 +50,10 @@ fn all_counts<P: TermMasks>(
     names: &[Name],
 ) -> Result<Vec<Option<RangeCounts>>, SegFault>
     requires { AskFor terms.now names.now (map leaf_tree leaves.now) }
-    ensures keeps { Keeps P.documents P.faults P.sound P.quiet part.old part.new }
+    ensures keeps { Keeps P.documents P.faults P.sound P.intact P.quiet part.old part.new }
     ensures exact { P.sound part.old → IfOk result
         (λ ranges. AreAllCounts (map leaf_tree leaves.now) terms.now names.now (P.documents part.old) ranges.items) }
-    ensures honest { P.sound part.old → IfErr result IsOutside }
+    ensures honest { P.intact part.old → IfErr result IsOutside }
     ensures undamaged { OnOk result (P.damage part.new ≡ P.damage part.old) }
     ensures damaged { IfErr result (TellsDamage (P.damage part.old) (P.damage part.new)) }
     ensures store { result ≡ Err SegFault.Store → Rose (P.faults part.old) (P.faults part.new) }
@@ -93,10 +93,10 @@ fn told_of<P: TermMasks>(
 ) -> Result<Option<RangeCounts>, SegFault>
     requires asked { AskFor terms.now names.now (map leaf_tree leaves.now) }
     requires range { 64 * range < length (P.documents part.old) }
-    ensures keeps { Keeps P.documents P.faults P.sound P.quiet part.old part.new }
+    ensures keeps { Keeps P.documents P.faults P.sound P.intact P.quiet part.old part.new }
     ensures exact { P.sound part.old → AreAbsentTo (map leaf_tree leaves.now) (P.documents part.old) range next → IfOk result
         (TellsRange (map leaf_tree leaves.now) terms.now names.now (range_documents (P.documents part.old) range)) }
-    ensures honest { P.sound part.old → IfErr result IsOutside }
+    ensures honest { P.intact part.old → IfErr result IsOutside }
     ensures undamaged { OnOk result (P.damage part.new ≡ P.damage part.old) }
     ensures damaged { IfErr result (TellsDamage (P.damage part.old) (P.damage part.new)) }
     ensures store { result ≡ Err SegFault.Store → Rose (P.faults part.old) (P.faults part.new) }
@@ -119,10 +119,10 @@ fn range_counts<P: TermMasks>(
 ) -> Result<RangeCounts, SegFault>
     requires asked { AskFor terms.now names.now (map leaf_tree leaves.now) }
     requires range { 64 * range < length (P.documents part.old) }
-    ensures keeps { Keeps P.documents P.faults P.sound P.quiet part.old part.new }
+    ensures keeps { Keeps P.documents P.faults P.sound P.intact P.quiet part.old part.new }
     ensures exact { P.sound part.old → IfOk result
         (AreCountsOf (map leaf_tree leaves.now) terms.now names.now (range_documents (P.documents part.old) range)) }
-    ensures honest { P.sound part.old → IfErr result IsOutside }
+    ensures honest { P.intact part.old → IfErr result IsOutside }
     ensures undamaged { OnOk result (P.damage part.new ≡ P.damage part.old) }
     ensures damaged { IfErr result (TellsDamage (P.damage part.old) (P.damage part.new)) }
     ensures store { result ≡ Err SegFault.Store → Rose (P.faults part.old) (P.faults part.new) }

@@ -3,11 +3,11 @@ use Rattle.std.proofs.Common.{◌≡◌, ◌≤◌, ◌<◌, ℕ, ◌+◌, nat_l
 use Rattle.std.proofs.lemmas.Bool.Decides.{nat_tests}
 use Rattle.ri_base.specs.Documents.{Document}
 use Rattle.store_ends.specs.Files.{Files}
-use Rattle.disk_index.specs.Cache.{Cached, IsCacheBacked}
-use Rattle.disk_index.specs.Parts.{IsFileOf, IsPartBacked, Source, outlines_of, reads}
+use Rattle.disk_index.specs.Cache.{Cached, IsCacheBacked, KeptBlock}
+use Rattle.disk_index.specs.Parts.{IsFileOf, IsPartBacked, IsPartIntact, Source, outlines_of, reads}
 use Rattle.disk_index.specs.QuietLaws.{CacheKeeps-after, CacheKeeps-same, IsQuiet-same, IsQuiet-then}
 use Rattle.disk_index.specs.Snapshots.{AreBacked, IsFileAmong, Marked}
-use Rattle.disk_index.proofs.AmongLemmas.{backed-at, blocks-among, docs-of, sound-of}
+use Rattle.disk_index.proofs.AmongLemmas.{backed-at, blocks-among, docs-of, intact-of, sound-of}
 use Rattle.range_masks.specs.Held.{AreAnswersOf, FitDocuments, Held}
 use Rattle.ranker.specs.Blocks.{AreReadAt, AreReadBy}
 use Rattle.ranker.specs.Passed.{behind, nothing_known, part_at}
@@ -26,6 +26,14 @@ pub sound-by : (told here : Option Files) (source own : Source) (cached kept : C
     → AreReadBy told (reads told source) cached was → IsPartBacked here own × IsCacheBacked here kept × AreAnswersOf (reads here own) held
 sound-by told here source own cached kept was held same_told same_part same_cache same_held part read =
     let base = sound-of told here source own cached kept same_told same_part same_cache part read.cache in
+    let docs = docs-of told here source own same_told same_part in
+    (base.0, base.1, subst (λ (ds : List Document). AreAnswersOf ds held) (sym docs) (subst (AreAnswersOf (reads told source)) (sym same_held) read.held))
+
+-- the same where the file of its part is read as it was put
+pub intact-by : (told here : Option Files) (source own : Source) (cached kept : Cached) (was held : Held) → here ≡ told → own ≡ source → kept ≡ cached → held ≡ was → IsPartIntact told source
+    → AreReadBy told (reads told source) cached was → IsPartIntact here own × IsCacheBacked here kept × AreAnswersOf (reads here own) held
+intact-by told here source own cached kept was held same_told same_part same_cache same_held part read =
+    let base = intact-of told here source own cached kept same_told same_part same_cache part read.cache in
     let docs = docs-of told here source own same_told same_part in
     (base.0, base.1, subst (λ (ds : List Document). AreAnswersOf ds held) (sym docs) (subst (AreAnswersOf (reads told source)) (sym same_held) read.held))
 
@@ -82,7 +90,7 @@ read-at told parts at m kept held is read = subst (λ (p : Marked). AreReadBy to
 -- ---- what reading leaves, over several calls
 
 module _ {S : Type 0} (files : S → Option Files) (layers : S → Option (List Files)) (clock : S → ℕ) (since : S → ℕ → Files → Type 0) (longest : S → ℕ) (held : S → List ℕ) (faults : S → ℕ) where
-  module _ (IsOwn : ℕ → Type 0) (AreOwn : Option Files → Type 0) where
+  module _ (IsOwn : KeptBlock → Type 0) (AreOwn : Option Files → Type 0) where
     abbrev Reads : Source → Source → S → S → Cached → Cached → Held → Held → Type 0
     Reads p q s t c d was now = OnlyReads files layers clock since longest held faults IsOwn AreOwn p q s t c d was now
 

@@ -11,7 +11,7 @@ ghost use Rattle.belief_nodes.specs.Leaves.{HasPrior};
 ghost use Rattle.belief_nodes.specs.Network.{NetworkTree, network_tree};
 ghost use Rattle.belief_nodes.specs.Priors.{Prior};
 ghost use Rattle.disk_index.specs.Parts.{outlines_of};
-ghost use Rattle.disk_index.specs.Snapshots.{AreBacked, IsFileAmong, IsSnapshot, live};
+ghost use Rattle.disk_index.specs.Snapshots.{AreBacked, IsFileAmong, IsSnapshot, live, AreIntact};
 ghost use Rattle.range_masks.specs.Held.{FitDocuments};
 ghost use Rattle.ranker.specs.Blocks.{AreReadAt};
 ghost use Rattle.ranker.specs.First.{scale_of};
@@ -84,7 +84,7 @@ pub fn advance<T: Store, F: Fn(u32, u32, u64, u64) -> Fraction, L: Ledger, B: Le
     ensures squared { OnOk result (RiseAlike squares.old squares.new numbers.old.squared numbers.new.squared) }
     ensures counted { OnOk result (RiseAlike blocks.old blocks.new numbers.old.opened numbers.new.opened) }
     ensures stay { map (λ plug. meaning plug) plugs.new ≡ map (λ plug. meaning plug) plugs.old }
-    ensures honest { AreBacked (T.files store.old) parts.now → AreReadAt (T.files store.old) parts.now at.old cache.old read.old → IfErr result IsOutside }
+    ensures honest { AreIntact (T.files store.old) parts.now → AreReadAt (T.files store.old) parts.now at.old cache.old read.old → IfErr result IsOutside }
     ensures undamaged { OnOk result (cache.new.damage ≡ cache.old.damage) }
     ensures damaged { IfErr result (TellsDamage cache.old.damage cache.new.damage) }
     ensures store { result ≡ Err SegFault.Store → Rose (T.faults store.old) (T.faults store.new) }

@@ -85,13 +85,13 @@ pub fn masked<P: TermMasks>(
     id: u32,
     ahead: Ahead,
 ) -> Result<Ahead, SegFault>
-    ensures keeps { Keeps P.documents P.faults P.sound P.quiet part.old part.new }
+    ensures keeps { Keeps P.documents P.faults P.sound P.intact P.quiet part.old part.new }
     ensures ahead { P.sound part.old → IsSpan (length (P.documents part.old)) id ahead → is_clear ahead.mask ≡ false
         → IsAhead (map filter_tree filters.now) (network_tree network.now).leaves (P.documents part.old) id ahead
         → IfOk result (IsAhead (map filter_tree filters.now) (network_tree network.now).leaves (P.documents part.old) id) }
     ensures end { IfOk result (λ to. to.end ≡ ahead.end) }
     ensures bound { IfOk result (λ to. to.bound ≡ ahead.bound) }
-    ensures honest { P.sound part.old → IfErr result IsOutside }
+    ensures honest { P.intact part.old → IfErr result IsOutside }
     ensures undamaged { OnOk result (P.damage part.new ≡ P.damage part.old) }
     ensures damaged { IfErr result (TellsDamage (P.damage part.old) (P.damage part.new)) }
     ensures store { result ≡ Err SegFault.Store → Rose (P.faults part.old) (P.faults part.new) }

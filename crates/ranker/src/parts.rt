@@ -55,7 +55,7 @@ fn pass_masked<P: TermMasks, F: Fn(u32, u32, u64, u64) -> Fraction, L: Ledger>(
     requires shown { is_range (network_tree network.now).range ≡ true }
     requires plugs { All (HasPrior (length plugs.old)) (network_tree network.now).leaves }
     requires end { id < ahead.end }
-    ensures keeps { Keeps P.documents P.faults P.sound P.quiet part.old part.new }
+    ensures keeps { Keeps P.documents P.faults P.sound P.intact P.quiet part.old part.new }
     ensures first { P.sound part.old → IsAhead (map filter_tree filters.now) (network_tree network.now).leaves (P.documents part.old) id ahead → IfOk result (λ to.
         Advances rule.now.kind (map (λ plug. meaning plug) plugs.old) (map filter_tree filters.now) (network_tree network.now) (unmarked (take id (P.documents part.old)) marks.now) (unmarked (take to.id (P.documents part.old)) marks.now) (counted first.old squares.old 0) (counted first.new squares.new 0)) }
     ensures within { P.sound part.old → IsAhead (map filter_tree filters.now) (network_tree network.now).leaves (P.documents part.old) id ahead
@@ -70,7 +70,7 @@ fn pass_masked<P: TermMasks, F: Fn(u32, u32, u64, u64) -> Fraction, L: Ledger>(
     ensures same { IfOk result (λ to. to.ahead ≡ ahead) }
     ensures squared { OnOk result (RiseAlike squares.old squares.new squared.old squared.new) }
     ensures stay { map (λ plug. meaning plug) plugs.new ≡ map (λ plug. meaning plug) plugs.old }
-    ensures honest { P.sound part.old → IfErr result IsOutside }
+    ensures honest { P.intact part.old → IfErr result IsOutside }
     ensures undamaged { OnOk result (P.damage part.new ≡ P.damage part.old) }
     ensures damaged { IfErr result (TellsDamage (P.damage part.old) (P.damage part.new)) }
     ensures store { result ≡ Err SegFault.Store → Rose (P.faults part.old) (P.faults part.new) }
@@ -118,7 +118,7 @@ fn pass_open<P: TermMasks, F: Fn(u32, u32, u64, u64) -> Fraction, L: Ledger>(
     requires plugs { All (HasPrior (length plugs.old)) (network_tree network.now).leaves }
     requires some { id < ahead.end }
     requires open { is_clear ahead.mask ≡ false }
-    ensures keeps { Keeps P.documents P.faults P.sound P.quiet part.old part.new }
+    ensures keeps { Keeps P.documents P.faults P.sound P.intact P.quiet part.old part.new }
     ensures work { P.sound part.old → (before : List Document) (count : ℕ) →
         let s = sought rule.now.kind (map (λ plug. meaning plug) plugs.old) (map filter_tree filters.now) (network_tree network.now) tables.now count in let m = stretch number before (P.documents part.old) marks.now in
         IsKnownIn s m id ahead → ScoresIn s m id ahead first.old first.new squares.old squares.new result }
@@ -129,7 +129,7 @@ fn pass_open<P: TermMasks, F: Fn(u32, u32, u64, u64) -> Fraction, L: Ledger>(
     ensures inside { IfOk result (λ to. to.id ≤ ahead.end) }
     ensures squared { OnOk result (RiseAlike squares.old squares.new squared.old squared.new) }
     ensures stay { map (λ plug. meaning plug) plugs.new ≡ map (λ plug. meaning plug) plugs.old }
-    ensures honest { P.sound part.old → IfErr result IsOutside }
+    ensures honest { P.intact part.old → IfErr result IsOutside }
     ensures undamaged { OnOk result (P.damage part.new ≡ P.damage part.old) }
     ensures damaged { IfErr result (TellsDamage (P.damage part.old) (P.damage part.new)) }
     ensures store { result ≡ Err SegFault.Store → Rose (P.faults part.old) (P.faults part.new) }
@@ -170,7 +170,7 @@ fn pass_opened<P: OpensRanges, F: Fn(u32, u32, u64, u64) -> Fraction, L: Ledger,
     requires plugs { All (HasPrior (length plugs.old)) (network_tree network.now).leaves }
     requires some { id < ahead.end }
     requires open { is_clear ahead.mask ≡ false }
-    ensures keeps { Keeps P.documents P.faults P.sound P.calm part.old part.new }
+    ensures keeps { Keeps P.documents P.faults P.sound P.intact P.calm part.old part.new }
     ensures work { P.sound part.old → (before : List Document) (count : ℕ) →
         let s = sought rule.now.kind (map (λ plug. meaning plug) plugs.old) (map filter_tree filters.now) (network_tree network.now) tables.now count in let m = stretch number before (P.documents part.old) marks.now in
         IsKnownIn s m id ahead → ScoresIn s m id ahead first.old first.new squares.old squares.new result }
@@ -182,7 +182,7 @@ fn pass_opened<P: OpensRanges, F: Fn(u32, u32, u64, u64) -> Fraction, L: Ledger,
     ensures squared { OnOk result (RiseAlike squares.old squares.new spent.old.squared spent.new.squared) }
     ensures counted { OnOk result (RiseAlike blocks.old blocks.new spent.old.opened spent.new.opened) }
     ensures stay { map (λ plug. meaning plug) plugs.new ≡ map (λ plug. meaning plug) plugs.old }
-    ensures honest { P.sound part.old → IfErr result IsOutside }
+    ensures honest { P.intact part.old → IfErr result IsOutside }
     ensures undamaged { OnOk result (P.damage part.new ≡ P.damage part.old) }
     ensures damaged { IfErr result (TellsDamage (P.damage part.old) (P.damage part.new)) }
     ensures store { result ≡ Err SegFault.Store → Rose (P.faults part.old) (P.faults part.new) }
@@ -226,7 +226,7 @@ fn pass_on<P: OpensRanges, F: Fn(u32, u32, u64, u64) -> Fraction, L: Ledger, B: 
     requires marks { length marks.now ≡ length (P.documents part.old) }
     requires shown { is_range (network_tree network.now).range ≡ true }
     requires plugs { All (HasPrior (length plugs.old)) (network_tree network.now).leaves }
-    ensures keeps { Keeps P.documents P.faults P.sound P.calm part.old part.new }
+    ensures keeps { Keeps P.documents P.faults P.sound P.intact P.calm part.old part.new }
     ensures work { P.sound part.old → (before : List Document) (count : ℕ) →
         let s = sought rule.now.kind (map (λ plug. meaning plug) plugs.old) (map filter_tree filters.now) (network_tree network.now) tables.now count in let m = stretch number before (P.documents part.old) marks.now in
         IsKnownIn s m id ahead → PassesIn s (length terms.now) m id ahead first.old first.new (tally (P.present part.old) squares.old blocks.old) (tally (P.present part.new) squares.new blocks.new) result }
@@ -236,7 +236,7 @@ fn pass_on<P: OpensRanges, F: Fn(u32, u32, u64, u64) -> Fraction, L: Ledger, B: 
     ensures squared { OnOk result (RiseAlike squares.old squares.new spent.old.squared spent.new.squared) }
     ensures counted { OnOk result (RiseAlike blocks.old blocks.new spent.old.opened spent.new.opened) }
     ensures stay { map (λ plug. meaning plug) plugs.new ≡ map (λ plug. meaning plug) plugs.old }
-    ensures honest { P.sound part.old → IfErr result IsOutside }
+    ensures honest { P.intact part.old → IfErr result IsOutside }
     ensures undamaged { OnOk result (P.damage part.new ≡ P.damage part.old) }
     ensures damaged { IfErr result (TellsDamage (P.damage part.old) (P.damage part.new)) }
     ensures store { result ≡ Err SegFault.Store → Rose (P.faults part.old) (P.faults part.new) }
@@ -289,7 +289,7 @@ pub fn pass_part<P: OpensRanges, F: Fn(u32, u32, u64, u64) -> Fraction, L: Ledge
     requires marks { length marks.now ≡ length (P.documents part.old) }
     requires shown { is_range (network_tree network.now).range ≡ true }
     requires plugs { All (HasPrior (length plugs.old)) (network_tree network.now).leaves }
-    ensures keeps { Keeps P.documents P.faults P.sound P.calm part.old part.new }
+    ensures keeps { Keeps P.documents P.faults P.sound P.intact P.calm part.old part.new }
     ensures work { P.sound part.old → (before : List Document) (count : ℕ) →
         let s = sought rule.now.kind (map (λ plug. meaning plug) plugs.old) (map filter_tree filters.now) (network_tree network.now) tables.now count in let m = stretch number before (P.documents part.old) marks.now in
         IsKnownIn s m id ahead → PassesIn s (length terms.now) m id ahead first.old first.new (tally (P.present part.old) squares.old blocks.old) (tally (P.present part.new) squares.new blocks.new) result }
@@ -299,7 +299,7 @@ pub fn pass_part<P: OpensRanges, F: Fn(u32, u32, u64, u64) -> Fraction, L: Ledge
     ensures squared { OnOk result (RiseAlike squares.old squares.new spent.old.squared spent.new.squared) }
     ensures counted { OnOk result (RiseAlike blocks.old blocks.new spent.old.opened spent.new.opened) }
     ensures stay { map (λ plug. meaning plug) plugs.new ≡ map (λ plug. meaning plug) plugs.old }
-    ensures honest { P.sound part.old → IfErr result IsOutside }
+    ensures honest { P.intact part.old → IfErr result IsOutside }
     ensures undamaged { OnOk result (P.damage part.new ≡ P.damage part.old) }
     ensures damaged { IfErr result (TellsDamage (P.damage part.old) (P.damage part.new)) }
     ensures store { result ≡ Err SegFault.Store → Rose (P.faults part.old) (P.faults part.new) }

@@ -5,7 +5,7 @@ ghost use Rattle.ri_base.specs.Query.{is_range};
 ghost use Rattle.store_ends.specs.Files.{Files};
 ghost use Rattle.belief_nodes.specs.Network.{network_tree};
 ghost use Rattle.disk_index.specs.Parts.{outlines_of};
-ghost use Rattle.disk_index.specs.Snapshots.{live};
+ghost use Rattle.disk_index.specs.Snapshots.{live, AreIntact};
 ghost use Rattle.range_masks.specs.Held.{FitDocuments};
 ghost use Rattle.ranker.specs.Held.{HoldsEntries, is_open};
 ghost use Rattle.ranker.specs.Passed.{IsBareTo, IsPlace, part_at};
@@ -164,7 +164,7 @@ impl Search {
         ensures same { IsSameSearch self.old self.new }
         ensures usable { self.new.usable ≡ is_ok result }
         ensures stay { map (λ plug. meaning plug) plugs.new ≡ map (λ plug. meaning plug) plugs.old }
-        ensures honest { AreBacked (T.files store.old) self.old.snapshot → IsCacheBacked (T.files store.old) cache.old → told_by (T.files store.old) self.old → IfErr result IsOutside }
+        ensures honest { AreIntact (T.files store.old) self.old.snapshot → IsCacheBacked (T.files store.old) cache.old → told_by (T.files store.old) self.old → IfErr result IsOutside }
         ensures cache { CacheKeeps (T.files store.old) (IsFileAmong self.old.snapshot) cache.old cache.new }
         ensures undamaged { OnOk result (cache.new.damage ≡ cache.old.damage) }
         ensures damaged { IfErr result (TellsDamage cache.old.damage cache.new.damage) }
@@ -244,7 +244,7 @@ impl Search {
         ensures same { IsSameSearch self.old self.new }
         ensures usable { self.new.usable ≡ is_ok result }
         ensures stay { map (λ plug. meaning plug) plugs.new ≡ map (λ plug. meaning plug) plugs.old }
-        ensures honest { AreBacked (T.files store.old) self.old.snapshot → IsCacheBacked (T.files store.old) cache.old → told_by (T.files store.old) self.old → IfErr result IsOutside }
+        ensures honest { AreIntact (T.files store.old) self.old.snapshot → IsCacheBacked (T.files store.old) cache.old → told_by (T.files store.old) self.old → IfErr result IsOutside }
         ensures cache { CacheKeeps (T.files store.old) (IsFileAmong self.old.snapshot) cache.old cache.new }
         ensures undamaged { OnOk result (cache.new.damage ≡ cache.old.damage) }
         ensures damaged { IfErr result (TellsDamage cache.old.damage cache.new.damage) }
@@ -288,7 +288,7 @@ impl Search {
         ensures same { IsSameSearch self.old self.new }
         ensures usable { self.new.usable ≡ is_ok result }
         ensures stay { map (λ plug. meaning plug) plugs.new ≡ map (λ plug. meaning plug) plugs.old }
-        ensures honest { AreBacked (T.files store.old) self.old.snapshot → IsCacheBacked (T.files store.old) cache.old → told_by (T.files store.old) self.old → IfErr result IsOutside }
+        ensures honest { AreIntact (T.files store.old) self.old.snapshot → IsCacheBacked (T.files store.old) cache.old → told_by (T.files store.old) self.old → IfErr result IsOutside }
         ensures cache { CacheKeeps (T.files store.old) (IsFileAmong self.old.snapshot) cache.old cache.new }
         ensures undamaged { OnOk result (cache.new.damage ≡ cache.old.damage) }
         ensures damaged { IfErr result (TellsDamage cache.old.damage cache.new.damage) }

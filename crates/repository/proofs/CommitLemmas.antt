@@ -8,7 +8,7 @@ use Rattle.std.proofs.lemmas.List.Elements.{All-cons, All-head, All-nil, All-pus
 use Rattle.std.proofs.lemmas.List.Sums.{sum_by-cons}
 use Rattle.ri_base.specs.Collection.{token_count}
 use Rattle.ri_base.specs.Documents.{Document}
-use Rattle.store_ends.specs.Files.{Files, Leaves, OldOrNew, SameWhere, with_file}
+use Rattle.store_ends.specs.Files.{Files, Leaves, OldOrNew, SameWhere, whole, with_file}
 use Rattle.store_ends.proofs.Files.{SameWhere-at, SameWhere-changed, SameWhere-fewer, SameWhere-same, SameWhere-step, SameWhere-told, with_file-same}
 use Rattle.manifest.specs.Listing.{AreNumbered, AreRising, IsListing, listing, prior_numbers}
 use Rattle.manifest.specs.Spelling.{manifest_text}
@@ -17,11 +17,12 @@ use Rattle.manifest.proofs.ListingLaws.{manifest-of}
 use Rattle.seg_codec.specs.Segment.{segment}
 use Rattle.disk_index.specs.Kept.{Kept}
 use Rattle.disk_index.specs.Names.{segment_name}
-use Rattle.disk_index.specs.Parts.{InMemory, IsPartBacked, OnDisk, Source, reads, size}
-use Rattle.disk_index.specs.Reads.{HasSegment, IsBacked as IsKeptBacked}
+use Rattle.disk_index.specs.Parts.{InMemory, IsPartBacked, IsPartIntact, OnDisk, Source, reads, size}
+use Rattle.disk_index.specs.Reads.{HasSegment, IsBacked as IsKeptBacked, IsIntact}
 use Rattle.disk_index.specs.Snapshots as snapshots
 use Rattle.disk_index.specs.Snapshots.{Marked, documents_held, unmarked}
 use Rattle.disk_index.specs.declared.limits.TheConstants.{MAX_HELD_DOCS}
+use Rattle.disk_index.proofs.BackedLemmas.{put-segment}
 use Rattle.disk_index.proofs.RebuiltLemmas.{reads-backed, reads-length}
 use Rattle.holdings.specs.Contents.{Contents}
 use Rattle.holdings.specs.MarkedParts.{IsWhole, docnos_of, filled, tokens_held, tokens_in}
@@ -35,9 +36,10 @@ use Rattle.repository.specs.Names.{manifest_name, prior_name}
 use Rattle.repository.specs.Numbers.{is_among}
 use Rattle.repository.specs.Saved.{AllSaved, Holds, IsSaved, SavedSource}
 use Rattle.repository.specs.Stands.{Collection, HasManifest, IsListed, IsPriorListed, Prior, Stands, live_listed, marks_from}
-use Rattle.repository.specs.States.{IsBacked, IsNumbered, ReadsAs, State, kept_numbers, listed_numbers, numbers_in, part_numbers}
+use Rattle.repository.specs.States.{IsBacked, IsNumbered, IsStateIntact, ReadsAs, State, kept_numbers, listed_numbers, numbers_in, part_numbers}
 use Rattle.repository.specs.Writes.{IsBeside, IsEither, IsOther, IsSavedAs, Wrote, Writes}
-use Rattle.repository.proofs.FrameLemmas.{AreWithin, has-same, parts-within, priors-same, priors-within, stands-same}
+use Rattle.repository.proofs.FrameLemmas.{AreWithin, has-same, intact-same, parts-within, priors-same, priors-within, stands-same}
+use Rattle.repository.proofs.IntactLemmas.{has-moved, intact-moved, intact-put}
 use Rattle.repository.proofs.ListedLemmas.{IsStored, listing-now, marks-back, numbers-entries}
 use Rattle.repository.proofs.NameLemmas.{prior_name-manifest, segment_name-manifest}
 use Rattle.repository.proofs.SaveLemmas.{numbers-kept, numbers-sealed}
@@ -50,7 +52,7 @@ abbrev pub IsNotManifest : List ℕ → Type 0
 IsNotManifest name = name ≡ manifest_name → ⊥
 
 pub replaced-others : (b c : Option Files) (bytes : List ℕ) → c ≡ option_map (with_file manifest_name (Some bytes)) b → SameWhere IsNotManifest b c
-replaced-others b c bytes put = SameWhere-changed IsNotManifest manifest_name (Some bytes) b b c (λ other. other refl) (SameWhere-same IsNotManifest b) put
+replaced-others b c bytes put = SameWhere-changed IsNotManifest manifest_name (whole (Some bytes)) b b c (λ other. other refl) (SameWhere-same IsNotManifest b) put
 
 -- ---- one part
 
@@ -60,6 +62,7 @@ pub record IsThere (a c : Option Files) (p q : Marked) : Type 0 where
   pub source : q.source ≡ OnDisk kept
   pub backed : IsKeptBacked c kept (reads a p.source)
   pub marks : q.marks ≡ p.marks
+  pub intact : IsPartIntact a p.source → IsIntact c kept.number
 
 module _ (a c : Option Files) where
   pub there-reads : (p q : Marked) → IsThere a c p q → reads c q.source ≡ reads a p.source
@@ -78,6 +81,9 @@ module _ (a c : Option Files) where
 
   pub there-part : (p q : Marked) → IsThere a c p q → IsPartBacked c q.source
   there-part p q there = subst (IsPartBacked c) (sym there.source) (reads a p.source, there.backed)
+
+  there-intact : (p q : Marked) → IsThere a c p q → IsPartIntact a p.source → IsPartIntact c q.source
+  there-intact p q there intact = subst (IsPartIntact c) (sym there.source) ((reads a p.source, there.backed), there.intact intact)
 
   there-unmarked : (p q : Marked) → IsThere a c p q → IsWhole p → unmarked (reads a p.source) (marks_from 0 (length (reads a p.source)) (entry_for q).marks) ≡ unmarked (reads a p.source) p.marks
   there-unmarked p q there whole =
@@ -100,6 +106,14 @@ module _ (a c : Option Files) where
   all-parts [] (q ∷ qs) all = absurd all
   all-parts (p ∷ ps) [] all = absurd all
   all-parts (p ∷ ps) (q ∷ qs) all = All-cons (λ (m : Marked). IsPartBacked c m.source) q qs (there-part p q all.0) (all-parts ps qs all.1)
+
+  pub all-intact : (ps qs : List Marked) → AllZip (IsThere a c) ps qs → All (λ (m : Marked). IsPartIntact a m.source) ps → All (λ (m : Marked). IsPartIntact c m.source) qs
+  all-intact [] [] all intact = All-nil _
+  all-intact [] (q ∷ qs) all intact = absurd all
+  all-intact (p ∷ ps) [] all intact = absurd all
+  all-intact (p ∷ ps) (q ∷ qs) all intact =
+      All-cons (λ (m : Marked). IsPartIntact c m.source) q qs (there-intact p q all.0 (All-head (λ (m : Marked). IsPartIntact a m.source) p ps intact))
+      (all-intact ps qs all.1 (All-tail (λ (m : Marked). IsPartIntact a m.source) p ps intact))
 
   pub all-live : (ps qs : List Marked) → AllZip (IsThere a c) ps qs → snapshots.live c qs ≡ snapshots.live a ps
   all-live [] [] all = refl
@@ -153,22 +167,26 @@ module _ (a c : Option Files) where
 
 module _ (a b c : Option Files) (f : Files) (told : c ≡ Some f) (own : ℕ → Type 0) (kept : List ℕ) (clear : (n : ℕ) → own n → is_among n kept ≡ false) (same : SameWhere (IsOther own) a b)
     (others : SameWhere IsNotManifest b c) (taken : List ℕ) where
-  held-file : (n : ℕ) (bytes : List ℕ) → Holds (segment_name n) bytes b → f (segment_name n) ≡ Some bytes
+  held-file : (n : ℕ) (bytes : List ℕ) → Holds (segment_name n) bytes b → f (segment_name n) ≡ whole (Some bytes)
   held-file n bytes held = by b refl held others
     where
-      by : (x : Option Files) → x ≡ b → Holds (segment_name n) bytes x → SameWhere IsNotManifest x c → f (segment_name n) ≡ Some bytes
+      by : (x : Option Files) → x ≡ b → Holds (segment_name n) bytes x → SameWhere IsNotManifest x c → f (segment_name n) ≡ whole (Some bytes)
       by None e h o = absurd (subst (SameWhere IsNotManifest None) told o)
       by (Some g) e h o =
           let s : SameWhere IsNotManifest (Some g) (Some f) = subst (SameWhere IsNotManifest (Some g)) told o in
           s (segment_name n) (λ m. segment_name-manifest n (sym m)) ∙ h
 
+  file-behind : (n : ℕ) (g : Files) → b ≡ Some g → f (segment_name n) ≡ g (segment_name n)
+  file-behind n g is = SameWhere-at IsNotManifest b c g f (segment_name n) others is told (λ m. segment_name-manifest n (sym m))
+
   has-behind : (n : ℕ) (docs : List Document) → HasSegment b n docs → HasSegment c n docs
-  has-behind n docs h = record {
-    files = f;
-    is_told = told;
-    file = held-file n (segment docs) (subst (Holds (segment_name n) (segment docs)) (sym h.is_told) h.file);
-    part = h.part;
-  }
+  has-behind n docs h = has-moved b c f n docs h told (file-behind n h.files h.is_told)
+
+  -- the file of a part that was on disk is read as it was put, where it was
+  intact-behind : (n : ℕ) (g : Files) → a ≡ Some g → is_among n kept ≡ true → n < 2 ^ 64 → IsIntact a n → IsIntact c n
+  intact-behind n g is among small intact =
+      let t = SameWhere-told (IsOther own) a b g same is in
+      intact-moved b c t.0 f n t.1 told (file-behind n t.0 t.1) (intact-same own kept clear a b same n g is among small intact)
 
   pub part-there : (p q : Marked) → AreWithin kept (numbers_in p.source) → IsPartBacked a p.source → IsSaved b taken p q → IsOnDisk q.source → IsThere a c p q
   part-there p q within backed saved stored = by p.source q.source refl refl within backed saved.1 stored
@@ -176,16 +194,25 @@ module _ (a b c : Option Files) (f : Files) (told : c ≡ Some f) (own : ℕ →
       by : (s t : Source) → s ≡ p.source → t ≡ q.source → AreWithin kept (numbers_in s) → IsPartBacked a s → SavedSource b taken s t → IsOnDisk t → IsThere a c p q
       by s (InMemory docs) es et w back save onto = absurd onto
       by (InMemory docs) (OnDisk k) es et w back save onto =
-          let has : HasSegment c k.number docs = record { files = f; is_told = told; file = held-file k.number (segment docs) save.1.1.1.1; part = save.1.0 } in
+          let file : f (segment_name k.number) ≡ whole (Some (segment docs)) = held-file k.number (segment docs) save.1.1.1.1.0 in
+          let has : HasSegment c k.number docs = put-segment c f k.number docs told file save.1.0 save.1.1.1.1.1 in
           let is : IsKeptBacked c k docs = record { has = has; same = save.0 } in
-          record { kept = k; source = sym et; backed = subst (λ (x : Source). IsKeptBacked c k (reads a x)) es is; marks = saved.0 }
+          record { kept = k; source = sym et; backed = subst (λ (x : Source). IsKeptBacked c k (reads a x)) es is; marks = saved.0; intact = λ _. intact-put c f k.number (Some (segment docs)) told file }
       by (OnDisk j) (OnDisk k) es et w back save onto =
           let n = w j.number (among-own j.number []) in
           let has : HasSegment c j.number back.0 = has-behind j.number back.0 (has-same own kept clear a b same j.number back.0 n.0 n.1 back.1.has) in
           let is : IsKeptBacked c j back.0 = record { has = has; same = back.1.same } in
           let reads-is : reads a (OnDisk j) ≡ back.0 = reads-backed a j back.0 back.1 in
           let one : IsKeptBacked c j (reads a p.source) = subst (λ (ds : List Document). IsKeptBacked c j ds) (sym (ap (reads a) (sym es) ∙ reads-is)) is in
-          record { kept = k; source = sym et; backed = subst (λ (x : Kept). IsKeptBacked c x (reads a p.source)) (sym save) one; marks = saved.0 }
+          record {
+            kept = k;
+            source = sym et;
+            backed = subst (λ (x : Kept). IsKeptBacked c x (reads a p.source)) (sym save) one;
+            marks = saved.0;
+            intact = λ i.
+                let before : IsPartIntact a (OnDisk j) = subst (IsPartIntact a) (sym es) i in
+                subst (λ (x : Kept). IsIntact c x.number) (sym save) (intact-behind j.number back.1.has.files back.1.has.is_told n.0 n.1 before.1);
+          }
 
   pub parts-there : (ps qs : List Marked) → AreWithin kept (part_numbers ps) → All (λ (m : Marked). IsPartBacked a m.source) ps → AllZip (IsSaved b taken) ps qs → All IsStored qs → AllZip (IsThere a c) ps qs
   parts-there [] [] within backed saved stored = tt
@@ -233,6 +260,10 @@ tokens-whole q e = let more = sum-push tokens_in q.closed (filled q.filling q.ma
 backed-by : (a : Option Files) (p : Parts) (docs : List Document) → All (λ (m : Marked). IsPartBacked a m.source) p.closed → All (λ (m : Marked). IsPartBacked a m.source) (closed_by p docs).closed
 backed-by a p [] backed = backed
 backed-by a p (d ∷ docs) backed = All-push (λ (m : Marked). IsPartBacked a m.source) p.closed (filled p.filling p.marks) backed tt
+
+intact-by : (a : Option Files) (p : Parts) (docs : List Document) → All (λ (m : Marked). IsPartIntact a m.source) p.closed → All (λ (m : Marked). IsPartIntact a m.source) (closed_by p docs).closed
+intact-by a p [] intact = intact
+intact-by a p (d ∷ docs) intact = All-push (λ (m : Marked). IsPartIntact a m.source) p.closed (filled p.filling p.marks) intact tt
 
 -- ---- all is saved and listed
 
@@ -323,6 +354,9 @@ module _ (a b c : Option Files) (s : State) (k : Contents) (after : ℕ) (stale 
       priors = (backed.priors.0, priors-now backed.priors.0 backed.priors.1);
     }
 
+    pub intact-now : IsStateIntact a s → IsStateIntact c (state_of s k after stale)
+    intact-now intact = all-intact a c closed-now k.parts.closed there (intact-by a s.held.parts s.held.parts.filling intact)
+
     live-now : live c k.parts ≡ live a s.held.parts
     live-now =
         live-whole c k.parts filling-now ∙ all-live a c closed-now k.parts.closed there ∙ sym (live-whole a (sealed s.held.parts) sealed-filling) ∙ live-sealed a s.held.parts
@@ -379,6 +413,7 @@ module _ (a b c : Option Files) (s : State) (k : Contents) (after : ℕ) (stale 
     reads = λ d backed read. reads-now (filed a s backed) d read;
     stands = λ d backed read. stands-now (filed a s backed) d read;
     backed = λ backed. backed-now (filed a s backed);
+    intact = λ backed intact. intact-now (filed a s backed) intact;
   }
 
 -- ---- while it goes on

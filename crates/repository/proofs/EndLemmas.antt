@@ -28,16 +28,16 @@ use Rattle.repository.specs.States.{IsNumbered, IsSized, ReadsAs, State, kept_nu
 use Rattle.repository.specs.Ties.{Begins, IsTied}
 use Rattle.repository.specs.Writes.{IsOther}
 use Rattle.repository.specs.declared.turned.Turned.TheVariants.{Done}
-use Rattle.repository.proofs.CommitLemmas.{AreFiled, AreFit, backed-now, documents-whole, filed, filling-by, limits-now, listed_text, live-whole, reads-now, stands-now, state_of, tokens-whole, unlisted-clear}
+use Rattle.repository.proofs.CommitLemmas.{AreFiled, AreFit, backed-now, documents-whole, filed, filling-by, intact-now, limits-now, listed_text, live-whole, reads-now, stands-now, state_of, tokens-whole, unlisted-clear}
 use Rattle.repository.proofs.CountLemmas.{count, count-append, count-none, count-stale, counted-numbered, fewer-numbered, none-count}
-use Rattle.repository.proofs.ExchangeLemmas.{backed-exchanged, documents-exchanged, drop-sealed, live-exchanged, numbers-exchanged, numbers-halves, sized-exchanged, tokens-exchanged}
+use Rattle.repository.proofs.ExchangeLemmas.{backed-exchanged, documents-exchanged, drop-sealed, intact-exchanged, live-exchanged, numbers-exchanged, numbers-halves, sized-exchanged, tokens-exchanged}
 use Rattle.repository.proofs.KeepLemmas.{alike-sealed, begins-numbers}
 use Rattle.repository.proofs.ListedLemmas.{all-listed, listing-now, numbers-entries, stale-listed}
 use Rattle.repository.proofs.NumberLemmas.{among-behind, among-either, among-left, below-next, clash, free-of, none-among, none-of, none-right, numbered-apart}
 use Rattle.repository.proofs.SaveLemmas.{numbers-kept, numbers-sealed, sized-sealed, source-outlines}
 use Rattle.repository.proofs.SetLemmas.{rising-short}
 use Rattle.repository.proofs.StaleLemmas.{rising-stale}
-use Rattle.repository.proofs.StepLemmas.{backed-closed}
+use Rattle.repository.proofs.StepLemmas.{backed-closed, intact-closed}
 use Rattle.repository.proofs.TieLemmas.{begins-length, tied-closed}
 
 -- ---- numbers become stale
@@ -258,6 +258,9 @@ module _ (s : State) (job : Merging) (h : Contents) (stale : List ℕ) (numbered
       reads = λ d read. reads-now a b c (state_exchanged s h stale) k after stale others (IsUnlisted (listed_numbers s)) clear-now same saved end-form fit put (filed-now a merging) (without_dead_of (Some job) d) (reads-now-exchanged a merging d read);
       backed = backed-now a b c (state_exchanged s h stale) k after stale others (IsUnlisted (listed_numbers s)) clear-now same saved end-form fit put (filed-now a merging);
       merging = no-merge c s.merge (state_of (state_exchanged s h stale) k after stale) none;
+      intact = λ intact.
+          intact-now a b c (state_exchanged s h stale) k after stale others (IsUnlisted (listed_numbers s)) clear-now same saved end-form fit put (filed-now a merging)
+          (intact-exchanged job old h.parts.closed ex begins whole a (intact-closed a s intact));
       stands = λ _ d read. end-stands c put merging d read;
     }
 

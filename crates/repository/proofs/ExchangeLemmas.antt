@@ -13,7 +13,7 @@ use Rattle.ri_base.specs.declared.limits.TheConstants.{MAX_PART_DOCS}
 use Rattle.seg_codec.specs.Segment.{entry_of}
 use Rattle.seg_codec.specs.declared.documents.Entry.{Entry}
 use Rattle.store_ends.specs.Files.{Files}
-use Rattle.disk_index.specs.Parts.{IsPartBacked, Source, outlines_of, reads, size}
+use Rattle.disk_index.specs.Parts.{IsPartBacked, IsPartIntact, Source, outlines_of, reads, size}
 use Rattle.disk_index.specs.Snapshots.{Marked, documents_held, live, live_in, unmarked}
 use Rattle.disk_index.proofs.AlikeLemmas.{map-unmarked, outlines-reads, size-alike, tokens-outlines}
 use Rattle.disk_index.proofs.RebuiltLemmas.{reads-length}
@@ -73,6 +73,10 @@ live-held told (n ∷ ns) = ap (λ (l : List Document). unmarked n.docs n.marks 
 numbers-new : (news : List MergedPart) → part_numbers (map held_part news) ≡ []
 numbers-new [] = refl
 numbers-new (n ∷ ns) = numbers-new ns
+
+intact-new : (told : Option Files) (news : List MergedPart) → All (λ (m : Marked). IsPartIntact told m.source) (map held_part news)
+intact-new told [] = All-nil _
+intact-new told (n ∷ ns) = All-cons (λ (m : Marked). IsPartIntact told m.source) (held_part n) (map held_part ns) tt (intact-new told ns)
 
 pub backed-new : (told : Option Files) (news : List MergedPart) → All (λ (m : Marked). IsPartBacked told m.source) (map held_part news)
 backed-new told [] = All-nil _
@@ -232,6 +236,11 @@ module _ (m : Merging) (old new : List Marked) (ex : IsExchange m old new) (begi
   backed-exchanged told backed =
       subst (All (λ (x : Marked). IsPartBacked told x.source)) (sym ex.parts)
       (All-append (λ (x : Marked). IsPartBacked told x.source) (map held_part ex.news) (drop n old) (backed-new told ex.news) (All-drop (λ (x : Marked). IsPartBacked told x.source) n old backed))
+
+  pub intact-exchanged : (told : Option Files) → All (λ (x : Marked). IsPartIntact told x.source) old → All (λ (x : Marked). IsPartIntact told x.source) new
+  intact-exchanged told intact =
+      subst (All (λ (x : Marked). IsPartIntact told x.source)) (sym ex.parts)
+      (All-append (λ (x : Marked). IsPartIntact told x.source) (map held_part ex.news) (drop n old) (intact-new told ex.news) (All-drop (λ (x : Marked). IsPartIntact told x.source) n old intact))
 
   pub numbers-exchanged : part_numbers new ≡ part_numbers (drop n old)
   numbers-exchanged =

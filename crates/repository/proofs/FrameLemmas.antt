@@ -1,5 +1,5 @@
 -- Where only files of other numbers change, files stand for what they stood for, and parts read as they did.
-use Rattle.std.proofs.Common.{◌≡◌, ◌<◌, ◌^◌, ℕ, true, false, List, [], ◌∷◌, ◌++◌, Option, sym, ap, subst, ◌∙◌, arith}
+use Rattle.std.proofs.Common.{◌≡◌, ◌<◌, ◌^◌, ℕ, true, false, List, [], ◌∷◌, ◌++◌, Option, Some, sym, ap, subst, ◌∙◌, arith}
 use Rattle.std.specs.List.{AllZip}
 use Rattle.ri_base.specs.Documents.{Document}
 use Rattle.store_ends.specs.Files.{Files, SameWhere}
@@ -11,7 +11,7 @@ use Rattle.manifest.specs.declared.manifest.PriorEntry.{PriorEntry}
 use Rattle.manifest.specs.declared.manifest.SegEntry.{SegEntry}
 use Rattle.manifest.proofs.ListingLaws.{listing-of}
 use Rattle.disk_index.specs.Names.{segment_name}
-use Rattle.disk_index.specs.Reads.{HasSegment}
+use Rattle.disk_index.specs.Reads.{HasSegment, IsIntact}
 use Rattle.disk_index.proofs.NameLemmas.{segment_name-injective}
 use Rattle.holdings.specs.declared.limits.Limits.{Limits}
 use Rattle.repository.specs.Names.{manifest_name, prior_name}
@@ -19,6 +19,7 @@ use Rattle.repository.specs.Numbers.{is_among}
 use Rattle.repository.specs.Stands.{Collection, HasManifest, IsListed, IsPriorListed, Prior, Stands}
 use Rattle.repository.specs.States.{IsBacked, State, kept_numbers, part_numbers}
 use Rattle.repository.specs.Writes.{IsOther}
+use Rattle.repository.proofs.IntactLemmas.{has-moved, intact-moved}
 use Rattle.repository.proofs.ManifestLemmas.{HasManifest-same}
 use Rattle.repository.proofs.NameLemmas.{prior_name-injective, prior_name-manifest, segment_name-manifest, segment_name-prior}
 use Rattle.repository.proofs.NumberLemmas.{among-behind, among-left, among-own, among-right, below-next, clash}
@@ -50,12 +51,12 @@ module _ (own : ℕ → Type 0) (kept : List ℕ) (clear : (n : ℕ) → own n �
     pub has-same : (n : ℕ) (docs : List Document) → is_among n kept ≡ true → n < 2 ^ 64 → HasSegment a n docs → HasSegment b n docs
     has-same n docs among small h =
         let t = SameWhere-told (IsOther own) a b h.files same h.is_told in
-        record {
-          files = t.0;
-          is_told = t.1;
-          file = SameWhere-at (IsOther own) a b h.files t.0 (segment_name n) same h.is_told t.1 (other-segment n small among) ∙ h.file;
-          part = h.part;
-        }
+        has-moved a b t.0 n docs h t.1 (SameWhere-at (IsOther own) a b h.files t.0 (segment_name n) same h.is_told t.1 (other-segment n small among))
+
+    pub intact-same : (n : ℕ) (f : Files) → a ≡ Some f → is_among n kept ≡ true → n < 2 ^ 64 → IsIntact a n → IsIntact b n
+    intact-same n f told among small intact =
+        let t = SameWhere-told (IsOther own) a b f same told in
+        intact-moved a b f t.0 n told t.1 (SameWhere-at (IsOther own) a b f t.0 (segment_name n) same told t.1 (other-segment n small among)) intact
 
     listed-same : (es : List SegEntry) (dss : List (List Document)) → AreWithin kept (numbers_of es) → AllZip (IsListed a) es dss → AllZip (IsListed b) es dss
     listed-same [] [] within all = tt

@@ -9,6 +9,7 @@ pub mod FirstLemmas
 pub mod FlushLemmas
 pub mod FrameLemmas
 pub mod GoingLemmas
+pub mod IntactLemmas
 pub mod KeepLemmas
 pub mod ListedLemmas
 pub mod ManifestLemmas

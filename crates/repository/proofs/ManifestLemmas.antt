@@ -8,7 +8,7 @@ use Rattle.ri_base.specs.Faults.{IsOutside}
 use Rattle.ri_base.specs.declared.seg_fault.FileName.TheVariants as names
 use Rattle.ri_base.specs.declared.seg_fault.PartName.TheVariants as parts
 use Rattle.ri_base.specs.declared.seg_fault.SegFault.{SegFault}
-use Rattle.store_ends.specs.Files.{Files, Leaves, LeavesNoMore, OldOrNew, with_file}
+use Rattle.store_ends.specs.Files.{File, Files, Leaves, LeavesNoMore, OldOrNew, whole, with_file}
 use Rattle.store_ends.proofs.Files.{Leaves-same, Leaves-then, with_file-same}
 use Rattle.manifest.specs.Files.{manifest}
 use Rattle.manifest.specs.Fits.{IsManifest}
@@ -20,7 +20,7 @@ use Rattle.manifest.proofs.ManifestLaws.{manifest_again}
 use Rattle.holdings.specs.declared.limits.Limits.{Limits}
 use Rattle.repository.specs.Names.{manifest_name}
 use Rattle.repository.specs.Opening.{IsManifestFault}
-use Rattle.repository.specs.Stands.{HasManifest, IsStarted, Stands, empty_collection, empty_manifest}
+use Rattle.repository.specs.Stands.{HasManifest, IsManifestRead, IsStarted, Stands, empty_collection, empty_manifest}
 use Rattle.repository.proofs.PartLemmas.{one-read, unbroken}
 
 pub some_same : {A : Type 0} (x y : A) → Some x ≡ Some y → x ≡ y
@@ -43,7 +43,7 @@ unfolding IsDistinct
 none-twice = tt
 
 -- files with it stand for a collection in which nothing is
-pub Stands-empty : (limits : Limits) (told : Option Files) (f : Files) → told ≡ Some f → f manifest_name ≡ Some (manifest_text empty_manifest) → Stands limits told empty_collection
+pub Stands-empty : (limits : Limits) (told : Option Files) (f : Files) → told ≡ Some f → f manifest_name ≡ whole (Some (manifest_text empty_manifest)) → Stands limits told empty_collection
 Stands-empty limits told f is file = record {
   list = empty_manifest;
   has = record { files = f; is_told = is; file = file; form = empty-form };
@@ -84,33 +84,40 @@ changed-created a b c bytes files text changed =
 
 -- ---- what a store tells of the manifest
 
-pub told_there : (told : Option Files) (f : Files) (name other : List ℕ) (n : Option ℕ) → told ≡ Some f → name ≡ other → IfSome told (λ g. n ≡ option_map length (g name)) → is_some n ≡ is_some (f other)
+pub told_there : (told : Option Files) (f : Files) (name other : List ℕ) (n : Option ℕ) → told ≡ Some f → name ≡ other → IfSome told (λ g. n ≡ option_map length (g name).read) → is_some n ≡ is_some (f other).read
 told_there None f name other n is same h = absurd cc
 told_there (Some g) f name other n is same h =
-    ap (λ (o : Option ℕ). is_some o) (subst (λ (o : Option Files). IfSome o (λ g. n ≡ option_map length (g name))) is h ∙ ap (λ (l : List ℕ). option_map length (f l)) same) ∙ by (f other)
+    ap (λ (o : Option ℕ). is_some o) (subst (λ (o : Option Files). IfSome o (λ g. n ≡ option_map length (g name).read)) is h ∙ ap (λ (l : List ℕ). option_map length (f l).read) same) ∙ by (f other).read
   where
     by : (o : Option (List ℕ)) → is_some (option_map (λ (l : List ℕ). length l) o) ≡ is_some o
     by None = refl
     by (Some l) = refl
 
-pub told_file_is : {X : Type 0} (view : X → List ℕ) (told : Option Files) (f : Files) (name other : List ℕ) (o : Option X) → told ≡ Some f → name ≡ other → IfSome told (λ g. option_map view o ≡ g name) → option_map view o ≡ f other
+pub told_file_is : {X : Type 0} (view : X → List ℕ) (told : Option Files) (f : Files) (name other : List ℕ) (o : Option X) → told ≡ Some f → name ≡ other → IfSome told (λ g. option_map view o ≡ (g name).read) → option_map view o ≡ (f other).read
 told_file_is view None f name other o is same h = absurd cc
-told_file_is view (Some g) f name other o is same h = subst (λ (t : Option Files). IfSome t (λ g. option_map view o ≡ g name)) is h ∙ ap f same
+told_file_is view (Some g) f name other o is same h = subst (λ (t : Option Files). IfSome t (λ g. option_map view o ≡ (g name).read)) is h ∙ ap (λ (l : List ℕ). (f l).read) same
 
 -- ---- one manifest
 
 manifest-same : (a b : Manifest) → IsManifest a → IsManifest b → manifest_text a ≡ manifest_text b → a ≡ b
 manifest-same a b fit other same = one-read (manifest (manifest_text b)) a b (ap manifest (sym same) ∙ manifest_again a fit) (manifest_again b other)
 
-pub HasManifest-same : (told : Option Files) (a b : Manifest) → HasManifest told a → HasManifest told b → a ≡ b
-HasManifest-same told a b x y =
+-- what was put is read
+pub manifest-read : (told : Option Files) (list : Manifest) → HasManifest told list → IsManifestRead told list
+manifest-read told list has = record { files = has.files; is_told = has.is_told; file = ap (λ (f : File). f.read) has.file; form = has.form }
+
+pub IsManifestRead-same : (told : Option Files) (a b : Manifest) → IsManifestRead told a → IsManifestRead told b → a ≡ b
+IsManifestRead-same told a b x y =
     let files : x.files ≡ y.files = some_same _ _ (sym x.is_told ∙ y.is_told) in
-    let text : manifest_text a ≡ manifest_text b = some_same _ _ (sym x.file ∙ ap (λ (f : Files). f manifest_name) files ∙ y.file) in
+    let text : manifest_text a ≡ manifest_text b = some_same _ _ (sym x.file ∙ ap (λ (f : Files). (f manifest_name).read) files ∙ y.file) in
     manifest-same a b x.form y.form text
 
+pub HasManifest-same : (told : Option Files) (a b : Manifest) → HasManifest told a → HasManifest told b → a ≡ b
+HasManifest-same told a b x y = IsManifestRead-same told a b (manifest-read told a x) (manifest-read told b y)
+
 -- its bytes aren't refused
-pub honest-manifest : (told : Option Files) (list : Manifest) (f : Files) (fault : SegFault) → HasManifest told list → told ≡ Some f → IsManifestFault f fault → IsOutside fault
+pub honest-manifest : (told : Option Files) (list : Manifest) (f : Files) (fault : SegFault) → IsManifestRead told list → told ≡ Some f → IsManifestFault f fault → IsOutside fault
 honest-manifest told list f fault has is bad =
     let files : has.files ≡ f = some_same _ _ (sym has.is_told ∙ is) in
-    let bytes : bad.0 ≡ manifest_text list = some_same _ _ (sym bad.1 ∙ ap (λ (g : Files). g manifest_name) (sym files) ∙ has.file) in
+    let bytes : bad.0 ≡ manifest_text list = some_same _ _ (sym bad.1 ∙ ap (λ (g : Files). (g manifest_name).read) (sym files) ∙ has.file) in
     unbroken fault (manifest bad.0) names.Manifest parts.Manifest (length bad.0) list bad.2 (ap manifest bytes ∙ manifest_again list has.form)

@@ -10,7 +10,7 @@ use Rattle.ri_base.specs.Collection.{token_count}
 use Rattle.ri_base.specs.Documents.{Document}
 use Rattle.ri_base.specs.Faults.{IsOutside}
 use Rattle.ri_base.specs.declared.seg_fault.SegFault.{SegFault}
-use Rattle.store_ends.specs.Files.{Files}
+use Rattle.store_ends.specs.Files.{File, Files}
 use Rattle.manifest.specs.Files.{numbers_of}
 use Rattle.manifest.specs.Fits.{FitsDocs, IsManifest}
 use Rattle.manifest.specs.Listing.{FitEntries}
@@ -36,9 +36,9 @@ use Rattle.holdings.proofs.SumLemmas.{AreCounted-closed}
 use Rattle.repository.specs.Names.{manifest_name}
 use Rattle.repository.specs.Entries.{IsOnDisk}
 use Rattle.repository.specs.Opening.{AreEntriesHeld, IsAcrossFault, IsEntryFault, IsEntryOpened, IsOpeningFault, IsPartOf, IsRepositoryOpened, of_all, of_entry, of_outside}
-use Rattle.repository.specs.Stands.{AreHeld, Collection, HasManifest, IsListed, IsPriorListed, Stands, live_listed, marks_from}
+use Rattle.repository.specs.Stands.{AreHeld, Collection, HasManifest, IsListed, IsManifestRead, IsPriorListed, Stands, live_listed, marks_from}
 use Rattle.repository.specs.States.{HasDocs, IsBacked as IsRepositoryBacked, IsNumbered, IsSized, ReadsAs, State, numbers_in, part_numbers}
-use Rattle.repository.proofs.ManifestLemmas.{HasManifest-same}
+use Rattle.repository.proofs.ManifestLemmas.{IsManifestRead-same, manifest-read}
 
 -- ---- one entry
 
@@ -178,7 +178,7 @@ live-closed told limits ms = flat_map-push (λ (m : Marked). unmarked (reads tol
 
 pub reads-opened : (told : Option Files) (limits : Limits) (s : State) (c : Collection) → Stands limits told c → IsRepositoryOpened told limits s → ReadsAs told s c
 reads-opened told limits s c stands o =
-    let same = HasManifest-same told o.list stands.list o.has stands.has in
+    let same = IsManifestRead-same told o.list stands.list o.has (manifest-read told stands.list stands.has) in
     let h = o.held in
     let opened : AllZip (IsEntryOpened told) stands.list.segments h.parts = subst (λ (l : List SegEntry). AllZip (IsEntryOpened told) l h.parts) (ap (λ (m : Manifest). m.segments) same) h.opened in
     let sums = AreCounted-closed limits h.parts (documents_held h.parts) (tokens_held h.parts) refl refl h.documents_fit h.tokens_fit in
@@ -192,12 +192,12 @@ reads-opened told limits s c stands o =
 
 pub backed-opened : (told : Option Files) (limits : Limits) (s : State) (c : Collection) → Stands limits told c → IsRepositoryOpened told limits s → IsRepositoryBacked told s
 backed-opened told limits s c stands o =
-    let same = HasManifest-same told o.list stands.list o.has stands.has in
+    let same = IsManifestRead-same told o.list stands.list o.has (manifest-read told stands.list stands.has) in
     let h = o.held in
     let opened : AllZip (IsEntryOpened told) stands.list.segments h.parts = subst (λ (l : List SegEntry). AllZip (IsEntryOpened told) l h.parts) (ap (λ (m : Manifest). m.segments) same) h.opened in
     record {
       list = o.list;
-      has = o.has;
+      has = subst (HasManifest told) (sym same) stands.has;
       next_is = sym o.next_is;
       numbers_are = numbers-opened told o.list.segments h.parts h.opened ∙ sym (ap (λ (x : Contents). part_numbers x.parts.closed) h.same);
       stale_are = sym o.stale_are;
@@ -208,14 +208,14 @@ backed-opened told limits s c stands o =
 
 -- ---- the manifest that was found is the one of a collection
 
-pub none-there : (told : Option Files) (list : Manifest) (found : Option Manifest) → HasManifest told list → ((f : Files) → told ≡ Some f → is_some found ≡ is_some (f manifest_name)) → found ≡ None → ⊥
+pub none-there : (told : Option Files) (list : Manifest) (found : Option Manifest) → HasManifest told list → ((f : Files) → told ≡ Some f → is_some found ≡ is_some (f manifest_name).read) → found ≡ None → ⊥
 none-there told list found has there none =
-    let clash : false ≡ true = sym (ap (λ (o : Option Manifest). is_some o) none) ∙ there has.files has.is_told ∙ ap (λ (o : Option (List ℕ)). is_some o) has.file in
+    let clash : false ≡ true = sym (ap (λ (o : Option Manifest). is_some o) none) ∙ there has.files has.is_told ∙ ap (λ (x : File). is_some x.read) has.file in
     absurd cc
 
-module _ (limits : Limits) (told : Option Files) (list : Manifest) (c : Collection) (has : HasManifest told list) (stands : Stands limits told c) where
+module _ (limits : Limits) (told : Option Files) (list : Manifest) (c : Collection) (has : IsManifestRead told list) (stands : Stands limits told c) where
   one-manifest : stands.list.segments ≡ list.segments
-  one-manifest = ap (λ (m : Manifest). m.segments) (HasManifest-same told stands.list list stands.has has)
+  one-manifest = ap (λ (m : Manifest). m.segments) (IsManifestRead-same told stands.list list (manifest-read told stands.list stands.has) has)
 
   pub found-listed : AllZip (IsListed told) list.segments stands.segments
   found-listed = subst (λ (es : List SegEntry). AllZip (IsListed told) es stands.segments) one-manifest stands.listed
@@ -223,10 +223,10 @@ module _ (limits : Limits) (told : Option Files) (list : Manifest) (c : Collecti
   pub found-held : AreHeld limits list.segments stands.segments c
   found-held = subst (λ (es : List SegEntry). AreHeld limits es stands.segments c) one-manifest stands.held
 
-pub opening-fault : (f : Files) (limits : Limits) (told : Option Files) (list : Manifest) (fault : SegFault) → told ≡ Some f → HasManifest told list
+pub opening-fault : (f : Files) (limits : Limits) (told : Option Files) (list : Manifest) (fault : SegFault) → told ≡ Some f → IsManifestRead told list
     → IsOutside fault ⊎ (IsEntryFault f list.segments fault ⊎ IsAcrossFault told limits list.segments fault) → IsOpeningFault f limits fault
 opening-fault f limits told list fault is has why =
-    let there : HasManifest (Some f) list = subst (λ (o : Option Files). HasManifest o list) is has in
+    let there : IsManifestRead (Some f) list = subst (λ (o : Option Files). IsManifestRead o list) is has in
     elim why [
       | inl outside ↦ of_outside outside
       | inr inside ↦ elim inside [

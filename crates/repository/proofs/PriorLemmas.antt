@@ -10,7 +10,7 @@ use Rattle.ri_base.specs.declared.seg_fault.FileName.TheVariants as names
 use Rattle.ri_base.specs.declared.seg_fault.PartName.TheVariants as parts
 use Rattle.ri_base.specs.declared.seg_fault.SegFault.{SegFault}
 use Rattle.ri_base.specs.declared.seg_fault.SegFault.TheVariants.{Malformed, Missing, Store, Memory}
-use Rattle.store_ends.specs.Files.{Files}
+use Rattle.store_ends.specs.Files.{File, Files}
 use Rattle.manifest.specs.Listing.{IsListing}
 use Rattle.manifest.specs.PriorFits.{IsPrior}
 use Rattle.manifest.specs.Priors.{PriorTable, prior_file, prior_text}
@@ -19,13 +19,13 @@ use Rattle.manifest.proofs.ListingLaws.{listing-of}
 use Rattle.manifest.proofs.PriorLaws.{prior_again}
 use Rattle.repository.specs.Names.{prior_name}
 use Rattle.repository.specs.Priors.{IsPriorFault}
-use Rattle.repository.specs.Stands.{IsPriorListed, Prior}
+use Rattle.repository.specs.Stands.{IsPriorListed, IsPriorRead, Prior}
 use Rattle.repository.specs.States.{IsNumbered, State}
 use Rattle.repository.proofs.ManifestLemmas.{some_same}
 use Rattle.repository.proofs.PartLemmas.{one-read}
 
-pub rows-read : (told : Option Files) (f : Files) (e : PriorEntry) (bytes : List ℕ) (t : PriorTable) → told ≡ Some f → Some bytes ≡ f (prior_name e.number) → (bytes ≡ prior_text t) × IsPrior t
-    → IsPriorListed told e (record { name = e.name; table = t })
+pub rows-read : (told : Option Files) (f : Files) (e : PriorEntry) (bytes : List ℕ) (t : PriorTable) → told ≡ Some f → Some bytes ≡ (f (prior_name e.number)).read → (bytes ≡ prior_text t) × IsPrior t
+    → IsPriorRead told e (record { name = e.name; table = t })
 rows-read told f e bytes t is file read = record {
   files = f;
   is_told = is;
@@ -34,7 +34,7 @@ rows-read told f e bytes t is file read = record {
   form = read.1;
 }
 
-pub fault-read : (f : Files) (n : ℕ) (bytes : List ℕ) (fault : SegFault) → Some bytes ≡ f (prior_name n)
+pub fault-read : (f : Files) (n : ℕ) (bytes : List ℕ) (fault : SegFault) → Some bytes ≡ (f (prior_name n)).read
     → AnswersPart {X = PriorTable} (λ t. t) (Err fault) (prior_file bytes) (names.Prior n) parts.Prior (length bytes) → IsPriorFault f n fault
 fault-read f n bytes (Malformed file part place) there h = (bytes, sym there, h)
 fault-read f n bytes (Missing file) there h = absurd h
@@ -52,18 +52,22 @@ fault-outside f n Memory h = tt
 table-same : (a b : PriorTable) → IsPrior a → IsPrior b → prior_text a ≡ prior_text b → a ≡ b
 table-same a b fit other same = one-read (prior_file (prior_text b)) a b (ap prior_file (sym same) ∙ prior_again a fit) (prior_again b other)
 
--- the file of an entry has one table
-pub one-table : (told : Option Files) (e : PriorEntry) (a b : Prior) → IsPriorListed told e a → IsPriorListed told e b → a.table ≡ b.table
+-- what was put is read
+pub prior-read : (told : Option Files) (e : PriorEntry) (p : Prior) → IsPriorListed told e p → IsPriorRead told e p
+prior-read told e p listed = record { files = listed.files; is_told = listed.is_told; name = listed.name; file = ap (λ (f : File). f.read) listed.file; form = listed.form }
+
+-- one table is read of the file of an entry
+pub one-table : (told : Option Files) (e : PriorEntry) (a b : Prior) → IsPriorRead told e a → IsPriorRead told e b → a.table ≡ b.table
 one-table told e a b x y =
     let files : x.files ≡ y.files = some_same _ _ (sym x.is_told ∙ y.is_told) in
-    let text : prior_text a.table ≡ prior_text b.table = some_same _ _ (sym x.file ∙ ap (λ (f : Files). f (prior_name e.number)) files ∙ y.file) in
+    let text : prior_text a.table ≡ prior_text b.table = some_same _ _ (sym x.file ∙ ap (λ (f : Files). (f (prior_name e.number)).read) files ∙ y.file) in
     table-same a.table b.table x.form y.form text
 
--- the file of an entry that has rows isn't refused
-pub honest-rows : (told : Option Files) (f : Files) (e : PriorEntry) (p : Prior) (fault : SegFault) → IsPriorListed told e p → told ≡ Some f → IsPriorFault f e.number fault → IsOutside fault
+-- the file of an entry of which rows are read isn't refused
+pub honest-rows : (told : Option Files) (f : Files) (e : PriorEntry) (p : Prior) (fault : SegFault) → IsPriorRead told e p → told ≡ Some f → IsPriorFault f e.number fault → IsOutside fault
 honest-rows told f e p (Malformed file part place) has is bad =
     let files : has.files ≡ f = some_same _ _ (sym has.is_told ∙ is) in
-    let bytes : bad.0 ≡ prior_text p.table = some_same _ _ (sym bad.1 ∙ ap (λ (g : Files). g (prior_name e.number)) (sym files) ∙ has.file) in
+    let bytes : bad.0 ≡ prior_text p.table = some_same _ _ (sym bad.1 ∙ ap (λ (g : Files). (g (prior_name e.number)).read) (sym files) ∙ has.file) in
     let read : prior_file bad.0 ≡ Ok p.table = ap prior_file bytes ∙ prior_again p.table has.form in
     absurd (not_both p.table bad.2.2 (prior_file bad.0) read bad.2.3)
   where
@@ -71,7 +75,7 @@ honest-rows told f e p (Malformed file part place) has is bad =
     not_both x e r a b = cc
 honest-rows told f e p (Missing file) has is bad =
     let files : has.files ≡ f = some_same _ _ (sym has.is_told ∙ is) in
-    let there : Some (prior_text p.table) ≡ None = sym has.file ∙ ap (λ (g : Files). g (prior_name e.number)) files ∙ bad.1 in
+    let there : Some (prior_text p.table) ≡ None = sym has.file ∙ ap (λ (g : Files). (g (prior_name e.number)).read) files ∙ bad.1 in
     absurd cc
 honest-rows told f e p Store has is bad = tt
 honest-rows told f e p Memory has is bad = tt

@@ -3,7 +3,7 @@ use Rattle.std.proofs.Common.{◌≡◌, ◌≤◌, ◌<◌, ◌^◌, inl, inr, 
 use Rattle.std.specs.List.{AllZip}
 use Rattle.std.specs.Option.{option_map}
 use Rattle.std.proofs.lemmas.Bool.{cases_eq}
-use Rattle.store_ends.specs.Files.{AnyState, Files, Leaves, SameWhere, with_file}
+use Rattle.store_ends.specs.Files.{AnyState, Files, Leaves, SameWhere, whole, with_file}
 use Rattle.store_ends.proofs.Files.{SameWhere-any, SameWhere-same, with_file-same}
 use Rattle.manifest.specs.Entries.{with_numbers}
 use Rattle.manifest.specs.Listing.{AreNumbered, IsListing, listing}
@@ -39,7 +39,7 @@ leaves-others own name past since a owned leaves = record { each = λ t f h. eli
 
 -- ---- the priors afterwards
 
-module _ (f : Files) (b : Option Files) (n : ℕ) (t : PriorTable) (is : b ≡ Some f) (file : f (prior_name n) ≡ Some (prior_text t)) (form : IsPrior t) where
+module _ (f : Files) (b : Option Files) (n : ℕ) (t : PriorTable) (is : b ≡ Some f) (file : f (prior_name n) ≡ whole (Some (prior_text t))) (form : IsPrior t) where
   fresh : (name other : List ℕ) → other ≡ name → IsPriorListed b (record { name = name; number = n }) (record { name = other; table = t })
   fresh name other same = record { files = f; is_told = is; name = same; file = file; form = form }
 
@@ -57,7 +57,7 @@ module _ (f : Files) (b : Option Files) (n : ℕ) (t : PriorTable) (is : b ≡ S
 
 -- the new file has its rows
 pub file-put : (f : Files) (a b : Option Files) (n : ℕ) (t : PriorTable) → a ≡ Some f → b ≡ option_map (with_file (prior_name n) (Some (prior_text t))) a
-    → (g : Files) × (b ≡ Some g) × (g (prior_name n) ≡ Some (prior_text t))
+    → (g : Files) × (b ≡ Some g) × (g (prior_name n) ≡ whole (Some (prior_text t)))
 file-put f a b n t is put =
     (with_file (prior_name n) (Some (prior_text t)) f, put ∙ ap (option_map (with_file (prior_name n) (Some (prior_text t)))) is, with_file-same (prior_name n) (Some (prior_text t)) f)
 

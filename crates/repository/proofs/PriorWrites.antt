@@ -4,7 +4,7 @@ use Rattle.std.specs.List.{AllZip, IsDistinct}
 use Rattle.std.specs.Option.{option_map}
 use Rattle.std.specs.Str.{bytes_eq}
 use Rattle.ri_base.specs.Documents.{Document}
-use Rattle.store_ends.specs.Files.{Files, Leaves, OldOrNew, SameWhere, with_file}
+use Rattle.store_ends.specs.Files.{Files, Leaves, OldOrNew, SameWhere, whole, with_file}
 use Rattle.store_ends.proofs.Files.{Leaves-same, SameWhere-same, with_file-same}
 use Rattle.manifest.specs.Listing.{IsListing, listing}
 use Rattle.manifest.specs.PriorFits.{IsPrior}
@@ -21,9 +21,9 @@ use Rattle.repository.specs.Numbers.{is_among}
 use Rattle.repository.specs.Priors.{AreStored, prior_set, with_entry, with_prior, with_rows}
 use Rattle.repository.specs.Saved.{IsUnlisted}
 use Rattle.repository.specs.Stands.{Collection, HasManifest, IsPriorListed, Prior, Stands}
-use Rattle.repository.specs.States.{IsBacked, ReadsAs, State, kept_numbers, listed_numbers}
+use Rattle.repository.specs.States.{IsBacked, IsStateIntact, ReadsAs, State, kept_numbers, listed_numbers}
 use Rattle.repository.specs.Writes.{IsBeside, IsEither, IsOther, Wrote, Writes}
-use Rattle.repository.proofs.CommitLemmas.{AreFit, IsNotManifest, IsThere, all-documents, all-listed, all-live, all-live_listed, all-parts, all-tokens, beside-begun, beside-listed, documents-whole, leaves-begun, leaves-listed, live-whole, parts-there, priors-replaced, replaced-others, stops-begun, stops-listed, tokens-whole, unlisted-clear}
+use Rattle.repository.proofs.CommitLemmas.{AreFit, IsNotManifest, IsThere, all-documents, all-intact, all-listed, all-live, all-live_listed, all-parts, all-tokens, beside-begun, beside-listed, documents-whole, leaves-begun, leaves-listed, live-whole, parts-there, priors-replaced, replaced-others, stops-begun, stops-listed, tokens-whole, unlisted-clear}
 use Rattle.repository.proofs.FrameLemmas.{parts-within, priors-same, priors-within}
 use Rattle.repository.proofs.ListedLemmas.{numbers-entries}
 use Rattle.repository.proofs.PriorSetLemmas.{file-put, priors-set}
@@ -45,7 +45,7 @@ module _ (a b c : Option Files) (s : State) (name : List ℕ) (n : ℕ) (t : Pri
   others : SameWhere IsNotManifest b c
   others = replaced-others b c (set_text s name n) replaced
 
-  abbrev file-there : (g : Files) × (b ≡ Some g) × (g (prior_name n) ≡ Some (prior_text t))
+  abbrev file-there : (g : Files) × (b ≡ Some g) × (g (prior_name n) ≡ whole (Some (prior_text t)))
   file-there = file-put backed.has.files a b n t backed.has.is_told put
 
   abbrev files-now : Files
@@ -81,6 +81,9 @@ module _ (a b c : Option Files) (s : State) (name : List ℕ) (n : ℕ) (t : Pri
     parts = all-parts a c ms ms there;
     priors = (with_rows backed.priors.0 name t, priors-now backed.priors.0 backed.priors.1);
   }
+
+  set-intact : IsStateIntact a s → IsStateIntact c (prior_set s name n)
+  set-intact intact = all-intact a c ms ms there intact
 
   set-reads : (d : Collection) → ReadsAs a s d → ReadsAs c (prior_set s name n) (with_prior d name t)
   set-reads d read = record {
@@ -119,6 +122,7 @@ wrote-set a b c s name n t prior_fits stored fit put same form replaced = record
   reads = λ d backed read. set-reads a b c s name n t prior_fits stored fit put same form replaced backed d read;
   stands = λ d backed read. set-stands a b c s name n t prior_fits stored fit put same form replaced backed d read;
   backed = λ backed. set-backed a b c s name n t prior_fits stored fit put same form replaced backed;
+  intact = λ backed intact. set-intact a b c s name n t prior_fits stored fit put same form replaced backed intact;
 }
 
 -- ---- while it goes on

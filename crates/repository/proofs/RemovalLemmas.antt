@@ -4,7 +4,7 @@ use Rattle.std.specs.List.{All}
 use Rattle.std.specs.Option.{option_map}
 use Rattle.std.specs.Prelude.{bytes_eq, if◌then◌else◌}
 use Rattle.std.proofs.lemmas.List.Elements.{All-more, All-weaker}
-use Rattle.store_ends.specs.Files.{Files, Leaves, OldOrNew, SameWhere, with_file}
+use Rattle.store_ends.specs.Files.{Files, Leaves, OldOrNew, SameWhere, whole, with_file}
 use Rattle.store_ends.proofs.Files.{Leaves-then, SameWhere-fewer, SameWhere-step, SameWhere-then, with_file-other, with_file-same}
 use Rattle.disk_index.specs.Names.{segment_name}
 use Rattle.repository.specs.Names.{manifest_name, prior_name}
@@ -57,7 +57,7 @@ more-stops ns i past mid since a b within same first second =
 
 -- ---- gone
 
-none-there : (name other : List ℕ) (f : Files) (b : Bool) → f other ≡ None → (if b then None else f other) ≡ None
+none-there : (name other : List ℕ) (f : Files) (b : Bool) → f other ≡ whole None → (if b then whole None else f other) ≡ whole None
 none-there name other f true gone = refl
 none-there name other f false gone = gone
 

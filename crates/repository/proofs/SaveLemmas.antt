@@ -10,8 +10,8 @@ use Rattle.ri_ends.specs.declared.fault.OutFault.{OutFault}
 use Rattle.ri_ends.specs.declared.fault.OutFault.TheVariants.{Failed, Memory}
 use Rattle.ri_base.specs.Documents.{Document}
 use Rattle.ri_base.specs.declared.limits.TheConstants.{MAX_PART_DOCS}
-use Rattle.store_ends.specs.Files.{AnyState, Files, Leaves, SameWhere, with_file}
-use Rattle.store_ends.proofs.Files.{Leaves-same, Leaves-then, SameWhere-any, SameWhere-fewer, SameWhere-same, SameWhere-then, with_file-own, with_file-same}
+use Rattle.store_ends.specs.Files.{AnyState, Files, Leaves, SameWhere, whole, with_file}
+use Rattle.store_ends.proofs.Files.{Leaves-same, Leaves-then, SameWhere-any, SameWhere-fewer, SameWhere-same, SameWhere-then, set_file-own, with_file-same}
 use Rattle.manifest.specs.Entries.{with_number}
 use Rattle.manifest.specs.Fits.{FitsDocs}
 use Rattle.manifest.specs.Listing.{AreNumbered}
@@ -50,8 +50,8 @@ holds-kept P name bytes (Some f) None same p held = absurd same
 holds-kept P name bytes (Some f) (Some g) same p held = same name p ∙ held
 
 pub any-same : (name : List ℕ) (a b : Option Files) → b ≡ a → AnyState name a b
-any-same name None b e = (None, e)
-any-same name (Some f) b e = (f name, e ∙ ap (λ (g : Files). Some g) (sym (with_file-own name f)))
+any-same name None b e = (whole None, e)
+any-same name (Some f) b e = (f name, e ∙ ap (λ (g : Files). Some g) (sym (set_file-own name f)))
 
 -- whatever a put answers that isn't done
 pub any-failed : {A : Type 0} (name other : List ℕ) (a b : Option Files) (r : Result A OutFault) (fault : OutFault) → r ≡ Err fault → name ≡ other → (r ≡ Err Failed → AnyState name a b) → (r ≡ Err Memory → b ≡ a)
@@ -110,8 +110,8 @@ module _ (b c : Option Files) (s t : List ℕ) (more : (n : ℕ) → is_among n 
   source-then (InMemory docs) (OnDisk j) (InMemory e) first second = absurd second
   source-then (InMemory docs) (OnDisk j) (OnDisk k) first second =
       let other = other-segment (IsUnlisted s) s (λ n o. o) j.number first.1.1.0 first.1.1.1.0 in
-      let kept = holds-kept (IsOther (IsUnlisted s)) (segment_name j.number) (segment docs) b c same other first.1.1.1.1 in
-      subst (λ (x : Kept). SavedSource c t (InMemory docs) (OnDisk x)) (sym second) (first.0, (first.1.0, (first.1.1.0, (more j.number first.1.1.1.0, kept))))
+      let kept = holds-kept (IsOther (IsUnlisted s)) (segment_name j.number) (segment docs) b c same other first.1.1.1.1.0 in
+      subst (λ (x : Kept). SavedSource c t (InMemory docs) (OnDisk x)) (sym second) (first.0, (first.1.0, (first.1.1.0, (more j.number first.1.1.1.0, (kept, first.1.1.1.1.1)))))
   source-then (OnDisk i) (InMemory d) r first second = absurd first
   source-then (OnDisk i) (OnDisk j) (InMemory e) first second = absurd second
   source-then (OnDisk i) (OnDisk j) (OnDisk k) first second = second ∙ first
@@ -208,9 +208,9 @@ turn-last next last left many none fits turn = omega (arith, none, fits, turn)
 
 -- a part in memory gets the file of a new number
 pub saves-one : (b c : Option Files) (s t : Taken) (h k : Contents) (i n : ℕ) (kept : Kept) (docs : List Document) → i < length h.parts.closed → (get_or h.parts.closed i (filled [] [])).source ≡ InMemory docs
-    → kept ≡ kept_of n docs → kept.number ≡ n → IsPart docs → 1 ≤ n → n < 2 ^ 64 → n < t.next → t.next ≡ next_after s.next → s.next ≤ t.next → is_among n s.numbers ≡ false → t.numbers ≡ with_number s.numbers n
+    → kept ≡ kept_of n docs → kept.number ≡ n → IsPart docs → length (segment docs) < 2 ^ 64 → 1 ≤ n → n < 2 ^ 64 → n < t.next → t.next ≡ next_after s.next → s.next ≤ t.next → is_among n s.numbers ≡ false → t.numbers ≡ with_number s.numbers n
     → c ≡ option_map (with_file (segment_name n) (Some (segment docs))) b → k ≡ part_moved h i (OnDisk kept) → Saves c s t h k
-saves-one b c s t h k i n kept docs within at is number part some small below turn rises free taken put moved =
+saves-one b c s t h k i n kept docs within at is number part short some small below turn rises free taken put moved =
     let own : kept ≡ kept_of kept.number docs = is ∙ ap (λ (m : ℕ). kept_of m docs) (sym number) in
     let among : is_among kept.number t.numbers ≡ true = ap (λ (m : ℕ). is_among m t.numbers) number ∙ ap (is_among n) taken ∙ among-new s.numbers n in
     let holds : Holds (segment_name kept.number) (segment docs) c = subst (λ (m : ℕ). Holds (segment_name m) (segment docs) c) (sym number) (holds-put (segment_name n) (segment docs) b c put) in
@@ -218,7 +218,7 @@ saves-one b c s t h k i n kept docs within at is number part some small below tu
     let closed : k.parts.closed ≡ with_source h.parts.closed i (OnDisk kept) = ap (λ (x : Contents). x.parts.closed) moved in
     let more : (m : ℕ) → is_among m s.numbers ≡ true → is_among m t.numbers ≡ true = λ m e. ap (is_among m) taken ∙ among-kept s.numbers n m e in
     record {
-      parts = subst (AllZip (IsSaved c t.numbers) h.parts.closed) (sym closed) (saved-at c t.numbers kept docs h.parts.closed i at (own, (part, (fits, (among, holds)))));
+      parts = subst (AllZip (IsSaved c t.numbers) h.parts.closed) (sym closed) (saved-at c t.numbers kept docs h.parts.closed i at (own, (part, (fits, (among, (holds, short))))));
       rest = moved ∙ sym (ap (λ (ms : List Marked). with_closed h ms) closed);
       taken = more;
       next = rises;

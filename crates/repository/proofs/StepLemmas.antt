@@ -6,7 +6,7 @@ use Rattle.std.proofs.lemmas.List.{append-nil}
 use Rattle.std.proofs.lemmas.List.Elements.{All-cons, All-head, All-nil, All-push, All-tail}
 use Rattle.ri_base.specs.Documents.{Document}
 use Rattle.store_ends.specs.Files.{Files}
-use Rattle.disk_index.specs.Parts.{IsPartBacked}
+use Rattle.disk_index.specs.Parts.{IsPartBacked, IsPartIntact, Source}
 use Rattle.disk_index.specs.Snapshots.{Marked, documents_held}
 use Rattle.holdings.specs.Contents.{Contents, added, all_closed, deleted}
 use Rattle.holdings.specs.MarkedParts.{filled, marked_with, tokens_held}
@@ -16,7 +16,7 @@ use Rattle.holdings.proofs.LiveLemmas.{flat_map-push}
 use Rattle.holdings.proofs.RoomLemmas.{live-sealed}
 use Rattle.holdings.proofs.SumLemmas.{documents-sealed, tokens-sealed}
 use Rattle.repository.specs.Stands.{Collection}
-use Rattle.repository.specs.States.{IsBacked, IsNumbered, IsSized, ReadsAs, State, numbers_in, part_numbers}
+use Rattle.repository.specs.States.{IsBacked, IsNumbered, IsSized, IsStateIntact, ReadsAs, State, numbers_in, part_numbers}
 use Rattle.repository.specs.Steps.{with_document, with_held, without_docno}
 use Rattle.repository.proofs.SaveLemmas.{numbers-sealed, sized-sealed}
 
@@ -78,12 +78,16 @@ numbers-closes p closed closes =
       | inr more ↦ ap part_numbers more ∙ flat_map-push (λ (m : Marked). numbers_in m.source) p.closed (filled p.filling p.marks) ∙ append-nil (part_numbers p.closed)
     ]
 
-stored-closes : (told : Option Files) (p : Parts) (closed : List Marked) → Closes p closed → All (IsStored told) p.closed → All (IsStored told) closed
-stored-closes told p closed closes all =
+-- what holds of each part that was closed, and of the one that is being filled
+all-closes : (P : Marked → Type 0) (p : Parts) (closed : List Marked) → P (filled p.filling p.marks) → Closes p closed → All P p.closed → All P closed
+all-closes P p closed last closes all =
     elim closes [
-      | inl same ↦ subst (All (IsStored told)) (sym same) all
-      | inr more ↦ subst (All (IsStored told)) (sym more) (All-push (IsStored told) p.closed (filled p.filling p.marks) all tt)
+      | inl same ↦ subst (All P) (sym same) all
+      | inr more ↦ subst (All P) (sym more) (All-push P p.closed (filled p.filling p.marks) all last)
     ]
+
+stored-closes : (told : Option Files) (p : Parts) (closed : List Marked) → Closes p closed → All (IsStored told) p.closed → All (IsStored told) closed
+stored-closes told p closed closes all = all-closes (IsStored told) p closed tt closes all
 
 backed-closes : (told : Option Files) (s : State) (h : Contents) → Closes s.held.parts h.parts.closed → IsBacked told s → IsBacked told (with_held s h)
 backed-closes told s h closes backed = backed-held told s h backed (numbers-closes s.held.parts h.parts.closed closes) (stored-closes told s.held.parts h.parts.closed closes backed.parts)
@@ -95,12 +99,28 @@ numbers-marked : (k : List ℕ) (ms : List Marked) → part_numbers (map (marked
 numbers-marked k [] = refl
 numbers-marked k (m ∷ ms) = ap (λ ns. numbers_in m.source ++ ns) (numbers-marked k ms)
 
-stored-marked : (told : Option Files) (k : List ℕ) (ms : List Marked) → All (IsStored told) ms → All (IsStored told) (map (marked_with k) ms)
-stored-marked told k [] all = All-nil (IsStored told)
-stored-marked told k (m ∷ ms) all = All-cons (IsStored told) (marked_with k m) (map (marked_with k) ms) (All-head (IsStored told) m ms all) (stored-marked told k ms (All-tail (IsStored told) m ms all))
+-- what holds of where each part is
+all-marked : (P : Source → Type 0) (k : List ℕ) (ms : List Marked) → All (λ (m : Marked). P m.source) ms → All (λ (m : Marked). P m.source) (map (marked_with k) ms)
+all-marked P k [] all = All-nil (λ (m : Marked). P m.source)
+all-marked P k (m ∷ ms) all =
+    All-cons (λ (m : Marked). P m.source) (marked_with k m) (map (marked_with k) ms) (All-head (λ (m : Marked). P m.source) m ms all) (all-marked P k ms (All-tail (λ (m : Marked). P m.source) m ms all))
 
 pub backed-deleted : (told : Option Files) (s : State) (k : List ℕ) → IsBacked told s → IsBacked told (with_held s (deleted s.held k))
-backed-deleted told s k backed = backed-held told s (deleted s.held k) backed (numbers-marked k s.held.parts.closed) (stored-marked told k s.held.parts.closed backed.parts)
+backed-deleted told s k backed = backed-held told s (deleted s.held k) backed (numbers-marked k s.held.parts.closed) (all-marked (IsPartBacked told) k s.held.parts.closed backed.parts)
+
+-- ---- files that were read as they were put still are
+
+abbrev IsRead : Option Files → Marked → Type 0
+IsRead told m = IsPartIntact told m.source
+
+pub intact-added : (told : Option Files) (s : State) (d : Document) → IsStateIntact told s → IsStateIntact told (with_held s (added s.held d))
+intact-added told s d intact = all-closes (IsRead told) s.held.parts (added s.held d).parts.closed tt (closes-with s.held.parts d) intact
+
+pub intact-deleted : (told : Option Files) (s : State) (k : List ℕ) → IsStateIntact told s → IsStateIntact told (with_held s (deleted s.held k))
+intact-deleted told s k intact = all-marked (IsPartIntact told) k s.held.parts.closed intact
+
+pub intact-closed : (told : Option Files) (s : State) → IsStateIntact told s → IsStateIntact told (with_held s (all_closed s.held))
+intact-closed told s intact = all-closes (IsRead told) s.held.parts (sealed s.held.parts).closed tt (closes-by s.held.parts s.held.parts.filling) intact
 
 -- over a call that changes what is held or leaves it, whatever it answers
 pub held-call : {A E : Type 0} (P : State → Type 0) (s : State) (r : Result A E) (h now : Contents) → OnOk r (h ≡ now) → OnErr r (h ≡ s.held) → (P s → P (with_held s now)) → P s → P (with_held s h)

@@ -1,19 +1,23 @@
 -- A turn of an open merge: where it goes on, and where it is done.
-use Rattle.std.proofs.Common.{◌≡◌, ◌≤◌, ◌<◌, ◌+◌, ◌⊎◌, inl, inr, ℕ, Bool, true, false, cond, List, length, min, nat_lt, Option, None, Some, IfSome, refl, ap, sym, subst, ◌∙◌, arith}
+use Rattle.std.proofs.Common.{◌≡◌, ◌≤◌, ◌<◌, ◌+◌, ◌⊎◌, inl, inr, ℕ, Bool, true, false, cond, List, [], ◌∷◌, length, min, nat_lt, Option, None, Some, IfSome, refl, ap, sym, subst, ◌∙◌, arith}
+use Rattle.std.specs.List.{All}
 use Rattle.std.proofs.lemmas.Bool.Decides.{nat_tests}
+use Rattle.std.proofs.lemmas.List.Elements.{All-cons, All-head, All-nil, All-tail}
 use Rattle.ri_base.specs.Faults.{IsOutside}
 use Rattle.ri_base.specs.declared.seg_fault.SegFault.{SegFault}
 use Rattle.store_ends.specs.Files.{Files, Leaves, SameWhere}
 use Rattle.store_ends.proofs.Files.{Leaves-then}
 use Rattle.disk_index.specs.Cache.{CacheKeeps, Cached}
-use Rattle.disk_index.specs.Snapshots.{AreBacked, IsFileAmong, Marked}
+use Rattle.disk_index.specs.Kept.{Kept}
+use Rattle.disk_index.specs.Parts.{InMemory, IsPartIntact, OnDisk, Source}
+use Rattle.disk_index.specs.Snapshots.{AreBacked, AreIntact, IsFileAmong, Marked, live}
 use Rattle.merge_job.specs.Merge.{AreTaken, Merging, size_of}
 use Rattle.merge_job.specs.Walk.{IsFaultAmong}
-use Rattle.repository.specs.Merges.{IsMergeEnded, IsMergedTo, IsMerging, IsOpenMerging, IsTurnedOn, IsTurnedOver, ReadAlike, turned, with_merge, without_dead_of}
+use Rattle.repository.specs.Merges.{IsMergeEnded, IsMergedTo, IsMerging, IsOpenMerging, IsTurnedOn, IsTurnedOver, ReadAlike, StaysBacked, turned, with_merge, without_dead_of}
 use Rattle.repository.specs.Stands.{Collection, Stands}
 use Rattle.repository.specs.Saved.{IsUnlisted}
-use Rattle.repository.specs.States.{IsBacked, ReadsAs, State, listed_numbers}
-use Rattle.repository.specs.Ties.{Begins, IsTied}
+use Rattle.repository.specs.States.{IsBacked, IsStateIntact, ReadsAs, State, listed_numbers}
+use Rattle.repository.specs.Ties.{Begins, IsSourceOf, IsTied}
 use Rattle.repository.specs.Writes.{IsBeside, IsEither}
 use Rattle.repository.specs.declared.turned.Turned.{Turned}
 use Rattle.repository.specs.declared.turned.Turned.TheVariants.{Done, Open}
@@ -121,6 +125,7 @@ open-over credit size a b s o m n same snapshot taken merging =
       reads = λ d read. reads-merge b s (Some n) d (subst (λ (f : Option Files). ReadsAs f s d) (sym same) read);
       backed = now.backed;
       merging = now;
+      intact = λ intact. subst (λ (f : Option Files). IsStateIntact f s) (sym same) intact;
       stands = λ e d read. absurd (no-end e);
     }
   where
@@ -169,9 +174,39 @@ done-over a b c s r t m n is same was snapshot over =
       reads = λ d read. subst (ReadsAs c t) (into d) (over.reads d (here d read));
       backed = over.backed;
       merging = over.merging;
+      intact = λ intact. over.intact (subst (λ (x : State). IsStateIntact b x) (sym is) (subst (λ (f : Option Files). IsStateIntact f s) (sym same) intact));
       stands = λ e d read.
           subst (Stands s.held.limits c) (into d) (subst (λ (x : State). Stands x.held.limits c (without_dead_of (Some n) d)) is (over.stands e d (here d read)));
     }
+
+-- ---- no file of the snapshot is damaged
+
+-- a file of the snapshot is that of a part that goes on
+source-intact : (told : Option Files) (m p : Source) → IsSourceOf m p → IsPartIntact told p → IsPartIntact told m
+source-intact told (InMemory docs) p goes intact = tt
+source-intact told (OnDisk j) (InMemory docs) goes intact = absurd goes
+source-intact told (OnDisk j) (OnDisk k) goes intact = subst (λ (x : Kept). IsPartIntact told (OnDisk x)) goes intact
+
+begins-intact : (told : Option Files) (ms ps : List Marked) → Begins ms ps → All (λ (m : Marked). IsPartIntact told m.source) ps → AreIntact told ms
+begins-intact told [] ps begins intact = All-nil _
+begins-intact told (m ∷ ms) [] begins intact = absurd begins
+begins-intact told (m ∷ ms) (p ∷ ps) begins intact =
+    All-cons (λ (x : Marked). IsPartIntact told x.source) m ms (source-intact told m.source p.source begins.0.0 (All-head (λ (x : Marked). IsPartIntact told x.source) p ps intact))
+    (begins-intact told ms ps begins.1 (All-tail (λ (x : Marked). IsPartIntact told x.source) p ps intact))
+
+pub tied-intact : (told : Option Files) (s : State) (m : Merging) → IsTied s.held m → IsStateIntact told s → AreIntact told m.snapshot
+tied-intact told s m tied intact = begins-intact told m.snapshot s.held.parts.closed tied.begins intact
+
+pub some-intact : (told : Option Files) (o : Option Merging) (m : Merging) → o ≡ Some m → IfSome o (λ x. AreIntact told x.snapshot) → AreIntact told m.snapshot
+some-intact told o m was intact = subst (λ (x : Option Merging). IfSome x (λ y. AreIntact told y.snapshot)) was intact
+
+-- a snapshot over files that are as they were
+pub stays-same : (a c : Option Files) (ms : List Marked) → c ≡ a → AreBacked a ms → StaysBacked a c ms
+stays-same a c ms same backed = record {
+  backed = subst (λ (f : Option Files). AreBacked f ms) (sym same) backed;
+  reads = ap (λ (f : Option Files). live f ms) same;
+  intact = λ intact. subst (λ (f : Option Files). AreIntact f ms) (sym same) intact;
+}
 
 -- ---- what a stop leaves
 

@@ -13,9 +13,9 @@ use Rattle.seg_codec.specs.declared.documents.Entry.{Entry}
 use Rattle.store_ends.specs.Files.{Files, Leaves, SameWhere}
 use Rattle.manifest.specs.Listing.{prior_numbers}
 use Rattle.disk_index.specs.Cache.{CacheKeeps, Cached, IsCacheBacked, nothing_cached}
-use Rattle.disk_index.specs.QuietLaws.{IsCacheBacked-kept}
 use Rattle.disk_index.specs.Snapshots.{IsFileAmong, Marked, live, live_in}
 use Rattle.disk_index.proofs.AlikeLemmas.{tokens-outlines}
+use Rattle.disk_index.proofs.BackedLemmas.{IsCacheBacked-among}
 use Rattle.holdings.specs.Contents.{Contents}
 use Rattle.holdings.specs.Parts.{is_live, sealed}
 use Rattle.holdings.specs.declared.limits.Limits.{Limits}
@@ -23,16 +23,17 @@ use Rattle.holdings.proofs.RoomLemmas.{live-sealed}
 use Rattle.holdings.proofs.SumLemmas.{documents-sealed, tokens-sealed}
 use Rattle.merge_job.specs.Merge.{Merging, size_of}
 use Rattle.merge_job.specs.Walk.{IsFaultAmong}
-use Rattle.repository.specs.Merges.{IsTurnedOver, IsTurnedTo, after_turn, dead_documents, dead_tokens, merge_begun, merge_of, turned, without_dead, without_dead_of}
+use Rattle.repository.specs.Merges.{IsMerging, IsTurnedOver, IsTurnedTo, after_turn, dead_documents, dead_tokens, merge_begun, merge_of, turned, without_dead, without_dead_of}
 use Rattle.repository.specs.Saved.{IsUnlisted}
 use Rattle.repository.specs.Stands.{Collection, Stands}
-use Rattle.repository.specs.States.{IsBacked, ReadsAs, State, listed_numbers}
+use Rattle.repository.specs.States.{IsBacked, IsStateIntact, ReadsAs, State, listed_numbers}
 use Rattle.repository.specs.Writes.{IsBeside, IsEither, Writes, Wrote}
 use Rattle.repository.specs.declared.turned.Turned.{Turned}
 use Rattle.repository.specs.declared.turned.Turned.TheVariants.{Done, Open}
 use Rattle.repository.proofs.CommitLemmas.{documents-whole, filling-by, live-whole, tokens-whole}
 use Rattle.repository.proofs.ExchangeLemmas.{entries-in, live-few, live-short}
 use Rattle.repository.proofs.SaveLemmas.{numbers-sealed}
+use Rattle.repository.proofs.StepLemmas.{intact-closed}
 
 pub open-done : (credit size : ℕ) → Open credit size ≡ Done → ⊥
 open-done credit size e = cc
@@ -106,6 +107,7 @@ module _ (a c : Option Files) (s r t : State) (begun : r ≡ merge_begun s) (lim
         let limits_are : r.held.limits ≡ t.held.limits = ap (λ (x : State). x.held.limits) begun ∙ sym limits in
         subst (λ (l : Limits). Stands l c (without_dead d)) limits_are (subst (Stands r.held.limits c) (none-dead a s d read) ((over-begun backed).stands refl d (same d read)));
     backed = λ backed. (over-begun backed).backed;
+    intact = λ backed intact. (over-begun backed).intact (subst (IsStateIntact a) (sym begun) (intact-closed a s intact));
   }
 
 numbers-begun : (s r : State) → r ≡ merge_begun s → listed_numbers r ≡ listed_numbers s
@@ -140,9 +142,9 @@ ok-on (Ok x) P ok on = on
 ok-on (Err x) P ok on = cc
 
 -- the cache stays backed over a turn
-pub some-cache : (a b : Option Files) (o : Option Merging) (x y : Cached) → is_some o ≡ true → b ≡ a → IfSome o (λ m. CacheKeeps a (IsFileAmong m.snapshot) x y) → IsCacheBacked a x → IsCacheBacked b y
-some-cache a b None x y some same keeps cached = cc
-some-cache a b (Some m) x y some same keeps cached = subst (λ (f : Option Files). IsCacheBacked f y) (sym same) (IsCacheBacked-kept a (IsFileAmong m.snapshot) x y keeps cached)
+pub some-cache : (a b : Option Files) (s : State) (o : Option Merging) (x y : Cached) → is_some o ≡ true → b ≡ a → IfSome o (IsMerging a s) → IfSome o (λ m. CacheKeeps a (IsFileAmong m.snapshot) x y) → IsCacheBacked a x → IsCacheBacked b y
+some-cache a b s None x y some same merging keeps cached = cc
+some-cache a b s (Some m) x y some same merging keeps cached = subst (λ (f : Option Files). IsCacheBacked f y) (sym same) (IsCacheBacked-among a m.snapshot x y merging.snapshot keeps cached)
 
 -- where the turn didn't reach the size
 pub below-size : (m : Merging) (docs : ℕ) (t : Turned) → t ≡ turned m docs → (t ≡ Done → ⊥) → length m.copied + docs < size_of m

@@ -5,7 +5,7 @@ use Rattle.ri_base.specs.Collection.{token_count}
 use Rattle.store_ends.specs.Files.{Files}
 use Rattle.seg_codec.specs.Segment.{entry_of}
 use Rattle.disk_index.specs.Parts.{InMemory, outlines_of, reads}
-use Rattle.disk_index.specs.Snapshots.{AreBacked, Marked, documents_held, live, unmarked}
+use Rattle.disk_index.specs.Snapshots.{AreBacked, AreIntact, Marked, documents_held, live, unmarked}
 use Rattle.holdings.specs.Contents.{all_closed}
 use Rattle.holdings.specs.MarkedParts.{tokens_held}
 use Rattle.holdings.specs.Parts.{sealed}
@@ -16,7 +16,7 @@ use Rattle.repository.specs.Numbers.{is_among, next_behind}
 use Rattle.repository.specs.Saved.{unsaved}
 use Rattle.repository.specs.Stale.{with_stale}
 use Rattle.repository.specs.Stands.{Collection, Stands}
-use Rattle.repository.specs.States.{IsBacked, ReadsAs, State, listed_numbers, part_numbers}
+use Rattle.repository.specs.States.{IsBacked, IsStateIntact, ReadsAs, State, listed_numbers, part_numbers}
 use Rattle.repository.specs.Steps.{with_held}
 use Rattle.repository.specs.declared.turned.Turned.{Turned}
 use Rattle.repository.specs.declared.turned.Turned.TheVariants.{Done, Open}
@@ -132,10 +132,11 @@ IsTurnedTo Done docs s t = IsMergedTo s t
 abbrev pub AreListed : State → List Marked → Type 0
 AreListed s parts = (n : ℕ) → is_among n (part_numbers parts) ≡ true → is_among n (listed_numbers s) ≡ true
 
--- the parts are backed still, and read as before
+-- The parts are backed still, and read as before. Where their files were read as they were put, they still are.
 pub record StaysBacked (before now : Option Files) (parts : List Marked) : Type 0 where
   pub backed : AreBacked now parts
   pub reads : live now parts ≡ live before parts
+  pub intact : AreIntact before parts → AreIntact now parts
 
 -- ---- what the repository reads as then
 
@@ -166,8 +167,10 @@ after_turn (Open credit size) merge c = c
 after_turn Done merge c = without_dead_of merge c
 
 -- The live documents stay, the condition of an open merge holds on, and once the merge is done the files stand for what it reads as.
+-- Where the files of its parts were read as they were put, those of its parts now are too.
 pub record IsTurnedOver (turn : Turned) (merge : Option Merging) (before now : Option Files) (s t : State) : Type 0 where
   pub reads : (d : Collection) → ReadsAs before s d → ReadsAs now t (after_turn turn merge d)
   pub backed : IsBacked now t
   pub merging : IsOpenMerging now t
+  pub intact : IsStateIntact before s → IsStateIntact now t
   pub stands : turn ≡ Done → (d : Collection) → ReadsAs before s d → Stands s.held.limits now (without_dead_of merge d)

@@ -27,12 +27,12 @@ use Rattle.holdings.specs.declared.refusals.PartsFault.{PartsFault}
 use Rattle.holdings.specs.declared.refusals.PartsFault.TheVariants as across
 use Rattle.repository.specs.Names.{manifest_name}
 use Rattle.repository.specs.Places.{document_place}
-use Rattle.repository.specs.Stands.{HasManifest, marks_from}
+use Rattle.repository.specs.Stands.{IsManifestRead, marks_from}
 use Rattle.repository.specs.States.{State}
 
 -- The part of an entry. Header, documents and dictionary of the entry's file were read by the grammar of a segment of as many documents
--- as the entry says. Where the file is the segment of so many documents, what is kept is that of these. The documents are marked
--- that the entry names.
+-- as the entry says. Where the segment of so many documents was put there and damage of it shows, what is kept is that of these. The
+-- documents are marked that the entry names.
 pub record IsEntryOpened (told : Option Files) (e : SegEntry) (m : Marked) : Type 0 where
   pub kept : Kept
   pub source : m.source ≡ OnDisk kept
@@ -51,10 +51,11 @@ pub record AreEntriesHeld (told : Option Files) (limits : Limits) (es : List Seg
   pub tokens_fit : tokens_held parts ≤ limits.held_tokens
   pub distinct : IsDistinct bytes_eq (docnos_of parts)
 
--- A repository that was opened over files: the parts of the manifest's entries are held, and all else is as the manifest lists it.
+-- A repository that was opened over files: the parts of the entries of the manifest that was read are held, and all else is as this lists
+-- it.
 pub record IsRepositoryOpened (told : Option Files) (limits : Limits) (s : State) : Type 0 where
   pub list : Manifest
-  pub has : HasManifest told list
+  pub has : IsManifestRead told list
   pub held : AreEntriesHeld told limits list.segments s.held
   pub next_is : s.next ≡ list.next
   pub stale_are : s.stale ≡ list.stale
@@ -70,12 +71,12 @@ pub record IsFresh (limits : Limits) (s : State) : Type 0 where
 
 -- ---- why it is refused
 
--- the manifest is there, and its bytes are refused so
+-- there is a manifest, and the bytes that are read of it are refused so
 abbrev pub IsManifestFault : Files → SegFault → Type 0
 IsManifestFault files fault =
-    (bytes : List ℕ) × (files manifest_name ≡ Some bytes) × AnswersPart {X = Manifest} (λ m. m) (Err fault) (manifest bytes) names.Manifest parts.Manifest (length bytes)
+    (bytes : List ℕ) × ((files manifest_name).read ≡ Some bytes) × AnswersPart {X = Manifest} (λ m. m) (Err fault) (manifest bytes) names.Manifest parts.Manifest (length bytes)
 
--- The file of one of these entries isn't there, or isn't the segment of so many documents. It is the first: those of the entries
+-- The file of one of these entries isn't there, or isn't read as a segment of so many documents. It is the first: those of the entries
 -- before it are opened.
 pub record IsEntryFault (files : Files) (es : List SegEntry) (fault : SegFault) : Type 0 where
   pub before : List SegEntry
@@ -107,8 +108,8 @@ pub record IsAcrossFault (told : Option Files) (limits : Limits) (es : List SegE
 pub data IsOpeningFault (files : Files) (limits : Limits) (fault : SegFault) : Type 0 where
   of_outside : IsOutside fault → IsOpeningFault files limits fault
   of_manifest : IsManifestFault files fault → IsOpeningFault files limits fault
-  of_entry : (list : Manifest) → HasManifest (Some files) list → IsEntryFault files list.segments fault → IsOpeningFault files limits fault
-  of_all : (list : Manifest) → HasManifest (Some files) list → IsAcrossFault (Some files) limits list.segments fault → IsOpeningFault files limits fault
+  of_entry : (list : Manifest) → IsManifestRead (Some files) list → IsEntryFault files list.segments fault → IsOpeningFault files limits fault
+  of_all : (list : Manifest) → IsManifestRead (Some files) list → IsAcrossFault (Some files) limits list.segments fault → IsOpeningFault files limits fault
 
 -- the part of a fault is one of so many
 abbrev pub IsPartOf : ℕ → PartsFault → Type 0

@@ -59,10 +59,10 @@ prior_set s name n = record { held = s.held; next = next_after s.next; stale = w
 
 -- ---- its rows are read
 
--- the file of the prior with this number isn't there, or its bytes are refused so
+-- the file of the prior with this number isn't there, or the bytes that are read of it are refused so
 abbrev pub IsPriorFault : Files → ℕ → SegFault → Type 0
 IsPriorFault files n (Malformed file part place) =
-    (bytes : List ℕ) × (files (prior_name n) ≡ Some bytes) × AnswersPart {X = PriorTable} (λ t. t) (Err (Malformed file part place)) (prior_file bytes) (names.Prior n) parts.Prior (length bytes)
-IsPriorFault files n (Missing file) = (file ≡ names.Prior n) × (files (prior_name n) ≡ None)
+    (bytes : List ℕ) × ((files (prior_name n)).read ≡ Some bytes) × AnswersPart {X = PriorTable} (λ t. t) (Err (Malformed file part place)) (prior_file bytes) (names.Prior n) parts.Prior (length bytes)
+IsPriorFault files n (Missing file) = (file ≡ names.Prior n) × ((files (prior_name n)).read ≡ None)
 IsPriorFault files n Store = Unit {0}
 IsPriorFault files n Memory = Unit {0}

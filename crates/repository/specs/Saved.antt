@@ -1,7 +1,7 @@
 -- Parts that were in memory alone, once their documents are in files.
-use Rattle.std.specs.Prelude.{◌≡◌, ◌+◌, ◌≤◌, ◌<◌, ◌^◌, ℕ, true, false, List, [], ◌∷◌, ◌++◌, Option, Some, None}
+use Rattle.std.specs.Prelude.{◌≡◌, ◌+◌, ◌≤◌, ◌<◌, ◌^◌, ℕ, true, false, List, [], ◌∷◌, ◌++◌, Option, Some, None, length}
 use Rattle.std.specs.List.{All, AllZip}
-use Rattle.store_ends.specs.Files.{Files}
+use Rattle.store_ends.specs.Files.{Files, whole}
 use Rattle.manifest.specs.Listing.{AreNumbered}
 use Rattle.seg_codec.specs.Part.{IsPart}
 use Rattle.seg_codec.specs.Segment.{segment}
@@ -16,16 +16,16 @@ use Rattle.repository.specs.Entries.{IsOnDisk}
 use Rattle.repository.specs.Numbers.{Taken, is_among, next_behind}
 use Rattle.repository.specs.States.{IsSized, part_numbers}
 
--- where files are told, the one of this name has these bytes
+-- where files are told, these bytes were put in the one of this name, and are read there
 abbrev pub Holds : List ℕ → List ℕ → Option Files → Type 0
 Holds name bytes None = Unit {0}
-Holds name bytes (Some files) = files name ≡ Some bytes
+Holds name bytes (Some files) = files name ≡ whole (Some bytes)
 
 -- What is on disk stays. The documents of a part in memory stay there, or are in the file of a number that is taken.
 abbrev pub SavedSource : Option Files → List ℕ → Source → Source → Type 0
 SavedSource told taken (InMemory docs) (InMemory same) = same ≡ docs
 SavedSource told taken (InMemory docs) (OnDisk kept) =
-    (kept ≡ kept_of kept.number docs) × (IsPart docs × ((kept.number < 2 ^ 64) × ((is_among kept.number taken ≡ true) × Holds (segment_name kept.number) (segment docs) told)))
+    (kept ≡ kept_of kept.number docs) × (IsPart docs × ((kept.number < 2 ^ 64) × ((is_among kept.number taken ≡ true) × (Holds (segment_name kept.number) (segment docs) told × (length (segment docs) < 2 ^ 64)))))
 SavedSource told taken (OnDisk kept) (InMemory docs) = ⊥
 SavedSource told taken (OnDisk kept) (OnDisk same) = same ≡ kept
 

@@ -4,7 +4,7 @@ use Rattle.std.specs.List.{AllZip, IsDistinct, list_any}
 use Rattle.std.specs.Str.{bytes_eq}
 use Rattle.ri_base.specs.Collection.{token_count}
 use Rattle.ri_base.specs.Documents.{Document}
-use Rattle.store_ends.specs.Files.{Files}
+use Rattle.store_ends.specs.Files.{Files, whole}
 use Rattle.manifest.specs.Fits.{IsManifest}
 use Rattle.manifest.specs.PriorFits.{IsPrior}
 use Rattle.manifest.specs.Priors.{PriorTable, prior_text}
@@ -42,7 +42,7 @@ abbrev pub marks_from : ℕ → ℕ → List ℕ → List Bool
 marks_from id zero ids = []
 marks_from id (suc n) ids = list_any (λ m. m == id) ids ∷ marks_from (id + 1) n ids
 
--- the file of this entry is the segment of these documents, which are as many as the entry says
+-- the segment of these documents, which are as many as the entry says, was put in the file of this entry, and damage of it shows
 pub record IsListed (told : Option Files) (e : SegEntry) (docs : List Document) : Type 0 where
   pub has : HasSegment told e.number docs
   pub count : length docs ≡ e.docs
@@ -62,25 +62,40 @@ pub record AreHeld (limits : Limits) (es : List SegEntry) (segments : List (List
   pub documents_fit : c.documents ≤ limits.held_docs
   pub tokens_fit : c.tokens ≤ limits.held_tokens
 
--- the file of this entry has the rows of this prior
+-- The rows of this prior were put in the file of this entry, and they are read there as they were put.
 pub record IsPriorListed (told : Option Files) (e : PriorEntry) (p : Prior) : Type 0 where
   pub files : Files
   pub is_told : told ≡ Some files
   pub name : p.name ≡ e.name
-  pub file : files (prior_name e.number) ≡ Some (prior_text p.table)
+  pub file : files (prior_name e.number) ≡ whole (Some (prior_text p.table))
+  pub form : IsPrior p.table
+
+-- The rows of this prior are read in the file of this entry, whatever was put there.
+pub record IsPriorRead (told : Option Files) (e : PriorEntry) (p : Prior) : Type 0 where
+  pub files : Files
+  pub is_told : told ≡ Some files
+  pub name : p.name ≡ e.name
+  pub file : (files (prior_name e.number)).read ≡ Some (prior_text p.table)
   pub form : IsPrior p.table
 
 -- ---- files that stand for a collection
 
--- The files are told, and this manifest is there.
+-- The files are told, and this manifest was put there. It is read as it was put.
 pub record HasManifest (told : Option Files) (list : Manifest) : Type 0 where
   pub files : Files
   pub is_told : told ≡ Some files
-  pub file : files manifest_name ≡ Some (manifest_text list)
+  pub file : files manifest_name ≡ whole (Some (manifest_text list))
   pub form : IsManifest list
 
--- The files are told, and there is a manifest. The files that it lists are the segments and the priors of this collection. Other
--- files don't matter.
+-- The files are told, and this manifest is read there, whatever was put.
+pub record IsManifestRead (told : Option Files) (list : Manifest) : Type 0 where
+  pub files : Files
+  pub is_told : told ≡ Some files
+  pub file : (files manifest_name).read ≡ Some (manifest_text list)
+  pub form : IsManifest list
+
+-- The files are told, and there is a manifest. The segments and the priors of this collection were put in the files that it lists.
+-- These are read as they were put, but for damage of the blocks of segments, which shows. Other files don't matter.
 pub record Stands (limits : Limits) (told : Option Files) (c : Collection) : Type 0 where
   pub list : Manifest
   pub has : HasManifest told list

@@ -7,7 +7,7 @@ use Rattle.manifest.specs.Fits.{FitsDocs, IsManifest}
 use Rattle.manifest.specs.Listing.{prior_numbers}
 use Rattle.manifest.specs.declared.manifest.Manifest.{Manifest}
 use Rattle.manifest.specs.declared.manifest.PriorEntry.{PriorEntry}
-use Rattle.disk_index.specs.Parts.{InMemory, IsPartBacked, OnDisk, Source, size}
+use Rattle.disk_index.specs.Parts.{InMemory, IsPartBacked, IsPartIntact, OnDisk, Source, size}
 use Rattle.disk_index.specs.Snapshots.{Marked, documents_held}
 use Rattle.holdings.specs.Contents.{Contents}
 use Rattle.holdings.specs.MarkedParts.{tokens_held}
@@ -67,8 +67,8 @@ pub record IsNumbered (s : State) : Type 0 where
   pub priors_are : list.priors ≡ s.priors
   pub sized : All IsSized s.held.parts.closed
 
--- The manifest is one of this state: it lists its parts on disk, its stale files and its priors. Each part on disk has its file, and
--- the file of each prior has its rows.
+-- The manifest is one of this state: it lists its parts on disk, its stale files and its priors. The segment of each part on disk was
+-- put in its file, damage of which shows, and the file of each prior has its rows.
 pub record IsBacked (told : Option Files) (s : State) : Type 0 where
   pub list : Manifest
   pub has : HasManifest told list
@@ -78,3 +78,7 @@ pub record IsBacked (told : Option Files) (s : State) : Type 0 where
   pub priors_are : list.priors ≡ s.priors
   pub parts : All (λ m. IsPartBacked told m.source) s.held.parts.closed
   pub priors : (ps : List Prior) × AllZip (IsPriorListed told) s.priors ps
+
+-- The segment of each part on disk was put in its file, which is read as it was put.
+abbrev pub IsStateIntact : Option Files → State → Type 0
+IsStateIntact told s = All (λ m. IsPartIntact told m.source) s.held.parts.closed

@@ -1,7 +1,7 @@
 -- What a call that writes does to the files, and what they stand for while it goes on and once it is done.
 use Rattle.std.specs.Prelude.{◌≡◌, ◌≤◌, ◌<◌, ◌⊎◌, ◌^◌, ℕ, true, List, [], Option, Some, None}
 use Rattle.std.specs.List.{All}
-use Rattle.store_ends.specs.Files.{Files, Leaves, SameWhere}
+use Rattle.store_ends.specs.Files.{Files, Leaves, SameWhere, whole}
 use Rattle.disk_index.specs.Names.{segment_name}
 use Rattle.holdings.specs.MarkedParts.{docnos_of}
 use Rattle.holdings.specs.Parts.{all_parts, sealed}
@@ -11,7 +11,7 @@ use Rattle.repository.specs.Names.{manifest_name, prior_name}
 use Rattle.repository.specs.Numbers.{is_among, next_behind}
 use Rattle.repository.specs.Saved.{unsaved}
 use Rattle.repository.specs.Stands.{Collection, Stands}
-use Rattle.repository.specs.States.{IsBacked, ReadsAs, State, part_numbers}
+use Rattle.repository.specs.States.{IsBacked, IsStateIntact, ReadsAs, State, part_numbers}
 
 -- the name is that of no file of these numbers
 abbrev pub IsOther : (ℕ → Type 0) → List ℕ → Type 0
@@ -24,7 +24,7 @@ IsBeside own name = (name ≡ manifest_name → ⊥) × IsOther own name
 -- where files are told, none has this number
 abbrev pub IsGone : ℕ → Option Files → Type 0
 IsGone n None = Unit {0}
-IsGone n (Some files) = (files (segment_name n) ≡ None) × (files (prior_name n) ≡ None)
+IsGone n (Some files) = (files (segment_name n) ≡ whole None) × (files (prior_name n) ≡ whole None)
 
 abbrev pub AreGone : List ℕ → Option Files → Type 0
 AreGone ns told = All (λ n. IsGone n told) ns
@@ -41,11 +41,13 @@ pub record Writes {S : Type 0} (files : S → Option Files) (since : S → ℕ �
   pub stops : (c d : Collection) → IsBacked (files old) s → Stands s.held.limits (files old) c → ReadsAs (files old) s d
       → Leaves (since old) (since new) (IsEither s.held.limits c (into d))
 
--- Once it is done: the state reads as what it is made into, the files stand for just that, and it is backed.
+-- Once it is done: the state reads as what it is made into, the files stand for just that, and it is backed. Where the files of its
+-- parts were read as they were put, those of its parts now are too.
 pub record Wrote (into : Collection → Collection) (before now : Option Files) (s t : State) : Type 0 where
   pub reads : (d : Collection) → IsBacked before s → ReadsAs before s d → ReadsAs now t (into d)
   pub stands : (d : Collection) → IsBacked before s → ReadsAs before s d → Stands t.held.limits now (into d)
   pub backed : IsBacked before s → IsBacked now t
+  pub intact : IsBacked before s → IsStateIntact before s → IsStateIntact now t
 
 -- All that was held is in files that are listed, those of before among them; the new files have the next numbers, and each took
 -- one. Of the priors and of an open merge nothing changes.

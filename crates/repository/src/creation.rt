@@ -31,13 +31,13 @@ fn empty_bytes(alloc: Global) -> Result<Bytes, NoMemory>
 
 /// Makes a repository in which nothing is, and answers true. Where there is one already nothing changes, and the answer is false.
 pub fn create<T: Store>(alloc: Global, store: &mut T) -> Result<bool, SegFault>
-    ensures found { (f : Files) → T.files store.old ≡ Some f → IfOk result (λ made. made ≡ not (is_some (f manifest_name))) }
+    ensures found { (f : Files) → T.files store.old ≡ Some f → IfOk result (λ made. made ≡ not (is_some (f manifest_name).read)) }
     ensures made { IfOk result (λ made. IsTrue made
         → T.files store.new ≡ option_map (with_file manifest_name (Some (manifest_text empty_manifest))) (T.files store.old)) }
     ensures kept { IfOk result (λ made. made ≡ false → IsQuiet T.files T.layers T.clock T.since T.longest T.held store.old store.new) }
 
     // Where there is one, nothing changes, whatever the answer.
-    ensures there { (f : Files) → T.files store.old ≡ Some f → IsTrue (is_some (f manifest_name))
+    ensures there { (f : Files) → T.files store.old ≡ Some f → IsTrue (is_some (f manifest_name).read)
         → IsQuiet T.files T.layers T.clock T.since T.longest T.held store.old store.new }
 
     // A stop leaves the files as they were, or with the manifest that lists nothing.

@@ -16,7 +16,7 @@ use store_ends::Store;
 
 /// Whether there is a manifest.
 pub fn has_manifest<T: Store>(store: &mut T) -> Result<bool, SegFault>
-    ensures found { (f : Files) → T.files store.old ≡ Some f → IfOk result (λ there. there ≡ is_some (f manifest_name)) }
+    ensures found { (f : Files) → T.files store.old ≡ Some f → IfOk result (λ there. there ≡ is_some (f manifest_name).read) }
     ensures outside { IfErr result IsOutside }
     ensures quiet { IsQuiet T.files T.layers T.clock T.since T.longest T.held store.old store.new }
     ensures later { T.faults store.old ≤ T.faults store.new }
@@ -29,14 +29,14 @@ pub fn has_manifest<T: Store>(store: &mut T) -> Result<bool, SegFault>
     }
 }
 
-/// The bytes of a file, or `None` where there is no such file.
+/// The bytes that are read of a file, or `None` where there is no such file.
 fn read_file<T: Store>(
     alloc: Global,
     store: &mut T,
     name: &str,
 ) -> Result<Option<Vec<u8>>, OutFault>
     requires { length name.now ≤ T.longest store.old }
-    ensures bytes { IfOk result (λ found. IfSome (T.files store.old) (λ f. option_map (λ bytes. bytes.items) found ≡ f name.now)) }
+    ensures bytes { IfOk result (λ found. IfSome (T.files store.old) (λ f. option_map (λ bytes. bytes.items) found ≡ (f name.now).read)) }
     ensures quiet { IsQuiet T.files T.layers T.clock T.since T.longest T.held store.old store.new }
     ensures cause { HasOutCause (T.faults store.old) (T.faults store.new) result }
     ensures none { result ≢ Err OutFault.Failed → T.faults store.new ≡ T.faults store.old }
@@ -50,9 +50,9 @@ fn read_file<T: Store>(
     Ok(Some(bytes))
 }
 
-/// The bytes of the manifest, or `None` where there is none.
+/// The bytes that are read of the manifest, or `None` where there is none.
 pub fn manifest_file<T: Store>(alloc: Global, store: &mut T) -> Result<Option<Vec<u8>>, SegFault>
-    ensures bytes { (f : Files) → T.files store.old ≡ Some f → IfOk result (λ found. option_map (λ bytes. bytes.items) found ≡ f manifest_name) }
+    ensures bytes { (f : Files) → T.files store.old ≡ Some f → IfOk result (λ found. option_map (λ bytes. bytes.items) found ≡ (f manifest_name).read) }
     ensures outside { IfErr result IsOutside }
     ensures quiet { IsQuiet T.files T.layers T.clock T.since T.longest T.held store.old store.new }
     ensures later { T.faults store.old ≤ T.faults store.new }
@@ -65,13 +65,13 @@ pub fn manifest_file<T: Store>(alloc: Global, store: &mut T) -> Result<Option<Ve
     }
 }
 
-/// The bytes of the file of the prior with this number, or `None` where there is none.
+/// The bytes that are read of the file of the prior with this number, or `None` where there is none.
 pub fn prior_file<T: Store>(
     alloc: Global,
     store: &mut T,
     number: u64,
 ) -> Result<Option<Vec<u8>>, SegFault>
-    ensures bytes { (f : Files) → T.files store.old ≡ Some f → IfOk result (λ found. option_map (λ bytes. bytes.items) found ≡ f (prior_name number)) }
+    ensures bytes { (f : Files) → T.files store.old ≡ Some f → IfOk result (λ found. option_map (λ bytes. bytes.items) found ≡ (f (prior_name number)).read) }
     ensures outside { IfErr result IsOutside }
     ensures quiet { IsQuiet T.files T.layers T.clock T.since T.longest T.held store.old store.new }
     ensures later { T.faults store.old ≤ T.faults store.new }

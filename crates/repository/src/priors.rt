@@ -12,7 +12,7 @@ ghost use Rattle.repository.specs.Numbers.{IsNewNumber, next_after};
 ghost use Rattle.repository.specs.Priors.{IsPriorFault, is_full, is_named, is_same, number_named, with_entry};
 ghost use Rattle.repository.specs.Saved.{IsUnlisted};
 ghost use Rattle.repository.specs.Stale.{with_old};
-ghost use Rattle.repository.specs.Stands.{IsPriorListed};
+ghost use Rattle.repository.specs.Stands.{IsPriorRead};
 ghost use Rattle.repository.specs.Writes.{IsOther};
 
 use crate::files::{prior_file, put_file};
@@ -32,7 +32,7 @@ pub fn read_rows<T: Store>(
     store: &mut T,
     entry: &PriorEntry,
 ) -> Result<PriorRows, SegFault>
-    ensures rows { (f : Files) → T.files store.old ≡ Some f → IfOk result (λ rows. IsPriorListed (T.files store.old) entry.now (record { name = entry.now.name; table = rows })) }
+    ensures rows { (f : Files) → T.files store.old ≡ Some f → IfOk result (λ rows. IsPriorRead (T.files store.old) entry.now (record { name = entry.now.name; table = rows })) }
     ensures fault { (f : Files) → T.files store.old ≡ Some f → IfErr result (IsPriorFault f entry.now.number) }
     ensures quiet { IsQuiet T.files T.layers T.clock T.since T.longest T.held store.old store.new }
     ensures later { T.faults store.old ≤ T.faults store.new }

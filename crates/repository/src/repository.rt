@@ -11,7 +11,7 @@ ghost use Rattle.manifest.specs.Entries.{length_name, with_numbers};
 ghost use Rattle.manifest.specs.Fits.{IsManifest};
 ghost use Rattle.manifest.specs.declared.manifest.PriorEntry.{PriorEntry};
 ghost use Rattle.disk_index.specs.Snapshots as snapshots;
-ghost use Rattle.disk_index.specs.Snapshots.{AreBacked};
+ghost use Rattle.disk_index.specs.Snapshots.{AreBacked, AreIntact};
 ghost use Rattle.holdings.specs.Contents.{Answers, added, all_closed, answer, deleted};
 ghost use Rattle.holdings.specs.MarkedParts.{docnos_of};
 ghost use Rattle.holdings.specs.Parts.{is_live, live, sealed};
@@ -21,8 +21,8 @@ ghost use Rattle.repository.specs.Numbers.{IsNewNumber};
 ghost use Rattle.repository.specs.Opening.{IsAcrossFault, IsEntryFault, IsFresh, IsOpeningFault, IsRepositoryOpened};
 ghost use Rattle.repository.specs.Priors.{AreStored, IsPriorFault, is_full, is_same, prior_set, with_prior};
 ghost use Rattle.repository.specs.Saved.{IsUnlisted};
-ghost use Rattle.repository.specs.Stands.{AreHeld, Collection, HasManifest, IsListed, IsPriorListed, Prior, Stands};
-ghost use Rattle.repository.specs.States.{IsBacked, ReadsAs, kept_numbers, listed_numbers, part_numbers};
+ghost use Rattle.repository.specs.Stands.{AreHeld, Collection, IsListed, IsManifestRead, IsPriorRead, Prior, Stands};
+ghost use Rattle.repository.specs.States.{IsBacked, IsStateIntact, ReadsAs, kept_numbers, listed_numbers, part_numbers};
 ghost use Rattle.repository.specs.Steps.{with_document, with_held, without_docno};
 ghost use Rattle.repository.specs.Writes.{AreGone, IsSavedAs, Wrote, Writes};
 
@@ -77,7 +77,7 @@ impl Repository {
         store: &mut T,
         limits: Limits,
     ) -> Result<Option<Repository>, SegFault>
-        ensures there { (f : Files) → T.files store.old ≡ Some f → IfOk result (λ found. is_some found ≡ is_some (f manifest_name)) }
+        ensures there { (f : Files) → T.files store.old ≡ Some f → IfOk result (λ found. is_some found ≡ is_some (f manifest_name).read) }
 
         // Files that stand for a collection are opened as that collection, and never refused.
         ensures reads { (c : Collection) → Stands limits (T.files store.old) c → IfOk result (λ found. IsSomeAnd found (λ r. ReadsAs (T.files store.old) r c)) }
@@ -107,6 +107,7 @@ impl Repository {
         ensures added { OnOk result (self.new ≡ with_held self.old (added self.old.held doc.now)) }
         ensures reads { OnOk result ((told : Option Files) (c : Collection) → ReadsAs told self.old c → ReadsAs told self.new (with_document c doc.now)) }
         ensures backed { (told : Option Files) → IsBacked told self.old → IsBacked told self.new }
+        ensures intact { (told : Option Files) → IsStateIntact told self.old → IsStateIntact told self.new }
         ensures merging { (told : Option Files) → IsOpenMerging told self.old → IsOpenMerging told self.new }
         ensures kept { OnErr result (self.new ≡ self.old) }
         ensures usable { self.new.usable ≡ self.old.usable }
@@ -121,6 +122,7 @@ impl Repository {
         ensures deleted { OnOk result (self.new ≡ with_held self.old (deleted self.old.held docno.now)) }
         ensures reads { OnOk result ((told : Option Files) (c : Collection) → ReadsAs told self.old c → ReadsAs told self.new (without_docno c docno.now)) }
         ensures backed { (told : Option Files) → IsBacked told self.old → IsBacked told self.new }
+        ensures intact { (told : Option Files) → IsStateIntact told self.old → IsStateIntact told self.new }
         ensures merging { (told : Option Files) → IsOpenMerging told self.old → IsOpenMerging told self.new }
         ensures kept { OnErr result (self.new ≡ self.old) }
         ensures usable { self.new.usable ≡ self.old.usable }
@@ -139,11 +141,13 @@ impl Repository {
         // Its files are those of the repository, so it is backed where the repository is, by files that the manifest lists.
         ensures numbers { IfOk result (λ s. part_numbers s ≡ part_numbers self.old.held.parts.closed) }
         ensures stored { (told : Option Files) → IsBacked told self.old → IfOk result (λ s. AreBacked told s) }
+        ensures stored_intact { (told : Option Files) → IsStateIntact told self.old → IfOk result (λ s. AreIntact told s) }
 
         ensures closed { OnOk result (self.new ≡ with_held self.old (all_closed self.old.held)) }
         ensures left { OnErr result ((self.new ≡ self.old) ⊎ (self.new ≡ with_held self.old (all_closed self.old.held))) }
         ensures reads { (told : Option Files) (c : Collection) → ReadsAs told self.old c → ReadsAs told self.new c }
         ensures backed { (told : Option Files) → IsBacked told self.old → IsBacked told self.new }
+        ensures intact { (told : Option Files) → IsStateIntact told self.old → IsStateIntact told self.new }
         ensures merging { (told : Option Files) → IsOpenMerging told self.old → IsOpenMerging told self.new }
         ensures usable { self.new.usable ≡ self.old.usable }
     {
@@ -259,7 +263,7 @@ impl Repository {
         // They are those of the prior at this place, of what the repository reads as and whatever it reads as.
         ensures reads { (c : Collection) (p : Prior) → ReadsAs (T.files store.old) self.now c → p ≡ slice_index_or c.priors i p → IfOk result (λ rows. rows ≡ p.table) }
         ensures rows { (f : Files) (e : PriorEntry) → T.files store.old ≡ Some f → e ≡ slice_index_or self.now.priors i e
-            → IfOk result (λ rows. IsPriorListed (T.files store.old) e (record { name = e.name; table = rows })) }
+            → IfOk result (λ rows. IsPriorRead (T.files store.old) e (record { name = e.name; table = rows })) }
         ensures honest { IsBacked (T.files store.old) self.now → IfErr result IsOutside }
         ensures fault { (f : Files) (e : PriorEntry) → T.files store.old ≡ Some f → e ≡ slice_index_or self.now.priors i e → IfErr result (IsPriorFault f e.number) }
         ensures quiet { IsQuiet T.files T.layers T.clock T.since T.longest T.held store.old store.new }
@@ -398,7 +402,7 @@ fn of_manifest<T: Store>(
     requires { IsManifest list }
     ensures fresh { IfOk result (IsFresh limits) }
     ensures stored { IfOk result (λ r. AreStored r) }
-    ensures opened { HasManifest (T.files store.old) list → IfOk result (IsRepositoryOpened (T.files store.old) limits) }
+    ensures opened { IsManifestRead (T.files store.old) list → IfOk result (IsRepositoryOpened (T.files store.old) limits) }
     ensures honest { (segments : List (List Document)) (c : Collection) → AllZip (IsListed (T.files store.old)) list.segments segments → AreHeld limits list.segments segments c
         → IfErr result IsOutside }
     ensures fault { (f : Files) → T.files store.old ≡ Some f

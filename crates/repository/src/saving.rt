@@ -1,5 +1,5 @@
 // Parts that are in memory alone are written.
-ghost use Rattle.std.specs.Prelude.{◌≡◌, ◌≤◌, ◌<◌, ◌++◌, ◌≢◌, [], Some, Err, length, slice_index_or, IfOk, IfErr, OnOk};
+ghost use Rattle.std.specs.Prelude.{◌≡◌, ◌≤◌, ◌<◌, ◌^◌, ◌++◌, ◌≢◌, [], Some, Err, length, slice_index_or, IfOk, IfErr, OnOk};
 ghost use Rattle.std.specs.List.{All};
 ghost use Rattle.std.specs.Option.{option_map};
 ghost use Rattle.ri_base.specs.Collection.{name_count};
@@ -41,6 +41,7 @@ fn write_segment<T: Store>(
     requires named { name_count sealed.now ≤ MAX_PART_NAMES }
     ensures kept { IfOk result (λ index. index.value ≡ kept_of number sealed.now) }
     ensures part { OnOk result (IsPart sealed.now) }
+    ensures small { OnOk result (length (segment sealed.now) < 2 ^ 64) }
     ensures done { OnOk result (T.files store.new ≡ option_map (with_file (segment_name number) (Some (segment sealed.now))) (T.files store.old)) }
     ensures changed { AnyState (segment_name number) (T.files store.old) (T.files store.new) }
     ensures stops { Leaves (T.since store.old) (T.since store.new) (AnyState (segment_name number) (T.files store.old)) }
@@ -51,6 +52,8 @@ fn write_segment<T: Store>(
     ensures none { result ≢ Err SegFault.Store → T.faults store.new ≡ T.faults store.old }
 {
     let bytes = seg_bytes(alloc, sealed)?;
+    // they are in memory, so their number is one of 64 bits
+    let _size = bytes.len();
     let index = DiskIndex::of_bytes(alloc, bytes.as_slice(), number)?;
     let shared = Rc::new(alloc, index).map_err(AllocError::from)?;
     let name = segment_name(number);

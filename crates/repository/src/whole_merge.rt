@@ -10,7 +10,7 @@ ghost use Rattle.merge_job.specs.Walk.{IsFaultAmong};
 ghost use Rattle.repository.specs.Merges.{IsMergedTo, merge_begun, merge_of, without_dead};
 ghost use Rattle.repository.specs.Saved.{IsUnlisted};
 ghost use Rattle.repository.specs.Stands.{Collection};
-ghost use Rattle.repository.specs.States.{IsBacked, ReadsAs, listed_numbers};
+ghost use Rattle.repository.specs.States.{IsBacked, IsStateIntact, ReadsAs, listed_numbers};
 ghost use Rattle.repository.specs.Writes.{Wrote, Writes};
 
 use crate::{Repository, Turned};
@@ -42,7 +42,7 @@ pub fn merge_whole<T: Store>(
     // Only a document that is copied can be refused, by its file alone, since no block is kept from before; and nothing is written then.
     ensures fault { (f : Files) → T.files store.old ≡ Some f → IfErr result (λ fault. IsOutside fault ⊎ IsFaultAmong f nothing_cached (sealed repository.old.held.parts).closed fault) }
     ensures damage { IfErr result (λ fault. IsOutside fault ⊎ IsQuiet T.files T.layers T.clock T.since T.longest T.held store.old store.new) }
-    ensures honest { IsBacked (T.files store.old) repository.old → IfErr result IsOutside }
+    ensures honest { IsStateIntact (T.files store.old) repository.old → IfErr result IsOutside }
     ensures later { T.faults store.old ≤ T.faults store.new }
     ensures store { result ≡ Err SegFault.Store → Rose (T.faults store.old) (T.faults store.new) }
 {

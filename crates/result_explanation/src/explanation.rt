@@ -28,11 +28,11 @@ fn leaves_shown<P: Postings>(
     requires id { id < length (P.documents part.old) }
     requires stats { length stats.now ≡ length leaves.now }
     requires beliefs { length beliefs.now ≡ length leaves.now }
-    ensures keeps { Keeps P.documents P.faults P.sound P.quiet part.old part.new }
+    ensures keeps { Keeps P.documents P.faults P.sound P.intact P.quiet part.old part.new }
     ensures exact { P.sound part.old → IfOk result
         (λ shown. map told_leaf shown ≡ leaves_told names.now (document_at (P.documents part.old) id) window (map leaf_tree leaves.now) stats.now beliefs.now) }
     ensures told { IfOk result (λ _. All (IsLeafTold (λ t. P.told part.old t id)) (map leaf_tree leaves.now)) }
-    ensures honest { P.sound part.old → IfErr result IsOutside }
+    ensures honest { P.intact part.old → IfErr result IsOutside }
     ensures undamaged { OnOk result (P.damage part.new ≡ P.damage part.old) }
     ensures damaged { IfErr result (TellsDamage (P.damage part.old) (P.damage part.new)) }
     ensures store { result ≡ Err SegFault.Store → Rose (P.faults part.old) (P.faults part.new) }
@@ -61,7 +61,7 @@ pub fn explain<P: Postings>(
     requires window { hit.begin < hit.end }
     requires stats { length stats.now ≡ length checked.now.leaves.items }
     requires beliefs { length hit.fractions ≡ length checked.now.leaves.items }
-    ensures keeps { Keeps P.documents P.faults P.sound P.quiet part.old part.new }
+    ensures keeps { Keeps P.documents P.faults P.sound P.intact P.quiet part.old part.new }
     ensures exact { P.sound part.old → IfOk result
         (IsExplanation names.now (whole_checked checked.now) stats.now (document_at (P.documents part.old) id) rank hit) }
 
@@ -69,7 +69,7 @@ pub fn explain<P: Postings>(
     ensures told { IfOk result (λ _. All (IsLeafTold (λ t. P.told part.old t id)) (map leaf_tree checked.now.leaves.items)) }
 
     ensures scale { IfOk result (λ explained. explained.scale ≡ checked.now.scale) }
-    ensures honest { P.sound part.old → IfErr result IsOutside }
+    ensures honest { P.intact part.old → IfErr result IsOutside }
     ensures undamaged { OnOk result (P.damage part.new ≡ P.damage part.old) }
     ensures damaged { IfErr result (TellsDamage (P.damage part.old) (P.damage part.new)) }
     ensures store { result ≡ Err SegFault.Store → Rose (P.faults part.old) (P.faults part.new) }

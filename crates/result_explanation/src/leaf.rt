@@ -39,11 +39,11 @@ pub fn leaf_shown<P: Postings>(
     window: Extent,
 ) -> Result<LeafShown, SegFault>
     requires id { id < length (P.documents part.old) }
-    ensures keeps { Keeps P.documents P.faults P.sound P.quiet part.old part.new }
+    ensures keeps { Keeps P.documents P.faults P.sound P.intact P.quiet part.old part.new }
     ensures exact { P.sound part.old → IfOk result
         (λ shown. told_leaf shown ≡ leaf_told names.now (document_at (P.documents part.old) id) window (leaf_tree leaf.now) stats belief) }
     ensures told { IfOk result (λ _. IsLeafTold (λ t. P.told part.old t id) (leaf_tree leaf.now)) }
-    ensures honest { P.sound part.old → IfErr result IsOutside }
+    ensures honest { P.intact part.old → IfErr result IsOutside }
     ensures undamaged { OnOk result (P.damage part.new ≡ P.damage part.old) }
     ensures damaged { IfErr result (TellsDamage (P.damage part.old) (P.damage part.new)) }
     ensures store { result ≡ Err SegFault.Store → Rose (P.faults part.old) (P.faults part.new) }

@@ -14,8 +14,8 @@ use std::alloc::Global;
 
 /// One part of the collection, seen as the list of its documents; a document's id is its place in the list.
 ///
-/// A part that reads files counts the faults of its store. It is `sound` where all that it keeps of its files, and
-/// the files, are those of one list of documents. `quiet` relates two of its states where the second differs from
+/// A part that reads files counts the faults of its store. It is `sound` where the files were put as those of one list of
+/// documents, however they are read now as long as damage shows; and `intact` where they are read as they were put. `quiet` relates two of its states where the second differs from
 /// the first by no more than reading may change. `told` says of a term and a document that the part's files, or what
 /// it keeps of them, can be read there, whether the part is sound or not: then no malformed place was passed by. `damage`
 /// is the last file that reading found malformed or missing: a call that answers found none, and one that tells damage found this.
@@ -25,6 +25,8 @@ pub trait Postings {
     ghost faults: { Self → ℕ };
 
     ghost sound: { Self → Type 0 };
+
+    ghost intact: { Self → Type 0 };
 
     ghost quiet: { Self → Self → Type 0 };
 
@@ -56,7 +58,7 @@ pub trait Postings {
     fn positions(&mut self, alloc: Global, term: &Term, id: u32) -> Result<Positions, SegFault>
         requires { id < length (documents self.old) }
 
-        ensures keeps { Keeps documents faults sound quiet self.old self.new }
+        ensures keeps { Keeps documents faults sound intact quiet self.old self.new }
 
         // Also of a part that isn't sound, what is told are places of that document.
         ensures rising { IfOk result IsStrictlyIncreasing }
@@ -68,10 +70,12 @@ pub trait Postings {
 
         ensures exact { sound self.old → IfOk result
             (λ ps. ps ≡ places term.now (document_at (documents self.old) id)) }
-        ensures honest { sound self.old → IfErr result IsOutside }
+        ensures honest { intact self.old → IfErr result IsOutside }
         ensures store { result ≡ Err SegFault.Store → Rose (faults self.old) (faults self.new) };
 
     // laws
+    ghost intact_sound: { (s : Self) → intact s → sound s };
+
     ghost quiet_same: { (s : Self) → quiet s s };
 
     ghost quiet_then: { (r s t : Self) → quiet r s → quiet s t → quiet r t };

@@ -167,6 +167,8 @@ impl Postings for Sealed {
 
     ghost sound = { λ _. ⊤ };
 
+    ghost intact = { λ _. ⊤ };
+
     ghost quiet = { λ r s. r ≡ s };
 
     ghost told = { λ _ _ _. ⊤ };
@@ -195,6 +197,8 @@ impl Postings for Sealed {
     }
 
     ghost use Rattle.std.proofs.Common.{◌∙◌, refl};
+
+    ghost intact_sound = { λ s intact. intact };
 
     ghost quiet_same = { λ s. refl };
 

@@ -5,15 +5,18 @@ use Rattle.std.specs.Option.{option_map}
 use Rattle.std.proofs.Math.Path.{fun_ext}
 use Rattle.std.proofs.lemmas.Bool.{false_from_ne_true}
 use Rattle.std.proofs.lemmas.Slice.Eq.{bytes_eq-Decides}
-use Rattle.store_ends.specs.Files.{AnyState, Files, Leaves, LeavesNoMore, OldOrNew, SameWhere, with_file}
+use Rattle.store_ends.specs.Files.{AnyState, File, Files, Leaves, LeavesNoMore, OldOrNew, SameWhere, set_file, whole, with_file}
 
 -- a file under another name is as it was
-pub with_file-other : (name other : List ℕ) (state : Option (List ℕ)) (f : Files) → (other ≡ name → ⊥) → with_file name state f other ≡ f other
-with_file-other name other state f ne =
+pub set_file-other : (name other : List ℕ) (file : File) (f : Files) → (other ≡ name → ⊥) → set_file name file f other ≡ f other
+set_file-other name other file f ne =
     let e : bytes_eq other name ≡ false = false_from_ne_true (bytes_eq other name) (λ eq. ne ((bytes_eq-Decides other name).0 eq)) in
     rw e refl
 
-pub with_file-same : (name : List ℕ) (state : Option (List ℕ)) (f : Files) → with_file name state f name ≡ state
+pub with_file-other : (name other : List ℕ) (state : Option (List ℕ)) (f : Files) → (other ≡ name → ⊥) → with_file name state f other ≡ f other
+with_file-other name other state f ne = set_file-other name other (whole state) f ne
+
+pub with_file-same : (name : List ℕ) (state : Option (List ℕ)) (f : Files) → with_file name state f name ≡ whole state
 with_file-same name state f =
     let e : bytes_eq name name ≡ true = (bytes_eq-Decides name name).1 refl in
     rw e refl
@@ -35,8 +38,8 @@ own name other f true e = ap f (sym ((bytes_eq-Decides other name).0 e))
 own name other f false e = refl
 
 -- Files are the same where one of them is put into the state that it has.
-pub with_file-own : (name : List ℕ) (f : Files) → with_file name (f name) f ≡ f
-with_file-own name f = fun_ext (λ other. own name other f (bytes_eq other name) refl)
+pub set_file-own : (name : List ℕ) (f : Files) → set_file name (f name) f ≡ f
+set_file-own name f = fun_ext (λ other. own name other f (bytes_eq other name) refl)
 
 -- What a stop leaves holds of the files as they are too, which are the old ones or some of which P holds.
 pub Leaves-now : {S : Type 0} (files : S → Option Files) (clock : S → ℕ) (since : S → ℕ → Files → Type 0) (old new : S) (P : Option Files → Type 0) (f : Files)
@@ -75,12 +78,12 @@ SameWhere-fewer P Q (Some f) None into same = same
 SameWhere-fewer P Q (Some f) (Some g) into same = λ name q. same name (into name q)
 
 -- where one file changes of whose name P doesn't hold
-pub SameWhere-changed : (P : List ℕ → Type 0) (name : List ℕ) (state : Option (List ℕ)) (a b c : Option Files) → (P name → ⊥) → SameWhere P a b → c ≡ option_map (with_file name state) b → SameWhere P a c
-SameWhere-changed P name state None None c not ab e = subst (SameWhere P None) (sym e) tt
-SameWhere-changed P name state None (Some g) c not ab e = absurd ab
-SameWhere-changed P name state (Some f) None c not ab e = absurd ab
-SameWhere-changed P name state (Some f) (Some g) c not ab e =
-    subst (SameWhere P (Some f)) (sym e) (λ other p. with_file-other name other state g (λ eq. not (subst P eq p)) ∙ ab other p)
+pub SameWhere-changed : (P : List ℕ → Type 0) (name : List ℕ) (file : File) (a b c : Option Files) → (P name → ⊥) → SameWhere P a b → c ≡ option_map (set_file name file) b → SameWhere P a c
+SameWhere-changed P name file None None c not ab e = subst (SameWhere P None) (sym e) tt
+SameWhere-changed P name file None (Some g) c not ab e = absurd ab
+SameWhere-changed P name file (Some f) None c not ab e = absurd ab
+SameWhere-changed P name file (Some f) (Some g) c not ab e =
+    subst (SameWhere P (Some f)) (sym e) (λ other p. set_file-other name other file g (λ eq. not (subst P eq p)) ∙ ab other p)
 
 pub SameWhere-any : (P : List ℕ → Type 0) (name : List ℕ) (a b c : Option Files) → (P name → ⊥) → SameWhere P a b → AnyState name b c → SameWhere P a c
 SameWhere-any P name a b c not ab any = SameWhere-changed P name any.0 a b c not ab any.1
@@ -88,7 +91,7 @@ SameWhere-any P name a b c not ab any = SameWhere-changed P name any.0 a b c not
 pub SameWhere-step : (P : List ℕ → Type 0) (name : List ℕ) (state : Option (List ℕ)) (a b c : Option Files) → (P name → ⊥) → SameWhere P a b → OldOrNew name state b c → SameWhere P a c
 SameWhere-step P name state a b c not ab step = elim step [
   | inl old ↦ subst (SameWhere P a) (sym old) ab
-  | inr new ↦ SameWhere-changed P name state a b c not ab new
+  | inr new ↦ SameWhere-changed P name (whole state) a b c not ab new
 ]
 
 -- The file under a name of which P holds.

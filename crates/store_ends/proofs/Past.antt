@@ -2,8 +2,8 @@
 use Rattle.std.proofs.Common.{◌≡◌, ◌⊎◌, inl, inr, ℕ, zero, suc, ◌<◌, ◌+◌, List, [], ◌∷◌, ◌++◌, length, get_or, take, refl, sym, ap, ◌∙◌, subst, Bool, true, false, Option, Some, None, add-one}
 use Rattle.std.specs.Prelude.{unwrap_or, bytes_eq, if◌then◌else◌, ◌&&◌, IsSome, IsSomeAnd}
 use Rattle.std.proofs.Math.Seq.{take-suc}
-use Rattle.store_ends.specs.Files.{Files, with_file, Leaves, AnyState, OldOrNew}
-use Rattle.store_ends.proofs.Files.{with_file-own}
+use Rattle.store_ends.specs.Files.{Files, whole, with_file, Leaves, AnyState, OldOrNew}
+use Rattle.store_ends.proofs.Files.{set_file-own}
 use Rattle.store_ends.specs.Past.{changed, after, after-push, state_of, LeftSince, StopsWithin, Records, made, is_done, left_by}
 use Rattle.store_ends.specs.declared.change.Change.{Change}
 use Rattle.store_ends.specs.declared.failing.Left.{Left}
@@ -12,11 +12,11 @@ use Rattle.store_ends.specs.declared.failing.Left.TheVariants.{Old, New, Torn}
 pub apart : true ≡ false → ⊥
 apart e = cc
 
-pub changed-at : (change : Change) (f : Files) (name : List ℕ) → changed change f name ≡ (if change.done && bytes_eq name change.name.items then state_of change.state else f name)
-changed-at change f name = elim change.done as (λ b. (if b then with_file change.name.items (state_of change.state) f else f) name ≡ (if b && bytes_eq name change.name.items then state_of change.state else f name)) [ true ↦ refl | false ↦ refl ]
+pub changed-at : (change : Change) (f : Files) (name : List ℕ) → changed change f name ≡ (if change.done && bytes_eq name change.name.items then whole (state_of change.state) else f name)
+changed-at change f name = elim change.done as (λ b. (if b then with_file change.name.items (state_of change.state) f else f) name ≡ (if b && bytes_eq name change.name.items then whole (state_of change.state) else f name)) [ true ↦ refl | false ↦ refl ]
 
 pub after-more : (f : Files) (changes : List Change) (i : ℕ) (change : Change) (name : List ℕ) → i < length changes → change ≡ get_or changes i change
-    → after f (take (i + 1) changes) name ≡ (if change.done && bytes_eq name change.name.items then state_of change.state else after f (take i changes) name)
+    → after f (take (i + 1) changes) name ≡ (if change.done && bytes_eq name change.name.items then whole (state_of change.state) else after f (take i changes) name)
 after-more f changes i change name within is =
     let split : take (i + 1) changes ≡ take i changes ++ change ∷ [] = rw add-one (take-suc changes i change within ∙ ap (λ c. take i changes ++ c ∷ []) (sym is)) in
     ap (λ cs. after f cs name) split ∙ ap (λ files. files name) (after-push f (take i changes) change) ∙ changed-at change (after f (take i changes)) name
@@ -62,8 +62,8 @@ after-undone first old new name state torn r =
     ap (after first) r.1 ∙ after-push first old r.0 ∙ ap (λ b. if b then with_file r.0.name.items (state_of r.0.state) (after first old) else after first old) r.2.same_done
 
 pub after-any : (first : Files) (old new : List Change) (name : List ℕ) (state : Option (List ℕ)) (done torn : Bool) → Records old new name state done torn → AnyState name (Some (after first old)) (Some (after first new))
-after-any first old new name state true torn r = (state, ap (λ (f : Files). Some f) (after-done first old new name state torn r))
-after-any first old new name state false torn r = (after first old name, ap (λ (f : Files). Some f) (after-undone first old new name state torn r ∙ sym (with_file-own name (after first old))))
+after-any first old new name state true torn r = (whole state, ap (λ (f : Files). Some f) (after-done first old new name state torn r))
+after-any first old new name state false torn r = (after first old name, ap (λ (f : Files). Some f) (after-undone first old new name state torn r ∙ sym (set_file-own name (after first old))))
 
 pub after-step : (first : Files) (old new : List Change) (name : List ℕ) (state : Option (List ℕ)) (done torn : Bool) → Records old new name state done torn → OldOrNew name state (Some (after first old)) (Some (after first new))
 after-step first old new name state true torn r = inr (ap (λ (f : Files). Some f) (after-done first old new name state torn r))
@@ -87,7 +87,7 @@ stops-any first old new name state done torn r = record {
   each = λ t files left. elim (pushed first old new name state done torn r t files left) [
     | inl before ↦ inl before
     | inr here ↦ elim here [
-      | inl within ↦ inr (within.0, ap (λ (f : Files). Some f) (within.1 ∙ ap (λ n. with_file n within.0 (after first old)) r.2.same_name))
+      | inl within ↦ inr (whole within.0, ap (λ (f : Files). Some f) (within.1 ∙ ap (λ n. with_file n within.0 (after first old)) r.2.same_name))
       | inr behind ↦ inr (subst (λ (f : Files). AnyState name (Some (after first old)) (Some f)) (sym behind) (after-any first old new name state done torn r))
     ]
   ];

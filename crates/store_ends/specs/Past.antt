@@ -3,7 +3,7 @@ use Rattle.std.specs.Prelude.{ℕ, zero, suc, ◌≡◌, ◌≤◌, ◌⊎◌, B
 use Rattle.std.specs.Option.{option_map}
 use Rattle.std.specs.declared.alloc.Global.{Global}
 use Rattle.std.proofs.Common.{inr, arith, sym, ap}
-use Rattle.store_ends.specs.Files.{Files, with_file}
+use Rattle.store_ends.specs.Files.{Files, whole, with_file}
 use Rattle.store_ends.specs.declared.change.Change.{Change}
 use Rattle.store_ends.specs.declared.failing.Left.{Left}
 use Rattle.store_ends.specs.declared.failing.Left.TheVariants.{Old, New, Torn}
@@ -46,8 +46,8 @@ Records old new name state done torn = (change : Change) × (new ≡ old ++ chan
 
 -- the files of these names and contents
 abbrev pub first_files : List (Vec ℕ Global × Vec ℕ Global) → Files
-first_files [] name = None
-first_files (file ∷ files) name = if bytes_eq name file.0.items then Some file.1.items else first_files files name
+first_files [] name = whole None
+first_files (file ∷ files) name = if bytes_eq name file.0.items then whole (Some file.1.items) else first_files files name
 
 -- the files after a call
 abbrev pub changed : Change → Files → Files

@@ -1,6 +1,7 @@
 // The record of what a store in memory did, and the files that come of it.
 ghost use Rattle.std.specs.Prelude.{◌≡◌, OnErr, OnOk, IfOk};
 ghost use Rattle.std.specs.Option.{option_map};
+ghost use Rattle.store_ends.specs.Files.{whole};
 ghost use Rattle.store_ends.specs.Past.{first_files, after, state_of, Records};
 
 use std::alloc::{AllocError, Global};
@@ -18,7 +19,7 @@ pub(crate) struct Change {
 
 /// What was first under a name.
 fn first_of<'a>(first: &'a [(Vec<u8>, Vec<u8>)], name: &str) -> Option<&'a [u8]>
-    ensures { option_map (λ bytes. bytes.now) result ≡ first_files first.now name.now }
+    ensures { whole (option_map (λ bytes. bytes.now) result) ≡ first_files first.now name.now }
 {
     for (other, bytes) in first {
         if name.as_bytes() == other.as_slice() {
@@ -34,7 +35,7 @@ pub(crate) fn bytes_of<'a>(
     changes: &'a [Change],
     name: &str,
 ) -> Option<&'a [u8]>
-    ensures { option_map (λ bytes. bytes.now) result ≡ after (first_files first.now) changes.now name.now }
+    ensures { whole (option_map (λ bytes. bytes.now) result) ≡ after (first_files first.now) changes.now name.now }
 {
     let mut bytes = first_of(first, name);
     for change in changes {

@@ -6,7 +6,7 @@ ghost use Rattle.store_ends.specs.Past.{first_files, files_of, since_of, next_fa
 ghost use Rattle.ri_ends.specs.Failing.{call_behind};
 ghost use Rattle.store_ends.specs.declared.limits.TheConstants.{LONGEST_NAME};
 ghost use Rattle.store_ends.specs.Causes.{HasOutCause};
-ghost use Rattle.store_ends.specs.Files.{with_file, AnyState, OldOrNew, Leaves, IsQuiet, GoesOn, Fills};
+ghost use Rattle.store_ends.specs.Files.{Files, with_file, AnyState, OldOrNew, Leaves, IsQuiet, GoesOn, Fills};
 
 use crate::Store;
 use crate::change::{Change, bytes_of, record};
@@ -78,8 +78,8 @@ impl MemStore {
         ensures stops_step { torn ≡ false → Leaves (since_of self.old) (since_of self.new) (OldOrNew name.now (option_map (λ bytes. bytes.now) state.entry) (Some (files_of self.old))) }
         ensures within { torn ≡ true → OnOk result ((state : Option (List ℕ)) → since_of self.new (length self.old.changes.items) (with_file name.now state (files_of self.old))) }
         ensures within_failed { torn ≡ true → IsErrOf result OutFault.Failed → (state : Option (List ℕ)) → since_of self.new (length self.old.changes.items) (with_file name.now state (files_of self.old)) }
-        ensures step_within { torn ≡ false → OnOk result ((f : List ℕ → Option (List ℕ)) → OldOrNew name.now (option_map (λ bytes. bytes.now) state.entry) (Some (files_of self.old)) (Some f) → since_of self.new (length self.old.changes.items) f) }
-        ensures step_within_failed { torn ≡ false → IsErrOf result OutFault.Failed → (f : List ℕ → Option (List ℕ)) → OldOrNew name.now (option_map (λ bytes. bytes.now) state.entry) (Some (files_of self.old)) (Some f) → since_of self.new (length self.old.changes.items) f }
+        ensures step_within { torn ≡ false → OnOk result ((f : Files) → OldOrNew name.now (option_map (λ bytes. bytes.now) state.entry) (Some (files_of self.old)) (Some f) → since_of self.new (length self.old.changes.items) f) }
+        ensures step_within_failed { torn ≡ false → IsErrOf result OutFault.Failed → (f : Files) → OldOrNew name.now (option_map (λ bytes. bytes.now) state.entry) (Some (files_of self.old)) (Some f) → since_of self.new (length self.old.changes.items) f }
         ensures memory { IsErrOf result OutFault.Memory → (self.new.changes.items ≡ self.old.changes.items) × (self.new.calls ≡ self.old.calls) × (self.new.faults ≡ self.old.faults) }
         ensures clock { length self.old.changes.items ≤ length self.new.changes.items }
         ensures passes { OnOk result (next_fail self.old ≡ None) }
@@ -130,7 +130,7 @@ impl Store for MemStore {
     ghost has_room = { λ _. lit≤ tt };
 
     fn len(&mut self, name: &str) -> Result<Option<u64>, OutFault>
-        ensures length { IfOk result (λ n. IfSome (⟦<MemStore as Store>⟧.files self.old) (λ f. n ≡ option_map length (f name.now))) }
+        ensures length { IfOk result (λ n. IfSome (⟦<MemStore as Store>⟧.files self.old) (λ f. n ≡ option_map length (f name.now).read)) }
         ensures quiet { IsQuiet ⟦<MemStore as Store>⟧.files ⟦<MemStore as Store>⟧.layers ⟦<MemStore as Store>⟧.clock ⟦<MemStore as Store>⟧.since ⟦<MemStore as Store>⟧.longest ⟦<MemStore as Store>⟧.held self.old self.new }
         ensures memory { IsErrOf result OutFault.Memory → ⟦<MemStore as Store>⟧.faults self.new ≡ ⟦<MemStore as Store>⟧.faults self.old }
         ensures cause { HasOutCause (⟦<MemStore as Store>⟧.faults self.old) (⟦<MemStore as Store>⟧.faults self.new) result }
@@ -148,7 +148,7 @@ impl Store for MemStore {
 
     fn read_at(&mut self, name: &str, at: u64, buf: &mut [u8]) -> Result<usize, OutFault>
         ensures bound { ReadsAtMost result buf.new }
-        ensures bytes { IfOk result (λ n. IfSome (⟦<MemStore as Store>⟧.files self.old) (λ f. Fills n buf.new at (unwrap_or (f name.now) []))) }
+        ensures bytes { IfOk result (λ n. IfSome (⟦<MemStore as Store>⟧.files self.old) (λ f. Fills n buf.new at (unwrap_or (f name.now).read []))) }
         ensures quiet { IsQuiet ⟦<MemStore as Store>⟧.files ⟦<MemStore as Store>⟧.layers ⟦<MemStore as Store>⟧.clock ⟦<MemStore as Store>⟧.since ⟦<MemStore as Store>⟧.longest ⟦<MemStore as Store>⟧.held self.old self.new }
         ensures memory { IsErrOf result OutFault.Memory → ⟦<MemStore as Store>⟧.faults self.new ≡ ⟦<MemStore as Store>⟧.faults self.old }
         ensures cause { HasOutCause (⟦<MemStore as Store>⟧.faults self.old) (⟦<MemStore as Store>⟧.faults self.new) result }
@@ -202,8 +202,8 @@ impl Store for MemStore {
         // It fails only at a call that is to fail, leaving what is stated, and passes none.
         ensures exact { IsErrOf result OutFault.Failed → IsSomeAnd (next_fail self.old)
             (λ left. ⟦<MemStore as Store>⟧.files self.new ≡ option_map (left_by false left name.now (Some bytes.now)) (⟦<MemStore as Store>⟧.files self.old)) }
-        ensures within { OnOk result ((f : List ℕ → Option (List ℕ)) → OldOrNew name.now (Some bytes.now) (⟦<MemStore as Store>⟧.files self.old) (Some f) → ⟦<MemStore as Store>⟧.since self.new (⟦<MemStore as Store>⟧.clock self.old) f) }
-        ensures within_failed { IsErrOf result OutFault.Failed → (f : List ℕ → Option (List ℕ)) → OldOrNew name.now (Some bytes.now) (⟦<MemStore as Store>⟧.files self.old) (Some f) → ⟦<MemStore as Store>⟧.since self.new (⟦<MemStore as Store>⟧.clock self.old) f }
+        ensures within { OnOk result ((f : Files) → OldOrNew name.now (Some bytes.now) (⟦<MemStore as Store>⟧.files self.old) (Some f) → ⟦<MemStore as Store>⟧.since self.new (⟦<MemStore as Store>⟧.clock self.old) f) }
+        ensures within_failed { IsErrOf result OutFault.Failed → (f : Files) → OldOrNew name.now (Some bytes.now) (⟦<MemStore as Store>⟧.files self.old) (Some f) → ⟦<MemStore as Store>⟧.since self.new (⟦<MemStore as Store>⟧.clock self.old) f }
         ensures passes { OnOk result (next_fail self.old ≡ None) }
         ensures counts { OnOk result (next_call self.new ≡ call_behind (next_call self.old)) }
         ensures counts_failed { IsErrOf result OutFault.Failed → next_call self.new ≡ call_behind (next_call self.old) }
@@ -225,8 +225,8 @@ impl Store for MemStore {
         // It fails only at a call that is to fail, leaving what is stated, and passes none.
         ensures exact { IsErrOf result OutFault.Failed → IsSomeAnd (next_fail self.old)
             (λ left. ⟦<MemStore as Store>⟧.files self.new ≡ option_map (left_by false left name.now None) (⟦<MemStore as Store>⟧.files self.old)) }
-        ensures within { OnOk result ((f : List ℕ → Option (List ℕ)) → OldOrNew name.now None (⟦<MemStore as Store>⟧.files self.old) (Some f) → ⟦<MemStore as Store>⟧.since self.new (⟦<MemStore as Store>⟧.clock self.old) f) }
-        ensures within_failed { IsErrOf result OutFault.Failed → (f : List ℕ → Option (List ℕ)) → OldOrNew name.now None (⟦<MemStore as Store>⟧.files self.old) (Some f) → ⟦<MemStore as Store>⟧.since self.new (⟦<MemStore as Store>⟧.clock self.old) f }
+        ensures within { OnOk result ((f : Files) → OldOrNew name.now None (⟦<MemStore as Store>⟧.files self.old) (Some f) → ⟦<MemStore as Store>⟧.since self.new (⟦<MemStore as Store>⟧.clock self.old) f) }
+        ensures within_failed { IsErrOf result OutFault.Failed → (f : Files) → OldOrNew name.now None (⟦<MemStore as Store>⟧.files self.old) (Some f) → ⟦<MemStore as Store>⟧.since self.new (⟦<MemStore as Store>⟧.clock self.old) f }
         ensures passes { OnOk result (next_fail self.old ≡ None) }
         ensures counts { OnOk result (next_call self.new ≡ call_behind (next_call self.old)) }
         ensures counts_failed { IsErrOf result OutFault.Failed → next_call self.new ≡ call_behind (next_call self.old) }

@@ -3,23 +3,23 @@ ghost use Rattle.std.specs.Prelude.{◌≡◌, ◌≤◌, ℕ, List, Option, Som
 ghost use Rattle.std.specs.Option.{option_map};
 ghost use Rattle.std.specs.Io.{ReadsAtMost};
 ghost use Rattle.store_ends.specs.Causes.{HasOutCause};
-ghost use Rattle.store_ends.specs.Files.{with_file, AnyState, OldOrNew, Leaves, IsQuiet, GoesOn, Fills};
+ghost use Rattle.store_ends.specs.Files.{Files, with_file, AnyState, OldOrNew, Leaves, IsQuiet, GoesOn, Fills};
 
 use ri_ends::OutFault;
 
 /// Files by their names. A store may tell what they hold, as one in memory does, or tell nothing.
 pub trait Store {
     /// The bytes under each name, where they are told.
-    ghost files: { Self → Option (List ℕ → Option (List ℕ)) };
+    ghost files: { Self → Option Files };
 
     /// Files that stand behind these, layer by layer, where they are told. No call changes them.
-    ghost layers: { Self → Option (List (List ℕ → Option (List ℕ))) };
+    ghost layers: { Self → Option (List Files) };
 
     /// A number for the present moment. It never falls.
     ghost clock: { Self → ℕ };
 
     /// The files that a stop at some moment from that one on may leave, within a call or between two.
-    ghost since: { Self → ℕ → (List ℕ → Option (List ℕ)) → Type 0 };
+    ghost since: { Self → ℕ → Files → Type 0 };
 
     /// The most bytes of a name.
     ghost longest: { Self → ℕ };
@@ -33,7 +33,7 @@ pub trait Store {
     /// The length of the file, or `None` where there is no such file.
     fn len(&mut self, name: &str) -> Result<Option<u64>, OutFault>
         requires { length name.now ≤ longest self.old }
-        ensures length { IfOk result (λ n. IfSome (files self.old) (λ f. n ≡ option_map length (f name.now))) }
+        ensures length { IfOk result (λ n. IfSome (files self.old) (λ f. n ≡ option_map length (f name.now).read)) }
         ensures quiet { IsQuiet files layers clock since longest held self.old self.new }
         ensures memory { IsErrOf result OutFault.Memory → faults self.new ≡ faults self.old }
         ensures cause { HasOutCause (faults self.old) (faults self.new) result }
@@ -44,7 +44,7 @@ pub trait Store {
     fn read_at(&mut self, name: &str, at: u64, buf: &mut [u8]) -> Result<usize, OutFault>
         requires { length name.now ≤ longest self.old }
         ensures bound { ReadsAtMost result buf.new }
-        ensures bytes { IfOk result (λ n. IfSome (files self.old) (λ f. Fills n buf.new at (unwrap_or (f name.now) []))) }
+        ensures bytes { IfOk result (λ n. IfSome (files self.old) (λ f. Fills n buf.new at (unwrap_or (f name.now).read []))) }
         ensures quiet { IsQuiet files layers clock since longest held self.old self.new }
         ensures memory { IsErrOf result OutFault.Memory → faults self.new ≡ faults self.old }
         ensures cause { HasOutCause (faults self.old) (faults self.new) result }
@@ -86,13 +86,13 @@ pub trait Store {
         ensures none { OnOk result (faults self.new ≡ faults self.old) };
 
     // The files as they are now are among those that a stop since now, or since an earlier moment, may leave.
-    ghost honest: { (store : Self) (t : ℕ) (f : List ℕ → Option (List ℕ)) → t ≤ clock store → files store ≡ Some f → since store t f };
+    ghost honest: { (store : Self) (t : ℕ) (f : Files) → t ≤ clock store → files store ≡ Some f → since store t f };
 
     // Between two calls a stop leaves the files as they are.
-    ghost still: { (store : Self) (f : List ℕ → Option (List ℕ)) → since store (clock store) f → files store ≡ Some f };
+    ghost still: { (store : Self) (f : Files) → since store (clock store) f → files store ≡ Some f };
 
     // A stop since a later moment is one since an earlier moment.
-    ghost earlier: { (store : Self) (s t : ℕ) (f : List ℕ → Option (List ℕ)) → s ≤ t → since store t f → since store s f };
+    ghost earlier: { (store : Self) (s t : ℕ) (f : Files) → s ≤ t → since store t f → since store s f };
 
     ghost has_room: { (store : Self) → 30 ≤ longest store };
 }

@@ -4,7 +4,7 @@ ghost use Rattle.ri_base.specs.Faults.{IsOutside, TellsDamage};
 ghost use Rattle.ri_base.specs.Keeps.{Rose};
 ghost use Rattle.store_ends.specs.Files.{Files, GoesOn, IsQuiet, Leaves, SameWhere};
 ghost use Rattle.disk_index.specs.Cache.{CacheKeeps, IsCacheBacked};
-ghost use Rattle.disk_index.specs.Snapshots.{AreBacked, IsFileAmong, Marked};
+ghost use Rattle.disk_index.specs.Snapshots.{AreBacked, AreIntact, IsFileAmong, Marked};
 ghost use Rattle.holdings.specs.Contents.{all_closed};
 ghost use Rattle.holdings.specs.Parts.{live};
 ghost use Rattle.merge_job.specs.Merge.{size_of};
@@ -12,7 +12,7 @@ ghost use Rattle.merge_job.specs.Walk.{IsFaultAmong};
 ghost use Rattle.repository.specs.Merges.{AreListed, IsMergeEnded, IsMerging, IsOpenMerging, IsTurnedOver, IsTurnedTo, StaysBacked, merge_begun, merge_of, turned, with_merge, without_dead_of};
 ghost use Rattle.repository.specs.Saved.{IsUnlisted};
 ghost use Rattle.repository.specs.Stands.{Collection, Stands};
-ghost use Rattle.repository.specs.States.{IsBacked, IsNumbered, ReadsAs, listed_numbers};
+ghost use Rattle.repository.specs.States.{IsBacked, IsNumbered, IsStateIntact, ReadsAs, listed_numbers};
 ghost use Rattle.repository.specs.Steps.{with_held};
 ghost use Rattle.repository.specs.Ties.{IsTied};
 ghost use Rattle.repository.specs.Writes.{IsBeside, IsEither};
@@ -43,6 +43,7 @@ impl Repository {
         ensures left { OnErr result ((self.new ≡ self.old) ⊎ (self.new ≡ with_held self.old (all_closed self.old.held))) }
         ensures reads { (told : Option Files) (c : Collection) → ReadsAs told self.old c → ReadsAs told self.new c }
         ensures backed { (told : Option Files) → IsBacked told self.old → IsBacked told self.new }
+        ensures intact { (told : Option Files) → IsStateIntact told self.old → IsStateIntact told self.new }
         ensures usable { self.new.usable ≡ self.old.usable }
     {
         if self.merge.is_some() {
@@ -111,7 +112,11 @@ impl Repository {
         // Only a document that is copied can be refused by its file, and nothing is written then.
         ensures fault { (f : Files) → T.files store.old ≡ Some f → IfSome self.old.merge (λ m. IfErr result (λ fault. IsOutside fault ⊎ IsFaultAmong f cache.old m.snapshot fault)) }
         ensures damage { IfErr result (λ fault. IsOutside fault ⊎ IsQuiet T.files T.layers T.clock T.since T.longest T.held store.old store.new) }
-        ensures honest { IsOpenMerging (T.files store.old) self.old → IsCacheBacked (T.files store.old) cache.old → IfErr result IsOutside }
+
+        // None is, where the files of the snapshot's parts are read as they were put. They are among those of the parts that are held.
+        ensures honest { IfSome self.old.merge (λ m. AreIntact (T.files store.old) m.snapshot) → IsCacheBacked (T.files store.old) cache.old → IfErr result IsOutside }
+        ensures honest_held { IsStateIntact (T.files store.old) self.old → IsCacheBacked (T.files store.old) cache.old → IfErr result IsOutside }
+
         ensures undamaged { OnOk result (cache.new.damage ≡ cache.old.damage) }
         ensures damaged { IfErr result (TellsDamage cache.old.damage cache.new.damage) }
         ensures later { T.faults store.old ≤ T.faults store.new }

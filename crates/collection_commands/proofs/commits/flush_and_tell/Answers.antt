@@ -8,7 +8,7 @@ use Rattle.collection_commands.proofs.commits.flush_and_tell.Goals as goal
 pub returns-in-Err-clause-does : goal.returns-in-Err-clause-does
 returns-in-Err-clause-does g c =
     change-refused (λ d. d) flushed_piece _ g.T.Store.clock _ _ _ c.args.store.now c.flush.new.store c.flush.ensures.writes (g.met.T.Store.honest c.flush.new.store) (g.met.T.Store.still c.args.store.now)
-    c.flush.ensures.goes_on.later c.in-Err.fault _ _ c.of_files.ensures (λ backed. c.in-Err.ensures.outside)
+    c.flush.ensures.goes_on.later c.in-Err.fault _ _ c.of_files.ensures
 
 -- it is done, and there is no memory for the reply
 

@@ -10,7 +10,7 @@ returns-in-Ok-false-clause-broken g c = λ f told none. found-there f none (sym 
 -- it can't be made
 
 pub returns-in-Err-clause-broken : goal.returns-in-Err-clause-broken
-returns-in-Err-clause-broken g c = λ f told none. create-refused f c.in-Err.fault _ _ _ _ c.of_files.ensures c.in-Err.ensures.outside told c.create.ensures.changed
+returns-in-Err-clause-broken g c = λ f told none. create-refused f c.in-Err.fault _ _ _ _ c.of_files.ensures told c.create.ensures.changed
 
 pub returns-in-Err-clause-stops : goal.returns-in-Err-clause-stops
 returns-in-Err-clause-stops g c = λ f told none. create-stops f _ _ _ told c.create.ensures.stops

@@ -1,6 +1,7 @@
 use Rattle.std.proofs.Common.{ap, Err}
 use Rattle.repository.specs.Merges.{without_dead}
 use Rattle.collection_commands.specs.Merging.{merged_piece}
+use Rattle.collection_commands.proofs.CauseLemmas.{undamaged-files}
 use Rattle.collection_commands.proofs.StepLemmas.{change-ahead, change-refused, change-told, change-untold, change-unwritten}
 use Rattle.collection_commands.proofs.merge_command.merge_and_tell.Goals as goal
 
@@ -9,7 +10,10 @@ use Rattle.collection_commands.proofs.merge_command.merge_and_tell.Goals as goal
 pub returns-in-Err-clause-does : goal.returns-in-Err-clause-does
 returns-in-Err-clause-does g c =
     change-refused without_dead merged_piece _ g.T.Store.clock _ _ _ c.args.store.now c.merge_whole.new.store c.merge_whole.ensures.writes (g.met.T.Store.honest c.merge_whole.new.store) (g.met.T.Store.still c.args.store.now)
-    c.merge_whole.ensures.goes_on.later c.in-Err.fault _ _ c.of_files.ensures c.in-Err.ensures.honest
+    c.merge_whole.ensures.goes_on.later c.in-Err.fault _ _ c.of_files.ensures
+
+pub returns-in-Err-clause-honest : goal.returns-in-Err-clause-honest
+returns-in-Err-clause-honest g c = λ intact. undamaged-files c.in-Err.fault _ c.of_files.ensures (c.in-Err.ensures.honest intact)
 
 -- it is done, and there is no memory for the reply
 

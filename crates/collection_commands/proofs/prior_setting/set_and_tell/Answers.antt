@@ -17,7 +17,7 @@ returns-in_default-clause-does g c = none-done (λ d. with_prior d c.args.name c
 pub returns-in-Err-clause-does : goal.returns-in-Err-clause-does
 returns-in-Err-clause-does g c =
     change-refused (λ d. with_prior d c.args.name c.args.rows.now) (λ d. told_piece (prior_text c.args.name (length c.args.rows.now.rows))) _ g.T.Store.clock _ _ _ c.args.store.now c.set_prior.new.store c.set_prior.ensures.writes (g.met.T.Store.honest c.set_prior.new.store) (g.met.T.Store.still c.args.store.now)
-    c.set_prior.ensures.goes_on.later c.in-Err.fault _ _ c.of_files.ensures (λ backed. c.in-Err.ensures.outside)
+    c.set_prior.ensures.goes_on.later c.in-Err.fault _ _ c.of_files.ensures
 
 -- it is done, and the reply is written
 

@@ -7,7 +7,7 @@ use Rattle.store_ends.specs.Files.{Files}
 use Rattle.disk_index.specs.Cache.{Cached}
 use Rattle.disk_index.specs.Parts.{IsReadableOf, Source, source_of}
 use Rattle.counts.specs.Sums.{occurrences}
-use Rattle.disk_index.proofs.AmongLemmas.{docs-of, sound-of, within-of}
+use Rattle.disk_index.proofs.AmongLemmas.{docs-of, intact-of, sound-of, within-of}
 use Rattle.counts.proofs.sums.in_document.Goals as goal
 
 pub occurrences-requires : goal.occurrences-requires
@@ -17,7 +17,7 @@ occurrences-requires g c =
 
 pub returns-clause-honest : goal.returns-clause-honest
 returns-clause-honest g c = λ part cached.
-    c.occurrences.ensures.honest (sound-of (g.T.Store.files c.args.store.now) (g.T.Store.files c.new-reader.result.store.now) (source_of c.args.part.now) (source_of c.new-reader.result.part.now) c.args.cache.now c.new-reader.result.cache.now
+    c.occurrences.ensures.honest (intact-of (g.T.Store.files c.args.store.now) (g.T.Store.files c.new-reader.result.store.now) (source_of c.args.part.now) (source_of c.new-reader.result.part.now) c.args.cache.now c.new-reader.result.cache.now
     (ap g.T.Store.files c.new-reader.ensures.store) (ap source_of c.new-reader.ensures.part) c.new-reader.ensures.cache part cached)
 
 pub returns-clause-exact : goal.returns-clause-exact

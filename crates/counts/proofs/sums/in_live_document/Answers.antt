@@ -4,7 +4,7 @@ use Rattle.ri_base.specs.Collection.{document_at}
 use Rattle.ri_base.specs.Expression.{EachWord, expr_tree}
 use Rattle.ri_base.specs.Faults.{IsOutside}
 use Rattle.disk_index.specs.Cache.{IsCacheBacked}
-use Rattle.disk_index.specs.Parts.{IsFileOf, IsPartBacked, IsReadableOf, Source, reads, size}
+use Rattle.disk_index.specs.Parts.{IsFileOf, IsPartBacked, IsPartIntact, IsReadableOf, Source, reads, size}
 use Rattle.counts.specs.Reading.{OnlyReads}
 use Rattle.counts.specs.Sums.{counted_tokens, occurrences}
 use Rattle.counts.proofs.ReadingLemmas.{reads-same}
@@ -46,7 +46,7 @@ returns-clause-few g c =
 pub returns-clause-honest : goal.returns-clause-honest
 returns-clause-honest g c =
     let told = g.T.Store.files c.args.store.now in
-    subst (λ (p : Source). IsPartBacked told p → IsCacheBacked told c.args.cache.now → IfErr c.in_document.result IsOutside) c.part.ensures.part c.in_document.ensures.honest
+    subst (λ (p : Source). IsPartIntact told p → IsCacheBacked told c.args.cache.now → IfErr c.in_document.result IsOutside) c.part.ensures.part c.in_document.ensures.honest
 
 pub returns-clause-reads : goal.returns-clause-reads
 returns-clause-reads g c =

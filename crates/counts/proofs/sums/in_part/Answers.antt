@@ -2,8 +2,9 @@ use Rattle.std.proofs.Common.{◌≤◌, ◌+◌, ◌*◌, ◌/◌, option_copie
 use Rattle.std.proofs.lemmas.Result.{err_from_is_err_and}
 use Rattle.ri_base.specs.Expression.{expr_tree}
 use Rattle.disk_index.specs.Parts.{size}
+use Rattle.disk_index.specs.QuietLaws.{IsPartIntact-backed}
 use Rattle.counts.specs.Sums.{counted_tokens, occurrences}
-use Rattle.counts.proofs.ReadingLemmas.{below-next, cache-backed, live-before, part-backed, reads-same, reads-then}
+use Rattle.counts.proofs.ReadingLemmas.{below-next, cache-backed, live-before, part-backed, part-intact, reads-same, reads-then}
 use Rattle.counts.proofs.SumsLemmas.{counted-range, few-range, first-end, tokens-within}
 use Rattle.counts.proofs.sums.in_part.Goals as goal
 
@@ -30,7 +31,7 @@ loop-range-preserved g c =
     record {
       undamaged = c.in_ok-found.ensures.undamaged ∙ c.loop-range.invariant.undamaged;
       counted = λ backed cached.
-          let found = c.in_ok-found.ensures.exact (part-backed _ _ _ _ _ _ _ _ _ _ _ _ m.source reads backed) (cache-backed _ _ _ _ _ _ _ _ _ _ _ _ reads cached) in
+          let found = c.in_ok-found.ensures.exact (part-backed _ _ _ _ _ _ _ _ _ _ _ _ m.source reads backed) (cache-backed _ _ _ _ _ _ _ m.source _ _ _ _ reads backed cached) in
           counted-range (occurrences (expr_tree c.args.expr.now) (option_copied c.args.context)) told m mid c.loop-range.range c.loop-range.count c.in_ok-found.found reads.quiet.same_files
           (c.loop-range.invariant.counted backed cached) found;
       few = few-range (counted_tokens (option_copied c.args.context)) told m mid c.loop-range.range c.loop-range.count c.in_ok-found.found reads.quiet.same_files c.loop-range.invariant.few c.in_ok-found.ensures.few;
@@ -42,10 +43,12 @@ loop-range-preserved g c =
     }
 
 pub returns-in_err-found-clause-honest : goal.returns-in_err-found-clause-honest
-returns-in_err-found-clause-honest g c = λ backed cached.
+returns-in_err-found-clause-honest g c = λ intact cached.
+    let told = g.T.Store.files c.args.store.now in
+    let source = c.args.marked.now.source in
     let reads = c.loop-range.invariant.reads in
     let p = err_from_is_err_and c.from_residual.result c.from_residual.ensures.1 in
-    rw (p.1, p.2) (c.in_err-found.ensures.honest (part-backed _ _ _ _ _ _ _ _ _ _ _ _ c.args.marked.now.source reads backed) (cache-backed _ _ _ _ _ _ _ _ _ _ _ _ reads cached))
+    rw (p.1, p.2) (c.in_err-found.ensures.honest (part-intact _ _ _ _ _ _ _ _ _ _ _ _ source reads intact) (cache-backed _ _ _ _ _ _ _ source _ _ _ _ reads (IsPartIntact-backed told source intact) cached))
 
 pub returns-in_err-found-clause-reads : goal.returns-in_err-found-clause-reads
 returns-in_err-found-clause-reads g c = reads-then _ _ _ _ _ _ _ _ _ _ _ _ _ _ c.loop-range.invariant.reads c.in_err-found.ensures.reads

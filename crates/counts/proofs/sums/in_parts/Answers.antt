@@ -8,7 +8,7 @@ use Rattle.disk_index.specs.Snapshots.{live_in}
 use Rattle.disk_index.proofs.AmongLemmas.{backed-at, there-at}
 use Rattle.counts.specs.Sums.{counted_tokens, occurrences}
 use Rattle.counts.specs.Told.{ArePartsTold, IsPartTold}
-use Rattle.counts.proofs.ReadingLemmas.{cache-backed, fault-of, live-before, part-backed, parts-more, reads-among, reads-same, reads-then}
+use Rattle.counts.proofs.ReadingLemmas.{cache-among, fault-of, live-before, part-backed, part-intact, parts-more, reads-among, reads-same, reads-then}
 use Rattle.counts.proofs.SumsLemmas.{live-all, live-more, live-within, part-short}
 use Rattle.counts.proofs.sums.in_parts.Goals as goal
 
@@ -41,7 +41,7 @@ loop-marked-preserved g c =
       undamaged = c.in_ok-found.ensures.undamaged ∙ c.loop-marked.invariant.undamaged;
       counted = λ backed cached.
           let part : IsPartBacked told m.source = backed-at ms i m c.loop-marked-test.true c.marked-item.is told backed in
-          let found = c.in_ok-found.ensures.exact (part-backed _ _ _ _ _ _ _ _ _ _ _ _ m.source reads part) (cache-backed _ _ _ _ _ _ _ _ _ _ _ _ reads cached) in
+          let found = c.in_ok-found.ensures.exact (part-backed _ _ _ _ _ _ _ _ _ _ _ _ m.source reads part) (cache-among _ _ _ _ _ _ _ ms _ _ _ _ reads backed cached) in
           let own = ap (λ (t : Option Files). sum_by f (live_in t m)) reads.quiet.same_files in
           let more = live-more f told ms i m c.loop-marked-test.true c.marked-item.is in
           omega (arith, c.loop-marked.invariant.counted backed cached, found, own, more);
@@ -64,8 +64,8 @@ returns-in_err-found-clause-fault g c =
     let reads = c.loop-marked.invariant.reads in
     let there = there-at ms i m c.loop-marked-test.true c.marked-item.is in
     let p = err_from_is_err_and c.from_residual.result c.from_residual.ensures.1 in
-    rw (p.1, p.2) (fault-of (g.T.Store.files c.args.store.now) ms m c.args.cache.now c.in_err-found.field-0.0 there (λ part cached.
-    c.in_err-found.ensures.honest (part-backed _ _ _ _ _ _ _ _ _ _ _ _ m.source reads part) (cache-backed _ _ _ _ _ _ _ _ _ _ _ _ reads cached)))
+    rw (p.1, p.2) (fault-of (g.T.Store.files c.args.store.now) ms m c.args.cache.now c.in_err-found.field-0.0 there (λ backed part cached.
+    c.in_err-found.ensures.honest (part-intact _ _ _ _ _ _ _ _ _ _ _ _ m.source reads part) (cache-among _ _ _ _ _ _ _ ms _ _ _ _ reads backed cached)))
 
 pub returns-in_err-found-clause-reads : goal.returns-in_err-found-clause-reads
 returns-in_err-found-clause-reads g c =

@@ -4,9 +4,10 @@ use Rattle.ri_base.specs.Expression.{expr_tree}
 use Rattle.extent_lists.specs.Presence.{may_with}
 use Rattle.disk_index.specs.Parts.{Source, size, source_of}
 use Rattle.disk_index.specs.Presence.{may_have}
+use Rattle.disk_index.specs.QuietLaws.{IsPartIntact-backed}
 use Rattle.counts.specs.Sums.{counted_tokens, occurrences}
 use Rattle.counts.specs.Told.{IsLiveTold}
-use Rattle.counts.proofs.ReadingLemmas.{below-next, cache-backed, live-before, part-backed, reads-same, reads-then}
+use Rattle.counts.proofs.ReadingLemmas.{below-next, cache-backed, live-before, part-backed, part-intact, reads-same, reads-then}
 use Rattle.counts.proofs.SumsLemmas.{counted-next, few-next, first-grows, first-last, range-skipped, tokens-within}
 use Rattle.counts.proofs.sums.in_range.Goals as goal
 
@@ -80,7 +81,7 @@ loop-id-preserved g c =
     record {
       undamaged = c.in_ok-found.ensures.undamaged ∙ c.loop-id.invariant.undamaged;
       counted = λ backed cached.
-          let found = c.in_ok-found.ensures.exact (part-backed _ _ _ _ _ _ _ _ _ _ _ _ m.source reads backed) (cache-backed _ _ _ _ _ _ _ _ _ _ _ _ reads cached) in
+          let found = c.in_ok-found.ensures.exact (part-backed _ _ _ _ _ _ _ _ _ _ _ _ m.source reads backed) (cache-backed _ _ _ _ _ _ _ m.source _ _ _ _ reads backed cached) in
           let next = counted-next f told m mid (64 * c.args.range) c.loop-id.id c.loop-id.count c.in_ok-found.found reads.quiet.same_files whole inside (c.loop-id.invariant.counted backed cached) found in
           omega (arith, next, c.from-count.ensures);
       few =
@@ -98,10 +99,12 @@ loop-id-preserved g c =
 -- ---- a document that can't be read
 
 pub returns-in_err-found-clause-honest : goal.returns-in_err-found-clause-honest
-returns-in_err-found-clause-honest g c = λ backed cached.
+returns-in_err-found-clause-honest g c = λ intact cached.
+    let told = g.T.Store.files c.args.store.now in
+    let source = c.args.marked.now.source in
     let reads = c.loop-id.invariant.reads in
     let p = err_from_is_err_and c.from_residual.result c.from_residual.ensures.1 in
-    rw (p.1, p.2) (c.in_err-found.ensures.honest (part-backed _ _ _ _ _ _ _ _ _ _ _ _ c.args.marked.now.source reads backed) (cache-backed _ _ _ _ _ _ _ _ _ _ _ _ reads cached))
+    rw (p.1, p.2) (c.in_err-found.ensures.honest (part-intact _ _ _ _ _ _ _ _ _ _ _ _ source reads intact) (cache-backed _ _ _ _ _ _ _ source _ _ _ _ reads (IsPartIntact-backed told source intact) cached))
 
 pub returns-in_err-found-clause-reads : goal.returns-in_err-found-clause-reads
 returns-in_err-found-clause-reads g c = reads-then _ _ _ _ _ _ _ _ _ _ _ _ _ _ c.loop-id.invariant.reads c.in_err-found.ensures.reads

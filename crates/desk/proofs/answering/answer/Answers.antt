@@ -7,8 +7,9 @@ use Rattle.query_check.specs.declared.leaf_kind.LeafKind.{LeafKind}
 use Rattle.document_scoring.specs.Counts.{stats_of}
 use Rattle.belief_nodes.specs.Priors.{Prior}
 use Rattle.disk_index.specs.QuietLaws.{IsQuiet-then}
-use Rattle.disk_index.specs.Snapshots.{AreBacked, Marked, live}
-use Rattle.counts.proofs.ReadingLemmas.{cache-backed, rose-earlier}
+use Rattle.disk_index.specs.Snapshots.{AreBacked, AreIntact, Marked, live}
+use Rattle.disk_index.proofs.AmongLemmas.{AreIntact-backed}
+use Rattle.counts.proofs.ReadingLemmas.{cache-among, rose-earlier}
 use Rattle.ranker.specs.Searches.{IsTaken, searched}
 use Rattle.desk.specs.Answer.{IsAnswerText}
 use Rattle.desk.specs.Shown.{told_shown}
@@ -17,23 +18,25 @@ use Rattle.desk.proofs.SearchLemmas.{summed-by}
 use Rattle.desk.proofs.answering.answer.Goals as goal
 
 pub returns-in_err-search-clause-honest : goal.returns-in_err-search-clause-honest
-returns-in_err-search-clause-honest g c = λ backed kept.
+returns-in_err-search-clause-honest g c = λ intact kept.
     let told = g.T.Store.files c.args.store.now in
     let first = c.in_ok-stats.ensures.reads in
-    let cached = cache-backed _ _ _ _ _ _ _ _ _ _ _ _ first kept in
+    let cached = cache-among _ _ _ _ _ _ _ c.args.snapshot _ _ _ _ first (AreIntact-backed told c.args.snapshot intact) kept in
     let p = err_from_is_err_and c.from_residual-in_err-search.result c.from_residual-in_err-search.ensures.1 in
-    rw (p.1, p.2) (c.in_err-search.ensures.honest (subst (λ (f : Option Files). AreBacked f c.args.snapshot) (sym first.quiet.same_files) backed) cached)
+    rw (p.1, p.2) (c.in_err-search.ensures.honest (subst (λ (f : Option Files). AreIntact f c.args.snapshot) (sym first.quiet.same_files) intact) cached)
 
 pub returns-clause-honest : goal.returns-clause-honest
-returns-clause-honest g c = λ backed kept.
+returns-clause-honest g c = λ intact kept.
     let told = g.T.Store.files c.args.store.now in
     let here = g.T.Store.files c.search_all.new.store in
     let first = c.in_ok-stats.ensures.reads in
     let second = c.in_ok-search.ensures.reads in
     let same : here ≡ told = second.quiet.same_files ∙ first.quiet.same_files in
-    let cached = cache-backed _ _ _ _ _ _ _ _ _ _ _ _ second (cache-backed _ _ _ _ _ _ _ _ _ _ _ _ first kept) in
-    let parts = subst (λ (ms : List Marked). AreBacked told ms) (sym c.in_ok-search.ensures.searched.snapshot) backed in
-    c.show.ensures.honest (subst (λ (f : Option Files). AreBacked f c.in_ok-search.search.snapshot) (sym same) parts) cached
+    let backed = AreIntact-backed told c.args.snapshot intact in
+    let now = subst (λ (f : Option Files). AreBacked f c.args.snapshot) (sym first.quiet.same_files) backed in
+    let cached = cache-among _ _ _ _ _ _ _ c.args.snapshot _ _ _ _ second now (cache-among _ _ _ _ _ _ _ c.args.snapshot _ _ _ _ first backed kept) in
+    let parts = subst (λ (ms : List Marked). AreIntact told ms) (sym c.in_ok-search.ensures.searched.snapshot) intact in
+    c.show.ensures.honest (subst (λ (f : Option Files). AreIntact f c.in_ok-search.search.snapshot) (sym same) parts) cached
 
 pub returns-clause-store : goal.returns-clause-store
 returns-clause-store g c = λ failed.
@@ -54,9 +57,9 @@ returns-clause-exact g c = λ backed kept.
     let first = c.in_ok-stats.ensures.reads in
     let second = c.in_ok-search.ensures.reads in
     let same : here ≡ told = second.quiet.same_files ∙ first.quiet.same_files in
-    let cached = cache-backed _ _ _ _ _ _ _ _ _ _ _ _ first kept in
-    let later = cache-backed _ _ _ _ _ _ _ _ _ _ _ _ second cached in
     let now = subst (λ (f : Option Files). AreBacked f parts) (sym first.quiet.same_files) backed in
+    let cached = cache-among _ _ _ _ _ _ _ parts _ _ _ _ first backed kept in
+    let later = cache-among _ _ _ _ _ _ _ parts _ _ _ _ second now cached in
     let then = subst (λ (f : Option Files). AreBacked f s.snapshot) (sym same) (subst (λ (ms : List Marked). AreBacked told ms) (sym has.snapshot) backed) in
     let taken = subst (λ (f : Option Files). IsTaken c.args.kind priors f s) (sym second.quiet.same_files) (c.in_ok-search.ensures.taken now cached) in
     let counted = c.in_ok-stats.ensures.exact backed kept (empty-sums (live told parts) c.args.generation c.in_ok-counts.counts c.in_ok-counts.ensures) in

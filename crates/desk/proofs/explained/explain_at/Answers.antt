@@ -3,7 +3,7 @@ use Rattle.ri_base.specs.Collection.{document_at}
 use Rattle.query_check.specs.Answers.{whole_checked}
 use Rattle.disk_index.specs.Parts.{reads, size}
 use Rattle.disk_index.specs.Snapshots.{Marked}
-use Rattle.disk_index.proofs.AmongLemmas.{backed-at}
+use Rattle.disk_index.proofs.AmongLemmas.{backed-at, intact-at}
 use Rattle.counts.proofs.ReadingLemmas.{reads-among}
 use Rattle.result_explanation.specs.Explanation.{IsExplanation}
 use Rattle.desk.specs.Places.{part_at}
@@ -17,10 +17,10 @@ explain_in-requires-clause-id g c =
     subst (λ (p : Marked). c.args.place.1 < size p.source) at c.requires.place.id
 
 pub returns-clause-honest : goal.returns-clause-honest
-returns-clause-honest g c = λ backed cached.
+returns-clause-honest g c = λ intact cached.
     let parts = c.args.parts.now in
     let m = c.index-parts-number.result in
-    c.explain_in.ensures.honest (backed-at parts c.args.place.0 m c.requires.place.part c.index-parts-number.is (g.T.Store.files c.args.store.now) backed) cached
+    c.explain_in.ensures.honest (intact-at parts c.args.place.0 m c.requires.place.part c.index-parts-number.is (g.T.Store.files c.args.store.now) intact) cached
 
 pub returns-clause-reads : goal.returns-clause-reads
 returns-clause-reads g c = reads-among _ _ _ _ _ _ _ c.args.parts.now c.args.place.0 c.index-parts-number.result _ _ _ _ c.requires.place.part c.index-parts-number.is c.explain_in.ensures.reads

@@ -3,7 +3,7 @@ use Rattle.ri_base.specs.Collection.{document_at}
 use Rattle.ri_base.specs.Documents.{Document}
 use Rattle.query_check.specs.Answers.{whole_checked}
 use Rattle.disk_index.specs.Parts.{source_of}
-use Rattle.disk_index.proofs.AmongLemmas.{docs-of, sound-of, within-of}
+use Rattle.disk_index.proofs.AmongLemmas.{docs-of, intact-of, sound-of, within-of}
 use Rattle.result_explanation.specs.Explanation.{IsExplanation}
 use Rattle.desk.proofs.explained.explain_in.Goals as goal
 
@@ -14,7 +14,7 @@ explain-requires-clause-id g c =
 
 pub returns-clause-honest : goal.returns-clause-honest
 returns-clause-honest g c = λ part cached.
-    c.explain.ensures.honest (sound-of (g.T.Store.files c.args.store.now) (g.T.Store.files c.new-reader.result.store.now) c.args.marked.now.source (source_of c.new-reader.result.part.now) c.args.cache.now c.new-reader.result.cache.now
+    c.explain.ensures.honest (intact-of (g.T.Store.files c.args.store.now) (g.T.Store.files c.new-reader.result.store.now) c.args.marked.now.source (source_of c.new-reader.result.part.now) c.args.cache.now c.new-reader.result.cache.now
     (ap g.T.Store.files c.new-reader.ensures.store) (ap source_of c.new-reader.ensures.part ∙ c.part.ensures.part) c.new-reader.ensures.cache part cached)
 
 pub returns-clause-exact : goal.returns-clause-exact

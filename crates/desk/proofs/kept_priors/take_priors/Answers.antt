@@ -6,7 +6,7 @@ use Rattle.std.proofs.lemmas.Slice.Zip.{AllZip-long}
 use Rattle.store_ends.specs.Files.{Files}
 use Rattle.disk_index.specs.QuietLaws.{IsQuiet-same, IsQuiet-then}
 use Rattle.manifest.specs.declared.manifest.PriorEntry.{PriorEntry}
-use Rattle.repository.specs.Stands.{IsPriorListed}
+use Rattle.repository.specs.Stands.{IsPriorListed, IsPriorRead}
 use Rattle.repository.specs.States.{ReadsAs}
 use Rattle.desk.specs.Priors.{run_priors}
 use Rattle.desk.proofs.PlugLemmas.{entry-at, is-free, listed-next, plug-next, priors-all, reads-next, told_prior}
@@ -64,7 +64,7 @@ loop-number-preserved g c =
       listed = λ files is.
           let q = inv.listed files is in
           listed-next _ plugs n few told es q.0 new rows inside q.1 q.2 c.in_ok-take_rows.ensures
-          (λ e at. subst (λ (o : Option Files). IsPriorListed o e (record { name = e.name; table = rows })) same (own.rows files e (same ∙ is) at));
+          (λ e at. subst (λ (o : Option Files). IsPriorRead o e (record { name = e.name; table = rows })) same (own.rows files e (same ∙ is) at));
       many = length-set plugs n new ∙ inv.many;
       quiet = IsQuiet-then g.T.Store.files g.T.Store.layers g.T.Store.clock g.T.Store.since g.T.Store.longest g.T.Store.held g.T.Store.faults _ _ _ inv.quiet own.quiet;
       later = omega (arith, inv.later, own.later);
@@ -85,6 +85,6 @@ returns-clause-listed g c = λ files is.
     let es = c.args.repository.now.priors in
     let q = c.loop-number.invariant.listed files is in
     let past : length es ≤ n = omega (arith, c.loop-number-test.false, ap length c.priors-count.ensures.list) in
-    let all : AllZip (IsPriorListed told) es q.0 = subst (λ (xs : List PriorEntry). AllZip (IsPriorListed told) xs q.0) (take_all n es past) q.1 in
-    let count : n ≡ length q.0 = omega (arith, past, c.loop-number.auto.number-end, ap length c.priors-count.ensures.list, AllZip-long (IsPriorListed told) es q.0 all) in
+    let all : AllZip (IsPriorRead told) es q.0 = subst (λ (xs : List PriorEntry). AllZip (IsPriorRead told) xs q.0) (take_all n es past) q.1 in
+    let count : n ≡ length q.0 = omega (arith, past, c.loop-number.auto.number-end, ap length c.priors-count.ensures.list, AllZip-long (IsPriorRead told) es q.0 all) in
     (q.0, all, q.2 ∙ ap (λ m. map told_prior q.0 ++ drop m run_priors) count)

@@ -7,10 +7,11 @@ use Rattle.std.proofs.lemmas.Result.{err_from_is_err_and}
 use Rattle.query_check.specs.Leaves.{leaf_tree}
 use Rattle.query_check.specs.declared.leaf_kind.LeafKind.{LeafKind}
 use Rattle.store_ends.specs.Files.{Files}
-use Rattle.disk_index.specs.Snapshots.{AreBacked, live}
+use Rattle.disk_index.specs.Snapshots.{AreBacked, AreIntact, live}
+use Rattle.disk_index.proofs.AmongLemmas.{AreIntact-backed}
 use Rattle.document_scoring.specs.Counts.{stats_of}
 use Rattle.counts.specs.Kept.{AreSums}
-use Rattle.counts.proofs.ReadingLemmas.{cache-backed, reads-same, reads-then}
+use Rattle.counts.proofs.ReadingLemmas.{cache-among, reads-same, reads-then}
 use Rattle.desk.proofs.LeafLemmas.{added-then, stats-next}
 use Rattle.desk.proofs.leaves.all_stats.Goals as goal
 
@@ -38,13 +39,13 @@ loop-leaf-preserved g c =
       undamaged = c.in_ok-found.ensures.undamaged ∙ c.loop-leaf.invariant.undamaged;
       exact = λ backed cached are.
           let now = subst (λ (f : Option Files). AreBacked f parts) (sym same) backed in
-          let held = cache-backed _ _ _ _ _ _ _ _ _ _ _ _ inv.reads cached in
+          let held = cache-among _ _ _ _ _ _ _ parts _ _ _ _ inv.reads backed cached in
           let sums = subst (λ (f : Option Files). AreSums (live f parts) c.args.generation c.loop-leaf.counts) (sym same) (inv.kept backed cached are) in
           let one = c.in_ok-found.ensures.exact now held sums ∙ ap (λ (f : Option Files). stats_of (live f parts) (leaf_tree c.leaf-item.result)) same in
           pushed ∙ stats-next (live told parts) c.args.leaves.now c.loop-leaf.leaf-index c.leaf-item.result c.loop-leaf.stats.items c.in_ok-found.found c.loop-leaf-test.true c.leaf-item.is (inv.exact backed cached are) one;
       kept = λ backed cached are.
           let now = subst (λ (f : Option Files). AreBacked f parts) (sym same) backed in
-          let held = cache-backed _ _ _ _ _ _ _ _ _ _ _ _ inv.reads cached in
+          let held = cache-among _ _ _ _ _ _ _ parts _ _ _ _ inv.reads backed cached in
           let sums = subst (λ (f : Option Files). AreSums (live f parts) c.args.generation c.loop-leaf.counts) (sym same) (inv.kept backed cached are) in
           subst (λ (f : Option Files). AreSums (live f parts) c.args.generation c.leaf_stats.new.counts) same (c.in_ok-found.ensures.kept now held sums);
       adds = λ e there. added-then e c.args.counts.now c.loop-leaf.counts (inv.adds e) (c.leaf_stats.ensures.adds e there);
@@ -58,11 +59,13 @@ returns-clause-exact g c = λ backed cached are.
     c.loop-leaf.invariant.exact backed cached are ∙ ap (λ (ls : List LeafKind). map (stats_of (live (g.T.Store.files c.args.store.now) c.args.snapshot.now)) (map leaf_tree ls)) (take_all c.loop-leaf.leaf-index c.args.leaves.now c.loop-leaf-test.false)
 
 pub returns-in_err-found-clause-honest : goal.returns-in_err-found-clause-honest
-returns-in_err-found-clause-honest g c = λ backed cached.
+returns-in_err-found-clause-honest g c = λ intact cached.
     let p = err_from_is_err_and c.from_residual-in_err-found.result c.from_residual-in_err-found.ensures.1 in
     let same = c.loop-leaf.invariant.reads.quiet.same_files in
-    let now = subst (λ (f : Option Files). AreBacked f c.args.snapshot.now) (sym same) backed in
-    rw (p.1, p.2) (c.in_err-found.ensures.honest now (cache-backed _ _ _ _ _ _ _ _ _ _ _ _ c.loop-leaf.invariant.reads cached))
+    let parts = c.args.snapshot.now in
+    let now = subst (λ (f : Option Files). AreIntact f parts) (sym same) intact in
+    let backed = AreIntact-backed (g.T.Store.files c.args.store.now) parts intact in
+    rw (p.1, p.2) (c.in_err-found.ensures.honest now (cache-among _ _ _ _ _ _ _ parts _ _ _ _ c.loop-leaf.invariant.reads backed cached))
 
 pub returns-in_err-found-clause-reads : goal.returns-in_err-found-clause-reads
 returns-in_err-found-clause-reads g c = reads-then _ _ _ _ _ _ _ _ _ _ _ _ _ _ c.loop-leaf.invariant.reads c.in_err-found.ensures.reads

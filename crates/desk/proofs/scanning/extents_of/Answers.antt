@@ -7,7 +7,7 @@ use Rattle.extent_lists.specs.Extents.{Ext}
 use Rattle.extent_lists.specs.Listing.{IsListing}
 use Rattle.extent_evaluation.specs.Listed.{extent_list}
 use Rattle.disk_index.specs.Parts.{reads, source_of}
-use Rattle.disk_index.proofs.AmongLemmas.{docs-of, sound-of, within-of}
+use Rattle.disk_index.proofs.AmongLemmas.{docs-of, intact-of, sound-of, within-of}
 use Rattle.desk.proofs.scanning.extents_of.Goals as goal
 
 pub extents-requires : goal.extents-requires
@@ -17,7 +17,7 @@ extents-requires g c =
 
 pub returns-clause-honest : goal.returns-clause-honest
 returns-clause-honest g c = λ part cached.
-    c.extents.ensures.honest (sound-of (g.T.Store.files c.args.store.now) (g.T.Store.files c.new-reader.result.store.now) (source_of c.args.part.now) (source_of c.new-reader.result.part.now) c.args.cache.now c.new-reader.result.cache.now
+    c.extents.ensures.honest (intact-of (g.T.Store.files c.args.store.now) (g.T.Store.files c.new-reader.result.store.now) (source_of c.args.part.now) (source_of c.new-reader.result.part.now) c.args.cache.now c.new-reader.result.cache.now
     (ap g.T.Store.files c.new-reader.ensures.store) (ap source_of c.new-reader.ensures.part) c.new-reader.ensures.cache part cached)
 
 pub returns-clause-exact : goal.returns-clause-exact

@@ -3,7 +3,8 @@ use Rattle.std.proofs.lemmas.Result.{err_from_is_err_and}
 use Rattle.ri_base.specs.Expression.{expr_tree}
 use Rattle.store_ends.specs.Files.{Files}
 use Rattle.disk_index.specs.Parts.{size}
-use Rattle.counts.proofs.ReadingLemmas.{cache-backed, part-backed, reads-same, reads-then}
+use Rattle.disk_index.specs.QuietLaws.{IsPartIntact-backed}
+use Rattle.counts.proofs.ReadingLemmas.{cache-backed, part-backed, part-intact, reads-same, reads-then}
 use Rattle.ranker.specs.Passed.{live_before}
 use Rattle.desk.specs.Scanning.{extents_in}
 use Rattle.desk.proofs.ScanLemmas.{before-all, before-none}
@@ -30,17 +31,19 @@ loop-id-preserved g c =
       undamaged = c.in_ok-put_document.ensures.undamaged ∙ c.loop-id.invariant.undamaged;
       lines = λ backed cached docs so_far.
           let now = part-backed _ _ _ _ _ _ _ _ _ _ _ _ m.source reads backed in
-          let held = cache-backed _ _ _ _ _ _ _ _ _ _ _ _ reads cached in
+          let held = cache-backed _ _ _ _ _ _ _ m.source _ _ _ _ reads backed cached in
           let so_here = c.loop-id.invariant.lines backed cached docs so_far ∙ ap (λ (f : Option Files). extents_in x (docs ++ live_before f m c.loop-id.id)) (sym same) in
           c.in_ok-put_document.ensures.exact now held docs so_here ∙ ap (λ (f : Option Files). extents_in x (docs ++ live_before f m (c.loop-id.id + 1))) same;
       reads = reads-then _ _ _ _ _ _ _ _ _ _ _ _ _ _ reads c.in_ok-put_document.ensures.reads;
     }
 
 pub returns-in_err-put_document-clause-honest : goal.returns-in_err-put_document-clause-honest
-returns-in_err-put_document-clause-honest g c = λ backed cached.
+returns-in_err-put_document-clause-honest g c = λ intact cached.
+    let told = g.T.Store.files c.args.store.now in
+    let source = c.args.marked.now.source in
     let reads = c.loop-id.invariant.reads in
     let p = err_from_is_err_and c.from_residual.result c.from_residual.ensures.1 in
-    rw (p.1, p.2) (c.in_err-put_document.ensures.honest (part-backed _ _ _ _ _ _ _ _ _ _ _ _ c.args.marked.now.source reads backed) (cache-backed _ _ _ _ _ _ _ _ _ _ _ _ reads cached))
+    rw (p.1, p.2) (c.in_err-put_document.ensures.honest (part-intact _ _ _ _ _ _ _ _ _ _ _ _ source reads intact) (cache-backed _ _ _ _ _ _ _ source _ _ _ _ reads (IsPartIntact-backed told source intact) cached))
 
 pub returns-in_err-put_document-clause-reads : goal.returns-in_err-put_document-clause-reads
 returns-in_err-put_document-clause-reads g c = reads-then _ _ _ _ _ _ _ _ _ _ _ _ _ _ c.loop-id.invariant.reads c.in_err-put_document.ensures.reads

@@ -6,7 +6,7 @@ use Rattle.belief_nodes.specs.Network.{NetworkTree}
 use Rattle.disk_index.specs.Parts.{reads}
 use Rattle.disk_index.specs.Snapshots.{Marked}
 use Rattle.range_bounds.specs.Tables.{AreTablesOf}
-use Rattle.desk.proofs.TableLemmas.{are-told, chosen-backed, chosen-kept}
+use Rattle.desk.proofs.TableLemmas.{are-told, chosen-backed, chosen-intact, chosen-kept}
 use Rattle.desk.proofs.search.new_search.Goals as goal
 
 pub returns-clause-taken : goal.returns-clause-taken
@@ -32,7 +32,7 @@ pub returns-in_err-search-clause-reads : goal.returns-in_err-search-clause-reads
 returns-in_err-search-clause-reads g c = record { quiet = c.tables.ensures.quiet; later = c.tables.ensures.later; cache = chosen-kept (g.T.Store.files c.args.store.now) c.args.snapshot c.passable-parts.result.now c.args.cache.now c.tables.new.cache c.passable-parts.ensures c.tables.ensures.cache }
 
 pub returns-in_err-tables-clause-honest : goal.returns-in_err-tables-clause-honest
-returns-in_err-tables-clause-honest g c = λ backed cached.
+returns-in_err-tables-clause-honest g c = λ intact cached.
     let told = g.T.Store.files c.args.store.now in
     let p = err_from_is_err_and c.from_residual.result c.from_residual.ensures.1 in
-    rw (p.1, p.2) (c.in_err-tables.ensures.honest (chosen-backed told c.args.snapshot c.passable-parts.result.now c.passable-parts.ensures backed) cached)
+    rw (p.1, p.2) (c.in_err-tables.ensures.honest (chosen-intact told c.args.snapshot c.passable-parts.result.now c.passable-parts.ensures intact) cached)

@@ -7,8 +7,9 @@ use Rattle.query_check.specs.Answers.{whole_checked}
 use Rattle.belief_nodes.specs.Leaves.{HasPrior}
 use Rattle.belief_nodes.specs.Network.{NetworkTree}
 use Rattle.belief_nodes.specs.Priors.{Prior}
-use Rattle.disk_index.specs.Snapshots.{AreBacked, Marked}
-use Rattle.counts.proofs.ReadingLemmas.{cache-backed, reads-then}
+use Rattle.disk_index.specs.Snapshots.{AreBacked, AreIntact, Marked}
+use Rattle.disk_index.proofs.AmongLemmas.{AreIntact-backed}
+use Rattle.counts.proofs.ReadingLemmas.{cache-among, reads-then}
 use Rattle.ranker.specs.Searches.{IsTaken, told_by}
 use Rattle.desk.proofs.AnswerLemmas.{nine_priors}
 use Rattle.desk.proofs.SearchLemmas.{has-searched}
@@ -40,7 +41,7 @@ returns-clause-taken g c = λ backed cached.
     let begun = subst (λ (f : Option Files). IsTaken c.new-rule.result.kind priors f c.in_ok-search.search) (sym same) (made.taken backed cached c.new-rule.result.kind priors) in
     subst (λ (f : Option Files). IsTaken c.args.kind priors f c.step.new.self) same
     (subst (λ (k : RuleKind). IsTaken k priors here c.step.new.self) kind
-    (c.in_ok-step.ensures.taken parts (cache-backed _ _ _ _ _ _ _ _ _ _ _ _ made.reads cached) begun))
+    (c.in_ok-step.ensures.taken parts (cache-among _ _ _ _ _ _ _ c.args.snapshot _ _ _ _ made.reads backed cached) begun))
 
 pub returns-clause-reads : goal.returns-clause-reads
 returns-clause-reads g c =
@@ -53,10 +54,11 @@ returns-in_err-step-clause-reads g c =
     reads-then _ _ _ _ _ _ _ _ _ _ c.step.new.store _ _ c.step.new.cache made.reads (record { quiet = c.step.ensures.quiet; later = c.step.ensures.later; cache = rw made.snapshot at c.step.ensures.cache })
 
 pub returns-in_err-step-clause-honest : goal.returns-in_err-step-clause-honest
-returns-in_err-step-clause-honest g c = λ backed cached.
+returns-in_err-step-clause-honest g c = λ intact cached.
     let told = g.T.Store.files c.args.store.now in
     let made = c.in_ok-search.ensures in
-    let parts = subst (λ (f : Option Files). AreBacked f c.in_ok-search.search.snapshot) (sym made.reads.quiet.same_files) (subst (λ (ms : List Marked). AreBacked told ms) (sym made.snapshot) backed) in
+    let backed = AreIntact-backed told c.args.snapshot intact in
+    let parts = subst (λ (f : Option Files). AreIntact f c.in_ok-search.search.snapshot) (sym made.reads.quiet.same_files) (subst (λ (ms : List Marked). AreIntact told ms) (sym made.snapshot) intact) in
     let p = err_from_is_err_and c.from_residual-in_err-step.result c.from_residual-in_err-step.ensures.1 in
     let blocks = subst (λ (f : Option Files). told_by f c.in_ok-search.search) (sym made.reads.quiet.same_files) (made.taken backed cached c.args.kind []).blocks in
-    rw (p.1, p.2) (c.in_err-step.ensures.honest parts (cache-backed _ _ _ _ _ _ _ _ _ _ _ _ made.reads cached) blocks)
+    rw (p.1, p.2) (c.in_err-step.ensures.honest parts (cache-among _ _ _ _ _ _ _ c.args.snapshot _ _ _ _ made.reads backed cached) blocks)

@@ -28,7 +28,7 @@ loop-filter-preserved g c =
     let here : IsFilterTold IsTold (filter_tree f) = EachWord-weaker _ IsTold before (expr_tree f.expr) c.in_ok-passes.ensures.told in
     record {
       undamaged = c.in_ok-passes.ensures.undamaged ∙ c.loop-filter.invariant.undamaged;
-      keeps = Keeps-then _ _ _ _ g.met.P.Postings.quiet_then _ _ _ c.loop-filter.invariant.keeps c.passes.ensures.keeps;
+      keeps = Keeps-then _ _ _ _ _ g.met.P.Postings.quiet_then _ _ _ c.loop-filter.invariant.keeps c.passes.ensures.keeps;
       so_far = λ sound.
           all_pass_more (g.P.Postings.documents c.args.part.now) (g.P.Postings.documents c.loop-filter.part) c.args.id c.args.filters.now c.loop-filter.filter-index f
           c.in_ok-passes.field-0 c.loop-filter.invariant.keeps.documents_stay c.loop-filter-test.true c.filter-item.is

@@ -10,7 +10,7 @@ use Rattle.document_scoring.proofs.found.all_found.Given as goal
 
 abbrev pub invariant-loop-number : goal.invariant-loop-number
 invariant-loop-number g l = record {
-  keeps : Keeps g.P.Postings.documents g.P.Postings.faults g.P.Postings.sound g.P.Postings.quiet l.fn.part l.part;
+  keeps : Keeps g.P.Postings.documents g.P.Postings.faults g.P.Postings.sound g.P.Postings.intact g.P.Postings.quiet l.fn.part l.part;
   undamaged : g.P.Postings.damage l.part ≡ g.P.Postings.damage l.fn.part;
   so_far : g.P.Postings.sound l.fn.part → (w : Pair)
       → map (found_count (document_at (g.P.Postings.documents l.fn.part) l.id).fields w) l.all.items

@@ -25,7 +25,7 @@ all_evaluated-loop-x-init g t c =
     let empty : c.new-lists.result.items ≡ [] = search rules in
     record {
       undamaged = refl;
-      keeps = record { documents_stay = refl; no_fault_lost = omega arith; sound_stays = λ u. u; stays_quiet = g.met.P.Postings.quiet_same _ };
+      keeps = record { documents_stay = refl; no_fault_lost = omega arith; sound_stays = λ u. u; intact_stays = λ u. u; stays_quiet = g.met.P.Postings.quiet_same _ };
       listed = λ sound. rw empty tt;
       ascending = rw empty (All-nil IsAscending);
       told = EachWordOf-none _;
@@ -36,7 +36,7 @@ all_evaluated-loop-x-preserved g t c =
     let pushed : c.push.new.self.items ≡ c.loop-x.lists.items ++ c.in_ok-found.found ∷ [] = search rules in
     record {
       undamaged = c.in_ok-found.ensures.undamaged ∙ c.loop-x.invariant.undamaged;
-      keeps = Keeps-then _ _ _ _ g.met.P.Postings.quiet_then _ _ _ c.loop-x.invariant.keeps c.evaluated.ensures.keeps;
+      keeps = Keeps-then _ _ _ _ _ g.met.P.Postings.quiet_then _ _ _ c.loop-x.invariant.keeps c.evaluated.ensures.keeps;
       listed = λ sound.
           let listed = rw c.loop-x.invariant.keeps.documents_stay at (c.in_ok-found.ensures.exact (c.loop-x.invariant.keeps.sound_stays sound)) in
           rw pushed (AreListed-more _ _ _ _ _ _ c.loop-x-test.true c.x-item.is (c.loop-x.invariant.listed sound) listed);

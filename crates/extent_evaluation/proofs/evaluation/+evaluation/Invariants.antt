@@ -9,7 +9,7 @@ use Rattle.extent_evaluation.proofs.evaluation.+evaluation.Given as goal
 
 abbrev pub invariant-all_evaluated-loop-x : goal.invariant-all_evaluated-loop-x
 invariant-all_evaluated-loop-x g l = record {
-  keeps : Keeps g.P.Postings.documents g.P.Postings.faults g.P.Postings.sound g.P.Postings.quiet l.initial.postings l.postings;
+  keeps : Keeps g.P.Postings.documents g.P.Postings.faults g.P.Postings.sound g.P.Postings.intact g.P.Postings.quiet l.initial.postings l.postings;
   undamaged : g.P.Postings.damage l.postings ≡ g.P.Postings.damage l.initial.postings;
   listed : g.P.Postings.sound l.initial.postings → AllZip (λ x xs. Lists (Ext x (document_at (g.P.Postings.documents l.initial.postings) l.id)) xs) (map expr_tree (take l.x-index l.all)) l.lists.items;
   ascending : All IsAscending l.lists.items;

@@ -18,7 +18,7 @@ group_of-loop-x-init g t c =
     let empty : c.new-out.result.items ≡ [] = search rules in
     record {
       undamaged = refl;
-      keeps = record { documents_stay = refl; no_fault_lost = omega arith; sound_stays = λ u. u; stays_quiet = g.met.P.Postings.quiet_same _ };
+      keeps = record { documents_stay = refl; no_fault_lost = omega arith; sound_stays = λ u. u; intact_stays = λ u. u; stays_quiet = g.met.P.Postings.quiet_same _ };
       gives = λ sound. rw empty tt;
       kept = rw empty tt;
       told = EachWordOf-none _;
@@ -30,7 +30,7 @@ group_of-loop-x-preserved g t c =
     let pushed : c.push.new.self.items ≡ c.loop-x.out.items ++ c.new.result ∷ [] = search rules in
     record {
       undamaged = c.in_ok-walk.ensures.undamaged ∙ c.loop-x.invariant.undamaged;
-      keeps = Keeps-then _ _ _ _ g.met.P.Postings.quiet_then _ _ _ c.loop-x.invariant.keeps c.walk_of.ensures.keeps;
+      keeps = Keeps-then _ _ _ _ _ g.met.P.Postings.quiet_then _ _ _ c.loop-x.invariant.keeps c.walk_of.ensures.keeps;
       gives = λ sound.
           let here = rw c.loop-x.invariant.keeps.documents_stay at (c.in_ok-walk.ensures.exact (c.loop-x.invariant.keeps.sound_stays sound)) in
           rw pushed (GiveEach-more d _ _ _ c.loop-x.out.items c.new.result c.loop-x-test.true c.x-item.is (c.loop-x.invariant.gives sound) (rw c.new.ensures.walk here));

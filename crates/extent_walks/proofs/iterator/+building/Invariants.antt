@@ -8,7 +8,7 @@ use Rattle.extent_walks.proofs.iterator.+building.Given as goal
 
 abbrev pub invariant-group_of-loop-x : goal.invariant-group_of-loop-x
 invariant-group_of-loop-x g l = record {
-  keeps : Keeps g.P.Postings.documents g.P.Postings.faults g.P.Postings.sound g.P.Postings.quiet l.initial.postings l.postings;
+  keeps : Keeps g.P.Postings.documents g.P.Postings.faults g.P.Postings.sound g.P.Postings.intact g.P.Postings.quiet l.initial.postings l.postings;
   undamaged : g.P.Postings.damage l.postings ≡ g.P.Postings.damage l.initial.postings;
   gives : g.P.Postings.sound l.initial.postings → GiveEach (plans l.out.items) (map expr_tree (take l.x-index l.all)) (document_at (g.P.Postings.documents l.initial.postings) l.id);
   kept : AreKept l.out.items;

@@ -2,6 +2,7 @@ use Rattle.std.proofs.Common.{◌≡◌, refl, sym, subst}
 use Rattle.disk_index.specs.QuietLaws.{IsQuiet-then}
 use Rattle.command_pieces.specs.declared.command_fault.CommandFault.TheVariants as fault
 use Rattle.repository.specs.RealLimits.{StandsFor}
+use Rattle.repository.specs.States.{IsStateIntact}
 use Rattle.collection_commands.specs.Ahead.{IsAhead}
 use Rattle.indri_app.specs.Opened.{IsOpenFault}
 use Rattle.indri_app.specs.Changes.{told_change}
@@ -10,6 +11,7 @@ use Rattle.indri_app.proofs.Beginning.{behind-on}
 use Rattle.indri_app.proofs.ChangingLemmas.{on-any, open-over, session-first, session-not_absent, session-over, undamaged-late, want-late}
 use Rattle.indri_app.proofs.Closing.{stops-behind, stops-none, want-begun-some}
 use Rattle.indri_app.proofs.Ended.{rose-earlier}
+use Rattle.indri_app.proofs.WholeLemmas.{whole-state}
 use Rattle.indri_app.proofs.changing.change_files.Goals as goal
 
 -- the repository is open
@@ -31,10 +33,11 @@ returns-in-Ok-clause-stops g c = λ k stands.
     (rw same at (c.change_repository.ensures.stops k (subst (λ f. IsAhead f c.in-Ok.repository k k) (sym same) (c.in-Ok.ensures.opened k stands))))
 
 pub returns-in-Ok-clause-honest : goal.returns-in-Ok-clause-honest
-returns-in-Ok-clause-honest g c = λ k stands.
+returns-in-Ok-clause-honest g c = λ k stands whole.
     let same = c.open_repository.ensures.quiet.same_files in
     let work = c.change_repository.ensures in
-    undamaged-late c.change_repository.result work.only (work.honest k (subst (λ f. IsAhead f c.in-Ok.repository k k) (sym same) (c.in-Ok.ensures.opened k stands)))
+    let backed = (c.in-Ok.ensures.opened k stands).backed in
+    undamaged-late c.change_repository.result work.only (work.honest (λ reads. subst (λ f. IsStateIntact f c.in-Ok.repository) (sym same) (whole-state _ c.in-Ok.repository (whole reads) backed)))
 
 pub returns-in-Ok-clause-first : goal.returns-in-Ok-clause-first
 returns-in-Ok-clause-first g c =
@@ -71,7 +74,7 @@ pub returns-in-Err-clause-stops : goal.returns-in-Err-clause-stops
 returns-in-Err-clause-stops g c = λ k stands. stops-none _ (told_change c.args.what) k _ _ _ c.open_repository.ensures.quiet.no_more
 
 pub returns-in-Err-clause-honest : goal.returns-in-Err-clause-honest
-returns-in-Err-clause-honest g c = λ k stands. want-late c.in-Err.fault (c.in-Err.ensures.honest k stands)
+returns-in-Err-clause-honest g c = λ k stands whole. want-late c.in-Err.fault (c.in-Err.ensures.honest k stands)
 
 pub returns-in-Err-clause-first : goal.returns-in-Err-clause-first
 returns-in-Err-clause-first g c = λ first. (c.open_repository.ensures.quiet, refl, refl)

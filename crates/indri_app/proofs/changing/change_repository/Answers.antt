@@ -2,7 +2,7 @@ use Rattle.std.proofs.Common.{refl}
 use Rattle.command_words.specs.Table.{add, delete}
 use Rattle.collection_commands.specs.Flushing.{delete_pieces}
 use Rattle.indri_app.specs.Command.{add_pieces}
-use Rattle.indri_app.proofs.ChangingLemmas.{broken-undamaged, damage-unread, items-session, items-undamaged, merge-read, merge-session}
+use Rattle.indri_app.proofs.ChangingLemmas.{damage-unread, items-session, items-undamaged, merge-read, merge-session}
 use Rattle.indri_app.proofs.Closing.{begun-by, done-by, merge-begun, merge-done, merge-stops, prior-begun, stops-by}
 use Rattle.indri_app.proofs.changing.change_repository.Goals as goal
 
@@ -49,7 +49,7 @@ pub returns-in-Prior-clause-stops : goal.returns-in-Prior-clause-stops
 returns-in-Prior-clause-stops g c = λ k ahead. rw c.in-Prior.is (c.set_prior.ensures.stops k ahead)
 
 pub returns-in-Add-clause-honest : goal.returns-in-Add-clause-honest
-returns-in-Add-clause-honest g c = λ k ahead. items-undamaged ⊥ c.add.result c.add.ensures.only
+returns-in-Add-clause-honest g c = λ intact. items-undamaged ⊥ c.add.result c.add.ensures.only
 
 pub returns-in-Add-clause-damage : goal.returns-in-Add-clause-damage
 returns-in-Add-clause-damage g c = items-undamaged _ c.add.result c.add.ensures.only
@@ -58,7 +58,7 @@ pub returns-in-Add-clause-only : goal.returns-in-Add-clause-only
 returns-in-Add-clause-only g c = items-session c.add.result c.add.ensures.only
 
 pub returns-in-Delete-clause-honest : goal.returns-in-Delete-clause-honest
-returns-in-Delete-clause-honest g c = λ k ahead. items-undamaged ⊥ c.delete.result c.delete.ensures.only
+returns-in-Delete-clause-honest g c = λ intact. items-undamaged ⊥ c.delete.result c.delete.ensures.only
 
 pub returns-in-Delete-clause-damage : goal.returns-in-Delete-clause-damage
 returns-in-Delete-clause-damage g c = items-undamaged _ c.delete.result c.delete.ensures.only
@@ -67,7 +67,7 @@ pub returns-in-Delete-clause-only : goal.returns-in-Delete-clause-only
 returns-in-Delete-clause-only g c = items-session c.delete.result c.delete.ensures.only
 
 pub returns-in-Prior-clause-honest : goal.returns-in-Prior-clause-honest
-returns-in-Prior-clause-honest g c = λ k ahead. items-undamaged ⊥ c.set_prior.result c.set_prior.ensures.only
+returns-in-Prior-clause-honest g c = λ intact. items-undamaged ⊥ c.set_prior.result c.set_prior.ensures.only
 
 pub returns-in-Prior-clause-damage : goal.returns-in-Prior-clause-damage
 returns-in-Prior-clause-damage g c = items-undamaged _ c.set_prior.result c.set_prior.ensures.only
@@ -86,7 +86,7 @@ pub returns-in-Merge-clause-stops : goal.returns-in-Merge-clause-stops
 returns-in-Merge-clause-stops g c = λ k ahead. rw c.in-Merge.is (merge-stops (g.T.Store.files c.args.store.now) k _ _ _ (c.merge_documents.ensures.stops k ahead))
 
 pub returns-in-Merge-clause-honest : goal.returns-in-Merge-clause-honest
-returns-in-Merge-clause-honest g c = λ k ahead. broken-undamaged c.merge_documents.result k _ _ _ _ (c.merge_documents.ensures.broken k ahead)
+returns-in-Merge-clause-honest g c = λ intact. c.merge_documents.ensures.honest (intact (rw c.in-Merge.is tt))
 
 pub returns-in-Merge-clause-damage : goal.returns-in-Merge-clause-damage
 returns-in-Merge-clause-damage g c = damage-unread _ _ _ c.merge_documents.result refl c.merge_documents.ensures.damage

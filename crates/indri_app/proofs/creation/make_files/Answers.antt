@@ -23,10 +23,10 @@ pub returns-in-Ok-false-clause-stops : goal.returns-in-Ok-false-clause-stops
 returns-in-Ok-false-clause-stops g c = λ f told none. along-stops f _ told _ _ c.create.ensures.stops
 
 pub returns-in-Ok-false-clause-honest : goal.returns-in-Ok-false-clause-honest
-returns-in-Ok-false-clause-honest g c = λ f told none. found-there (f _) none (sym c.in-Ok-false.field-0-test ∙ c.in-Ok-false.ensures.found f told)
+returns-in-Ok-false-clause-honest g c = λ f told none. found-there (f _).read none (sym c.in-Ok-false.field-0-test ∙ c.in-Ok-false.ensures.found f told)
 
 pub returns-in-Ok-false-clause-there : goal.returns-in-Ok-false-clause-there
-returns-in-Ok-false-clause-there g c = λ f told is. there-found (f _) (sym c.in-Ok-false.field-0-test ∙ c.in-Ok-false.ensures.found f told)
+returns-in-Ok-false-clause-there g c = λ f told is. there-found (f _).read (sym c.in-Ok-false.field-0-test ∙ c.in-Ok-false.ensures.found f told)
 
 -- it can't be made
 

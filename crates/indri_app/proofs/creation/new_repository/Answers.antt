@@ -2,6 +2,7 @@ use Rattle.std.proofs.Common.{◌∷◌, [], None, Some, IfOk, subst, sym}
 use Rattle.store_ends.proofs.Files.{Leaves-none}
 use Rattle.command_pieces.specs.Pieces.{StandsAlong}
 use Rattle.repository.specs.Stands.{empty_collection}
+use Rattle.repository.specs.States.{IsStateIntact}
 use Rattle.collection_commands.specs.Ahead.{IsAhead}
 use Rattle.collection_commands.specs.Creation.{IsMade}
 use Rattle.indri_app.specs.Generated.{created}
@@ -13,6 +14,10 @@ use Rattle.indri_app.proofs.creation.new_repository.Goals as goal
 pub returns-in-Ok-clause-new : goal.returns-in-Ok-clause-new
 returns-in-Ok-clause-new g c = λ f told none.
     subst (λ t. IfOk c.open_made.result (λ r. IsAhead t r empty_collection empty_collection)) (sym c.open_made.ensures.quiet.same_files) (c.open_made.ensures.opened (c.in-Ok.ensures.made f told none))
+
+pub returns-in-Ok-clause-intact : goal.returns-in-Ok-clause-intact
+returns-in-Ok-clause-intact g c = λ f told none.
+    subst (λ t. IfOk c.open_made.result (λ r. IsStateIntact t r)) (sym c.open_made.ensures.quiet.same_files) (c.open_made.ensures.intact (c.in-Ok.ensures.made f told none))
 
 pub returns-in-Ok-clause-along : goal.returns-in-Ok-clause-along
 returns-in-Ok-clause-along g c = λ f told none. subst (StandsAlong (IsMade (Some f)) None (created ∷ [])) (sym c.open_made.ensures.quiet.same_files) (c.make_files.ensures.along f told none)

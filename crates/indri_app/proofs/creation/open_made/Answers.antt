@@ -1,6 +1,7 @@
 use Rattle.std.proofs.Common.{refl, sym, subst}
 use Rattle.repository.specs.RealLimits.{AreReal}
 use Rattle.indri_app.proofs.OpeningLemmas.{file-of, store-of_files, want-of}
+use Rattle.indri_app.proofs.WholeLemmas.{intact-empty}
 use Rattle.indri_app.proofs.creation.open_made.Goals as goal
 
 -- it is open
@@ -16,6 +17,15 @@ returns-in-Ok-Some-clause-opened g c = λ stands.
       stands = stands;
       reads = rw c.in-Ok-Some.field-0-is at (c.in-Ok-Some.ensures.reads _ (stands c.real.result real));
     }
+
+pub returns-in-Ok-Some-clause-intact : goal.returns-in-Ok-Some-clause-intact
+returns-in-Ok-Some-clause-intact g c = λ stands.
+    let limits = c.real.ensures in
+    let real : AreReal c.real.result = record { part_docs = limits.part_docs; held_docs = limits.held_docs; held_tokens = limits.held_tokens } in
+    let there = (stands c.real.result real).has in
+    let reads = rw c.in-Ok-Some.field-0-is at (c.in-Ok-Some.ensures.reads _ (stands c.real.result real)) in
+    let opened = rw c.in-Ok-Some.field-0-is at (c.in-Ok-Some.ensures.opened there.files there.is_told) in
+    intact-empty _ _ c.in-Ok-Some.repository opened reads.documents_are
 
 pub returns-in-Ok-Some-clause-usable : goal.returns-in-Ok-Some-clause-usable
 returns-in-Ok-Some-clause-usable g c = let fresh = rw c.in-Ok-Some.field-0-is at c.in-Ok-Some.ensures.fresh in fresh.usable

@@ -22,6 +22,7 @@ events-init g c =
         followed = ap (λ n. map Event (events_left n c.new-generator.result.stage)) c.new-generator.ensures.count ∙ ap (map Event) c.new-generator.ensures.all;
         state = λ kept way. state-none start;
         way = λ kept way. subst (IsUnderWay _ _ _) (sym (kept-start kept start)) way;
+        intact = λ kept way intact. intact;
         stops = λ kept way. Leaves-same _ _;
         usable = c.requires.usable;
         rule = refl;
@@ -48,6 +49,7 @@ events-preserved-in-Ok g c =
         followed = append_assoc inv.0 (i ∷ []) left ∙ followed;
         state = λ kept way. state-next start here inv.0 i (inv.1.state kept way) _ (done.state _ (inv.1.way kept way));
         way = λ kept way. subst (IsUnderWay _ _ _) (kept-next start here inv.0 i (inv.1.state kept way) kept) (done.way _ (inv.1.way kept way));
+        intact = λ kept way intact. done.intact _ (inv.1.way kept way) (inv.1.intact kept way intact);
         stops = λ kept way. Along-next start here inv.0 i (inv.1.state kept way) _ _ _ kept (inv.1.stops kept way)
             (piece-stops (kept_behind kept (pieces_of start inv.0)) here i _ _ (c.do_event.ensures.stops _ (inv.1.way kept way)));
         usable = done.usable (goes-next c.args.count inv.0 left i followed);
@@ -81,6 +83,9 @@ returns-in-Ok-None-clause-way g c = λ kept way.
     let all : inv.0 ≡ gen_items c.args.count = sym (append-nil inv.0) ∙ ap (λ es. inv.0 ++ map Event es) (sym gives) ∙ inv.1.followed in
     let start = state_of (g.T.Store.files c.args.store.now) c.args.desk.now.kept in
     subst (λ (is : List Item). IsUnderWay (g.T.Store.files c.events.store) c.events.desk.kept (map (λ b. (goal.BeliefNode-dyn g (b.vtable, b.value)).meaning b.value) c.events.plugs) (kept_behind kept (pieces_of start is))) all (inv.1.way kept way)
+
+pub returns-in-Ok-None-clause-intact : goal.returns-in-Ok-None-clause-intact
+returns-in-Ok-None-clause-intact g c = λ kept way intact. c.events.invariant.1.intact kept way intact
 
 pub returns-in-Ok-None-clause-along : goal.returns-in-Ok-None-clause-along
 returns-in-Ok-None-clause-along g c = λ kept way.
@@ -126,4 +131,6 @@ returns-in-Err-do_event-clause-stops g c = λ kept way.
     (Along-next start here inv.0 (Event c.in-Ok-Some.event) (inv.1.state kept way) _ _ _ kept (inv.1.stops kept way) (piece-stops (kept_behind kept (pieces_of start inv.0)) here (Event c.in-Ok-Some.event) _ _ (c.do_event.ensures.stops _ (inv.1.way kept way))))
 
 pub returns-in-Err-do_event-clause-honest : goal.returns-in-Err-do_event-clause-honest
-returns-in-Err-do_event-clause-honest g c = λ kept way. c.in-Err-do_event.ensures.honest _ (c.events.invariant.1.way kept way)
+returns-in-Err-do_event-clause-honest g c = λ kept way intact.
+    let inv = c.events.invariant in
+    c.in-Err-do_event.ensures.honest _ (inv.1.way kept way) (inv.1.intact kept way intact)

@@ -6,7 +6,7 @@ use Rattle.repository.specs.Stands.{Collection}
 use Rattle.generated_events.specs.Left.{events_left}
 use Rattle.script_reader.specs.declared.item.Item.{Item}
 use Rattle.script_reader.specs.declared.item.Item.TheVariants.{Event}
-use Rattle.desk.specs.Backed.{IsUsable, state_of}
+use Rattle.desk.specs.Backed.{IsDeskIntact, IsUsable, state_of}
 use Rattle.indri_app.specs.Generated.{gen_items}
 use Rattle.indri_app.specs.Items.{pieces_of, state_behind_all}
 use Rattle.indri_app.specs.Sessions.{IsUnderWay}
@@ -22,6 +22,7 @@ invariant-events g l =
       followed : done ++ map Event (events_left l.generator.count l.generator.stage) ≡ gen_items l.fn.count;
       state : (kept : Collection) → IsBegun kept → state_of (g.T.Store.files l.store) l.desk.kept ≡ state_behind_all start done;
       way : (kept : Collection) → IsBegun kept → IsUnderWay (g.T.Store.files l.store) l.desk.kept now (kept_behind kept (pieces_of start done));
+      intact : (kept : Collection) → IsBegun kept → IsDeskIntact (g.T.Store.files l.fn.store) l.fn.desk.kept → IsDeskIntact (g.T.Store.files l.store) l.desk.kept;
       stops : (kept : Collection) → IsBegun kept → Leaves (g.T.Store.since l.fn.store) (g.T.Store.since l.store) (StandsAlong StandsFor kept (pieces_of start done));
       usable : IsUsable l.desk.kept;
       rule : l.desk.rule ≡ l.fn.desk.rule;

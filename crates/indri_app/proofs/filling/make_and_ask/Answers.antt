@@ -24,7 +24,7 @@ pub returns-in-Err-show-clause-stops : goal.returns-in-Err-show-clause-stops
 returns-in-Err-show-clause-stops g c = λ kept way. Leaves-none _ _ _ _ (c.do_events.ensures.stops kept way) c.show.ensures.quiet.no_more
 
 pub returns-in-Err-show-clause-honest : goal.returns-in-Err-show-clause-honest
-returns-in-Err-show-clause-honest g c = λ kept way. c.in-Err-show.ensures.honest _ (c.in-Ok.ensures.way kept way)
+returns-in-Err-show-clause-honest g c = λ kept way intact. c.in-Err-show.ensures.honest _ (c.in-Ok.ensures.way kept way) (c.in-Ok.ensures.intact kept way intact)
 
 -- it is shown, and made into a text
 

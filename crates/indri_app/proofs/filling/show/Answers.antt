@@ -15,4 +15,4 @@ returns-clause-order g c = λ kept way.
     (IfOk-weaker c.event.result _ _ (λ reply order. order way.backed) c.event.ensures.order)
 
 pub returns-clause-honest : goal.returns-clause-honest
-returns-clause-honest g c = λ kept way. c.event.ensures.honest way.backed
+returns-clause-honest g c = λ kept way intact. c.event.ensures.honest way.backed intact

@@ -14,7 +14,7 @@ use Rattle.desk.specs.State.{State}
 use Rattle.indri_app.specs.Generated.{gen_items}
 use Rattle.indri_app.specs.Items.{pieces_of, state_behind_all}
 use Rattle.indri_app.specs.Orders.{IsTrueItem}
-use Rattle.indri_app.proofs.Beginning.{begun-all, merge-none}
+use Rattle.indri_app.proofs.Beginning.{begun-all, merge-intact, merge-none}
 use Rattle.indri_app.proofs.Following.{along-none}
 use Rattle.indri_app.proofs.Generating.{text-made}
 use Rattle.indri_app.proofs.generation.fill.Goals as goal
@@ -74,9 +74,9 @@ returns-clause-stops g c = λ ahead.
     subst (λ (s : State). Leaves (g.T.Store.since c.args.store.now) (g.T.Store.since c.make_and_ask.new.store) (StandsAlong StandsFor empty_collection (pieces_of s (gen_items c.args.count)))) all.1 (c.make_and_ask.ensures.stops empty_collection all.0)
 
 pub returns-clause-honest : goal.returns-clause-honest
-returns-clause-honest g c = λ ahead.
+returns-clause-honest g c = λ ahead intact.
     let made = c.in-Ok.ensures in
     let kind = c.in-Ok.desk.same_kind ∙ ap (λ r. r.kind) (made.rule ∙ c.new-rule.ensures) in
     let all = begun-all _ c.args.repository c.in-Ok.desk.kept _ empty_collection (Dirichlet c.args.mu) made.repository made.queries c.requires.none kind ahead (made.backed _ ahead.backed (merge-none _ _ c.requires.none))
     c.requires.plugs (ap length c.requires.plugs) in
-    c.make_and_ask.ensures.honest empty_collection all.0
+    c.make_and_ask.ensures.honest empty_collection all.0 (made.intact _ intact (merge-intact _ c.args.repository c.requires.none))

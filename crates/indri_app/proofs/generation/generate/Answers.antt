@@ -1,6 +1,7 @@
 use Rattle.std.proofs.Common.{ap, Err, refl, subst}
 use Rattle.command_pieces.specs.CommandFaults.{IsDamage}
-use Rattle.indri_app.proofs.Generating.{either-undamaged, gen-broken, gen-finished, gen-of_items, gen-of_silent, items-not_exists, items-not_store, items-undamaged, made-broken, silent-not_write, write-of_items}
+use Rattle.indri_app.proofs.Generating.{either-undamaged, gen-broken, gen-finished, gen-of_items, gen-of_silent, items-not_exists, items-not_store, made-broken, silent-not_write, write-of_items}
+use Rattle.indri_app.proofs.Standing.{items-undamaged}
 use Rattle.indri_app.proofs.generation.generate.Goals as goal
 
 -- it isn't made
@@ -9,7 +10,7 @@ pub returns-in-Err-clause-broken : goal.returns-in-Err-clause-broken
 returns-in-Err-clause-broken g c = λ f told none. made-broken c.in-Err.fault _ f _ _ (c.in-Err.ensures.honest f told none) (c.made_text.ensures.along f told none)
 
 pub returns-in-Err-clause-honest : goal.returns-in-Err-clause-honest
-returns-in-Err-clause-honest g c = λ f told. either-undamaged (f _) c.in-Err.fault (c.in-Err.ensures.honest f told) (λ there. (c.in-Err.ensures.exists f told there).0)
+returns-in-Err-clause-honest g c = λ f told. either-undamaged (f _).read c.in-Err.fault (c.in-Err.ensures.honest f told) (λ there. (c.in-Err.ensures.exists f told there).0)
 
 pub returns-in-Err-clause-only : goal.returns-in-Err-clause-only
 returns-in-Err-clause-only g c = gen-of_silent c.in-Err.fault c.in-Err.ensures.only

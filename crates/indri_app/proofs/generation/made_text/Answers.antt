@@ -53,7 +53,7 @@ returns-in-Err-fill-clause-stops g c = λ f told none.
     stops-filled c.args.count f _ _ c.in-Ok.repository.held.limits (c.in-Ok.ensures.new f told none).real _ (c.new_repository.ensures.stops f told none) (c.fill.ensures.stops (c.in-Ok.ensures.new f told none))
 
 pub returns-in-Err-fill-clause-honest : goal.returns-in-Err-fill-clause-honest
-returns-in-Err-fill-clause-honest g c = λ f told none. rw c.of_files.ensures (want-of c.in-Err-fill.fault (c.in-Err-fill.ensures.honest (c.in-Ok.ensures.new f told none)))
+returns-in-Err-fill-clause-honest g c = λ f told none. rw c.of_files.ensures (want-of c.in-Err-fill.fault (c.in-Err-fill.ensures.honest (c.in-Ok.ensures.new f told none) (c.in-Ok.ensures.intact f told none)))
 
 pub returns-in-Err-fill-clause-exists : goal.returns-in-Err-fill-clause-exists
 returns-in-Err-fill-clause-exists g c = λ f told there. let no = c.in-Ok.ensures.exists f told there in absurd no.1

@@ -15,7 +15,7 @@ use Rattle.indri_app.specs.Items.{pieces_of, state_behind_all}
 use Rattle.indri_app.specs.Orders.{AreTrue}
 use Rattle.indri_app.specs.Sessions.{IsUnderWay}
 use Rattle.indri_app.proofs.Following.{Along-next, Finished-next, Finished-start, all-done, broken-next, end-next, followed-more, followed-start, kept-next, kept-start, refused-next, refused-start, some-along, some-done, some-stopped, state-next, state-none, true-next, true-start}
-use Rattle.indri_app.proofs.Standing.{broken-honest, grows-none, grows-then, if-all, item-only}
+use Rattle.indri_app.proofs.Standing.{grows-none, grows-then, if-all, item-only}
 use Rattle.indri_app.proofs.items.take_items.Goals as goal
 
 pub items-init : goal.items-init
@@ -27,6 +27,7 @@ items-init g c =
         ready = c.in-Ok.ensures.ready _ _ (g.met.S.Source.is_bounded c.args.source.now);
         state = λ kept way. state-none start;
         way = λ kept way. subst (IsUnderWay _ _ _) (sym (kept-start kept start)) way;
+        intact = λ kept way intact. intact;
         refused = λ kept way. refused-start start;
         finished = λ kept way. Finished-start kept start _ _ way.stands;
         order = λ kept way. true-start start;
@@ -60,6 +61,7 @@ items-preserved g c =
         ready = c.in-Ok-Some.ensures.ready;
         state = λ kept way. state-next start here inv.0 i (inv.1.state kept way) _ (done.state _ (inv.1.way kept way));
         way = λ kept way. subst (IsUnderWay _ _ _) (kept-next start here inv.0 i (inv.1.state kept way) kept) (done.way _ (inv.1.way kept way));
+        intact = λ kept way intact. done.intact _ (inv.1.way kept way) (inv.1.intact kept way intact);
         refused = λ kept way. refused-next start here inv.0 i (inv.1.state kept way) _ _ (inv.1.refused kept way) (done.refused _ (inv.1.way kept way));
         finished = λ kept way. Finished-next start here inv.0 i (inv.1.state kept way) kept _ _ _ _ _ (inv.1.finished kept way) (done.finished _ (inv.1.way kept way));
         order = λ kept way. true-next start here inv.0 i (inv.1.state kept way) (inv.1.order kept way) (done.order _ (inv.1.way kept way));
@@ -163,8 +165,9 @@ returns-in-Err-clause-broken g c = λ kept way.
     (λ rest. broken-next start here inv.0 i (inv.1.state kept way) _ kept rest _ _ _ _ _ (inv.1.finished kept way) (c.in-Err.ensures.broken _ (inv.1.way kept way)))
 
 pub returns-in-Err-clause-honest : goal.returns-in-Err-clause-honest
-returns-in-Err-clause-honest g c = λ kept way.
-    broken-honest c.in-Err.fault _ _ _ _ _ (c.in-Err.ensures.broken _ (c.items.invariant.1.way kept way))
+returns-in-Err-clause-honest g c = λ kept way intact.
+    let inv = c.items.invariant in
+    c.in-Err.ensures.honest _ (inv.1.way kept way) (inv.1.intact kept way intact)
 
 pub returns-in-Err-clause-stops : goal.returns-in-Err-clause-stops
 returns-in-Err-clause-stops g c = λ kept way.

@@ -5,7 +5,7 @@ use Rattle.repository.specs.RealLimits.{StandsFor}
 use Rattle.repository.specs.Stands.{Collection}
 use Rattle.script_reader.specs.State.{IsReady, is_ended, work_left}
 use Rattle.script_reader.specs.declared.item.Item.{Item}
-use Rattle.desk.specs.Backed.{IsUsable, state_of}
+use Rattle.desk.specs.Backed.{IsDeskIntact, IsUsable, state_of}
 use Rattle.desk.specs.State.{collection_of}
 use Rattle.indri_app.specs.Items.{pieces_of, state_behind_all}
 use Rattle.indri_app.specs.Orders.{AreTrue}
@@ -22,6 +22,7 @@ invariant-items g l =
       ready : IsReady l.reader (g.S.Source.left l.source) (g.S.Source.can_give l.source);
       state : (kept : Collection) → IsBegun kept → state_of (g.T.Store.files l.store) l.desk.kept ≡ state_behind_all start done;
       way : (kept : Collection) → IsBegun kept → IsUnderWay (g.T.Store.files l.store) l.desk.kept (map (λ b. (goal.BeliefNode-dyn g (b.vtable, b.value)).meaning b.value) l.plugs) (kept_behind kept (pieces_of start done));
+      intact : (kept : Collection) → IsBegun kept → IsDeskIntact (g.T.Store.files l.fn.store) l.fn.desk.kept → IsDeskIntact (g.T.Store.files l.store) l.desk.kept;
       refused : (kept : Collection) → IsBegun kept → l.some_refused ≡ some_refused (pieces_of start done);
       finished : (kept : Collection) → IsBegun kept → Finished StandsFor kept (pieces_of start done) (g.K.Sink.taken l.fn.sink) (g.K.Sink.taken l.sink) (g.T.Store.files l.store);
       order : (kept : Collection) → IsBegun kept → AreTrue start done;

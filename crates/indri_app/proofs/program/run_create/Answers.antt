@@ -20,7 +20,7 @@ returns-in-Err-clause-has_run g c = λ left.
     let ends = c.close.ensures.closed in
     run-unmade create making-create left _ _ _ _ _ _ _ _ why _ _ _ ends (λ e. subst IsCreateFault e did.only)
     (record {
-      made = λ f told none. made-closed create f create_pieces refl _ _ _ _ why _ _ _ _ did.write_later (λ e. subst IsCreateFault e did.only) (did.broken f told none) ends;
+      made = λ f told none. made-closed create f create_pieces refl _ _ _ _ why _ _ _ _ did.write_later (λ e. subst IsCreateFault e did.only) (undamaged-create why did.only) (did.broken f told none) ends;
       along = λ f told none. (create_pieces, refl, c.create_repository.ensures.stops f told none);
       order = λ f told none all. tt;
     })

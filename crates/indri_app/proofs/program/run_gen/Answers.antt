@@ -22,7 +22,7 @@ returns-in-Err-clause-has_run g c = λ left.
     let ends = c.close.ensures.closed in
     run-unmade (gen c.args.count) (making-gen c.args.count) left _ _ _ _ _ _ _ _ why _ _ _ ends (λ e. subst IsGenFault e did.only)
     (record {
-      made = λ f told none. let broken = did.broken f told none in made-closed (gen c.args.count) f broken.0 broken.1 _ _ _ _ why _ _ _ _ did.write_later (λ e. subst IsGenFault e did.only) broken.2 ends;
+      made = λ f told none. let broken = did.broken f told none in made-closed (gen c.args.count) f broken.0 broken.1 _ _ _ _ why _ _ _ _ did.write_later (λ e. subst IsGenFault e did.only) (did.honest f told) broken.2 ends;
       along = c.generate.ensures.stops;
       order = λ f told none all. absurd (all-not_closed why _ _ _ _ _ ends all);
     })

@@ -5,7 +5,7 @@ use Rattle.indri_app.specs.Opened.{IsOpenFault}
 use Rattle.indri_app.specs.Runs.{IsReplyStatus}
 use Rattle.indri_app.specs.Asked.{IsBrokenOver}
 use Rattle.indri_app.specs.declared.status.Status.TheVariants as status
-use Rattle.indri_app.proofs.AskedRuns.{asked-in_order, asked-needs, asked-not_making, asked-not_scan, asked-runs, asked-tells, damage-over, intact-of, over-absent, refused-runs, some-of, tells-not, want-runs}
+use Rattle.indri_app.proofs.AskedRuns.{asked-blocks, asked-in_order, asked-needs, asked-not_making, asked-not_scan, asked-runs, asked-tells, damage-over, file-runs, intact-of, over-absent, refused-runs, some-of, tells-not}
 use Rattle.indri_app.proofs.Closing.{stops-none}
 use Rattle.indri_app.proofs.Ended.{absent-closed, absent-closed-status, absent-line-closed, damage-closed, damage-not_want, done-not_closed-any, exists-closed, exists-line-closed, malformed-closed, read-closed, store-closed, usage-not_closed, write-closed}
 use Rattle.indri_app.proofs.program.run_question.Goals as goal
@@ -28,7 +28,7 @@ returns-in-Ok-clause-has_run g c = λ asks left by'.
       made_stops = λ makes f told none. absurd (asked-not_making asks text mu shown by' makes);
       made_order = λ makes f told none all. absurd (asked-not_making asks text mu shown by' makes);
       scans = λ other is. absurd (asked-not_scan asks text mu shown other by' is);
-      sound = λ is k stands. subst IsReplyStatus is only;
+      sound = λ is k stands whole. subst IsReplyStatus is only;
       there = λ f told is. absurd (subst IsReplyStatus is only);
       damage = λ is. absurd (subst IsReplyStatus is only);
       intact = λ f told has needs. intact-of _ (did.intact f told);
@@ -66,7 +66,7 @@ returns-in-Err-Refused-clause-has_run g c = λ asks left by'.
       made_stops = λ makes f told none. absurd (asked-not_making asks text mu shown by' makes);
       made_order = λ makes f told none all. absurd (asked-not_making asks text mu shown by' makes);
       scans = λ other is. absurd (asked-not_scan asks text mu shown other by' is);
-      sound = λ is k stands. tells-not _ _ status.Malformed _ _ tells is (λ e. cc) (λ e. cc) (λ e. cc);
+      sound = λ is k stands whole. tells-not _ _ status.Malformed _ _ tells is (λ e. cc) (λ e. cc) (λ e. cc);
       there = λ f told is. absurd (tells-not _ _ status.Malformed _ _ tells is (λ e. cc) (λ e. cc) (λ e. cc));
       damage = λ is. absurd (tells-not _ _ status.Malformed _ _ tells is (λ e. cc) (λ e. cc) (λ e. cc));
       intact = λ f told has needs. intact-of _ (did.intact_refused f told);
@@ -98,15 +98,15 @@ returns-in-Err-Broken-clause-has_run g c = λ asks left by'.
     let same = c.ask.ensures.quiet.same_files in
     let ends = c.close.ensures.closed in
     record {
-      runs = λ k stands. want-runs _ _ asks k left _ _ _ _ why _ (omega arith) same stands (did.refused k stands) ends;
+      runs = λ k stands. file-runs _ _ asks k left _ _ _ _ why _ (omega arith) same stands (did.refused k stands) ends;
       stops = λ k stands. stops-none _ asks k left _ _ c.ask.ensures.quiet.no_more;
       order = λ k stands all. asked-in_order asks k left text mu shown by';
       made = λ makes f told none. absurd (asked-not_making asks text mu shown by' makes);
       made_stops = λ makes f told none. absurd (asked-not_making asks text mu shown by' makes);
       made_order = λ makes f told none all. absurd (asked-not_making asks text mu shown by' makes);
       scans = λ other is. absurd (asked-not_scan asks text mu shown other by' is);
-      sound = λ is k stands. damage-not_want why (malformed-closed why _ _ _ _ _ ends is) (did.refused k stands);
-      there = λ f told is. some-of (f manifest_name) (damage-over f why (malformed-closed why _ _ _ _ _ ends is) (did.there f told));
+      sound = λ is k stands whole. damage-not_want why (malformed-closed why _ _ _ _ _ ends is) (did.honest k stands (whole (asked-blocks asks text mu shown by')));
+      there = λ f told is. some-of (f manifest_name).read (damage-over f why (malformed-closed why _ _ _ _ _ ends is) (did.there f told));
       damage = λ is. asked-tells asks _ _ _ _ text mu shown by' (damage-closed why _ _ _ _ _ ends is);
       intact = λ f told has needs. absurd (done-not_closed-any why _ _ _ _ _ ends has);
       intact_priors = λ f told has reads. absurd (done-not_closed-any why _ _ _ _ _ ends has);

@@ -7,7 +7,7 @@ use Rattle.indri_app.proofs.question.answer_checked.Goals as goal
 -- a file isn't read
 
 pub returns-in-Err-clause-honest : goal.returns-in-Err-clause-honest
-returns-in-Err-clause-honest g c = λ backed. rw c.of_files.ensures (want-of c.in-Err.fault (c.in-Err.ensures.honest (c.in-Ok.ensures.stored _ backed) (new-cache _ c.in-Ok-block_cache.cache c.in-Ok-block_cache.ensures)))
+returns-in-Err-clause-honest g c = λ intact. rw c.of_files.ensures (want-of c.in-Err.fault (c.in-Err.ensures.honest (c.in-Ok.ensures.stored_intact _ intact) (new-cache _ c.in-Ok-block_cache.cache c.in-Ok-block_cache.ensures)))
 
 pub returns-in-Err-clause-only : goal.returns-in-Err-clause-only
 returns-in-Err-clause-only g c = rw c.of_files.ensures (file-of c.in-Err.fault)

@@ -2,14 +2,21 @@ use Rattle.std.proofs.Common.{◌≡◌, Err, Option, ap, refl, subst, sym, ◌�
 use Rattle.store_ends.specs.Files.{Files}
 use Rattle.command_pieces.specs.declared.command_fault.CommandFault.TheVariants as fault
 use Rattle.disk_index.specs.QuietLaws.{IsQuiet-then}
-use Rattle.repository.specs.States.{IsBacked, ReadsAs}
+use Rattle.repository.specs.States.{IsBacked, IsStateIntact, ReadsAs}
 use Rattle.indri_app.specs.Asked.{IsIntactWithPriors}
 use Rattle.indri_app.proofs.AskingLemmas.{answer-intact, answer-intact_refused, answer-only, answer-over, broken-store, files-over, opened-over}
 use Rattle.indri_app.proofs.Ended.{rose-earlier}
-use Rattle.indri_app.proofs.OpeningLemmas.{open-of, want-of}
+use Rattle.indri_app.proofs.OpeningLemmas.{file-of, file-want, open-of, want-of}
+use Rattle.indri_app.proofs.WholeLemmas.{whole-state}
 use Rattle.indri_app.proofs.question.ask.Goals as goal
 
 -- it isn't opened
+
+pub returns-in-Err-clause-refused : goal.returns-in-Err-clause-refused
+returns-in-Err-clause-refused g c = λ k stands. file-want c.in-Err.fault (c.in-Err.ensures.honest k stands)
+
+pub returns-in-Err-clause-honest : goal.returns-in-Err-clause-honest
+returns-in-Err-clause-honest g c = λ k stands whole. c.in-Err.ensures.honest k stands
 
 pub returns-in-Err-clause-there : goal.returns-in-Err-clause-there
 returns-in-Err-clause-there g c = λ f told. opened-over f c.in-Err.fault c.in-Err.ensures.only (λ e. c.in-Err.ensures.absent f told (ap Err e)) (λ none. (c.in-Err.ensures.without f told none).1)
@@ -20,7 +27,10 @@ returns-in-Err-clause-store g c = λ e. let one : c.in-Err.fault ≡ fault.Store
 -- the rows of its priors aren't read
 
 pub returns-in-Err-take_priors-clause-refused : goal.returns-in-Err-take_priors-clause-refused
-returns-in-Err-take_priors-clause-refused g c = λ k stands.
+returns-in-Err-take_priors-clause-refused g c = λ k stands. rw c.of_files.ensures (file-of c.in-Err-take_priors.fault)
+
+pub returns-in-Err-take_priors-clause-honest : goal.returns-in-Err-take_priors-clause-honest
+returns-in-Err-take_priors-clause-honest g c = λ k stands whole.
     let backed = subst (λ (f : Option Files). IsBacked f c.in-Ok.repository) (sym c.open_repository.ensures.quiet.same_files) (c.in-Ok.ensures.opened k stands).backed in
     rw c.of_files.ensures (want-of c.in-Err-take_priors.fault (c.in-Err-take_priors.ensures.honest backed))
 
@@ -54,6 +64,12 @@ returns-clause-refused g c = λ k stands.
     let same = c.take_priors.ensures.quiet.same_files ∙ c.open_repository.ensures.quiet.same_files in
     let ahead = c.in-Ok.ensures.opened k stands in
     c.ask_open.ensures.refused k (subst (λ (f : Option Files). ReadsAs f c.in-Ok.repository k) (sym same) ahead.reads) (subst (λ (f : Option Files). IsBacked f c.in-Ok.repository) (sym same) ahead.backed)
+
+pub returns-clause-honest : goal.returns-clause-honest
+returns-clause-honest g c = λ k stands whole.
+    let same = c.take_priors.ensures.quiet.same_files ∙ c.open_repository.ensures.quiet.same_files in
+    let backed = (c.in-Ok.ensures.opened k stands).backed in
+    c.ask_open.ensures.honest (subst (λ (f : Option Files). IsStateIntact f c.in-Ok.repository) (sym same) (whole-state _ c.in-Ok.repository whole backed))
 
 pub returns-clause-there : goal.returns-clause-there
 returns-clause-there g c = λ f told. answer-over f c.ask_open.result c.ask_open.ensures.only (c.in-Ok.ensures.there f told)

@@ -4,7 +4,7 @@ use Rattle.manifest.specs.declared.manifest.PriorEntry.{PriorEntry}
 use Rattle.query_check.specs.Answers.{whole_checked}
 use Rattle.desk.specs.Shown.{told_shown}
 use Rattle.indri_app.specs.Command.{IsQuery}
-use Rattle.indri_app.proofs.AskingLemmas.{asked-of, names-listed, text-not_store, text-only, text-refused}
+use Rattle.indri_app.proofs.AskingLemmas.{asked-of, names-listed, text-not_store, text-only, text-refused, text-want}
 use Rattle.indri_app.proofs.question.ask_open.Goals as goal
 
 pub read_checked-requires : goal.read_checked-requires
@@ -18,6 +18,9 @@ returns-in-Err-clause-refused g c = λ k reads backed.
     let told = g.T.Store.files c.args.store.now in
     let names = c.deref.ensures.value ∙ c.in-Ok.ensures ∙ ap (map (λ (e : PriorEntry). e.name)) c.priors.ensures.list ∙ names-listed told c.args.repository.now.priors k.priors reads.priors_are in
     rw c.ask_fault.ensures (text-refused k c.args.text.now _ c.in-Err.fault names c.in-Err.ensures.refused)
+
+pub returns-in-Err-clause-honest : goal.returns-in-Err-clause-honest
+returns-in-Err-clause-honest g c = λ intact. rw c.ask_fault.ensures (text-want c.in-Err.fault)
 
 pub returns-in-Err-clause-only : goal.returns-in-Err-clause-only
 returns-in-Err-clause-only g c = rw c.ask_fault.ensures (text-only c.in-Err.fault)

@@ -2,6 +2,7 @@ use Rattle.std.proofs.Common.{◌≡◌, refl, sym, subst}
 use Rattle.command_words.specs.Table as asks
 use Rattle.command_pieces.specs.declared.command_fault.CommandFault.TheVariants as fault
 use Rattle.repository.specs.RealLimits.{StandsFor}
+use Rattle.repository.specs.States.{IsStateIntact}
 use Rattle.smoothing.specs.declared.rule.RuleKind.TheVariants.{Dirichlet}
 use Rattle.collection_commands.specs.Ahead.{IsAhead}
 use Rattle.indri_app.specs.Sessions.{session_pieces}
@@ -12,6 +13,7 @@ use Rattle.indri_app.proofs.ChangingLemmas.{open-over, session-not_absent, sessi
 use Rattle.indri_app.proofs.Closing.{begun-by, done-by, stops-behind, stops-by, stops-none, want-begun-some}
 use Rattle.indri_app.proofs.Ended.{rose-earlier}
 use Rattle.indri_app.proofs.SessionLemmas.{in-order, with-priors}
+use Rattle.indri_app.proofs.WholeLemmas.{whole-state}
 use Rattle.indri_app.proofs.session.session_files.Goals as goal
 
 -- the repository is open
@@ -52,10 +54,12 @@ returns-in-Ok-clause-order g c = λ k stands.
     in-order c.args.mu k c.in-Ok.repository.held.limits _ c.session.result here.real (c.session.ensures.order k ahead)
 
 pub returns-in-Ok-clause-honest : goal.returns-in-Ok-clause-honest
-returns-in-Ok-clause-honest g c = λ k stands.
+returns-in-Ok-clause-honest g c = λ k stands whole.
     let same = c.open_repository.ensures.quiet.same_files in
-    let ahead = subst (λ f. IsAhead f c.in-Ok.repository k k) (sym same) (c.in-Ok.ensures.opened k stands) in
-    undamaged-late c.session.result c.session.ensures.only (c.session.ensures.honest k ahead)
+    let here = c.in-Ok.ensures.opened k stands in
+    let ahead = subst (λ f. IsAhead f c.in-Ok.repository k k) (sym same) here in
+    let intact = subst (λ f. IsStateIntact f c.in-Ok.repository) (sym same) (whole-state _ c.in-Ok.repository whole here.backed) in
+    undamaged-late c.session.result c.session.ensures.only (c.session.ensures.honest k ahead intact)
 
 pub returns-in-Ok-clause-untouched : goal.returns-in-Ok-clause-untouched
 returns-in-Ok-clause-untouched g c = λ e. absurd (session-not_absent c.session.result c.session.ensures.only e)
@@ -91,7 +95,7 @@ pub returns-in-Err-clause-stops : goal.returns-in-Err-clause-stops
 returns-in-Err-clause-stops g c = λ k stands. stops-none (g.T.Store.files c.args.store.now) (asks.session c.args.mu) k _ _ _ c.open_repository.ensures.quiet.no_more
 
 pub returns-in-Err-clause-honest : goal.returns-in-Err-clause-honest
-returns-in-Err-clause-honest g c = λ k stands. want-late c.in-Err.fault (c.in-Err.ensures.honest k stands)
+returns-in-Err-clause-honest g c = λ k stands whole. want-late c.in-Err.fault (c.in-Err.ensures.honest k stands)
 
 pub returns-in-Err-clause-untouched : goal.returns-in-Err-clause-untouched
 returns-in-Err-clause-untouched g c = λ e. (c.open_repository.ensures.quiet, refl, refl)

@@ -39,6 +39,9 @@ returns-in-Ok-clause-way g c = λ kept way.
     on-ok c.tell_reply.result _ (subst (λ (ps : List Prior). IsUnderWay after new ps (kept_by kept (state_of before old) (Event c.args.event))) (sym c.event.ensures.stay)
     (goes-on before after old new _ c.args.event steps.state kept _ way steps.backed stands))
 
+pub returns-in-Ok-clause-intact : goal.returns-in-Ok-clause-intact
+returns-in-Ok-clause-intact g c = λ kept way intact. on-ok c.tell_reply.result _ (c.in-Ok.ensures.intact way.backed intact)
+
 pub returns-in-Ok-clause-order : goal.returns-in-Ok-clause-order
 returns-in-Ok-clause-order g c = λ kept way.
     let steps = c.in-Ok.ensures.steps way.backed way.plugs_are in
@@ -51,7 +54,7 @@ pub returns-in-Ok-clause-stops : goal.returns-in-Ok-clause-stops
 returns-in-Ok-clause-stops g c = λ kept way. left-step (g.T.Store.files c.args.store.now) c.args.desk.now.kept _ kept c.args.event way _ _ c.event.ensures.stops
 
 pub returns-in-Ok-clause-honest : goal.returns-in-Ok-clause-honest
-returns-in-Ok-clause-honest g c = λ kept way.
+returns-in-Ok-clause-honest g c = λ kept way intact.
     IfErr-weaker c.tell_reply.result (λ (e : SegFault). e ≡ fault.Memory) IsOutside (λ e is. subst IsOutside (sym is) tt) c.tell_reply.ensures.only
 
 pub returns-in-Ok-clause-usable : goal.returns-in-Ok-clause-usable
@@ -67,7 +70,7 @@ pub returns-in-Err-clause-stops : goal.returns-in-Err-clause-stops
 returns-in-Err-clause-stops g c = λ kept way. left-step (g.T.Store.files c.args.store.now) c.args.desk.now.kept _ kept c.args.event way _ _ c.event.ensures.stops
 
 pub returns-in-Err-clause-honest : goal.returns-in-Err-clause-honest
-returns-in-Err-clause-honest g c = λ kept way. c.in-Err.ensures.honest way.backed
+returns-in-Err-clause-honest g c = λ kept way intact. c.in-Err.ensures.honest way.backed intact
 
 pub returns-in-Err-clause-nine : goal.returns-in-Err-clause-nine
 returns-in-Err-clause-nine g c = sym (length-map c.event.new.plugs _) ∙ ap length c.event.ensures.stay ∙ length-map c.args.plugs.now _ ∙ c.requires.nine

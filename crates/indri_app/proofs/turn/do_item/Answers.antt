@@ -48,6 +48,9 @@ returns-in_default-clause-state g c = λ kept way. on-ok c.tell_other.result _ (
 pub returns-in_default-clause-way : goal.returns-in_default-clause-way
 returns-in_default-clause-way g c = λ kept way. on-ok c.tell_other.result _ (none-way (g.T.Store.files c.args.store.now) c.args.desk.now.kept _ kept c.args.item (no-event c.args.item c.in_default.not-Event) way)
 
+pub returns-in_default-clause-intact : goal.returns-in_default-clause-intact
+returns-in_default-clause-intact g c = λ kept way intact. on-ok c.tell_other.result _ intact
+
 pub returns-in_default-clause-order : goal.returns-in_default-clause-order
 returns-in_default-clause-order g c = λ kept way. on-ok c.tell_other.result _ (none-true _ c.args.item (no-event c.args.item c.in_default.not-Event))
 
@@ -58,7 +61,7 @@ pub returns-in_default-clause-stops : goal.returns-in_default-clause-stops
 returns-in_default-clause-stops g c = λ kept way. Leaves-same _ _
 
 pub returns-in_default-clause-honest : goal.returns-in_default-clause-honest
-returns-in_default-clause-honest g c = λ kept way. IfErr-weaker c.tell_other.result (λ (e : SegFault). e ≡ fault.Memory) IsOutside (λ e is. subst IsOutside (sym is) tt) c.tell_other.ensures.only
+returns-in_default-clause-honest g c = λ kept way intact. IfErr-weaker c.tell_other.result (λ (e : SegFault). e ≡ fault.Memory) IsOutside (λ e is. subst IsOutside (sym is) tt) c.tell_other.ensures.only
 
 pub returns-in_default-clause-usable : goal.returns-in_default-clause-usable
 returns-in_default-clause-usable g c = on-ok c.tell_other.result _ (λ on. c.requires.usable)

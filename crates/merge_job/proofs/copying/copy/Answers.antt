@@ -4,9 +4,9 @@ use Rattle.ri_base.specs.Faults.{IsOutside}
 use Rattle.store_ends.specs.Files.{Files}
 use Rattle.seg_codec.specs.Segment.{entry_of}
 use Rattle.disk_index.specs.Cache.{IsCacheBacked}
-use Rattle.disk_index.specs.Parts.{IsPartBacked, reads, size}
+use Rattle.disk_index.specs.Parts.{IsPartIntact, reads, size}
 use Rattle.disk_index.specs.QuietLaws.{IsQuiet-then}
-use Rattle.disk_index.proofs.AmongLemmas.{backed-at, there-at}
+use Rattle.disk_index.proofs.AmongLemmas.{intact-at, there-at}
 use Rattle.disk_index.proofs.RebuiltLemmas.{reads-length}
 use Rattle.disk_index.proofs.TogetherLemmas.{AllKept-then}
 use Rattle.merge_job.specs.Walk.{entries, rest}
@@ -42,13 +42,13 @@ pub returns-in_err-copy_part-clause-cache : goal.returns-in_err-copy_part-clause
 returns-in_err-copy_part-clause-cache g c = AllKept-then c.args.cache.now c.loop-number.cache c.copy_part.new.cache c.loop-number.invariant.cache c.copy_part.ensures.cache
 
 pub returns-in_err-copy_part-clause-honest : goal.returns-in_err-copy_part-clause-honest
-returns-in_err-copy_part-clause-honest g c = λ backed cached.
+returns-in_err-copy_part-clause-honest g c = λ intact cached.
     let inv = c.loop-number.invariant in
     let m = c.index-parts-number.result in
     let told = g.T.Store.files c.args.store.now in
     let p = err_from_is_err_and c.from_residual.result c.from_residual.ensures.1 in
-    rw (p.1, p.2) (subst (λ (f : Option Files). IsPartBacked f m.source → IsCacheBacked f c.loop-number.cache → IsOutside c.in_err-copy_part.field-0.0) inv.quiet.same_files c.in_err-copy_part.ensures.honest
-    (backed-at c.args.parts.now c.loop-number.number m c.loop-number-test.true c.index-parts-number.is told backed)
+    rw (p.1, p.2) (subst (λ (f : Option Files). IsPartIntact f m.source → IsCacheBacked f c.loop-number.cache → IsOutside c.in_err-copy_part.field-0.0) inv.quiet.same_files c.in_err-copy_part.ensures.honest
+    (intact-at c.args.parts.now c.loop-number.number m c.loop-number-test.true c.index-parts-number.is told intact)
     (all-backed told c.args.cache.now c.loop-number.cache inv.cache cached))
 
 pub returns-in_err-copy_part-clause-fault : goal.returns-in_err-copy_part-clause-fault

@@ -3,7 +3,7 @@ use Rattle.std.proofs.lemmas.Result.{err_from_is_err_and}
 use Rattle.ri_base.specs.Faults.{IsOutside}
 use Rattle.store_ends.specs.Files.{Files}
 use Rattle.disk_index.specs.Cache.{IsCacheBacked}
-use Rattle.disk_index.specs.Parts.{IsPartBacked, reads}
+use Rattle.disk_index.specs.Parts.{IsPartBacked, IsPartIntact, reads}
 use Rattle.disk_index.specs.QuietLaws.{IsQuiet-then}
 use Rattle.disk_index.proofs.TogetherLemmas.{AllKept-then}
 use Rattle.merge_job.specs.Range.{IsRangeNow}
@@ -30,12 +30,12 @@ pub returns-in_err-copy_one-clause-cache : goal.returns-in_err-copy_one-clause-c
 returns-in_err-copy_one-clause-cache g c = AllKept-then c.args.cache.now c.loop-i.cache c.copy_one.new.cache c.loop-i.invariant.cache c.copy_one.ensures.cache
 
 pub returns-in_err-copy_one-clause-honest : goal.returns-in_err-copy_one-clause-honest
-returns-in_err-copy_one-clause-honest g c = λ backed cached.
+returns-in_err-copy_one-clause-honest g c = λ intact cached.
     let inv = c.loop-i.invariant in
     let m = c.args.marked.now in
     let p = err_from_is_err_and c.from_residual.result c.from_residual.ensures.1 in
-    rw (p.1, p.2) (subst (λ (f : Option Files). IsPartBacked f m.source → IsCacheBacked f c.loop-i.cache → IsOutside c.in_err-copy_one.field-0.0) inv.quiet.same_files c.in_err-copy_one.ensures.honest
-    backed (all-backed (g.T.Store.files c.args.store.now) c.args.cache.now c.loop-i.cache inv.cache cached))
+    rw (p.1, p.2) (subst (λ (f : Option Files). IsPartIntact f m.source → IsCacheBacked f c.loop-i.cache → IsOutside c.in_err-copy_one.field-0.0) inv.quiet.same_files c.in_err-copy_one.ensures.honest
+    intact (all-backed (g.T.Store.files c.args.store.now) c.args.cache.now c.loop-i.cache inv.cache cached))
 
 pub returns-in_err-copy_one-clause-fault : goal.returns-in_err-copy_one-clause-fault
 returns-in_err-copy_one-clause-fault g c = λ f told.

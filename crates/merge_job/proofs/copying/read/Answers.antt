@@ -1,7 +1,7 @@
 use Rattle.std.proofs.Common.{◌<◌, ◌*◌, ◌∙◌, ap, subst, sym}
 use Rattle.std.proofs.lemmas.Result.{err_from_is_err_and}
 use Rattle.disk_index.specs.Blocks.{of_range}
-use Rattle.disk_index.specs.Parts.{IsPartBacked, IsRangeFaultOf, Source, reads, size, source_of}
+use Rattle.disk_index.specs.Parts.{IsPartBacked, IsPartIntact, IsRangeFaultOf, Source, reads, size, source_of}
 use Rattle.merge_job.proofs.CopyLemmas.{range-read}
 use Rattle.merge_job.proofs.copying.read.Goals as goal
 
@@ -19,9 +19,9 @@ returns-clause-exact g c = λ backed cached _.
 -- ---- a range that can't be read
 
 pub returns-in_err-docs-clause-honest : goal.returns-in_err-docs-clause-honest
-returns-in_err-docs-clause-honest g c = λ backed cached.
+returns-in_err-docs-clause-honest g c = λ intact cached.
     let p = err_from_is_err_and c.from_residual.result c.from_residual.ensures.1 in
-    rw (p.1, p.2) (c.in_err-docs.ensures.honest (subst (IsPartBacked (g.T.Store.files c.args.store.now)) (sym c.part.ensures.part) backed) cached)
+    rw (p.1, p.2) (c.in_err-docs.ensures.honest (subst (IsPartIntact (g.T.Store.files c.args.store.now)) (sym c.part.ensures.part) intact) cached)
 
 pub returns-in_err-docs-clause-fault : goal.returns-in_err-docs-clause-fault
 returns-in_err-docs-clause-fault g c = λ f told.

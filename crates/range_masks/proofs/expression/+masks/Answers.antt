@@ -11,14 +11,14 @@ use Rattle.range_masks.proofs.expression.+masks.Goals as goal
 pub mask_of_each-loop-x-init : goal.mask_of_each-loop-x-init
 mask_of_each-loop-x-init g t c = record {
   undamaged = refl;
-  keeps = record { documents_stay = refl; no_fault_lost = omega arith; sound_stays = λ u. u; stays_quiet = g.met.P.Postings.quiet_same _ };
+  keeps = record { documents_stay = refl; no_fault_lost = omega arith; sound_stays = λ u. u; intact_stays = λ u. u; stays_quiet = g.met.P.Postings.quiet_same _ };
   exact = λ sound. IsMask-all _ _;
 }
 
 pub mask_of_each-loop-x-preserved : goal.mask_of_each-loop-x-preserved
 mask_of_each-loop-x-preserved g t c = record {
   undamaged = c.in_ok-found.ensures.undamaged ∙ c.loop-x.invariant.undamaged;
-  keeps = Keeps-then _ _ _ _ g.met.P.Postings.quiet_then _ _ _ c.loop-x.invariant.keeps c.mask_of.ensures.keeps;
+  keeps = Keeps-then _ _ _ _ _ g.met.P.Postings.quiet_then _ _ _ c.loop-x.invariant.keeps c.mask_of.ensures.keeps;
   exact = λ sound.
       let found = rw c.loop-x.invariant.keeps.documents_stay at (c.in_ok-found.ensures.exact (c.loop-x.invariant.keeps.sound_stays sound)) in
       IsMask-each_more _ _ (λ (x : ExtentExpr). may (expr_tree x)) c.args.all.now c.loop-x.x-index c.x-item.result _ _ c.loop-x-test.true c.x-item.is (c.loop-x.invariant.exact sound) found;
@@ -36,14 +36,14 @@ mask_of_each-returns-clause-exact g t c = λ sound. IsMask-each _ _ (λ (x : Ext
 pub mask_of_some-loop-x-init : goal.mask_of_some-loop-x-init
 mask_of_some-loop-x-init g t c = record {
   undamaged = refl;
-  keeps = record { documents_stay = refl; no_fault_lost = omega arith; sound_stays = λ u. u; stays_quiet = g.met.P.Postings.quiet_same _ };
+  keeps = record { documents_stay = refl; no_fault_lost = omega arith; sound_stays = λ u. u; intact_stays = λ u. u; stays_quiet = g.met.P.Postings.quiet_same _ };
   exact = λ sound. IsMask-none _ _;
 }
 
 pub mask_of_some-loop-x-preserved : goal.mask_of_some-loop-x-preserved
 mask_of_some-loop-x-preserved g t c = record {
   undamaged = c.in_ok-found.ensures.undamaged ∙ c.loop-x.invariant.undamaged;
-  keeps = Keeps-then _ _ _ _ g.met.P.Postings.quiet_then _ _ _ c.loop-x.invariant.keeps c.mask_of.ensures.keeps;
+  keeps = Keeps-then _ _ _ _ _ g.met.P.Postings.quiet_then _ _ _ c.loop-x.invariant.keeps c.mask_of.ensures.keeps;
   exact = λ sound.
       let found = rw c.loop-x.invariant.keeps.documents_stay at (c.in_ok-found.ensures.exact (c.loop-x.invariant.keeps.sound_stays sound)) in
       IsMask-some_more _ _ (λ (x : ExtentExpr). may (expr_tree x)) c.args.all.now c.loop-x.x-index c.x-item.result _ _ c.loop-x-test.true c.x-item.is (c.loop-x.invariant.exact sound) found;

@@ -1,10 +1,10 @@
 use Rattle.std.proofs.Common.{◌≡◌, List, IfOk, ap, sym, subst, ◌∙◌}
 use Rattle.ri_base.specs.Documents.{Document}
-use Rattle.disk_index.specs.Cache.{CacheKeeps}
+use Rattle.disk_index.specs.Cache.{CacheKeeps, IsBlockOf}
 use Rattle.disk_index.specs.Faults.{IsTermReadable}
 use Rattle.disk_index.specs.Kept.{Kept}
-use Rattle.disk_index.specs.Parts.{IsFileOf, IsPartBacked, IsReadableIn, reads, source_of}
-use Rattle.disk_index.specs.Reads.{IsBacked}
+use Rattle.disk_index.specs.Parts.{IsFileOf, IsPartBacked, IsReadableIn, reads, source_of, IsPartIntact}
+use Rattle.disk_index.specs.Reads.{IsBacked, IsIntact}
 use Rattle.disk_index.specs.declared.part.Part.{Part}
 use Rattle.disk_index.proofs.RebuiltLemmas.{reads-backed}
 use Rattle.range_masks.specs.Most.{most_places}
@@ -20,7 +20,7 @@ pub returns-in-Disk-clause-cache : goal.returns-in-Disk-clause-cache
 returns-in-Disk-clause-cache g c =
     let told = g.T.Store.files c.args.store.now in
     subst (λ (p : Part). CacheKeeps told (IsFileOf (source_of p)) c.args.cache.now c.most_on_disk.new.cache) (sym c.in-Disk.is)
-    (subst (λ (k : Kept). CacheKeeps told (λ n. n ≡ k.number) c.args.cache.now c.most_on_disk.new.cache) c.deref-in-Disk.ensures c.most_on_disk.ensures.cache)
+    (subst (λ (k : Kept). CacheKeeps told (IsBlockOf k) c.args.cache.now c.most_on_disk.new.cache) c.deref-in-Disk.ensures c.most_on_disk.ensures.cache)
 
 pub returns-in-Disk-clause-exact : goal.returns-in-Disk-clause-exact
 returns-in-Disk-clause-exact g c = λ part backed.
@@ -34,9 +34,9 @@ returns-in-Disk-clause-exact g c = λ part backed.
 pub returns-in-Disk-clause-honest : goal.returns-in-Disk-clause-honest
 returns-in-Disk-clause-honest g c = λ part.
     let told = g.T.Store.files c.args.store.now in
-    let b = subst (λ (p : Part). IsPartBacked told (source_of p)) c.in-Disk.is part in
-    let own : IsBacked told c.deref-in-Disk.result.now b.0 = subst (λ (k : Kept). IsBacked told k b.0) (sym c.deref-in-Disk.ensures) b.1 in
-    c.most_on_disk.ensures.honest b.0 own
+    let b = subst (λ (p : Part). IsPartIntact told (source_of p)) c.in-Disk.is part in
+    let own : IsBacked told c.deref-in-Disk.result.now b.0.0 = subst (λ (k : Kept). IsBacked told k b.0.0) (sym c.deref-in-Disk.ensures) b.0.1 in
+    c.most_on_disk.ensures.honest b.0.0 own (subst (λ (k : Kept). IsIntact told k.number) (sym c.deref-in-Disk.ensures) b.1)
 
 pub returns-in-Memory-clause-told : goal.returns-in-Memory-clause-told
 returns-in-Memory-clause-told g c =

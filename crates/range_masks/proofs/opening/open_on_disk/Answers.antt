@@ -2,10 +2,11 @@ use Rattle.std.proofs.Common.{◌≡◌, ℕ, List, Option, inl, inr, sym, subst
 use Rattle.std.specs.List.{All}
 use Rattle.std.proofs.lemmas.List.{take_all}
 use Rattle.store_ends.specs.Files.{Files}
-use Rattle.disk_index.specs.Cache.{IsCacheBacked}
+use Rattle.disk_index.specs.Cache.{IsBlockOf, IsCacheBacked}
 use Rattle.disk_index.specs.Faults.{IsTermReadable}
-use Rattle.disk_index.specs.QuietLaws.{CacheKeeps-after, IsCacheBacked-kept, IsQuiet-then, IsTermReadable-before}
+use Rattle.disk_index.specs.QuietLaws.{CacheKeeps-after, IsQuiet-then, IsTermReadable-before}
 use Rattle.disk_index.specs.Reads.{IsBacked}
+use Rattle.disk_index.proofs.BackedLemmas.{IsCacheBacked-block}
 use Rattle.range_masks.specs.Held.{HasAll}
 use Rattle.range_masks.proofs.HeldLemmas.{has-more}
 use Rattle.range_masks.proofs.ToldLemmas.{told-more}
@@ -19,7 +20,7 @@ loop-term-preserved g c =
     let inv = c.loop-term.invariant in
     let opened = c.in_ok-open_block.ensures in
     let before : (t : List ℕ) → IsTermReadable (g.T.Store.files c.loop-term.store) c.loop-term.cache c.args.index.now t c.loop-term.held.range → IsTermReadable (g.T.Store.files c.args.store.now) c.args.cache.now c.args.index.now t c.args.range =
-    λ t can. IsTermReadable-before (g.T.Store.files c.args.store.now) (λ n. n ≡ c.args.index.now.number) c.args.cache.now c.loop-term.cache c.args.index.now t c.args.range inv.cache
+    λ t can. IsTermReadable-before (g.T.Store.files c.args.store.now) (IsBlockOf c.args.index.now) c.args.cache.now c.loop-term.cache c.args.index.now t c.args.range inv.cache
     (subst (λ r. IsTermReadable (g.T.Store.files c.args.store.now) c.loop-term.cache c.args.index.now t r) inv.range (subst (λ (f : Option Files). IsTermReadable f c.loop-term.cache c.args.index.now t c.loop-term.held.range) inv.quiet.same_files can)) in
     let own : IsTermReadable (g.T.Store.files c.args.store.now) c.args.cache.now c.args.index.now c.term-item.result c.args.range =
     elim opened.told [ inl was ↦ inv.held c.term-item.result was | inr can ↦ before c.term-item.result can ] in
@@ -34,11 +35,11 @@ loop-term-preserved g c =
       fits = opened.fits inv.fits;
       exact = λ docs b kept.
           let own = subst (λ (f : Option Files). IsBacked f c.args.index.now docs) (sym inv.quiet.same_files) b in
-          let still = subst (λ (f : Option Files). IsCacheBacked f c.loop-term.cache) (sym inv.quiet.same_files) (IsCacheBacked-kept _ (λ n. n ≡ c.args.index.now.number) c.args.cache.now c.loop-term.cache inv.cache kept) in
+          let still = subst (λ (f : Option Files). IsCacheBacked f c.loop-term.cache) (sym inv.quiet.same_files) (IsCacheBacked-block _ c.args.index.now docs c.args.cache.now c.loop-term.cache b inv.cache kept) in
           opened.exact docs own still (inv.exact docs b kept);
       each = λ docs b kept.
           let own = subst (λ (f : Option Files). IsBacked f c.args.index.now docs) (sym inv.quiet.same_files) b in
-          let still = subst (λ (f : Option Files). IsCacheBacked f c.loop-term.cache) (sym inv.quiet.same_files) (IsCacheBacked-kept _ (λ n. n ≡ c.args.index.now.number) c.args.cache.now c.loop-term.cache inv.cache kept) in
+          let still = subst (λ (f : Option Files). IsCacheBacked f c.loop-term.cache) (sym inv.quiet.same_files) (IsCacheBacked-block _ c.args.index.now docs c.args.cache.now c.loop-term.cache b inv.cache kept) in
           has-more c.args.terms.now c.loop-term.term-index c.term-item.result c.loop-term.held c.open_block.new.held c.loop-term-test.true c.term-item.is (opened.has docs own still) opened.still (inv.each docs b kept);
       told = told-more (λ t. IsTermReadable (g.T.Store.files c.args.store.now) c.args.cache.now c.args.index.now t c.args.range) c.args.terms.now c.loop-term.term-index c.term-item.result c.loop-term-test.true c.term-item.is own inv.told;
       held = λ t has. elim (opened.only t has) [ inl was ↦ inv.held t was | inr is ↦ subst (λ (x : List ℕ). IsTermReadable (g.T.Store.files c.args.store.now) c.args.cache.now c.args.index.now x c.args.range) (sym is) own ];

@@ -2,7 +2,7 @@ use Rattle.std.proofs.Common.{◌≡◌, ◌≤◌, ◌+◌, ℕ, List, true, is
 use Rattle.std.specs.List.{All}
 use Rattle.ri_base.specs.Documents.{Document}
 use Rattle.store_ends.specs.Files.{IsQuiet}
-use Rattle.disk_index.specs.Cache.{CacheKeeps, IsCacheBacked}
+use Rattle.disk_index.specs.Cache.{CacheKeeps, IsCacheBacked, IsBlockOf}
 use Rattle.disk_index.specs.Faults.{IsTermReadable}
 use Rattle.disk_index.specs.Reads.{IsBacked}
 use Rattle.range_masks.specs.Held.{AreBlocksOf, FitDocuments, HasAll, block_in}
@@ -12,7 +12,7 @@ abbrev pub invariant-loop-term : goal.invariant-loop-term
 invariant-loop-term g l = record {
   quiet : IsQuiet g.T.Store.files g.T.Store.layers g.T.Store.clock g.T.Store.since g.T.Store.longest g.T.Store.held l.initial.store l.store;
   later : g.T.Store.faults l.initial.store ≤ g.T.Store.faults l.store;
-  cache : CacheKeeps (g.T.Store.files l.initial.store) (λ n. n ≡ l.index.number) l.initial.cache l.cache;
+  cache : CacheKeeps (g.T.Store.files l.initial.store) (IsBlockOf l.index) l.initial.cache l.cache;
   undamaged : l.cache.damage ≡ l.initial.cache.damage;
   range : l.held.range ≡ l.range;
   opened : l.blocks ≡ l.initial.blocks + l.held.opened;

@@ -9,14 +9,14 @@ use Rattle.range_masks.proofs.query.filters_mask.Goals as goal
 pub loop-filter-init : goal.loop-filter-init
 loop-filter-init g c = record {
   undamaged = refl;
-  keeps = record { documents_stay = refl; no_fault_lost = omega arith; sound_stays = λ u. u; stays_quiet = g.met.P.Postings.quiet_same _ };
+  keeps = record { documents_stay = refl; no_fault_lost = omega arith; sound_stays = λ u. u; intact_stays = λ u. u; stays_quiet = g.met.P.Postings.quiet_same _ };
   exact = λ sound. IsMask-all _ _;
 }
 
 pub loop-filter-preserved : goal.loop-filter-preserved
 loop-filter-preserved g c = record {
   undamaged = c.in_ok-found.ensures.undamaged ∙ c.loop-filter.invariant.undamaged;
-  keeps = Keeps-then _ _ _ _ g.met.P.Postings.quiet_then _ _ _ c.loop-filter.invariant.keeps c.filter_mask.ensures.keeps;
+  keeps = Keeps-then _ _ _ _ _ g.met.P.Postings.quiet_then _ _ _ c.loop-filter.invariant.keeps c.filter_mask.ensures.keeps;
   exact = λ sound.
       let found = rw c.loop-filter.invariant.keeps.documents_stay at (c.in_ok-found.ensures.exact (c.loop-filter.invariant.keeps.sound_stays sound)) in
       IsMask-each_more _ _ (λ (f : Filter). filter_may (filter_tree f)) c.args.filters.now c.loop-filter.filter-index c.filter-item.result _ _ c.loop-filter-test.true c.filter-item.is (c.loop-filter.invariant.exact sound) found;

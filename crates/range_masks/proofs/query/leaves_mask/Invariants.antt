@@ -8,7 +8,7 @@ use Rattle.range_masks.proofs.query.leaves_mask.Given as goal
 
 abbrev pub invariant-loop-leaf : goal.invariant-loop-leaf
 invariant-loop-leaf g l = record {
-  keeps : Keeps g.P.Postings.documents g.P.Postings.faults g.P.Postings.sound g.P.Postings.quiet l.initial.part l.part;
+  keeps : Keeps g.P.Postings.documents g.P.Postings.faults g.P.Postings.sound g.P.Postings.intact g.P.Postings.quiet l.initial.part l.part;
   undamaged : g.P.Postings.damage l.part ≡ g.P.Postings.damage l.initial.part;
   exact : g.P.Postings.sound l.initial.part → IsMask (λ d. list_any (λ x. leaf_may (leaf_tree x) d) (take l.leaf-index l.leaves)) l.range (g.P.Postings.documents l.initial.part) l.mask;
 }

@@ -3,7 +3,7 @@ use Rattle.ri_base.specs.Documents.{Document}
 use Rattle.query_check.specs.Leaves.{leaf_tree}
 use Rattle.disk_index.specs.Parts.{reads, source_of}
 use Rattle.range_bounds.specs.Tables.{IsTableOf}
-use Rattle.disk_index.proofs.AmongLemmas.{docs-of, sound-of}
+use Rattle.disk_index.proofs.AmongLemmas.{docs-of, intact-of, sound-of}
 use Rattle.range_tables.proofs.part_tables.part_table.Goals as goal
 
 pub returns-clause-exact : goal.returns-clause-exact
@@ -20,5 +20,5 @@ returns-clause-exact g c = λ part cached.
 
 pub returns-clause-honest : goal.returns-clause-honest
 returns-clause-honest g c = λ part cached.
-    c.table_of.ensures.honest (sound-of (g.T.Store.files c.args.store.now) (g.T.Store.files c.new-reader.result.store.now) (source_of c.args.part.now) (source_of c.new-reader.result.part.now) c.args.cache.now c.new-reader.result.cache.now
+    c.table_of.ensures.honest (intact-of (g.T.Store.files c.args.store.now) (g.T.Store.files c.new-reader.result.store.now) (source_of c.args.part.now) (source_of c.new-reader.result.part.now) c.args.cache.now c.new-reader.result.cache.now
     (ap g.T.Store.files c.new-reader.ensures.store) (ap source_of c.new-reader.ensures.part) c.new-reader.ensures.cache part cached)

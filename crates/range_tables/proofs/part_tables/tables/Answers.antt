@@ -4,10 +4,11 @@ use Rattle.std.proofs.lemmas.Result.{err_from_is_err_and}
 use Rattle.store_ends.specs.Files.{Files}
 use Rattle.query_check.specs.Leaves.{leaf_tree}
 use Rattle.disk_index.specs.Cache.{CacheKeeps, IsCacheBacked}
-use Rattle.disk_index.specs.Parts.{IsFileOf, IsPartBacked, Source, reads}
-use Rattle.disk_index.specs.QuietLaws.{CacheKeeps-same, IsCacheBacked-kept, IsQuiet-same, IsQuiet-then}
+use Rattle.disk_index.specs.Parts.{IsFileOf, IsPartBacked, IsPartIntact, Source, reads}
+use Rattle.disk_index.specs.QuietLaws.{CacheKeeps-same, IsQuiet-same, IsQuiet-then}
 use Rattle.disk_index.specs.Snapshots.{IsFileAmong, Marked}
-use Rattle.disk_index.proofs.AmongLemmas.{backed-at, keeps-among}
+use Rattle.disk_index.proofs.AmongLemmas.{AreIntact-backed, backed-at, intact-at, keeps-among}
+use Rattle.disk_index.proofs.BackedLemmas.{IsCacheBacked-among}
 use Rattle.range_bounds.specs.Tables.{AreTablesOf, IsTableOf}
 use Rattle.range_tables.proofs.TableLemmas.{tables_more}
 use Rattle.range_tables.proofs.part_tables.tables.Goals as goal
@@ -40,7 +41,7 @@ loop-marked-preserved g c =
       exact = λ backed cached.
           let part : IsPartBacked here m.source = subst (λ (f : Option Files). IsPartBacked f m.source) (sym same) (backed-at parts i m c.loop-marked-test.true c.marked-item.is told backed) in
           let blocks : IsCacheBacked here c.loop-marked.cache =
-          subst (λ (f : Option Files). IsCacheBacked f c.loop-marked.cache) (sym same) (IsCacheBacked-kept told (IsFileAmong parts) c.args.cache.now c.loop-marked.cache inv.cache cached) in
+          subst (λ (f : Option Files). IsCacheBacked f c.loop-marked.cache) (sym same) (IsCacheBacked-among told parts c.args.cache.now c.loop-marked.cache backed inv.cache cached) in
           let found : IsTableOf leaves (reads told m.source) table =
           subst (λ (f : Option Files). IsTableOf leaves (reads f m.source) table) same
           (subst (λ (s : Source). IsTableOf leaves (reads here s) table) own (c.in_ok-table.ensures.exact (subst (λ (s : Source). IsPartBacked here s) (sym own) part) blocks)) in
@@ -53,18 +54,18 @@ loop-marked-preserved g c =
     }
 
 pub returns-in_err-table-clause-honest : goal.returns-in_err-table-clause-honest
-returns-in_err-table-clause-honest g c = λ backed cached.
+returns-in_err-table-clause-honest g c = λ intact cached.
     let told = g.T.Store.files c.args.store.now in
     let here = g.T.Store.files c.loop-marked.store in
     let parts = c.args.parts.now in
     let inv = c.loop-marked.invariant in
     let m : Marked = c.marked-item.result in
     let same : here ≡ told = inv.quiet.same_files in
-    let part : IsPartBacked here m.source = subst (λ (f : Option Files). IsPartBacked f m.source) (sym same) (backed-at parts c.loop-marked.marked-index m c.loop-marked-test.true c.marked-item.is told backed) in
+    let part : IsPartIntact here m.source = subst (λ (f : Option Files). IsPartIntact f m.source) (sym same) (intact-at parts c.loop-marked.marked-index m c.loop-marked-test.true c.marked-item.is told intact) in
     let blocks : IsCacheBacked here c.loop-marked.cache =
-    subst (λ (f : Option Files). IsCacheBacked f c.loop-marked.cache) (sym same) (IsCacheBacked-kept told (IsFileAmong parts) c.args.cache.now c.loop-marked.cache inv.cache cached) in
+    subst (λ (f : Option Files). IsCacheBacked f c.loop-marked.cache) (sym same) (IsCacheBacked-among told parts c.args.cache.now c.loop-marked.cache (AreIntact-backed told parts intact) inv.cache cached) in
     let p = err_from_is_err_and c.from_residual-in_err-table.result c.from_residual-in_err-table.ensures.1 in
-    rw (p.1, p.2) (c.in_err-table.ensures.honest (subst (λ (s : Source). IsPartBacked here s) (sym c.part.ensures.part) part) blocks)
+    rw (p.1, p.2) (c.in_err-table.ensures.honest (subst (λ (s : Source). IsPartIntact here s) (sym c.part.ensures.part) part) blocks)
 
 pub returns-in_err-table-clause-cache : goal.returns-in_err-table-clause-cache
 returns-in_err-table-clause-cache g c =

@@ -11,7 +11,7 @@ use Rattle.range_tables.proofs.sections.all_needed_places.Goals as goal
 pub loop-term-init : goal.loop-term-init
 loop-term-init g c = record {
   undamaged = refl;
-  keeps = record { documents_stay = refl; no_fault_lost = omega arith; sound_stays = λ u. u; stays_quiet = g.met.P.Postings.quiet_same _ };
+  keeps = record { documents_stay = refl; no_fault_lost = omega arith; sound_stays = λ u. u; intact_stays = λ u. u; stays_quiet = g.met.P.Postings.quiet_same _ };
   exact = λ sound. search rules;
 }
 
@@ -23,7 +23,7 @@ loop-term-preserved g c =
     let so_far = c.loop-term.invariant in
     record {
       undamaged = c.in_ok-most.ensures.undamaged ∙ c.loop-term.invariant.undamaged;
-      keeps = Keeps-then _ _ _ _ g.met.P.Postings.quiet_then _ _ _ so_far.keeps c.needed_places.ensures.keeps;
+      keeps = Keeps-then _ _ _ _ _ g.met.P.Postings.quiet_then _ _ _ so_far.keeps c.needed_places.ensures.keeps;
       exact = λ sound.
           let pushed : c.push.new.self.items ≡ c.loop-term.all.items ++ c.in_ok-most.most ∷ [] = search rules in
           let found = rw so_far.keeps.documents_stay at (c.in_ok-most.ensures.exact (so_far.keeps.sound_stays sound)) in

@@ -27,7 +27,7 @@ loop-range-init g c =
     let none : length c.in_ok-ranges.ranges.items ≡ 0 = search rules in
     record {
       undamaged = refl;
-      keeps = record { documents_stay = refl; no_fault_lost = omega arith; sound_stays = λ u. u; stays_quiet = g.met.P.Postings.quiet_same _ };
+      keeps = record { documents_stay = refl; no_fault_lost = omega arith; sound_stays = λ u. u; intact_stays = λ u. u; stays_quiet = g.met.P.Postings.quiet_same _ };
       long = none;
       absent = λ sound range low under. absurd (omega (arith, under));
       exact = λ sound range inside. absurd (omega (arith, inside, none));
@@ -54,7 +54,7 @@ loop-range-preserved g c =
     λ sound. c.next_occurrence-next.ensures (so_far.keeps.sound_stays sound) (subst (λ (ds : List Document). AreAbsentTo leaves ds range c.loop-range.next) (sym same) (so_far.absent sound)) in
     record {
       undamaged = c.in_ok-told.ensures.undamaged ∙ c.loop-range.invariant.undamaged;
-      keeps = Keeps-then _ _ _ _ g.met.P.Postings.quiet_then _ _ _ so_far.keeps c.told_of.ensures.keeps;
+      keeps = Keeps-then _ _ _ _ _ g.met.P.Postings.quiet_then _ _ _ so_far.keeps c.told_of.ensures.keeps;
       long = ap length pushed ∙ omega (arith, length-append c.loop-range.ranges.items (told ∷ []), so_far.long);
       absent = λ sound. absent_later leaves docs range (range + 1) next (omega arith) (subst (λ (ds : List Document). AreAbsentTo leaves ds range next) same (absent sound));
       exact = λ sound.

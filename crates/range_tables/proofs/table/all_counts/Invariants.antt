@@ -8,7 +8,7 @@ use Rattle.range_tables.proofs.table.all_counts.Given as goal
 
 abbrev pub invariant-loop-range : goal.invariant-loop-range
 invariant-loop-range g l = record {
-  keeps : Keeps g.P.Postings.documents g.P.Postings.faults g.P.Postings.sound g.P.Postings.quiet l.initial.part l.part;
+  keeps : Keeps g.P.Postings.documents g.P.Postings.faults g.P.Postings.sound g.P.Postings.intact g.P.Postings.quiet l.initial.part l.part;
   undamaged : g.P.Postings.damage l.part ≡ g.P.Postings.damage l.initial.part;
   long : length l.ranges.items ≡ l.range;
   absent : g.P.Postings.sound l.initial.part → AreAbsentTo (map leaf_tree l.leaves) (g.P.Postings.documents l.initial.part) l.range l.next;

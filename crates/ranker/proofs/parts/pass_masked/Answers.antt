@@ -21,7 +21,7 @@ use Rattle.ranker.proofs.parts.pass_masked.Goals.{Start}
 pub loop-at-init : goal.loop-at-init
 loop-at-init g c = record {
   undamaged = refl;
-  keeps = record { documents_stay = refl; no_fault_lost = omega arith; sound_stays = λ u. u; stays_quiet = g.met.P.Postings.quiet_same _ };
+  keeps = record { documents_stay = refl; no_fault_lost = omega arith; sound_stays = λ u. u; intact_stays = λ u. u; stays_quiet = g.met.P.Postings.quiet_same _ };
   stay = refl;
   so_far = λ sound known. Advances-same _ _ _ _ _ _;
   windows = KeepsWindows-same _ _ _;
@@ -48,7 +48,7 @@ loop-at-preserved g c =
     let test = c.loop-at-test.true in
     record {
       undamaged = c.in_ok-passed.ensures.undamaged ∙ c.loop-at.invariant.undamaged;
-      keeps = Keeps-then _ _ _ _ g.met.P.Postings.quiet_then _ _ _ keeps c.pass_document.ensures.keeps;
+      keeps = Keeps-then _ _ _ _ _ g.met.P.Postings.quiet_then _ _ _ keeps c.pass_document.ensures.keeps;
       stay = c.pass_document.ensures.stay ∙ c.loop-at.invariant.stay;
       so_far = λ sound known.
           let none : c.may_have-may.result ≡ false → query_may filters network.leaves (document_at read at) ≡ false =

@@ -28,8 +28,8 @@ pass_open-requires-clause-marks g c = subst (λ (ds : List Document). length c.a
 pub returns-clause-keeps : goal.returns-clause-keeps
 returns-clause-keeps g c =
     let read = c.pass_open.ensures.keeps in
-    Keeps-then _ _ _ _ g.met.P.OpensRanges.calm_then _ _ _ c.open_range.ensures.keeps
-    record { documents_stay = read.documents_stay; no_fault_lost = read.no_fault_lost; sound_stays = read.sound_stays; stays_quiet = g.met.P.OpensRanges.calm_reading _ _ read.stays_quiet }
+    Keeps-then _ _ _ _ _ g.met.P.OpensRanges.calm_then _ _ _ c.open_range.ensures.keeps
+    record { documents_stay = read.documents_stay; no_fault_lost = read.no_fault_lost; sound_stays = read.sound_stays; intact_stays = read.intact_stays; stays_quiet = g.met.P.OpensRanges.calm_reading _ _ read.stays_quiet }
 
 pub returns-clause-work : goal.returns-clause-work
 returns-clause-work g c = λ sound before count known.

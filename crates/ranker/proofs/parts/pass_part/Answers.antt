@@ -65,7 +65,7 @@ module _ (g : given.Over) (c : After-pass_on g) where
 pub loop-at-init : goal.loop-at-init
 loop-at-init g c = record {
   undamaged = refl;
-  keeps = record { documents_stay = refl; no_fault_lost = omega arith; sound_stays = λ u. u; stays_quiet = g.met.P.OpensRanges.calm_same _ };
+  keeps = record { documents_stay = refl; no_fault_lost = omega arith; sound_stays = λ u. u; intact_stays = λ u. u; stays_quiet = g.met.P.OpensRanges.calm_same _ };
   stay = refl;
   so_far = λ sound before count known. Passes-same _ _ _ _ _;
   ahead = λ sound before count known. known;
@@ -88,7 +88,7 @@ loop-at-preserved g c =
     let marks = c.args.marks.now in
     record {
       undamaged = c.in_ok-to.ensures.undamaged ∙ c.loop-at.invariant.undamaged;
-      keeps = Keeps-then _ _ _ _ g.met.P.OpensRanges.calm_then _ _ _ keeps c.pass_on.ensures.keeps;
+      keeps = Keeps-then _ _ _ _ _ g.met.P.OpensRanges.calm_then _ _ _ keeps c.pass_on.ensures.keeps;
       stay = c.pass_on.ensures.stay ∙ c.loop-at.invariant.stay;
       so_far = λ sound before count known.
           let s = by g on (priors g on) count in

@@ -12,7 +12,7 @@ use Rattle.ranker.specs.Going.{PassesIn, tally}
 use Rattle.ranker.specs.Unbeaten.{sought, stretch}
 use Rattle.ranker.specs.Windows.{KeepsWindows}
 use Rattle.ranker.proofs.AheadLemmas.{IsKnown-read}
-use Rattle.ranker.proofs.ReadLemmas.{fits-part, read-after, read-moved, sound-by}
+use Rattle.ranker.proofs.ReadLemmas.{fits-part, intact-by, read-after, read-moved, sound-by}
 use Rattle.ranker.proofs.snapshots.pass_marked.Goals as goal
 
 pub pass_part-requires-clause-id : goal.pass_part-requires-clause-id
@@ -29,7 +29,7 @@ pass_part-requires-clause-marks g c =
 
 pub returns-clause-honest : goal.returns-clause-honest
 returns-clause-honest g c = λ part cached.
-    c.pass_part.ensures.honest (sound-by (g.T.Store.files c.args.store.now) (g.T.Store.files c.new-own.result.store.now) c.args.marked.now.source (source_of c.new-own.result.part.now) c.args.cache.now c.new-own.result.cache.now
+    c.pass_part.ensures.honest (intact-by (g.T.Store.files c.args.store.now) (g.T.Store.files c.new-own.result.store.now) c.args.marked.now.source (source_of c.new-own.result.part.now) c.args.cache.now c.new-own.result.cache.now
     c.args.held.now c.new-own.result.held.now (ap g.T.Store.files c.new-own.ensures.store) (ap source_of c.new-own.ensures.part ∙ c.part.ensures.part) c.new-own.ensures.cache c.new-own.ensures.held part cached)
 
 pub returns-clause-work : goal.returns-clause-work

@@ -3,9 +3,9 @@ use Rattle.std.proofs.lemmas.Result.{err_from_is_err_and}
 use Rattle.ri_base.specs.Query.{filter_tree}
 use Rattle.ri_base.specs.declared.seg_fault.SegFault.{SegFault}
 use Rattle.belief_nodes.specs.Network.{network_tree}
-use Rattle.disk_index.specs.Parts.{IsPartBacked, outlines_of, size}
+use Rattle.disk_index.specs.Parts.{IsPartBacked, IsPartIntact, outlines_of, size}
 use Rattle.disk_index.specs.Snapshots.{AreBacked, IsFileAmong, Marked, live, live_in}
-use Rattle.disk_index.proofs.AmongLemmas.{backed-at}
+use Rattle.disk_index.proofs.AmongLemmas.{backed-at, intact-at}
 use Rattle.range_masks.specs.Held.{FitDocuments, Held}
 use Rattle.ranker.specs.Going.{OpensAt, PassesAt, tally}
 use Rattle.ranker.specs.Passed.{IsPlace, behind, part_at}
@@ -108,13 +108,13 @@ pub returns-clause-next : goal.returns-clause-next
 returns-clause-next g c = ap (λ (p : Place). p.part) c.place_behind.ensures ∙ part-behind c.args.at.now c.in_ok-to.to c.args.most
 
 pub returns-in_err-to-clause-honest : goal.returns-in_err-to-clause-honest
-returns-in_err-to-clause-honest g c = λ backed cached.
+returns-in_err-to-clause-honest g c = λ intact cached.
     let told = g.T.Store.files c.args.store.now in
     let parts = c.args.parts.now in
     let m = c.index-parts-at.result in
     let at = c.args.at.now in
     let is = part-is parts at.part m c.requires.some c.index-parts-at.is in
-    let own : IsPartBacked told m.source = backed-at parts c.args.at.now.part m c.requires.some c.index-parts-at.is told backed in
+    let own : IsPartIntact told m.source = intact-at parts c.args.at.now.part m c.requires.some c.index-parts-at.is told intact in
     let p = err_from_is_err_and c.from_residual.result c.from_residual.ensures.1 in
     rw (p.1, p.2) (c.in_err-to.ensures.honest own (read-at told parts at m c.args.cache.now c.args.held.now is cached))
 

@@ -5,7 +5,8 @@ use Rattle.ri_base.specs.declared.seg_fault.SegFault.{SegFault}
 use Rattle.store_ends.specs.Files.{Files}
 use Rattle.belief_nodes.specs.Network.{network_tree}
 use Rattle.belief_nodes.specs.Priors.{Prior}
-use Rattle.disk_index.specs.Snapshots.{AreBacked, IsFileAmong, live}
+use Rattle.disk_index.specs.Snapshots.{AreBacked, AreIntact, IsFileAmong, live}
+use Rattle.disk_index.proofs.AmongLemmas.{AreIntact-backed}
 use Rattle.ranker.specs.Blocks.{AreReadAt, opened_at}
 use Rattle.ranker.specs.Going.{IsAheadBy, PassesAt, tally}
 use Rattle.ranker.specs.Passed.{part_at, passed}
@@ -39,6 +40,9 @@ module _ (g : given.Over) (c : After-pass_next g) where
 
   backed_here : AreBacked (g.T.Store.files c.args.store.now) c.args.parts.now → AreBacked (g.T.Store.files c.loop-left.store) c.args.parts.now
   backed_here backed = subst (λ (f : Option Files). AreBacked f c.args.parts.now) (sym c.loop-left.invariant.reads.quiet.same_files) backed
+
+  intact_here : AreIntact (g.T.Store.files c.args.store.now) c.args.parts.now → AreIntact (g.T.Store.files c.loop-left.store) c.args.parts.now
+  intact_here intact = subst (λ (f : Option Files). AreIntact f c.args.parts.now) (sym c.loop-left.invariant.reads.quiet.same_files) intact
 
   read_here : AreBacked (g.T.Store.files c.args.store.now) c.args.parts.now → AreReadAt (g.T.Store.files c.args.store.now) c.args.parts.now c.args.at.now c.args.cache.now c.args.held.now
       → AreReadAt (g.T.Store.files c.loop-left.store) c.args.parts.now c.loop-left.at c.loop-left.cache c.loop-left.held
@@ -116,10 +120,10 @@ loop-left-preserved g c =
 -- ---- a part isn't passed
 
 pub returns-in_err-passed-clause-honest : goal.returns-in_err-passed-clause-honest
-returns-in_err-passed-clause-honest g c = λ backed cached.
+returns-in_err-passed-clause-honest g c = λ intact cached.
     let on = (goal.at.returns-in_err-passed-clause-honest g c).After-pass_next in
     let p = err_from_is_err_and c.from_residual.result c.from_residual.ensures.1 in
-    rw (p.1, p.2) (c.in_err-passed.ensures.honest (backed_here g on backed) (read_here g on backed cached))
+    rw (p.1, p.2) (c.in_err-passed.ensures.honest (intact_here g on intact) (read_here g on (AreIntact-backed (g.T.Store.files c.args.store.now) c.args.parts.now intact) cached))
 
 pub returns-in_err-passed-clause-reads : goal.returns-in_err-passed-clause-reads
 returns-in_err-passed-clause-reads g c = reads-then _ _ _ _ _ _ _ _ _ _ _ _ _ _ _ _ _ _ _ _ _ c.loop-left.invariant.reads c.pass_next.ensures.reads

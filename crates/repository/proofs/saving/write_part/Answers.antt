@@ -25,7 +25,7 @@ returns-in_ok-index-in-Memory-clause-saved g c =
     let at = memory-at h.parts.closed c.closed_parts-parts.result.now c.args.place c.index-parts-place.result (source_of c.part.result.now) _ c.requires c.closed_parts-parts.ensures.parts c.index-parts-place.is c.part.ensures.part (ap source_of c.in-Memory.is) in
     let below = number.small in
     saves-one (g.T.Store.files c.args.store.now) (g.T.Store.files c.write_segment.new.store) c.args.numbers.now c.take.new.self h c.store_part.new.self c.args.place n kept docs c.requires (at ∙ ap InMemory (sym c.deref.ensures)) index.kept
-    (number-kept n docs kept index.kept) index.part number.some (omega (arith, below)) number.below number.next number.rises number.free number.numbers index.done c.store_part.ensures.moved
+    (number-kept n docs kept index.kept) index.part index.small number.some (omega (arith, below)) number.below number.next number.rises number.free number.numbers index.done c.store_part.ensures.moved
 
 pub returns-in_ok-index-in-Memory-clause-on_disk : goal.returns-in_ok-index-in-Memory-clause-on_disk
 returns-in_ok-index-in-Memory-clause-on_disk g c =

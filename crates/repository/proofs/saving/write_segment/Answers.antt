@@ -1,4 +1,5 @@
-use Rattle.std.proofs.Common.{◌∙◌, refl}
+use Rattle.std.proofs.Common.{◌≡◌, ◌∙◌, ℕ, List, ap, arith, length, refl}
+use Rattle.seg_codec.specs.Segment.{segment}
 use Rattle.disk_index.specs.Names.{segment_name}
 use Rattle.repository.proofs.SaveLemmas.{any-same}
 use Rattle.repository.proofs.saving.write_segment.Goals as goal
@@ -14,3 +15,8 @@ returns-in_err-index-clause-changed g c = any-same (segment_name c.args.number) 
 
 pub returns-in_err-shared-clause-changed : goal.returns-in_err-shared-clause-changed
 returns-in_err-shared-clause-changed g c = any-same (segment_name c.args.number) (g.T.Store.files c.args.store.now) (g.T.Store.files c.args.store.now) refl
+
+pub returns-clause-small : goal.returns-clause-small
+returns-clause-small g c =
+    let same : length c.in_ok-bytes.bytes ≡ length (segment c.args.sealed.now) = ap (λ (bytes : List ℕ). length bytes) c.in_ok-bytes.ensures.written in
+    omega (arith, same, c.len-size.ensures)

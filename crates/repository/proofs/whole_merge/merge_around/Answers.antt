@@ -17,7 +17,7 @@ returns-clause-live g c = λ _ d backed cached read.
     some-below c.begin_merge.new.self.merge c.args.docs c.in_ok-merge_turn.field-0 (begun-some c.args.repository.now c.begin_merge.new.self c.in-Ok.ensures.begun) first.turned (λ e. open-done c.in_default-2.field-0 c.in_default-2.field-1 (sym c.in_default-2.is ∙ e)) c.merge_turn.ensures.quiet in
     let over = first.over (c.in-Ok.ensures.merging a backed) cached in
     let kept : IsCacheBacked b c.merge_turn.new.cache =
-    some-cache a b c.begin_merge.new.self.merge c.args.cache.now c.merge_turn.new.cache (begun-some c.args.repository.now c.begin_merge.new.self c.in-Ok.ensures.begun) quiet.same_files c.merge_turn.ensures.cache cached in
+    some-cache a b c.begin_merge.new.self c.begin_merge.new.self.merge c.args.cache.now c.merge_turn.new.cache (begun-some c.args.repository.now c.begin_merge.new.self c.in-Ok.ensures.begun) quiet.same_files (c.in-Ok.ensures.merging a backed) c.merge_turn.ensures.cache cached in
     let deleted : ReadsAs b c.delete.new.self (without_docno (after_turn c.in_ok-merge_turn.field-0 c.begin_merge.new.self.merge d) c.args.docno.now) =
     ok-on c.delete.result _ c.if-is_err.ensures.negation c.delete.ensures.reads b _ (over.reads d (c.begin_merge.ensures.reads a d read)) in
     let last = (c.in_ok-merge_turn-2.ensures.over (c.delete.ensures.merging b over.merging) kept).reads _ deleted in

@@ -35,9 +35,9 @@ pub returns-clause-fault : goal.returns-clause-fault
 returns-clause-fault g c f told = fault-begun f c.args.repository.now c.begin_merge.new.self c.in_ok-cache.cache c.in-Err.fault c.in-Ok.ensures.begun c.in_ok-cache.ensures (c.in-Err.ensures.fault f told)
 
 pub returns-clause-honest : goal.returns-clause-honest
-returns-clause-honest g c backed =
+returns-clause-honest g c intact =
     let a = g.T.Store.files c.args.store.now in
-    c.in-Err.ensures.honest (c.in-Ok.ensures.merging a backed) (new-cache a c.in_ok-cache.cache c.in_ok-cache.ensures)
+    c.in-Err.ensures.honest_held (c.begin_merge.ensures.intact a intact) (new-cache a c.in_ok-cache.cache c.in_ok-cache.ensures)
 
 -- it is done
 

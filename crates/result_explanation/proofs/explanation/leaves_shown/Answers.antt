@@ -30,7 +30,7 @@ loop-i-preserved g c =
     let here : leaf_tree leaf ≡ get_or (map leaf_tree leaves) i (leaf_tree leaf) = ap leaf_tree c.index-leaves-i.is ∙ sym (get_or-map leaf_tree leaves i leaf) in
     record {
       undamaged = c.in_ok-leaf.ensures.undamaged ∙ c.loop-i.invariant.undamaged;
-      keeps = Keeps-then _ _ _ _ g.met.P.Postings.quiet_then _ _ _ inv.keeps c.in_ok-leaf.ensures.keeps;
+      keeps = Keeps-then _ _ _ _ _ g.met.P.Postings.quiet_then _ _ _ inv.keeps c.in_ok-leaf.ensures.keeps;
       so_far = λ sound.
           let told : told_leaf c.in_ok-leaf.leaf ≡ leaf_told c.args.names.now d c.args.window (leaf_tree leaf) s b =
           c.in_ok-leaf.ensures.exact (inv.keeps.sound_stays sound)

@@ -12,7 +12,7 @@ invariant-loop-i g l =
     let d = document_at (g.P.Postings.documents l.fn.part) l.id in
     let leaves = map leaf_tree l.leaves in
     record {
-      keeps : Keeps g.P.Postings.documents g.P.Postings.faults g.P.Postings.sound g.P.Postings.quiet l.fn.part l.part;
+      keeps : Keeps g.P.Postings.documents g.P.Postings.faults g.P.Postings.sound g.P.Postings.intact g.P.Postings.quiet l.fn.part l.part;
       undamaged : g.P.Postings.damage l.part ≡ g.P.Postings.damage l.fn.part;
       so_far : g.P.Postings.sound l.fn.part → map told_leaf l.shown ++ leaves_told l.names d l.window (drop l.i leaves) (drop l.i l.stats) (drop l.i l.beliefs)
           ≡ leaves_told l.names d l.window leaves l.stats l.beliefs;

@@ -1,8 +1,9 @@
 use Rattle.std.proofs.Common.{◌≡◌, [], Bool, None, not, subst, sym}
 use Rattle.repository.specs.Writes.{AreGone}
-use Rattle.desk.specs.Backed.{Keeps, Steps, with_usable}
+use Rattle.desk.specs.Backed.{Keeps, Steps, with_usable, IsDeskIntact}
 use Rattle.desk.specs.Keeping.{StaysIfRefused}
 use Rattle.desk.proofs.EventExits.{stays-usable, usable-set}
+use Rattle.desk.proofs.IntactLemmas.{usable-intact}
 use Rattle.desk.proofs.desk.Desk.event.Goals as goal
 
 pub answer-requires-clause-kind : goal.answer-requires-clause-kind
@@ -25,3 +26,8 @@ returns-in-Ok-clause-unchanged g c =
     let same : StaysIfRefused c.in-Ok.reply c.args.self.now.kept (with_usable c.answer.new.self (not c.is_end-is_last.result)) =
     subst (λ (b : Bool). StaysIfRefused c.in-Ok.reply c.args.self.now.kept (with_usable c.answer.new.self (not b))) (sym c.is_end-is_last.ensures) stays in
     subst (λ (x : Keeps). StaysIfRefused c.in-Ok.reply c.args.self.now.kept x) (sym c.set_usable.ensures) same
+
+pub returns-in-Ok-clause-intact : goal.returns-in-Ok-clause-intact
+returns-in-Ok-clause-intact g c = λ backed whole.
+    subst (λ (x : Keeps). IsDeskIntact (g.T.Store.files c.answer.new.store) x) (sym c.set_usable.ensures)
+    (usable-intact (g.T.Store.files c.answer.new.store) c.answer.new.self (not c.is_end-is_last.result) (c.in-Ok.ensures.intact backed whole))

@@ -16,6 +16,8 @@ use Rattle.desk.proofs.Exits.{accepted-by}
 use Rattle.desk.proofs.Found.{seen}
 use Rattle.desk.proofs.KeptLemmas.{kept-repository, priors-call}
 use Rattle.desk.proofs.Points.{memory-damage, on-ok}
+use Rattle.desk.proofs.IntactLemmas.{intact-from, intact-moved, merge-moved}
+use Rattle.repository.specs.States as repositories
 use Rattle.desk.proofs.kept.Kept.add.Goals as goal
 
 pub invariant_of-self : goal.invariant_of-self
@@ -73,3 +75,14 @@ returns-clause-keeps c = record {
   undamaged = on-ok c.not_added.result _ (ap (λ (x : Keeps). x.cache.damage) c.self.view_is);
   damaged = memory-damage c.not_added.result _ _ (ap (λ (x : Keeps). x.cache.damage) c.self.view_is) (search rules);
 }
+
+pub returns-in-Ok-clause-intact : goal.returns-in-Ok-clause-intact
+returns-in-Ok-clause-intact c = λ told whole.
+    let view = seen c.self.inside in
+    intact-from told told view c.args.self.now (with_repository view c.add.new.self) c.self.view_is
+    (λ w. record { parts = c.add.ensures.intact told w.parts; queries = w.queries; merge = merge-moved told view.repository.merge c.add.new.self.merge (ap (λ (x : repositories.State). x.merge) c.in-Ok.ensures.added) w.merge }) whole
+
+pub returns-clause-intact : goal.returns-clause-intact
+returns-clause-intact c =
+    let view = seen c.self.inside in
+    on-ok c.not_added.result _ (λ told whole. intact-moved told (with_repository view c.add.new.self) c.args.self.now (ap (with_repository view) c.in-Err.ensures.kept ∙ c.self.view_is) whole)

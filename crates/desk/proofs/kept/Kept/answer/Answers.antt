@@ -1,14 +1,15 @@
-use Rattle.std.proofs.Common.{◌≡◌, ◌∙◌, Option, sym}
+use Rattle.std.proofs.Common.{◌≡◌, ◌∙◌, Option, sym, subst}
 use Rattle.store_ends.specs.Files.{Files}
 use Rattle.repository.specs.Stands.{Collection, Stands}
 use Rattle.desk.specs.declared.reply.Reply.{Reply}
-use Rattle.desk.specs.Backed.{IsDeskBacked, Steps, state_of}
+use Rattle.desk.specs.Backed.{IsDeskBacked, Steps, state_of, IsDeskIntact}
 use Rattle.desk.specs.Orders.{IsTrueReply}
 use Rattle.desk.specs.Points.{kept_behind, may_write}
 use Rattle.desk.specs.Step.{step}
 use Rattle.desk.specs.Told.{RefusesAs, reply_early, told_early}
 use Rattle.desk.proofs.EventExits.{early-by, end-writes, if-ok-all, if-ok-map, no-clash, quiet-done, quiet-now, quiet-on, quiet-stops, true-writing, writing-outside}
 use Rattle.desk.proofs.Points.{on-ok}
+use Rattle.desk.proofs.IntactLemmas.{on-ok-map}
 use Rattle.desk.proofs.kept.Kept.answer.Goals as goal
 
 pub returns-then-may_write-clause-steps : goal.returns-then-may_write-clause-steps
@@ -46,3 +47,7 @@ returns-clause-quiet g c = λ none. c.keeping.ensures.quiet
 
 pub returns-clause-goes_on : goal.returns-clause-goes_on
 returns-clause-goes_on g c = quiet-on g.T.Store.files g.T.Store.layers g.T.Store.clock g.T.Store.since g.T.Store.longest g.T.Store.held c.args.store.now c.keeping.new.store c.keeping.ensures.quiet
+
+pub returns-clause-intact : goal.returns-clause-intact
+returns-clause-intact g c =
+    on-ok-map c.keeping.result _ _ (λ kept backed whole. subst (λ (f : Option Files). IsDeskIntact f c.keeping.new.self) (sym c.keeping.ensures.quiet.same_files) (kept (g.T.Store.files c.args.store.now) whole)) c.keeping.ensures.intact

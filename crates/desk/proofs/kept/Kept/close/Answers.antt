@@ -12,7 +12,9 @@ use Rattle.desk.proofs.Exits.{accepted-by, of-now, refused-by, refused-here}
 use Rattle.desk.proofs.Found.{none-found, place-of, seen}
 use Rattle.desk.proofs.KeptLemmas.{kept-removed}
 use Rattle.desk.proofs.NamedExits.{close-exit, with_queries}
-use Rattle.desk.proofs.Naming.{found-place, is_named, named-here}
+use Rattle.desk.proofs.Naming.{found-place, is_named, named-here, All-remove}
+use Rattle.desk.proofs.IntactLemmas.{AreAllIntact, intact-from}
+use Rattle.disk_index.specs.Snapshots.{AreIntact}
 use Rattle.desk.proofs.kept.Kept.close.Goals as goal
 
 pub invariant_of-self : goal.invariant_of-self
@@ -46,3 +48,13 @@ returns-in-Some-clause-refuses c = λ told.
     let place = place-of view c.args.self.now c.args.name c.in-Some.place c.remove.result c.self.view_is (sym c.find.ensures ∙ c.in-Some.is) in
     accepted-by (event.Close c.args.name) told view c.args.self.now _ c.self.view_is
     (close-closed (state_of told view) c.args.name (query_of told c.remove.result) (named-here told c.args.name view.queries c.in-Some.place c.remove.result place c.remove.ensures.value)) refl
+
+pub returns-in-Some-clause-intact : goal.returns-in-Some-clause-intact
+returns-in-Some-clause-intact c = λ told whole.
+    let view = seen c.self.inside in
+    intact-from told told view c.args.self.now (with_queries view c.remove.new.self.items) c.self.view_is
+    (λ w. record {
+      parts = w.parts;
+      queries = subst (AreAllIntact told) (sym c.remove.ensures.items) (All-remove (λ (q : OpenQuery). AreIntact told q.search.snapshot) view.queries c.in-Some.place w.queries);
+      merge = w.merge;
+    }) whole

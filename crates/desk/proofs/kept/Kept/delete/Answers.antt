@@ -14,6 +14,8 @@ use Rattle.desk.proofs.DocumentExits.{absent-step, delete-done, err-of, live-the
 use Rattle.desk.proofs.Exits.{accepted-by, refused-by}
 use Rattle.desk.proofs.Found.{seen}
 use Rattle.desk.proofs.KeptLemmas.{kept-repository, priors-call}
+use Rattle.desk.proofs.IntactLemmas.{intact-from, intact-moved, merge-moved}
+use Rattle.repository.specs.States as repositories
 use Rattle.desk.proofs.kept.Kept.delete.Goals as goal
 
 pub invariant_of-self : goal.invariant_of-self
@@ -70,3 +72,17 @@ returns-then-is_err-clause-keeps c = record {
   undamaged = ap (λ (x : Keeps). x.cache.damage) c.self.view_is;
   damaged = tt;
 }
+
+pub returns-then-is_err-clause-intact : goal.returns-then-is_err-clause-intact
+returns-then-is_err-clause-intact c = λ told whole.
+    let view = seen c.self.inside in
+    let was : is_err c.delete.result ≡ true = sym c.is_err.ensures.value ∙ c.if-is_err.true in
+    intact-moved told (with_repository view c.delete.new.self) c.args.self.now (ap (with_repository view) (err-of c.delete.result (c.delete.new.self ≡ view.repository) was c.delete.ensures.kept) ∙ c.self.view_is) whole
+
+pub returns-clause-intact : goal.returns-clause-intact
+returns-clause-intact c = λ told whole.
+    let view = seen c.self.inside in
+    let was : is_err c.delete.result ≡ false = sym c.is_err.ensures.value ∙ c.if-is_err.false in
+    let made = ok-of c.delete.result (c.delete.new.self ≡ with_held view.repository (deleted view.repository.held c.args.docno)) was c.delete.ensures.deleted in
+    intact-from told told view c.args.self.now (with_repository view c.delete.new.self) c.self.view_is
+    (λ w. record { parts = c.delete.ensures.intact told w.parts; queries = w.queries; merge = merge-moved told view.repository.merge c.delete.new.self.merge (ap (λ (x : repositories.State). x.merge) made) w.merge }) whole

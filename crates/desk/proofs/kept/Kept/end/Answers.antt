@@ -11,6 +11,7 @@ use Rattle.disk_index.proofs.CacheLemmas.{outside-damage}
 use Rattle.ri_base.specs.Faults.{TellsDamage}
 use Rattle.disk_index.specs.Cache.{Cached}
 use Rattle.ri_base.specs.declared.seg_fault.SegFault.{SegFault}
+use Rattle.desk.proofs.IntactLemmas.{end-intact}
 use Rattle.desk.proofs.kept.Kept.end.Goals as goal
 
 pub returns-in_err-flush-clause-files : goal.returns-in_err-flush-clause-files
@@ -98,3 +99,8 @@ returns-in_err-sweep-clause-keeps g c =
       damaged = subst (λ (before : Option SegFault). TellsDamage before c.clear-2.new.self.damage c.in_err-sweep.field-0.0)
           (ap (λ (x : Cached). x.damage) c.clear-2.ensures ∙ ap (λ (x : Keeps). x.cache.damage) c.self.view_is) (outside-damage c.clear-2.new.self.damage c.in_err-sweep.field-0.0 c.in_err-sweep.ensures.outside);
     })
+
+pub returns-clause-intact : goal.returns-clause-intact
+returns-clause-intact g c =
+    end-intact (g.T.Store.files c.args.store.now) (g.T.Store.files c.flush.new.store) (g.T.Store.files c.sweep.new.store) (seen c.self.inside) c.args.self.now c.drop_merge.new.self c.flush.new.self c.sweep.new.self c.clear.new.self.items c.clear-2.new.self c.self.view_is
+    c.drop_merge.ensures c.in_ok-flush.ensures.wrote c.in_ok-sweep.ensures.wrote c.in_ok-flush.ensures.saved c.in_ok-sweep.ensures.saved c.clear.ensures.items

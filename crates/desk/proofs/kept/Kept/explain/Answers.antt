@@ -7,7 +7,7 @@ use Rattle.manifest.specs.declared.manifest.PriorEntry.{PriorEntry}
 use Rattle.query_check.specs.Answers.{whole_checked}
 use Rattle.query_check.specs.declared.checked.Checked.{Checked}
 use Rattle.belief_nodes.specs.Network.{network_tree}
-use Rattle.disk_index.specs.Snapshots.{AreBacked, Marked, live}
+use Rattle.disk_index.specs.Snapshots.{AreBacked, AreIntact, Marked, live}
 use Rattle.ranker.specs.Ranking.{candidate_of}
 use Rattle.ranker.specs.Searches.{searched}
 use Rattle.ranker.specs.Windows.{IsWindowIn}
@@ -20,18 +20,19 @@ use Rattle.desk.proofs.SearchLemmas.{as-many-leaves}
 use Rattle.session_events.specs.declared.event.Event.TheVariants as event
 use Rattle.desk.specs.declared.reply.Reply.TheVariants as reply
 use Rattle.desk.specs.declared.reply.Refusal.TheVariants.{NoSuchName, NoSuchRank, NotYet}
-use Rattle.desk.specs.Backed.{IsDeskBacked, Keeps, Steps, state_of}
+use Rattle.desk.specs.Backed.{IsDeskBacked, IsDeskIntact, Keeps, Steps, state_of}
 use Rattle.desk.specs.Queries.{AreListed, IsCacheKept, priors_in, query_of}
 use Rattle.desk.specs.Step.{step}
 use Rattle.desk.specs.Told.{told_early}
 use Rattle.desk.proofs.CacheLemmas.{cache-read}
 use Rattle.desk.proofs.Cases.{explain-noname}
 use Rattle.desk.proofs.Exits.{leaves-failed, of-now, refused-exit, refused-here}
-use Rattle.desk.proofs.Found.{backed-of, left-explained, none-found, open-of, place-of, seen}
+use Rattle.desk.proofs.Found.{backed-of, intact-of, left-explained, none-found, open-of, place-of, seen}
 use Rattle.desk.proofs.FormLemmas.{scale-form}
 use Rattle.desk.proofs.NamedExits.{all-passed, shown-entries}
 use Rattle.desk.proofs.Naming.{named-here}
 use Rattle.desk.proofs.ReadingExits.{early-passed, early-refused, explain-exit, no-rank, with_cache}
+use Rattle.desk.proofs.IntactLemmas.{intact-from}
 use Rattle.desk.proofs.kept.Kept.explain.Goals as goal
 
 pub returns-in_default-clause-steps : goal.returns-in_default-clause-steps
@@ -133,7 +134,7 @@ returns-clause-steps g c = λ backed.
     let found_in = c.in_ok-explained.ensures.exact (subst (λ (ms : List Marked). AreBacked told ms) (sym parts) query.snapshot) b.cache.backed in
     let document = sym (ap (λ (ms : List Marked). document_with hit.docno (live told ms)) parts) ∙ found_in.1 in
     let is = subst (λ (k : Checked). IsExplanation c.deref.result.now (whole_checked k) c.stats.result.now found_in.0 c.args.rank hit e) c.checked.ensures found_in.2 in
-    let kept_blocks : IsCacheKept told view.repository cache = cache-read told view.repository c.parts.result.now view.cache cache (subst (λ (ms : List Marked). AreListed view.repository (part_numbers ms)) (sym parts) query.listed) c.in_ok-explained.ensures.reads.cache b.cache in
+    let kept_blocks : IsCacheKept told view.repository cache = cache-read told view.repository c.parts.result.now view.cache cache (subst (λ (ms : List Marked). AreListed view.repository (part_numbers ms)) (sym parts) query.listed) (subst (λ (ms : List Marked). AreBacked told ms) (sym parts) query.snapshot) c.in_ok-explained.ensures.reads.cache b.cache in
     explain-exit told view name c.in-Some.place q place c.index.ensures passed hits entries c.args.rank after cache hit found_in.0 c.deref.result.now c.stats.result.now e same (sym c.in-Some-2.is ∙ c.in_ok-hit.ensures) document names c.stats.ensures is query kept_blocks b)
     backed
 
@@ -148,18 +149,24 @@ returns-clause-early g c = λ told.
     (sym (early-passed (state_of told view) name c.args.rank (query_of told q) (named-here told name view.queries c.in-Some.place q place c.index.ensures) passed))
 
 pub returns-in_err-explained-clause-honest : goal.returns-in_err-explained-clause-honest
-returns-in_err-explained-clause-honest g c = λ backed.
+returns-in_err-explained-clause-honest g c = λ backed intact.
     let told = g.T.Store.files c.args.store.now in
     let name = c.args.name in
     let view = seen c.self.inside in
     let q = c.index.result.now in
     let b : IsDeskBacked told view = subst (IsDeskBacked told) (sym c.self.view_is) backed in
-    let query = backed-of view c.args.self.now name c.in-Some.place q c.self.view_is (sym c.find.ensures ∙ c.in-Some.is) told c.index.ensures b in
+    let i : IsDeskIntact told view = subst (IsDeskIntact told) (sym c.self.view_is) intact in
+    let query = intact-of view c.args.self.now name c.in-Some.place q c.self.view_is (sym c.find.ensures ∙ c.in-Some.is) told c.index.ensures i in
     let parts : c.parts.result.now ≡ q.search.snapshot = c.parts.ensures.parts ∙ c.snapshot.ensures in
     let p = err_from_is_err_and c.from_residual-in_err-explained.result c.from_residual-in_err-explained.ensures.1 in
-    rw (p.1, p.2) (c.in_err-explained.ensures.honest (subst (λ (ms : List Marked). AreBacked told ms) (sym parts) query.snapshot) b.cache.backed)
+    rw (p.1, p.2) (c.in_err-explained.ensures.honest (subst (λ (ms : List Marked). AreIntact told ms) (sym parts) query) b.cache.backed)
 
 pub returns-in_err-explained-clause-keeps : goal.returns-in_err-explained-clause-keeps
 returns-in_err-explained-clause-keeps g c =
     let p = err_from_is_err_and c.from_residual-in_err-explained.result c.from_residual-in_err-explained.ensures.1 in
     rw (p.1, p.2) (leaves-failed _ (seen c.self.inside) c.args.self.now _ c.self.view_is refl c.in_err-explained.ensures.damaged)
+
+pub returns-clause-intact : goal.returns-clause-intact
+returns-clause-intact g c = λ told whole.
+    let view = seen c.self.inside in
+    intact-from told told view c.args.self.now (with_cache view c.explain_hit.new.cache) c.self.view_is (λ w. record { parts = w.parts; queries = w.queries; merge = w.merge }) whole

@@ -13,6 +13,7 @@ use Rattle.desk.proofs.Found.{seen}
 use Rattle.desk.proofs.KeptLemmas.{kept-repository, priors-saved}
 use Rattle.std.proofs.lemmas.Result.{err_from_is_err_and}
 use Rattle.disk_index.proofs.CacheLemmas.{outside-damage}
+use Rattle.desk.proofs.IntactLemmas.{flush-intact}
 use Rattle.desk.proofs.kept.Kept.flush.Goals as goal
 
 pub returns-in_err-flush-clause-files : goal.returns-in_err-flush-clause-files
@@ -53,3 +54,7 @@ pub returns-in_err-flush-clause-keeps : goal.returns-in_err-flush-clause-keeps
 returns-in_err-flush-clause-keeps g c =
     let p = err_from_is_err_and c.from_residual.result c.from_residual.ensures.1 in
     rw (p.1, p.2) (leaves-failed _ (seen c.self.inside) c.args.self.now _ c.self.view_is refl (outside-damage _ _ c.in_err-flush.ensures.outside))
+
+pub returns-clause-intact : goal.returns-clause-intact
+returns-clause-intact g c =
+    flush-intact (g.T.Store.files c.args.store.now) (g.T.Store.files c.flush.new.store) (seen c.self.inside) c.args.self.now c.flush.new.self c.self.view_is c.in_ok-flush.ensures.wrote.intact c.flush.ensures.writes.others c.in_ok-flush.ensures.saved.merge

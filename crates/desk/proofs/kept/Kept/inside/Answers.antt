@@ -35,3 +35,6 @@ returns-in-Show-clause-keeps c = record {
   undamaged = on-ok c.show.result _ refl;
   damaged = memory-damage c.show.result _ _ refl c.show.ensures.memory;
 }
+
+pub returns-in-Show-clause-intact : goal.returns-in-Show-clause-intact
+returns-in-Show-clause-intact c = on-ok c.show.result _ (λ told whole. whole)

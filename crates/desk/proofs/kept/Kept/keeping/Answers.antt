@@ -24,7 +24,7 @@ pub returns-then-is_inside-clause-quiet : goal.returns-then-is_inside-clause-qui
 returns-then-is_inside-clause-quiet g c = IsQuiet-same g.T.Store.files g.T.Store.layers g.T.Store.clock g.T.Store.since g.T.Store.longest g.T.Store.held g.T.Store.faults c.args.store.now
 
 pub returns-then-is_inside-clause-honest : goal.returns-then-is_inside-clause-honest
-returns-then-is_inside-clause-honest g c = λ backed. outside-memory c.inside.result c.inside.ensures.memory
+returns-then-is_inside-clause-honest g c = λ backed intact. outside-memory c.inside.result c.inside.ensures.memory
 
 pub returns-then-is_inside-clause-store : goal.returns-then-is_inside-clause-store
 returns-then-is_inside-clause-store g c = λ is. never-store c.inside.result _ c.inside.ensures.memory is

@@ -10,6 +10,9 @@ use Rattle.desk.proofs.Exits.{accepted-by, of-now, refused-by, refused-exit}
 use Rattle.desk.proofs.Found.{seen}
 use Rattle.desk.proofs.MergeExits.{merge-done, mergeopen-step, none-of}
 use Rattle.desk.proofs.KeptLemmas.{kept-repository, priors-begun}
+use Rattle.desk.proofs.IntactLemmas.{begun-intact, intact-from}
+use Rattle.desk.proofs.DocumentExits.{with_repository}
+use Rattle.disk_index.specs.Snapshots.{AreIntact}
 use Rattle.desk.proofs.kept.Kept.merge.Goals as goal
 
 pub returns-then-merge_open-clause-steps : goal.returns-then-merge_open-clause-steps
@@ -45,3 +48,15 @@ pub invariant_of-self-2 : goal.invariant_of-self-2
 invariant_of-self-2 c = λ usable working.
     let s = c.self.inside in
     kept-repository s.repository c.begin_merge.new.self s.queries.items s.counts (priors-begun c.begin_merge.result s.repository c.begin_merge.new.self c.begin_merge.ensures.begun c.begin_merge.ensures.left) (c.self.invariant usable (ap (λ (x : Keeps). x.repository.usable) c.self.view_is ∙ c.requires.usable.1))
+
+pub returns-clause-intact : goal.returns-clause-intact
+returns-clause-intact c = λ told whole.
+    let view = seen c.self.inside in
+    intact-from told told view c.args.self.now (with_repository view c.begin_merge.new.self) c.self.view_is
+    (λ w.
+    let parts : AreIntact told c.begin_merge.new.self.held.parts.closed = c.begin_merge.ensures.intact told w.parts in
+    record {
+      parts = parts;
+      queries = w.queries;
+      merge = begun-intact told view.repository c.begin_merge.new.self c.in-Ok.ensures.begun parts;
+    }) whole

@@ -2,21 +2,24 @@ use Rattle.std.proofs.Common.{◌≡◌, ◌∙◌, ◌<◌, ◌++◌, ◌∷◌
 use Rattle.std.specs.Prelude.{is_some, nat_le}
 use Rattle.std.specs.List.{All}
 use Rattle.std.proofs.lemmas.Bool.{le-leb, lt-leb}
+use Rattle.std.proofs.lemmas.List.Elements.{All-push}
 use Rattle.std.proofs.lemmas.Result.{err_from_is_err_and}
 use Rattle.ri_base.specs.Documents.{Document}
 use Rattle.query_check.specs.Answers.{whole_checked}
 use Rattle.disk_index.specs.Snapshots as snapshots
+use Rattle.disk_index.specs.Snapshots.{AreIntact}
 use Rattle.counts.specs.Kept.{AreSums}
 use Rattle.belief_nodes.specs.Network.{network_tree}
 use Rattle.repository.specs.States as repositories
 use Rattle.desk.specs.declared.reply.Refusal.TheVariants.{DeskFull, NameTaken}
-use Rattle.desk.specs.Backed.{IsDeskBacked, Keeps}
+use Rattle.desk.specs.Backed.{IsDeskBacked, IsDeskIntact, Keeps}
 use Rattle.desk.specs.Keeping.{AreKept, AsksFor, IsOpen}
 use Rattle.desk.specs.declared.query.OpenQuery.{OpenQuery}
 use Rattle.desk.specs.declared.query.TheConstants.{MAX_QUERIES}
 use Rattle.desk.proofs.CacheLemmas.{cache-read, listed-now}
 use Rattle.desk.proofs.Closing.{priors-closed, snapped-kept, summed-kept}
 use Rattle.desk.proofs.Found.{found-as, seen}
+use Rattle.desk.proofs.IntactLemmas.{AreAllIntact, intact-from, merge-moved}
 use Rattle.desk.proofs.KeptLemmas.{kept-pushed}
 use Rattle.desk.proofs.OpenExits.{full-refused, new-search, open-accepted-by, open-done, open-new, open-refusal, open-refused-by, taken-refused}
 use Rattle.desk.proofs.Exits.{leaves-failed}
@@ -91,11 +94,12 @@ invariant_of-self-2 g c =
     (kept-pushed c.snapshot.new.self s.queries.items c.counted_search.new.counts q few one (summed-kept c.snapshot.result s.repository c.snapshot.new.self s.queries.items s.counts c.counted_search.new.counts c.snapshot.ensures.closed c.snapshot.ensures.left c.counted_search.ensures.adds (c.self.invariant usable (sym c.snapshot.ensures.usable ∙ there))))
 
 pub returns-in_err-search-clause-honest : goal.returns-in_err-search-clause-honest
-returns-in_err-search-clause-honest g c = λ backed.
+returns-in_err-search-clause-honest g c = λ backed intact.
     let told = g.T.Store.files c.args.store.now in
     let b : IsDeskBacked told (seen c.self.inside) = subst (IsDeskBacked told) (sym c.self.view_is) backed in
+    let i : IsDeskIntact told (seen c.self.inside) = subst (IsDeskIntact told) (sym c.self.view_is) intact in
     let p = err_from_is_err_and c.from_residual-in_err-search.result c.from_residual-in_err-search.ensures.1 in
-    rw (p.1, p.2) (c.in_err-search.ensures.honest (c.in_ok-snapshot.ensures.stored told b.repository) b.cache.backed)
+    rw (p.1, p.2) (c.in_err-search.ensures.honest (c.in_ok-snapshot.ensures.stored_intact told i.parts) b.cache.backed)
 
 pub returns-clause-steps : goal.returns-clause-steps
 returns-clause-steps g c = λ backed.
@@ -124,7 +128,7 @@ returns-clause-steps g c = λ backed.
     (λ b. made.taken (c.in_ok-snapshot.ensures.stored told b.repository) b.cache.backed)
     (λ b. made.exact (c.in_ok-snapshot.ensures.stored told b.repository) b.cache.backed (sums b))
     (λ b. subst (λ n. AreSums (snapshots.live told snapshot) n c.counted_search.new.counts) generation (made.kept (c.in_ok-snapshot.ensures.stored told b.repository) b.cache.backed (sums b)))
-    (λ b. cache-read told s.repository snapshot s.cache c.counted_search.new.cache (listed-now s.repository snapshot c.in_ok-snapshot.ensures.numbers) reads.cache b.cache) backed
+    (λ b. cache-read told s.repository snapshot s.cache c.counted_search.new.cache (listed-now s.repository snapshot c.in_ok-snapshot.ensures.numbers) (c.in_ok-snapshot.ensures.stored told b.repository) reads.cache b.cache) backed
 
 pub returns-clause-refuses : goal.returns-clause-refuses
 returns-clause-refuses g c = λ told.
@@ -160,3 +164,18 @@ returns-in_err-map_err-clause-keeps g c =
       undamaged = tt;
       damaged = c.in_ok-search.ensures.undamaged ∙ ap (λ (x : Keeps). x.cache.damage) c.self.view_is;
     })
+
+pub returns-clause-intact : goal.returns-clause-intact
+returns-clause-intact g c = λ told whole.
+    let s = c.self.inside in
+    let view = seen c.self.inside in
+    let q : OpenQuery = record { name = c.args.name; search = c.in_ok-search.search } in
+    let pushed : c.push.new.self.items ≡ s.queries.items ++ q ∷ [] = search rules in
+    intact-from told told view c.args.self.now (record { repository = c.snapshot.new.self; kind = s.kind; queries = c.push.new.self.items; counts = c.counted_search.new.counts; cache = c.counted_search.new.cache; usable = s.usable }) c.self.view_is
+    (λ w.
+    let own : AreIntact told q.search.snapshot = subst (AreIntact told) (sym c.in_ok-search.ensures.snapshot) (c.in_ok-snapshot.ensures.stored_intact told w.parts) in
+    record {
+      parts = c.snapshot.ensures.intact told w.parts;
+      queries = subst (AreAllIntact told) (sym pushed) (All-push (λ (x : OpenQuery). AreIntact told x.search.snapshot) s.queries.items q w.queries own);
+      merge = merge-moved told s.repository.merge c.snapshot.new.self.merge (ap (λ (x : repositories.State). x.merge) c.in_ok-snapshot.ensures.closed) w.merge;
+    }) whole

@@ -3,11 +3,11 @@ use Rattle.std.specs.Prelude.{Err, Ok}
 use Rattle.std.proofs.lemmas.Result.{err_from_is_err_and}
 use Rattle.ri_base.specs.Expression.{expr_tree}
 use Rattle.disk_index.specs.Snapshots as snapshots
-use Rattle.disk_index.specs.Snapshots.{AreBacked, Marked}
+use Rattle.disk_index.specs.Snapshots.{AreBacked, AreIntact, Marked}
 use Rattle.repository.specs.States.{part_numbers}
 use Rattle.session_events.specs.declared.event.Event.TheVariants as event
 use Rattle.desk.specs.Asked.{IsNotTaken, scanned}
-use Rattle.desk.specs.Backed.{IsDeskBacked, Keeps, state_of}
+use Rattle.desk.specs.Backed.{IsDeskBacked, IsDeskIntact, Keeps, state_of}
 use Rattle.desk.specs.Scanning.{extents_in}
 use Rattle.desk.specs.declared.asking.NotTaken.{NotTaken}
 use Rattle.desk.specs.declared.asking.NotTaken.TheVariants as not_taken
@@ -16,7 +16,9 @@ use Rattle.desk.proofs.Cases.{scan-fault, scan-found}
 use Rattle.desk.proofs.Closing.{snapped-kept}
 use Rattle.desk.proofs.Exits.{accepted-by, leaves-failed, refused-exit, refused-so}
 use Rattle.desk.proofs.Found.{seen}
-use Rattle.desk.proofs.ReadingExits.{scan-done}
+use Rattle.desk.proofs.IntactLemmas.{intact-from, merge-moved}
+use Rattle.desk.proofs.ReadingExits.{scan-done, with_read}
+use Rattle.repository.specs.States as repositories
 use Rattle.desk.proofs.kept.Kept.scan.Goals as goal
 
 pub returns-in-Err-Refused-clause-steps : goal.returns-in-Err-Refused-clause-steps
@@ -66,7 +68,7 @@ returns-clause-steps g c = λ backed.
     scan-done told after view c.args.self.now c.snapshot.new.self text x c.in_ok-lines.lines c.scan.new.cache c.self.view_is c.in_ok-snapshot.ensures.closed c.in_ok-lines.ensures.reads.quiet.same_files is
     (λ b. c.in_ok-lines.ensures.exact (subst (λ (ms : List Marked). AreBacked told ms) (sym own) (c.in_ok-snapshot.ensures.stored told b.repository)) b.cache.backed
     ∙ ap (λ (ms : List Marked). extents_in x (snapshots.live told ms)) own ∙ ap (extents_in x) (c.in_ok-snapshot.ensures.documents told))
-    (λ b. cache-read told view.repository parts view.cache c.scan.new.cache (listed-now view.repository parts numbers) c.in_ok-lines.ensures.reads.cache b.cache) backed
+    (λ b. cache-read told view.repository parts view.cache c.scan.new.cache (listed-now view.repository parts numbers) (subst (λ (ms : List Marked). AreBacked told ms) (sym own) (c.in_ok-snapshot.ensures.stored told b.repository)) c.in_ok-lines.ensures.reads.cache b.cache) backed
 
 pub returns-clause-refuses : goal.returns-clause-refuses
 returns-clause-refuses g c = λ told.
@@ -75,12 +77,13 @@ returns-clause-refuses g c = λ told.
     accepted-by (event.Scan c.args.text.now) told view c.args.self.now _ c.self.view_is (scan-found (state_of told view) c.args.text.now (expr_tree c.in-Ok.expr) is) refl
 
 pub returns-in_err-lines-clause-honest : goal.returns-in_err-lines-clause-honest
-returns-in_err-lines-clause-honest g c = λ backed.
+returns-in_err-lines-clause-honest g c = λ backed intact.
     let told = g.T.Store.files c.args.store.now in
     let view = seen c.self.inside in
     let b : IsDeskBacked told view = subst (IsDeskBacked told) (sym c.self.view_is) backed in
+    let i : IsDeskIntact told view = subst (IsDeskIntact told) (sym c.self.view_is) intact in
     let p = err_from_is_err_and c.from_residual-in_err-lines.result c.from_residual-in_err-lines.ensures.1 in
-    rw (p.1, p.2) (c.in_err-lines.ensures.honest (subst (λ (ms : List Marked). AreBacked told ms) (sym c.parts.ensures.parts) (c.in_ok-snapshot.ensures.stored told b.repository)) b.cache.backed)
+    rw (p.1, p.2) (c.in_err-lines.ensures.honest (subst (λ (ms : List Marked). AreIntact told ms) (sym c.parts.ensures.parts) (c.in_ok-snapshot.ensures.stored_intact told i.parts)) b.cache.backed)
 
 pub returns-in_err-lines-clause-keeps : goal.returns-in_err-lines-clause-keeps
 returns-in_err-lines-clause-keeps g c =
@@ -96,3 +99,13 @@ returns-clause-keeps g c = record {
   undamaged = c.in_ok-lines.ensures.undamaged ∙ ap (λ (x : Keeps). x.cache.damage) c.self.view_is;
   damaged = tt;
 }
+
+pub returns-clause-intact : goal.returns-clause-intact
+returns-clause-intact g c = λ told whole.
+    let view = seen c.self.inside in
+    intact-from told told view c.args.self.now (with_read view c.snapshot.new.self c.scan.new.cache) c.self.view_is
+    (λ w. record {
+      parts = c.snapshot.ensures.intact told w.parts;
+      queries = w.queries;
+      merge = merge-moved told view.repository.merge c.snapshot.new.self.merge (ap (λ (x : repositories.State). x.merge) c.in_ok-snapshot.ensures.closed) w.merge;
+    }) whole

@@ -1,24 +1,28 @@
 use Rattle.std.proofs.Common.{◌≡◌, ◌∙◌, ◌≤◌, ap, get_or, length, refl, subst, sym, Some, Option, set, rules}
 use Rattle.std.specs.Prelude.{is_ok}
 use Rattle.std.specs.List.{position}
+use Rattle.std.proofs.lemmas.List.Elements.{All-set}
 use Rattle.store_ends.specs.Files.{Files}
 use Rattle.belief_nodes.specs.Network.{network_tree}
 use Rattle.session_events.specs.declared.event.Event.TheVariants as event
 use Rattle.desk.specs.declared.reply.Reply.TheVariants as reply
 use Rattle.desk.specs.declared.reply.Refusal.TheVariants.{NoSuchName}
-use Rattle.desk.specs.Backed.{IsDeskBacked, Keeps, Steps, state_of}
+use Rattle.desk.specs.Backed.{IsDeskBacked, IsDeskIntact, Keeps, Steps, state_of}
 use Rattle.desk.specs.Keeping.{IsOpen}
 use Rattle.desk.specs.Queries.{IsCacheKept, IsQueryBacked, query_of}
 use Rattle.desk.proofs.CacheLemmas.{cache-read}
 use Rattle.desk.proofs.Cases.{step-noname, step-stepped}
 use Rattle.desk.proofs.Exits.{accepted-by, of-now, refused-by, refused-here}
-use Rattle.desk.proofs.Found.{backed-of, none-found, open-of, place-of, seen}
+use Rattle.desk.proofs.Found.{backed-of, intact-of, none-found, open-of, place-of, seen}
 use Rattle.desk.proofs.KeptLemmas.{asks-nine, kept-set, open-on}
 use Rattle.desk.proofs.NamedExits.{step-exit, with_search}
 use Rattle.desk.proofs.Naming.{at-place, found-place, is_named, named-here}
 use Rattle.desk.proofs.QueryLemmas.{plugs-moved}
 use Rattle.ri_base.specs.Faults.{TellsDamage}
 use Rattle.ri_base.specs.declared.seg_fault.SegFault.{SegFault}
+use Rattle.desk.proofs.IntactLemmas.{intact-from}
+use Rattle.disk_index.specs.Snapshots.{AreIntact}
+use Rattle.desk.specs.declared.query.OpenQuery.{OpenQuery}
 use Rattle.desk.proofs.kept.Kept.step.Goals as goal
 
 pub returns-in_default-clause-steps : goal.returns-in_default-clause-steps
@@ -85,7 +89,7 @@ returns-in-Ok-clause-steps g c = λ backed are.
     let now : IsQueryBacked after view.repository view.kind new =
     subst (λ k. IsQueryBacked after view.repository k new) kind
     (c.in-Ok.ensures.backed view.repository few was.priors (plugs-moved told view c.args.self.now _ c.self.view_is are) b.cache.backed own) in
-    let blocks : IsCacheKept after view.repository cache = subst (λ (f : Option Files). IsCacheKept f view.repository cache) (sym same) (cache-read told view.repository q.search.snapshot view.cache cache query.listed c.advance.ensures.cache b.cache) in
+    let blocks : IsCacheKept after view.repository cache = subst (λ (f : Option Files). IsCacheKept f view.repository cache) (sym same) (cache-read told view.repository q.search.snapshot view.cache cache query.listed query.snapshot c.advance.ensures.cache b.cache) in
     step-exit told view name c.in-Some.place q place c.index_mut.ensures.value after c.args.docs c.in-Ok.credit c.in-Ok.live new cache same (c.in-Ok.ensures.query told) now blocks (c.in-Ok.ensures.credit told) (c.in-Ok.ensures.live told) b)
     backed
 
@@ -98,15 +102,16 @@ returns-in-Ok-clause-refuses g c = λ told.
     accepted-by (event.Step name c.args.docs) told view c.args.self.now _ c.self.view_is (step-stepped (state_of told view) name c.args.docs (query_of told q) (named-here told name view.queries c.in-Some.place q place c.index_mut.ensures.value)) refl
 
 pub returns-in-Err-clause-honest : goal.returns-in-Err-clause-honest
-returns-in-Err-clause-honest g c = λ backed.
+returns-in-Err-clause-honest g c = λ backed intact.
     let told = g.T.Store.files c.args.store.now in
     let name = c.args.name in
     let view = seen c.self.inside in
     let q = c.index_mut.result.now in
     let b : IsDeskBacked told view = subst (IsDeskBacked told) (sym c.self.view_is) backed in
     let query = backed-of view c.args.self.now name c.in-Some.place q c.self.view_is (sym c.find.ensures ∙ c.in-Some.is) told c.index_mut.ensures.value b in
+    let whole = intact-of view c.args.self.now name c.in-Some.place q c.self.view_is (sym c.find.ensures ∙ c.in-Some.is) told c.index_mut.ensures.value (subst (IsDeskIntact told) (sym c.self.view_is) intact) in
     let kind : c.args.rule.now.kind ≡ view.kind = c.requires.kind ∙ sym (ap (λ (x : Keeps). x.kind) c.self.view_is) in
-    c.in-Err.ensures.honest view.repository (subst (λ k. IsQueryBacked told view.repository k q) (sym kind) query) b.cache.backed
+    c.in-Err.ensures.honest view.repository (subst (λ k. IsQueryBacked told view.repository k q) (sym kind) query) whole b.cache.backed
 
 pub returns-in-Err-clause-keeps : goal.returns-in-Err-clause-keeps
 returns-in-Err-clause-keeps g c =
@@ -130,3 +135,19 @@ returns-in-Ok-clause-keeps g c = record {
   undamaged = c.in-Ok.ensures.undamaged ∙ ap (λ (x : Keeps). x.cache.damage) c.self.view_is;
   damaged = tt;
 }
+
+pub returns-in-Ok-clause-intact : goal.returns-in-Ok-clause-intact
+returns-in-Ok-clause-intact g c = λ told whole.
+    let name = c.args.name in
+    let view = seen c.self.inside in
+    let q = c.index_mut.result.now in
+    let new = c.advance.new.self in
+    intact-from told told view c.args.self.now (with_search view (set view.queries c.in-Some.place new) c.advance.new.cache) c.self.view_is
+    (λ w.
+    let was = intact-of view c.args.self.now name c.in-Some.place q c.self.view_is (sym c.find.ensures ∙ c.in-Some.is) told c.index_mut.ensures.value w in
+    let own : AreIntact told new.search.snapshot = subst (AreIntact told) (sym c.advance.ensures.same.snapshot) was in
+    record {
+      parts = w.parts;
+      queries = All-set (λ (x : OpenQuery). AreIntact told x.search.snapshot) view.queries c.in-Some.place new own w.queries;
+      merge = w.merge;
+    }) whole

@@ -16,6 +16,7 @@ use Rattle.desk.proofs.Found.{seen}
 use Rattle.desk.proofs.KeptLemmas.{kept-repository, priors-turned}
 use Rattle.desk.proofs.MergeExits.{with_merged}
 use Rattle.desk.proofs.TurnExits.{nomerge-kept, nomerge-step, same-below, turn-form, turn-honest, turn-kept, turn-refuses, turn-stays, turn-steps, turned-now, turned-stops}
+use Rattle.desk.proofs.IntactLemmas.{turn-intact}
 use Rattle.desk.proofs.kept.Kept.turn.Goals as goal
 
 pub returns-then-not-merge_open-clause-steps : goal.returns-then-not-merge_open-clause-steps
@@ -71,10 +72,10 @@ returns-clause-keeps g c = record {
 }
 
 pub returns-in_err-turned-clause-honest : goal.returns-in_err-turned-clause-honest
-returns-in_err-turned-clause-honest g c = λ backed.
+returns-in_err-turned-clause-honest g c = λ backed intact.
     let view = seen c.self.inside in
     let p = err_from_is_err_and c.from_residual.result c.from_residual.ensures.1 in
-    rw (p.1, p.2) (turn-honest (g.T.Store.files c.args.store.now) view c.args.self.now c.in_err-turned.field-0.0 c.self.view_is c.in_err-turned.ensures.honest backed)
+    rw (p.1, p.2) (turn-honest (g.T.Store.files c.args.store.now) view c.args.self.now c.in_err-turned.field-0.0 c.self.view_is c.in_err-turned.ensures.honest backed intact)
 
 pub returns-clause-steps : goal.returns-clause-steps
 returns-clause-steps g c = λ backed.
@@ -103,3 +104,8 @@ pub returns-in_err-turned-clause-keeps : goal.returns-in_err-turned-clause-keeps
 returns-in_err-turned-clause-keeps g c =
     let p = err_from_is_err_and c.from_residual.result c.from_residual.ensures.1 in
     rw (p.1, p.2) (leaves-failed _ (seen c.self.inside) c.args.self.now _ c.self.view_is refl c.in_err-turned.ensures.damaged)
+
+pub returns-clause-intact : goal.returns-clause-intact
+returns-clause-intact g c =
+    turn-intact (g.T.Store.files c.args.store.now) (g.T.Store.files c.merge_turn.new.store) (seen c.self.inside) c.args.self.now c.args.docs c.merge_turn.new.self c.merge_turn.new.cache c.self.view_is (λ merging cached. (c.in_ok-turned.ensures.over merging cached).intact) c.merge_turn.ensures.stay
+    c.in_ok-turned.turned c.in_ok-turned.ensures.state

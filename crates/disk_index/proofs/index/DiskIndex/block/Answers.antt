@@ -1,13 +1,17 @@
 use Rattle.std.proofs.Common.{◌≡◌, List, Option, IfErr, IfOk, ap, subst, sym, ◌∙◌}
 use Rattle.store_ends.specs.Files.{Files}
+use Rattle.seg_codec.specs.Fits.{FitBlock}
 use Rattle.seg_codec.specs.declared.documents.Entry.{Entry}
 use Rattle.disk_index.specs.Blocks.{IsBlockFault}
 use Rattle.disk_index.specs.Cache.{IsCacheBacked}
 use Rattle.disk_index.specs.Faults.{CameFrom}
 use Rattle.disk_index.specs.Kept.{Kept, key_of, place_of}
+use Rattle.disk_index.specs.Names.{segment_name}
+use Rattle.disk_index.specs.Reads.{HasSegment}
 use Rattle.disk_index.specs.declared.cache.BlockKey.{BlockKey}
-use Rattle.disk_index.proofs.CacheLemmas.{CacheKeeps-number}
+use Rattle.disk_index.proofs.CacheLemmas.{CacheKeeps-block}
 use Rattle.disk_index.proofs.KeyLemmas.{key-number, keyed, match_none, match_some, outside_fault, right_block, unkeyed}
+use Rattle.disk_index.proofs.RebuiltLemmas.{backed-laid}
 use Rattle.disk_index.proofs.index.DiskIndex.block.Goals as goal
 
 pub returns-in_ok-empty-in-None-clause-exact : goal.returns-in_ok-empty-in-None-clause-exact
@@ -21,13 +25,20 @@ returns-in_ok-empty-in-None-clause-fault g c = λ f told.
 pub returns-in-Some-clause-exact : goal.returns-in-Some-clause-exact
 returns-in-Some-clause-exact g c = λ docs b backed.
     let k = keyed (g.T.Store.files c.args.store.now) c.args.self.now docs c.args.term.now c.args.range c.in-Some.key c.in-Some.ensures.key b in
+    let same : c.self.inside.documents ≡ c.args.self.now.outlines = ap (λ (k : Kept). k.outlines) c.self.view_is in
+    let number = key-number c.args.self.now.number c.args.range (place_of c.args.self.now.dictionary c.args.term.now c.args.range) c.in-Some.key c.in-Some.ensures.key in
+    let fits = c.fetch.ensures.fits docs (subst (λ n. HasSegment (g.T.Store.files c.args.store.now) n docs) (sym number) b.has)
+    (same ∙ (backed-laid (g.T.Store.files c.args.store.now) c.args.self.now docs b).outlines) backed in
     right_block b.has.files c.args.self.now.outlines c.in-Some.key _ k c.fetch.result (c.fetch.ensures.exact b.has.files b.has.is_told (subst (λ (f : Option Files). IsCacheBacked f c.args.cache.now) b.has.is_told backed))
+    (subst (λ (os : List Entry). IfOk c.fetch.result (FitBlock os c.in-Some.key.range)) same fits)
 
 pub returns-in-Some-clause-honest : goal.returns-in-Some-clause-honest
-returns-in-Some-clause-honest g c = λ docs b.
+returns-in-Some-clause-honest g c = λ docs b intact.
     let same : c.self.inside.documents ≡ c.args.self.now.outlines = ap (λ (k : Kept). k.outlines) c.self.view_is in
     let k = keyed (g.T.Store.files c.args.store.now) c.args.self.now docs c.args.term.now c.args.range c.in-Some.key c.in-Some.ensures.key b in
-    outside_fault b.has.files c.args.self.now.outlines c.in-Some.key _ k c.fetch.result
+    let number = key-number c.args.self.now.number c.args.range (place_of c.args.self.now.dictionary c.args.term.now c.args.range) c.in-Some.key c.in-Some.ensures.key in
+    let whole = subst (λ n. (b.has.files (segment_name n)).read ≡ (b.has.files (segment_name n)).put) (sym number) (intact b.has.files b.has.is_told) in
+    outside_fault b.has.files c.args.self.now.outlines c.in-Some.key _ k whole c.fetch.result
     (subst (λ (es : List Entry). IfErr c.fetch.result (IsBlockFault b.has.files c.in-Some.key es)) same (c.fetch.ensures.fault b.has.files b.has.is_told))
 
 pub returns-in-Some-clause-fault : goal.returns-in-Some-clause-fault
@@ -39,8 +50,8 @@ returns-in-Some-clause-fault g c = λ f told.
 
 pub returns-in-Some-clause-cache : goal.returns-in-Some-clause-cache
 returns-in-Some-clause-cache g c =
-    CacheKeeps-number (g.T.Store.files c.args.store.now) c.in-Some.key.number c.args.self.now.number _ _
-    (key-number c.args.self.now.number c.args.range (place_of c.args.self.now.dictionary c.args.term.now c.args.range) c.in-Some.key c.in-Some.ensures.key) c.fetch.ensures.cache
+    CacheKeeps-block (g.T.Store.files c.args.store.now) c.in-Some.key c.args.self.now c.self.inside.documents _ _
+    (key-number c.args.self.now.number c.args.range (place_of c.args.self.now.dictionary c.args.term.now c.args.range) c.in-Some.key c.in-Some.ensures.key) (ap (λ (k : Kept). k.outlines) c.self.view_is) c.fetch.ensures.cache
 
 pub returns-in_ok-empty-in-None-clause-origin : goal.returns-in_ok-empty-in-None-clause-origin
 returns-in_ok-empty-in-None-clause-origin g c =

@@ -19,12 +19,12 @@ use Rattle.disk_index.proofs.RebuiltLemmas.{backed-laid, inside-docs, reads-back
 use Rattle.disk_index.proofs.index.DiskIndex.counted_positions.Goals as goal
 
 pub returns-in_err-block-clause-honest : goal.returns-in_err-block-clause-honest
-returns-in_err-block-clause-honest g c = λ docs b backed.
+returns-in_err-block-clause-honest g c = λ docs b intact backed.
     let p = err_from_is_err_and c.from_residual.result c.from_residual.ensures.1 in
-    rw (p.1, p.2) (c.in_err-block.ensures.honest docs b)
+    rw (p.1, p.2) (c.in_err-block.ensures.honest docs b intact)
 
 pub returns-then-not-are_places-clause-honest : goal.returns-then-not-are_places-clause-honest
-returns-then-not-are_places-clause-honest g c = λ docs b backed.
+returns-then-not-are_places-clause-honest g c = λ docs b intact backed.
     let id = c.args.id in
     let t = c.args.term.now in
     let told = g.T.Store.files c.args.store.now in

@@ -17,9 +17,9 @@ shown : (d e : List TermBlocks) (os ps : List Entry) (rs ss : List Slots) → e 
 shown d e os ps rs ss a b c = cc
 
 pub returns-in_err-told-clause-honest : goal.returns-in_err-told-clause-honest
-returns-in_err-told-clause-honest g c = λ docs b kept.
+returns-in_err-told-clause-honest g c = λ docs b intact kept.
     let p = err_from_is_err_and c.from_residual.result c.from_residual.ensures.1 in
-    rw (p.1, p.2) (c.in_err-told.ensures.honest docs b kept)
+    rw (p.1, p.2) (c.in_err-told.ensures.honest docs b intact kept)
 
 pub returns-in_err-told-clause-fault : goal.returns-in_err-told-clause-fault
 returns-in_err-told-clause-fault g c = λ f is_told.
@@ -44,7 +44,7 @@ returns-in-Some-clause-kept g c =
     (sym c.in_ok-docs.ensures ∙ c.in-Some.is) ∙ c.outlines.ensures.are
 
 pub returns-clause-honest : goal.returns-clause-honest
-returns-clause-honest g c = λ docs b kept.
+returns-clause-honest g c = λ docs b intact kept.
     let fails : None ≡ Some (of_range c.args.range docs) =
     sym c.in-None.is ∙ c.in_ok-docs.ensures
     ∙ ap (λ (d : List TermBlocks). documents_of d c.outlines.result.now c.deref.result.now) c.dictionary.ensures

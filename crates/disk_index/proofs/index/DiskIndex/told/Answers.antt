@@ -9,7 +9,7 @@ use Rattle.disk_index.specs.Cache.{KeptBlock, IsCacheBacked}
 use Rattle.disk_index.specs.Faults.{IsTermBlock}
 use Rattle.disk_index.specs.QuietLaws.{IsQuiet-same, IsQuiet-then}
 use Rattle.disk_index.specs.Ranks.{term_of}
-use Rattle.disk_index.specs.Reads.{IsBacked}
+use Rattle.disk_index.specs.Reads.{IsBacked, IsIntact}
 use Rattle.disk_index.specs.Rebuild.{lengths, put_block, rows_of}
 use Rattle.disk_index.specs.Together.{AreRows, last_begin}
 use Rattle.disk_index.proofs.RankLemmas.{ranks-before, ranks-inside}
@@ -43,10 +43,10 @@ ranked_begin-last-requires g c =
     ranks-inside c.args.range c.args.self.now.dictionary c.ranks-ranks.result.now c.loop-rank.rank-index c.ranks-ranks.ensures.are c.loop-rank-test.true
 
 pub returns-in_err-block-clause-honest : goal.returns-in_err-block-clause-honest
-returns-in_err-block-clause-honest g c = λ docs b kept.
+returns-in_err-block-clause-honest g c = λ docs b intact kept.
     let same = c.loop-rank.invariant.quiet.same_files in
     let p = err_from_is_err_and c.from_residual-in_err-block.result c.from_residual-in_err-block.ensures.1 in
-    rw (p.1, p.2) (c.in_err-block.ensures.honest docs (subst (λ (f : Option Files). IsBacked f c.args.self.now docs) (sym same) b))
+    rw (p.1, p.2) (c.in_err-block.ensures.honest docs (subst (λ (f : Option Files). IsBacked f c.args.self.now docs) (sym same) b) (subst (λ (f : Option Files). IsIntact f c.args.self.now.number) (sym same) intact))
 
 pub returns-in_err-block-clause-fault : goal.returns-in_err-block-clause-fault
 returns-in_err-block-clause-fault g c = λ f told.
@@ -61,7 +61,7 @@ pub returns-in_err-block-clause-cache : goal.returns-in_err-block-clause-cache
 returns-in_err-block-clause-cache g c = λ e h. c.loop-rank.invariant.cache e (c.in_err-block.ensures.cache e h)
 
 pub returns-in_err-put-clause-honest : goal.returns-in_err-put-clause-honest
-returns-in_err-put-clause-honest g c = λ docs b kept.
+returns-in_err-put-clause-honest g c = λ docs b intact kept.
     let inv = c.loop-rank.invariant in
     let i = c.loop-rank.rank-index in
     let ks : List ℕ = c.ranks-ranks.result.now in

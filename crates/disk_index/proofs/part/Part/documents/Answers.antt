@@ -4,8 +4,8 @@ use Rattle.seg_codec.specs.Segment.{entry_of}
 use Rattle.seg_codec.specs.declared.documents.Entry.{Entry}
 use Rattle.disk_index.specs.Blocks.{of_range, told_file}
 use Rattle.disk_index.specs.Kept.{Kept}
-use Rattle.disk_index.specs.Parts.{AreRangeOf, IsPartBacked, IsRangeFaultOf, reads, source_of}
-use Rattle.disk_index.specs.Reads.{IsBacked, rebuilt}
+use Rattle.disk_index.specs.Parts.{AreRangeOf, IsPartBacked, IsPartIntact, IsRangeFaultOf, reads, source_of}
+use Rattle.disk_index.specs.Reads.{IsBacked, IsIntact, rebuilt}
 use Rattle.disk_index.specs.Together.{AreTogether, IsDocumentsFault}
 use Rattle.disk_index.specs.declared.part.Part.{Part}
 use Rattle.disk_index.proofs.RebuildLemmas.{map-range}
@@ -28,9 +28,9 @@ returns-in-Disk-clause-exact g c = λ part backed.
 pub returns-in-Disk-clause-honest : goal.returns-in-Disk-clause-honest
 returns-in-Disk-clause-honest g c = λ part backed.
     let told = g.T.Store.files c.args.store.now in
-    let b = subst (λ (p : Part). IsPartBacked told (source_of p)) c.in-Disk.is part in
-    let own : IsBacked told c.deref-in-Disk.result.now b.0 = subst (λ (k : Kept). IsBacked told k b.0) (sym c.deref-in-Disk.ensures) b.1 in
-    c.documents.ensures.honest b.0 own backed
+    let b = subst (λ (p : Part). IsPartIntact told (source_of p)) c.in-Disk.is part in
+    let own : IsBacked told c.deref-in-Disk.result.now b.0.0 = subst (λ (k : Kept). IsBacked told k b.0.0) (sym c.deref-in-Disk.ensures) b.0.1 in
+    c.documents.ensures.honest b.0.0 own (subst (λ (k : Kept). IsIntact told k.number) (sym c.deref-in-Disk.ensures) b.1) backed
 
 pub returns-in-Disk-clause-kept : goal.returns-in-Disk-clause-kept
 returns-in-Disk-clause-kept g c =

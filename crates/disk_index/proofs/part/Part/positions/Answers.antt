@@ -3,11 +3,11 @@ use Rattle.ri_base.specs.Collection.{document_at}
 use Rattle.ri_base.specs.Documents.{Document}
 use Rattle.ri_base.specs.Places.{places}
 use Rattle.disk_index.specs.Blocks.{told_file}
-use Rattle.disk_index.specs.Cache.{CacheKeeps}
+use Rattle.disk_index.specs.Cache.{CacheKeeps, IsBlockOf}
 use Rattle.disk_index.specs.Faults.{AreTold, IsTermFault}
 use Rattle.disk_index.specs.Kept.{Kept}
-use Rattle.disk_index.specs.Parts.{ArePlacesOf, IsFileOf, IsPartBacked, IsPartFault, reads, source_of}
-use Rattle.disk_index.specs.Reads.{IsBacked, rebuilt}
+use Rattle.disk_index.specs.Parts.{ArePlacesOf, IsFileOf, IsPartBacked, IsPartIntact, IsPartFault, reads, source_of}
+use Rattle.disk_index.specs.Reads.{IsBacked, IsIntact, rebuilt}
 use Rattle.disk_index.specs.declared.part.Part.{Part}
 use Rattle.disk_index.proofs.RebuiltLemmas.{reads-backed}
 use Rattle.disk_index.proofs.part.Part.positions.Goals as goal
@@ -16,7 +16,7 @@ pub returns-in-Disk-clause-cache : goal.returns-in-Disk-clause-cache
 returns-in-Disk-clause-cache g c =
     let told = g.T.Store.files c.args.store.now in
     subst (λ (p : Part). CacheKeeps told (IsFileOf (source_of p)) c.args.cache.now c.positions.new.cache) (sym c.in-Disk.is)
-    (subst (λ (k : Kept). CacheKeeps told (λ n. n ≡ k.number) c.args.cache.now c.positions.new.cache) c.deref-in-Disk.ensures c.positions.ensures.cache)
+    (subst (λ (k : Kept). CacheKeeps told (IsBlockOf k) c.args.cache.now c.positions.new.cache) c.deref-in-Disk.ensures c.positions.ensures.cache)
 
 pub returns-in-Disk-clause-below : goal.returns-in-Disk-clause-below
 returns-in-Disk-clause-below g c =
@@ -37,9 +37,9 @@ returns-in-Disk-clause-exact g c = λ part backed.
 pub returns-in-Disk-clause-honest : goal.returns-in-Disk-clause-honest
 returns-in-Disk-clause-honest g c = λ part backed.
     let told = g.T.Store.files c.args.store.now in
-    let b = subst (λ (p : Part). IsPartBacked told (source_of p)) c.in-Disk.is part in
-    let own : IsBacked told c.deref-in-Disk.result.now b.0 = subst (λ (k : Kept). IsBacked told k b.0) (sym c.deref-in-Disk.ensures) b.1 in
-    c.positions.ensures.honest b.0 own backed
+    let b = subst (λ (p : Part). IsPartIntact told (source_of p)) c.in-Disk.is part in
+    let own : IsBacked told c.deref-in-Disk.result.now b.0.0 = subst (λ (k : Kept). IsBacked told k b.0.0) (sym c.deref-in-Disk.ensures) b.0.1 in
+    c.positions.ensures.honest b.0.0 own (subst (λ (k : Kept). IsIntact told k.number) (sym c.deref-in-Disk.ensures) b.1) backed
 
 pub returns-in-Disk-clause-fault : goal.returns-in-Disk-clause-fault
 returns-in-Disk-clause-fault g c = λ f told.

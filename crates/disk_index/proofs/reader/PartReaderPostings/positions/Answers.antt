@@ -2,8 +2,9 @@ use Rattle.std.proofs.Common.{◌<◌, ap, sym, subst, refl, Option}
 use Rattle.std.proofs.lemmas.Result.{IfOk-weaker}
 use Rattle.store_ends.specs.Files.{Files}
 use Rattle.disk_index.specs.Cache.{IsCacheBacked}
-use Rattle.disk_index.specs.Parts.{IsFileOf, IsPartBacked, reads, source_of}
-use Rattle.disk_index.specs.QuietLaws.{IsCacheBacked-kept}
+use Rattle.disk_index.specs.Parts.{IsPartBacked, IsPartIntact, reads, source_of}
+use Rattle.disk_index.specs.QuietLaws.{IsPartIntact-backed}
+use Rattle.disk_index.proofs.BackedLemmas.{IsCacheBacked-kept}
 use Rattle.disk_index.proofs.ReadableLemmas.{IsReadableOf-places}
 use Rattle.disk_index.proofs.RebuiltLemmas.{reads-length}
 use Rattle.disk_index.proofs.reader.PartReaderPostings.positions.Goals as goal
@@ -19,7 +20,9 @@ returns-clause-keeps g c =
       documents_stay = ap (λ (f : Option Files). reads f part) quiet.same_files;
       no_fault_lost = c.positions.ensures.later;
       sound_stays = λ s. subst (λ (f : Option Files). IsPartBacked f part × IsCacheBacked f c.positions.new.cache) (sym quiet.same_files)
-          (s.0, IsCacheBacked-kept _ (IsFileOf part) c.args.self.now.cache.now c.positions.new.cache c.positions.ensures.cache s.1);
+          (s.0, IsCacheBacked-kept _ part c.args.self.now.cache.now c.positions.new.cache s.0 c.positions.ensures.cache s.1);
+      intact_stays = λ s. subst (λ (f : Option Files). IsPartIntact f part × IsCacheBacked f c.positions.new.cache) (sym quiet.same_files)
+          (s.0, IsCacheBacked-kept _ part c.args.self.now.cache.now c.positions.new.cache (IsPartIntact-backed _ part s.0) c.positions.ensures.cache s.1);
       stays_quiet = record { same_part = refl; same_store = refl; same_cache = refl; store = quiet; no_fault_lost = c.positions.ensures.later; cache = c.positions.ensures.cache };
     }
 

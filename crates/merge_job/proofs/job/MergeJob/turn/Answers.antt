@@ -5,7 +5,7 @@ use Rattle.ri_base.specs.declared.limits.TheConstants.{MAX_HELD_TOKENS}
 use Rattle.store_ends.specs.Files.{Files}
 use Rattle.disk_index.specs.Cache.{IsCacheBacked}
 use Rattle.disk_index.specs.Parts.{reads}
-use Rattle.disk_index.specs.Snapshots.{AreBacked, IsFileAmong, Marked, live}
+use Rattle.disk_index.specs.Snapshots.{AreBacked, AreIntact, IsFileAmong, Marked, live}
 use Rattle.merge_job.specs.Merge.{AreTaken, Merging, size_of}
 use Rattle.merge_job.specs.Walk.{entries, rest, tokens_of}
 use Rattle.merge_job.proofs.JobLemmas.{job-lengths, job-tokens, taken-on}
@@ -69,9 +69,10 @@ pub returns-clause-taken : goal.returns-clause-taken
 returns-clause-taken g c = taken-now g (goal.at.returns-clause-taken g c).After-copy
 
 pub returns-in_err-copy-clause-honest : goal.returns-in_err-copy-clause-honest
-returns-in_err-copy-clause-honest g c = λ backed cached.
+returns-in_err-copy-clause-honest g c = λ intact cached.
     let p = err_from_is_err_and c.from_residual.result c.from_residual.ensures.1 in
-    rw (p.1, p.2) (c.in_err-copy.ensures.honest (under g (goal.at.returns-in_err-copy-clause-honest g c).After-copy backed) cached)
+    let told = g.T.Store.files c.args.store.now in
+    rw (p.1, p.2) (c.in_err-copy.ensures.honest (subst (AreIntact told) (sym (c.parts.ensures.parts ∙ ap (λ (j : Merging). j.snapshot) c.self.view_is)) intact) cached)
 
 pub returns-in_err-copy-clause-cache : goal.returns-in_err-copy-clause-cache
 returns-in_err-copy-clause-cache g c = all-kept (g.T.Store.files c.args.store.now) (IsFileAmong c.args.self.now.snapshot) c.args.cache.now c.copy.new.cache c.copy.ensures.cache

@@ -1,7 +1,7 @@
 use Rattle.std.proofs.Common.{◌≡◌, List, IfOk, ap, sym, subst, ◌∙◌}
 use Rattle.std.specs.List.{All}
 use Rattle.ri_base.specs.Documents.{Document}
-use Rattle.disk_index.specs.Cache.{CacheKeeps}
+use Rattle.disk_index.specs.Cache.{CacheKeeps, IsBlockOf}
 use Rattle.disk_index.specs.Faults.{IsTermReadable}
 use Rattle.disk_index.specs.Kept.{Kept}
 use Rattle.disk_index.specs.Parts.{IsFileOf, IsPartBacked, IsReadableIn, reads, source_of}
@@ -32,7 +32,7 @@ pub returns-in-Disk-clause-cache : goal.returns-in-Disk-clause-cache
 returns-in-Disk-clause-cache g c =
     let told = g.T.Store.files c.args.store.now in
     subst (λ (p : Part). CacheKeeps told (IsFileOf (source_of p)) c.args.cache.now c.open_on_disk.new.cache) (sym c.in-Disk.is)
-    (subst (λ (k : Kept). CacheKeeps told (λ n. n ≡ k.number) c.args.cache.now c.open_on_disk.new.cache) c.deref.ensures c.open_on_disk.ensures.cache)
+    (subst (λ (k : Kept). CacheKeeps told (IsBlockOf k) c.args.cache.now c.open_on_disk.new.cache) c.deref.ensures c.open_on_disk.ensures.cache)
 
 pub returns-in-Memory-clause-told : goal.returns-in-Memory-clause-told
 returns-in-Memory-clause-told g c =

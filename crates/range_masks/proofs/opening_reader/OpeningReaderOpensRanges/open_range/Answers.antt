@@ -2,8 +2,9 @@ use Rattle.std.proofs.Common.{◌≡◌, ◌/◌, ◌⊎◌, ℕ, inr, ap, sym, 
 use Rattle.std.proofs.lemmas.List.Elements.{All-weaker}
 use Rattle.store_ends.specs.Files.{Files}
 use Rattle.disk_index.specs.Cache.{IsCacheBacked}
-use Rattle.disk_index.specs.Parts.{IsFileOf, IsPartBacked, IsReadableIn, IsReadableOf, reads, source_of}
-use Rattle.disk_index.specs.QuietLaws.{IsCacheBacked-kept}
+use Rattle.disk_index.specs.Parts.{IsPartBacked, IsPartIntact, IsReadableIn, IsReadableOf, reads, source_of}
+use Rattle.disk_index.specs.QuietLaws.{IsPartIntact-backed}
+use Rattle.disk_index.proofs.BackedLemmas.{IsCacheBacked-kept}
 use Rattle.range_masks.specs.Held.{AreAnswersOf, IsAnswered}
 use Rattle.range_masks.proofs.ToldLemmas.{readable-each}
 use Rattle.range_masks.proofs.opening_reader.OpeningReaderOpensRanges.open_range.Goals as goal
@@ -16,7 +17,9 @@ returns-clause-keeps g c =
       documents_stay = ap (λ (f : Option Files). reads f part) quiet.same_files;
       no_fault_lost = c.open.ensures.later;
       sound_stays = λ s. subst (λ (f : Option Files). IsPartBacked f part × IsCacheBacked f c.open.new.cache × AreAnswersOf (reads f part) c.in_ok-opened.opened) (sym quiet.same_files)
-          (s.0, IsCacheBacked-kept _ (IsFileOf part) c.args.self.now.cache.now c.open.new.cache c.open.ensures.cache s.1, c.in_ok-opened.ensures.answers s.0 s.1);
+          (s.0, IsCacheBacked-kept _ part c.args.self.now.cache.now c.open.new.cache s.0 c.open.ensures.cache s.1, c.in_ok-opened.ensures.answers s.0 s.1);
+      intact_stays = λ s. subst (λ (f : Option Files). IsPartIntact f part × IsCacheBacked f c.open.new.cache × AreAnswersOf (reads f part) c.in_ok-opened.opened) (sym quiet.same_files)
+          (s.0, IsCacheBacked-kept _ part c.args.self.now.cache.now c.open.new.cache (IsPartIntact-backed _ part s.0) c.open.ensures.cache s.1, c.in_ok-opened.ensures.answers (IsPartIntact-backed _ part s.0) s.1);
       stays_quiet = (record { same_part = refl; same_store = refl; same_cache = refl; store = quiet; no_fault_lost = c.open.ensures.later; cache = c.open.ensures.cache }, refl);
     }
 
@@ -28,7 +31,9 @@ returns-in_err-opened-clause-keeps g c =
       documents_stay = ap (λ (f : Option Files). reads f part) quiet.same_files;
       no_fault_lost = c.open.ensures.later;
       sound_stays = λ s. subst (λ (f : Option Files). IsPartBacked f part × IsCacheBacked f c.open.new.cache × AreAnswersOf (reads f part) c.args.self.now.held.now) (sym quiet.same_files)
-          (s.0, IsCacheBacked-kept _ (IsFileOf part) c.args.self.now.cache.now c.open.new.cache c.open.ensures.cache s.1, s.2);
+          (s.0, IsCacheBacked-kept _ part c.args.self.now.cache.now c.open.new.cache s.0 c.open.ensures.cache s.1, s.2);
+      intact_stays = λ s. subst (λ (f : Option Files). IsPartIntact f part × IsCacheBacked f c.open.new.cache × AreAnswersOf (reads f part) c.args.self.now.held.now) (sym quiet.same_files)
+          (s.0, IsCacheBacked-kept _ part c.args.self.now.cache.now c.open.new.cache (IsPartIntact-backed _ part s.0) c.open.ensures.cache s.1, s.2);
       stays_quiet = (record { same_part = refl; same_store = refl; same_cache = refl; store = quiet; no_fault_lost = c.open.ensures.later; cache = c.open.ensures.cache }, refl);
     }
 

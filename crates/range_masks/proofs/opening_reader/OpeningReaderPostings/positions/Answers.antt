@@ -8,8 +8,9 @@ use Rattle.store_ends.specs.Files.{Files}
 use Rattle.seg_codec.specs.Blocks.{tokens_of}
 use Rattle.disk_index.specs.Cache.{IsCacheBacked}
 use Rattle.disk_index.specs.Faults.{ArePlacesIn}
-use Rattle.disk_index.specs.Parts.{IsFileOf, IsPartBacked, outlines_of, reads, source_of}
-use Rattle.disk_index.specs.QuietLaws.{IsCacheBacked-kept}
+use Rattle.disk_index.specs.Parts.{IsPartBacked, IsPartIntact, outlines_of, reads, source_of}
+use Rattle.disk_index.specs.QuietLaws.{IsPartIntact-backed}
+use Rattle.disk_index.proofs.BackedLemmas.{IsCacheBacked-kept}
 use Rattle.disk_index.proofs.ReadableLemmas.{IsReadableOf-places}
 use Rattle.disk_index.proofs.RebuiltLemmas.{reads-length}
 use Rattle.range_masks.specs.Held.{AreAnswersOf, answer}
@@ -49,7 +50,9 @@ returns-in-None-clause-keeps g c =
       documents_stay = ap (λ (f : Option Files). reads f part) quiet.same_files;
       no_fault_lost = c.positions.ensures.later;
       sound_stays = λ s. subst (λ (f : Option Files). IsPartBacked f part × IsCacheBacked f c.positions.new.cache × AreAnswersOf (reads f part) c.args.self.now.held.now) (sym quiet.same_files)
-          (s.0, IsCacheBacked-kept _ (IsFileOf part) c.args.self.now.cache.now c.positions.new.cache c.positions.ensures.cache s.1, s.2);
+          (s.0, IsCacheBacked-kept _ part c.args.self.now.cache.now c.positions.new.cache s.0 c.positions.ensures.cache s.1, s.2);
+      intact_stays = λ s. subst (λ (f : Option Files). IsPartIntact f part × IsCacheBacked f c.positions.new.cache × AreAnswersOf (reads f part) c.args.self.now.held.now) (sym quiet.same_files)
+          (s.0, IsCacheBacked-kept _ part c.args.self.now.cache.now c.positions.new.cache (IsPartIntact-backed _ part s.0) c.positions.ensures.cache s.1, s.2);
       stays_quiet = (record { same_part = refl; same_store = refl; same_cache = refl; store = quiet; no_fault_lost = c.positions.ensures.later; cache = c.positions.ensures.cache }, refl, refl);
     }
 

@@ -2,8 +2,9 @@ use Rattle.std.proofs.Common.{◌≡◌, ◌/◌, ◌⊎◌, ℕ, Some, IfSome, 
 use Rattle.std.proofs.lemmas.Result.{IfOk-weaker}
 use Rattle.store_ends.specs.Files.{Files}
 use Rattle.disk_index.specs.Cache.{IsCacheBacked}
-use Rattle.disk_index.specs.Parts.{IsFileOf, IsPartBacked, IsReadableIn, IsReadableOf, reads, source_of}
-use Rattle.disk_index.specs.QuietLaws.{IsCacheBacked-kept}
+use Rattle.disk_index.specs.Parts.{IsPartBacked, IsPartIntact, IsReadableIn, IsReadableOf, reads, source_of}
+use Rattle.disk_index.specs.QuietLaws.{IsPartIntact-backed}
+use Rattle.disk_index.proofs.BackedLemmas.{IsCacheBacked-kept}
 use Rattle.range_masks.specs.Held.{AreAnswersOf, IsAnswered, most_answer}
 use Rattle.range_masks.specs.Most.{most_places}
 use Rattle.range_masks.proofs.ToldLemmas.{answered-most, readable-each}
@@ -23,7 +24,9 @@ returns-in-None-clause-keeps g c =
       documents_stay = ap (λ (f : Option Files). reads f part) quiet.same_files;
       no_fault_lost = c.most_in_part.ensures.later;
       sound_stays = λ s. subst (λ (f : Option Files). IsPartBacked f part × IsCacheBacked f c.most_in_part.new.cache × AreAnswersOf (reads f part) c.args.self.now.held.now) (sym quiet.same_files)
-          (s.0, IsCacheBacked-kept _ (IsFileOf part) c.args.self.now.cache.now c.most_in_part.new.cache c.most_in_part.ensures.cache s.1, s.2);
+          (s.0, IsCacheBacked-kept _ part c.args.self.now.cache.now c.most_in_part.new.cache s.0 c.most_in_part.ensures.cache s.1, s.2);
+      intact_stays = λ s. subst (λ (f : Option Files). IsPartIntact f part × IsCacheBacked f c.most_in_part.new.cache × AreAnswersOf (reads f part) c.args.self.now.held.now) (sym quiet.same_files)
+          (s.0, IsCacheBacked-kept _ part c.args.self.now.cache.now c.most_in_part.new.cache (IsPartIntact-backed _ part s.0) c.most_in_part.ensures.cache s.1, s.2);
       stays_quiet = (record { same_part = refl; same_store = refl; same_cache = refl; store = quiet; no_fault_lost = c.most_in_part.ensures.later; cache = c.most_in_part.ensures.cache }, refl, refl);
     }
 

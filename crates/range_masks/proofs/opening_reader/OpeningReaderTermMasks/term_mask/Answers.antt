@@ -4,8 +4,9 @@ use Rattle.std.specs.Option.{option_map}
 use Rattle.std.proofs.lemmas.Result.{IfOk-weaker}
 use Rattle.store_ends.specs.Files.{Files}
 use Rattle.disk_index.specs.Cache.{IsCacheBacked}
-use Rattle.disk_index.specs.Parts.{IsFileOf, IsPartBacked, IsReadableIn, IsReadableOf, reads, source_of}
-use Rattle.disk_index.specs.QuietLaws.{IsCacheBacked-kept}
+use Rattle.disk_index.specs.Parts.{IsPartBacked, IsPartIntact, IsReadableIn, IsReadableOf, reads, source_of}
+use Rattle.disk_index.specs.QuietLaws.{IsPartIntact-backed}
+use Rattle.disk_index.proofs.BackedLemmas.{IsCacheBacked-kept}
 use Rattle.range_masks.specs.Held.{AreAnswersOf, IsAnswered}
 use Rattle.range_masks.proofs.HeldLemmas.{mask-told}
 use Rattle.range_masks.proofs.ToldLemmas.{answered-mask, readable-each}
@@ -26,7 +27,9 @@ returns-in-None-clause-keeps g c =
       documents_stay = ap (λ (f : Option Files). reads f part) quiet.same_files;
       no_fault_lost = c.mask_in_part.ensures.later;
       sound_stays = λ s. subst (λ (f : Option Files). IsPartBacked f part × IsCacheBacked f c.mask_in_part.new.cache × AreAnswersOf (reads f part) c.args.self.now.held.now) (sym quiet.same_files)
-          (s.0, IsCacheBacked-kept _ (IsFileOf part) c.args.self.now.cache.now c.mask_in_part.new.cache c.mask_in_part.ensures.cache s.1, s.2);
+          (s.0, IsCacheBacked-kept _ part c.args.self.now.cache.now c.mask_in_part.new.cache s.0 c.mask_in_part.ensures.cache s.1, s.2);
+      intact_stays = λ s. subst (λ (f : Option Files). IsPartIntact f part × IsCacheBacked f c.mask_in_part.new.cache × AreAnswersOf (reads f part) c.args.self.now.held.now) (sym quiet.same_files)
+          (s.0, IsCacheBacked-kept _ part c.args.self.now.cache.now c.mask_in_part.new.cache (IsPartIntact-backed _ part s.0) c.mask_in_part.ensures.cache s.1, s.2);
       stays_quiet = (record { same_part = refl; same_store = refl; same_cache = refl; store = quiet; no_fault_lost = c.mask_in_part.ensures.later; cache = c.mask_in_part.ensures.cache }, refl, refl);
     }
 

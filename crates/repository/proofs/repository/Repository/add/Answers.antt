@@ -1,10 +1,10 @@
 use Rattle.std.proofs.Common.{IfSome, subst, sym}
 use Rattle.holdings.specs.Contents.{added}
 use Rattle.repository.specs.Merges.{IsOpenMerging}
-use Rattle.repository.specs.States.{IsBacked, IsNumbered, State}
+use Rattle.repository.specs.States.{IsBacked, IsNumbered, IsStateIntact, State}
 use Rattle.repository.specs.Ties.{IsTied}
 use Rattle.repository.proofs.KeepLemmas.{merging-added}
-use Rattle.repository.proofs.StepLemmas.{backed-added, held-call, numbered-added}
+use Rattle.repository.proofs.StepLemmas.{backed-added, held-call, intact-added, numbered-added}
 use Rattle.repository.proofs.TieLemmas.{IfSome-map, tied-added}
 use Rattle.repository.proofs.Views.{seen}
 use Rattle.repository.proofs.repository.Repository.add.Goals as goal
@@ -25,3 +25,8 @@ pub returns-clause-merging : goal.returns-clause-merging
 returns-clause-merging c = λ told open_now.
     let view = seen c.self.view_is in
     held-call (IsOpenMerging told) view c.add.result c.add.new.self (added view.held c.args.doc.now) c.add.ensures.added c.add.ensures.kept (merging-added told view c.args.doc.now) (subst (λ (x : State). IsOpenMerging told x) (sym c.self.view_is) open_now)
+
+pub returns-clause-intact : goal.returns-clause-intact
+returns-clause-intact c = λ told intact.
+    let view = seen c.self.view_is in
+    held-call (IsStateIntact told) view c.add.result c.add.new.self (added view.held c.args.doc.now) c.add.ensures.added c.add.ensures.kept (intact-added told view c.args.doc.now) (subst (λ (x : State). IsStateIntact told x) (sym c.self.view_is) intact)

@@ -1,10 +1,10 @@
 use Rattle.std.proofs.Common.{IfSome, subst, sym}
 use Rattle.repository.specs.Merges.{IsOpenMerging}
-use Rattle.repository.specs.States.{IsBacked, IsNumbered, ReadsAs, State}
+use Rattle.repository.specs.States.{IsBacked, IsNumbered, IsStateIntact, ReadsAs, State}
 use Rattle.repository.specs.Ties.{IsTied}
 use Rattle.repository.proofs.BeginLemmas.{backed-begun, begun-is, numbered-begun, reads-begun, tied-begun}
 use Rattle.repository.proofs.KeepLemmas.{merging-begun}
-use Rattle.repository.proofs.StepLemmas.{backed-closed, closed-call, reads-closed}
+use Rattle.repository.proofs.StepLemmas.{backed-closed, closed-call, intact-closed, reads-closed}
 use Rattle.repository.proofs.TieLemmas.{kept-closed}
 use Rattle.repository.proofs.Views.{seen}
 use Rattle.repository.proofs.repository.Repository.begin_merge.Goals as goal
@@ -58,3 +58,23 @@ returns-clause-backed c = λ told backed.
     let view = seen c.self.view_is in
     let is = begun-is view c.limits.result c.in_ok-snapshot.ensures.closed c.in_ok-job.ensures c.in_ok-snapshot.ensures.parts c.limits.ensures in
     subst (λ (x : State). IsBacked told x) (sym is) (backed-begun told view (subst (λ (x : State). IsBacked told x) (sym c.self.view_is) backed))
+
+-- ---- files that are read as they were put
+
+pub returns-in_err-snapshot-clause-intact : goal.returns-in_err-snapshot-clause-intact
+returns-in_err-snapshot-clause-intact c = λ told intact.
+    let view = seen c.self.view_is in
+    let inside : IsStateIntact told view = subst (λ (x : State). IsStateIntact told x) (sym c.self.view_is) intact in
+    closed-call (IsStateIntact told) view c.snapshot.result c.snapshot.new.self c.snapshot.ensures.closed c.snapshot.ensures.left inside (intact-closed told view inside)
+
+pub returns-in_err-job-clause-intact : goal.returns-in_err-job-clause-intact
+returns-in_err-job-clause-intact c = λ told intact.
+    let view = seen c.self.view_is in
+    let inside : IsStateIntact told view = subst (λ (x : State). IsStateIntact told x) (sym c.self.view_is) intact in
+    closed-call (IsStateIntact told) view c.snapshot.result c.snapshot.new.self c.snapshot.ensures.closed c.snapshot.ensures.left inside (intact-closed told view inside)
+
+pub returns-clause-intact : goal.returns-clause-intact
+returns-clause-intact c = λ told intact.
+    let view = seen c.self.view_is in
+    let is = begun-is view c.limits.result c.in_ok-snapshot.ensures.closed c.in_ok-job.ensures c.in_ok-snapshot.ensures.parts c.limits.ensures in
+    subst (λ (x : State). IsStateIntact told x) (sym is) (intact-closed told view (subst (λ (x : State). IsStateIntact told x) (sym c.self.view_is) intact))

@@ -8,7 +8,7 @@ use Rattle.repository.specs.Stands.{Collection, Stands}
 use Rattle.repository.specs.States.{ReadsAs, listed_numbers}
 use Rattle.repository.specs.Writes.{IsBeside, IsEither}
 use Rattle.repository.proofs.StayLemmas.{snapshot-stays}
-use Rattle.repository.proofs.TurnLemmas.{done-over, merged-to, merging-turned, open-merging, quiet-leaves, quiet-same, some-fault, stays-behind, stops-behind}
+use Rattle.repository.proofs.TurnLemmas.{done-over, merged-to, merging-turned, open-merging, quiet-leaves, quiet-same, some-fault, some-intact, stays-behind, stays-same, stops-behind, tied-intact}
 use Rattle.repository.proofs.repository.Repository.merge_turn.Given as given
 use Rattle.repository.proofs.repository.Repository.merge_turn.Goals as goal
 use Rattle.repository.proofs.repository.Repository.merge_turn.Goals.{After-end_merge}
@@ -24,6 +24,17 @@ returns-in-Err-clause-stops g c k d open_now cached stands read =
 pub returns-in-Err-clause-fault : goal.returns-in-Err-clause-fault
 returns-in-Err-clause-fault g c f told =
     some-fault f c.args.cache.now c.args.self.now.merge c.take_merge-job.result c.in-Err.fault c.take_merge-job.ensures.taken (inr (c.in-Err.ensures.fault f told))
+
+pub returns-in-Err-clause-honest : goal.returns-in-Err-clause-honest
+returns-in-Err-clause-honest g c intact cached =
+    c.in-Err.ensures.honest (some-intact (g.T.Store.files c.args.store.now) c.args.self.now.merge c.take_merge-job.result c.take_merge-job.ensures.taken intact) cached
+
+pub returns-in-Err-clause-honest_held : goal.returns-in-Err-clause-honest_held
+returns-in-Err-clause-honest_held g c intact cached =
+    c.in-Err.ensures.honest (tied-intact (g.T.Store.files c.args.store.now) c.args.self.now c.take_merge-job.result c.take_merge-job.ensures.tied intact) cached
+
+pub returns-in-Err-clause-snapshots : goal.returns-in-Err-clause-snapshots
+returns-in-Err-clause-snapshots g c ms listed backed = stays-same (g.T.Store.files c.args.store.now) (g.T.Store.files c.turn.new.store) ms c.turn.ensures.quiet.same_files backed
 
 -- the end of the merge stays within these, whatever it answers
 snapshots : (g : given.Over) (c : After-end_merge g) (ms : List Marked) → AreListed c.args.self.now ms → AreBacked (g.T.Store.files c.args.store.now) ms

@@ -3,23 +3,24 @@ use Rattle.std.specs.List.{AllZip}
 use Rattle.std.proofs.lemmas.Result.{err_from_is_err_and}
 use Rattle.store_ends.specs.Files.{Files}
 use Rattle.repository.specs.Opening.{IsRepositoryOpened}
-use Rattle.repository.specs.Stands.{HasManifest, IsListed}
+use Rattle.repository.specs.Stands.{IsListed, IsManifestRead}
+use Rattle.repository.proofs.ManifestLemmas.{manifest-read}
 use Rattle.repository.proofs.OpenLemmas.{backed-opened, found-held, found-listed, none-there, opening-fault, reads-opened}
 use Rattle.repository.proofs.repository.Repository.open.Given as given
 use Rattle.repository.proofs.repository.Repository.open.Goals as goal
 use Rattle.repository.proofs.repository.Repository.open.Goals.{In-Some}
 
 -- the manifest that was found stays there
-has : (g : given.Over) (c : In-Some g) (f : Files) → g.T.Store.files c.args.store.now ≡ Some f → HasManifest (g.T.Store.files c.args.store.now) c.in-Some.list
+has : (g : given.Over) (c : In-Some g) (f : Files) → g.T.Store.files c.args.store.now ≡ Some f → IsManifestRead (g.T.Store.files c.args.store.now) c.in-Some.list
 has g c f is = rw c.in-Some.is at (c.in_ok-find_manifest.ensures.found f is)
 
-there : (g : given.Over) (c : In-Some g) (f : Files) → g.T.Store.files c.args.store.now ≡ Some f → HasManifest (g.T.Store.files c.find_manifest.new.store) c.in-Some.list
-there g c f is = subst (λ (o : Option Files). HasManifest o c.in-Some.list) (sym c.find_manifest.ensures.quiet.same_files) (has g c f is)
+there : (g : given.Over) (c : In-Some g) (f : Files) → g.T.Store.files c.args.store.now ≡ Some f → IsManifestRead (g.T.Store.files c.find_manifest.new.store) c.in-Some.list
+there g c f is = subst (λ (o : Option Files). IsManifestRead o c.in-Some.list) (sym c.find_manifest.ensures.quiet.same_files) (has g c f is)
 
 pub returns-in_err-find_manifest-clause-honest : goal.returns-in_err-find_manifest-clause-honest
 returns-in_err-find_manifest-clause-honest g c = λ col stands.
     let p = err_from_is_err_and c.from_residual.result c.from_residual.ensures.1 in
-    rw (p.1, p.2) (c.in_err-find_manifest.ensures.honest stands.list stands.has)
+    rw (p.1, p.2) (c.in_err-find_manifest.ensures.honest stands.list (manifest-read (g.T.Store.files c.args.store.now) stands.list stands.has))
 
 pub returns-in_err-of_manifest-in-Some-clause-honest : goal.returns-in_err-of_manifest-in-Some-clause-honest
 returns-in_err-of_manifest-in-Some-clause-honest g c = λ col stands.

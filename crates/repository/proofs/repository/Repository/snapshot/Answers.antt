@@ -1,8 +1,8 @@
 use Rattle.std.proofs.Common.{subst, sym}
 use Rattle.repository.specs.Merges.{IsOpenMerging}
-use Rattle.repository.specs.States.{IsBacked, ReadsAs, State}
+use Rattle.repository.specs.States.{IsBacked, IsStateIntact, ReadsAs, State}
 use Rattle.repository.proofs.KeepLemmas.{merging-closed}
-use Rattle.repository.proofs.StepLemmas.{backed-closed, closed-call, reads-closed}
+use Rattle.repository.proofs.StepLemmas.{backed-closed, closed-call, intact-closed, reads-closed}
 use Rattle.repository.proofs.TieLemmas.{kept-closed}
 use Rattle.repository.proofs.Views.{seen}
 use Rattle.repository.proofs.repository.Repository.snapshot.Goals as goal
@@ -27,3 +27,9 @@ returns-clause-merging c = λ told open_now.
     let view = seen c.self.view_is in
     let inside : IsOpenMerging told view = subst (λ (x : State). IsOpenMerging told x) (sym c.self.view_is) open_now in
     closed-call (IsOpenMerging told) view c.snapshot.result c.snapshot.new.self c.snapshot.ensures.closed c.snapshot.ensures.left inside (merging-closed told view inside)
+
+pub returns-clause-intact : goal.returns-clause-intact
+returns-clause-intact c = λ told intact.
+    let view = seen c.self.view_is in
+    let inside : IsStateIntact told view = subst (λ (x : State). IsStateIntact told x) (sym c.self.view_is) intact in
+    closed-call (IsStateIntact told) view c.snapshot.result c.snapshot.new.self c.snapshot.ensures.closed c.snapshot.ensures.left inside (intact-closed told view inside)

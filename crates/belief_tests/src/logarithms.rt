@@ -4,7 +4,6 @@ ghost use Rattle.std.specs.Prelude.{◌≡◌, ◌<◌};
 use log_chain::{FIRST, LAST, LogChain, MAX_LEVEL};
 use ri_base::{Fraction, Steps};
 use std::marker::Brand;
-use std::process::Abort;
 use std::sync::ledger::{Blank, Ledger};
 
 fn digits_at<L: Ledger>(f: Fraction, level: u32, squares: &mut Steps<L>) -> u128 {
@@ -17,30 +16,46 @@ fn digits_at<L: Ledger>(f: Fraction, level: u32, squares: &mut Steps<L>) -> u128
     chain.digits()
 }
 
-fn assert_logarithms<L: Ledger>(rt: &impl Abort, blank: Blank)
+/// Whether these are the digits at four levels. At the last a few are one less than the whole part.
+fn are_digits<L: Ledger>(f: Fraction, case: &Case, squares: &mut Steps<L>) -> bool {
+    let (_, _, whole, first, last, most) = *case;
+    let digits = digits_at(f, MAX_LEVEL, squares);
+    digits_at(f, 0, squares) == whole
+        && digits_at(f, FIRST, squares) == first
+        && digits_at(f, LAST, squares) == last
+        && digits <= most
+        && most - digits <= 1
+}
+
+/// Whether they are the digits of this fraction.
+fn is_right<L: Ledger>(case: &Case, squares: &mut Steps<L>) -> bool {
+    match Fraction::new(case.0, case.1) {
+        Ok(f) => are_digits(f, case, squares),
+        Err(_) => false,
+    }
+}
+
+/// The first case that is wrong, if there is one.
+fn first_wrong<L: Ledger>(blank: Blank) -> Option<usize>
     requires name { blank.name ≡ L.name }
     requires parts { blank.parts ≡ L.parts }
     requires some { 0 < blank.parts }
 {
     let mut squares = Steps::<L>::new(blank);
-    for (p, q, whole, first, last, most) in &LOGARITHMS {
-        let f = Fraction::new(*p, *q).expect(rt, "a fraction");
-        assert_eq!(rt; digits_at(f, 0, &mut squares), *whole, "{p} / {q}");
-        assert_eq!(rt; digits_at(f, FIRST, &mut squares), *first, "{p} / {q}");
-        assert_eq!(rt; digits_at(f, LAST, &mut squares), *last, "{p} / {q}");
-        // here a few are one less than the whole part
-        let digits = digits_at(f, MAX_LEVEL, &mut squares);
-        assert!(rt; digits <= *most && *most - digits <= 1, "{p} / {q}");
-    }
+    LOGARITHMS
+        .iter()
+        .position(|case| !is_right(case, &mut squares))
 }
 
 #[test]
 fn logarithms(rt: HostRuntime) {
-    assert_logarithms::<Brand>(&rt, Blank::new(1));
+    assert_eq!(rt; first_wrong::<Brand>(Blank::new(1)), None);
 }
 
-// p, q, and the whole part of log2(q / p) * 2^k at the levels k = 0, 12, 40 and 60
-static LOGARITHMS: [(u64, u64, u128, u128, u128, u128); 50] = [
+/// p, q, and the whole part of log2(q / p) * 2^k at the levels k = 0, 12, 40 and 60.
+type Case = (u64, u64, u128, u128, u128, u128);
+
+static LOGARITHMS: [Case; 50] = [
     (1, 1, 0, 0, 0, 0),
     (1, 2, 1, 4096, 1099511627776, 1152921504606846976),
     (1, 3, 1, 6492, 1742684699131, 1827337351076866169),

@@ -1,6 +1,6 @@
 // Scores that were worked out by hand. A key is that of the beliefs' logarithms in 40 binary places.
 use ranked_output::score_text;
-use std::test::Fail;
+use std::alloc::Global;
 
 /// Keys, scales and the texts of their scores.
 static SCORES: [(u128, u64, &str); 5] = [
@@ -11,13 +11,20 @@ static SCORES: [(u128, u64, &str); 5] = [
     ((((1 << 60) - 1) << 40) - 1, (1 << 60) - 1, "0.999999"),
 ];
 
-#[test]
-fn scores(rt: HostRuntime) -> Result<(), Fail> {
-    for (key, scale, text) in &SCORES {
-        let scale = *scale;
-        assert!(rt; 0 < scale && scale < 1 << 60);
-        let score = score_text(rt.alloc(), *key, scale)?;
-        assert_eq!(rt; score.as_slice(), text.as_bytes());
+/// Whether this is the text of a score.
+fn is_text(alloc: Global, key: u128, scale: u64, wanted: &str) -> bool {
+    if scale == 0 || scale >= 1 << 60 {
+        return false;
     }
-    Ok(())
+    match score_text(alloc, key, scale) {
+        Ok(text) => text.as_slice() == wanted.as_bytes(),
+        Err(_) => false,
+    }
+}
+
+#[test]
+fn scores(rt: HostRuntime) {
+    for (key, scale, text) in &SCORES {
+        assert!(rt; is_text(rt.alloc(), *key, *scale, text), "{text}");
+    }
 }

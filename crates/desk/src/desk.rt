@@ -30,11 +30,18 @@ use std::alloc::Global;
 use store_ends::Store;
 
 /// A desk over a repository, with its rule.
-#[derive(Drop)]
 pub struct Desk<F> {
     rule: Rule<F>,
     kept: Kept,
     ghost same_kind: { kept.kind ≡ rule.kind },
+}
+
+impl<F: Drop> Drop for Desk<F> {
+    fn drop(self) {
+        let Desk { rule, kept } = self;
+        drop(rule);
+        drop(kept);
+    }
 }
 
 impl<F: Fn(u32, u32, u64, u64) -> Fraction> Desk<F> {

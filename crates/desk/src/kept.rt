@@ -86,7 +86,6 @@ fn turned_reply(turned: Turned, live: u64) -> Reply
 }
 
 /// A repository with the open queries of a desk, the sums and blocks that are kept, and which rule it has.
-#[derive(Drop)]
 pub(crate) struct Kept {
     repository: Repository,
     kind: RuleKind,
@@ -94,6 +93,23 @@ pub(crate) struct Kept {
     counts: Counts,
     cache: BlockCache,
     usable: bool,
+}
+
+impl Drop for Kept {
+    fn drop(self) {
+        let Kept {
+            repository,
+            queries,
+            counts,
+            cache,
+            kind: _,
+            usable: _,
+        } = self;
+        drop(repository);
+        drop(queries);
+        drop(counts);
+        drop(cache);
+    }
 }
 
 impl Model for Kept {

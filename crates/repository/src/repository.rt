@@ -46,7 +46,6 @@ use std::marker::Model;
 use store_ends::Store;
 
 /// Documents that stay in the files of a store, seen as what is held of them in memory, with the files that the manifest lists.
-#[derive(Drop)]
 pub struct Repository {
     held: Holdings,
     next: u64,
@@ -54,6 +53,23 @@ pub struct Repository {
     priors: Vec<PriorEntry>,
     merge: Option<MergeJob>,
     usable: bool,
+}
+
+impl Drop for Repository {
+    fn drop(self) {
+        let Repository {
+            held,
+            stale,
+            priors,
+            merge,
+            next: _,
+            usable: _,
+        } = self;
+        drop(held);
+        drop(stale);
+        drop(priors);
+        drop(merge);
+    }
 }
 
 impl Model for Repository {

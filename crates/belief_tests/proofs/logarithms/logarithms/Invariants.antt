@@ -1,4 +1,4 @@
 use Rattle.belief_tests.proofs.logarithms.logarithms.Given as goal
 
-abbrev pub ghosts-assert_logarithms : goal.ghosts-assert_logarithms
-ghosts-assert_logarithms g a = record { name = a.blank.name; parts = a.blank.parts }
+abbrev pub ghosts-first_wrong : goal.ghosts-first_wrong
+ghosts-first_wrong g a = record { name = a.blank.name; parts = a.blank.parts }

@@ -31,15 +31,9 @@ fn added_text(alloc: Global, doc: &Doc) -> Result<Vec<u8>, NoMemory>
 }
 
 /// Adds documents to a repository.
+#[derive(Drop)]
 pub struct Adder {
     repository: Repository,
-}
-
-impl Drop for Adder {
-    fn drop(self) {
-        let Adder { repository } = self;
-        drop(repository);
-    }
 }
 
 impl Adder {
@@ -57,8 +51,7 @@ impl Adder {
         ensures usable { result.usable ≡ true }
         ensures reads { (told : Option Files) (limits : Limits) (c : Collection) → ⟦<Adder as Handler>⟧.does self (adding told limits c) → ReadsAs told result c × IsBacked told result × (result.held.limits ≡ limits) }
     {
-        let Adder { repository } = self;
-        repository
+        self.repository
     }
 
     /// Adds a document behind the others, or refuses it.

@@ -24,6 +24,7 @@ use std::rc::Rc;
 
 /// Parts with their marks and the part that is being filled, within limits. It reads, together with the files of the parts on
 /// disk, as the list of its live documents.
+#[derive(Drop)]
 pub struct Holdings {
     parts: LiveParts,
     limits: Limits,
@@ -31,19 +32,6 @@ pub struct Holdings {
     documents: u64,
     tokens: u64,
     generation: u64,
-}
-
-impl Drop for Holdings {
-    fn drop(self) {
-        let Holdings {
-            parts,
-            limits: _,
-            documents: _,
-            tokens: _,
-            generation: _,
-        } = self;
-        drop(parts);
-    }
 }
 
 impl Model for Holdings {

@@ -182,17 +182,10 @@ fn skip<S: Source>(ahead: &mut ReadAhead, count: u64, source: &mut S) -> Result<
 
 /// Reads lines one after the other from the source that each call is lent. It holds bytes that it took ahead, so the
 /// calls of one reader are lent one source.
+#[derive(Drop)]
 pub struct LineReader {
     ahead: ReadAhead,
     text: Vec<u8>,
-}
-
-impl Drop for LineReader {
-    fn drop(self) {
-        let LineReader { ahead, text } = self;
-        drop(ahead);
-        drop(text);
-    }
 }
 
 impl Model for LineReader {

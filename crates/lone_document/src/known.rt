@@ -8,15 +8,9 @@ use std::alloc::Global;
 use std::collections::BTreeMap;
 
 /// The places of some terms.
+#[derive(Drop)]
 pub struct Known {
     places: BTreeMap<Term, Vec<u32>>,
-}
-
-impl Drop for Known {
-    fn drop(self) {
-        let Known { places } = self;
-        drop(places);
-    }
 }
 
 impl Known {

@@ -4,23 +4,12 @@ ghost use Rattle.ri_base.specs.declared.limits.TheConstants.{MAX_DOC_TOKENS};
 
 /// The tokens of the shortest document, how many places each term has at most in one document, and at how many tokens fields
 /// of each name begin at most in one document.
+#[derive(Drop)]
 pub struct RangeCounts {
     pub(crate) least: u32,
     pub(crate) places: Vec<u32>,
     pub(crate) begins: Vec<u32>,
     ghost short: { least ≤ MAX_DOC_TOKENS },
-}
-
-impl Drop for RangeCounts {
-    fn drop(self) {
-        let RangeCounts {
-            places,
-            begins,
-            least: _,
-        } = self;
-        drop(places);
-        drop(begins);
-    }
 }
 
 impl RangeCounts {

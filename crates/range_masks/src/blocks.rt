@@ -26,21 +26,11 @@ use store_ends::Store;
 /// The blocks of some terms for a range of 64 ids, seen as the range, the list of the terms with
 /// the blocks that are held, and how many were opened.
 /// No block is copied: what is held is shared with the cache.
+#[derive(Drop)]
 pub struct RangeBlocks {
     range: u32,
     blocks: BTreeMap<Term, Block>,
     opened: usize,
-}
-
-impl Drop for RangeBlocks {
-    fn drop(self) {
-        let RangeBlocks {
-            blocks,
-            range: _,
-            opened: _,
-        } = self;
-        drop(blocks);
-    }
 }
 
 impl Model for RangeBlocks {

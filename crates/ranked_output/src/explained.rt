@@ -34,24 +34,12 @@ pub enum LeafShown {
 }
 
 /// A hit with its rank, the scale of its query, and the query's leaves in reading order.
+#[derive(Drop)]
 pub struct Explained {
     pub rank: u32,
     pub hit: Hit,
     pub scale: u64,
     pub leaves: List<LeafShown>,
-}
-
-impl Drop for Explained {
-    fn drop(self) {
-        let Explained {
-            hit,
-            leaves,
-            rank: _,
-            scale: _,
-        } = self;
-        drop(hit);
-        drop(leaves);
-    }
 }
 
 /// Appends a name and its number, with a space before each.

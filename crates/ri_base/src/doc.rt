@@ -11,28 +11,13 @@ use std::marker::Model;
 
 /// A document: its docno, its tokens in their places, counted from 0, and its fields. It has at most 1,048,576 tokens
 /// and at most 65,535 fields, which lie within the tokens, are distinct, and stand by begin, then end, then name.
-#[derive(Debug)]
+#[derive(Debug, Drop)]
 pub struct Doc {
     docno: Docno,
     tokens: Terms,
     fields: Spans,
     /// The distinct names of the fields.
     names: Vec<Name>,
-}
-
-impl Drop for Doc {
-    fn drop(self) {
-        let Doc {
-            docno,
-            tokens,
-            fields,
-            names,
-        } = self;
-        drop(docno);
-        drop(tokens);
-        drop(fields);
-        drop(names);
-    }
 }
 
 impl Model for Doc {

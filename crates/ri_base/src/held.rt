@@ -2,22 +2,9 @@
 use crate::{Docno, Spans};
 
 /// A document that stands for another: each token is the number of a term in a list beside it.
-#[derive(Debug)]
+#[derive(Debug, Drop)]
 pub struct Held {
     pub docno: Docno,
     pub tokens: Vec<u32>,
     pub fields: Spans,
-}
-
-impl Drop for Held {
-    fn drop(self) {
-        let Held {
-            docno,
-            tokens,
-            fields,
-        } = self;
-        drop(docno);
-        drop(tokens);
-        drop(fields);
-    }
 }

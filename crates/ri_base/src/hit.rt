@@ -25,27 +25,13 @@ impl Fractions {
 
 /// A part of a document that a ranking found: its tokens from `begin` on up to `end`, its key, and the beliefs of the
 /// query's leaves in it.
-#[derive(Debug)]
+#[derive(Debug, Drop)]
 pub struct Hit {
     pub docno: Docno,
     pub begin: u32,
     pub end: u32,
     pub key: u128,
     pub fractions: Fractions,
-}
-
-impl Drop for Hit {
-    fn drop(self) {
-        let Hit {
-            docno,
-            fractions,
-            begin: _,
-            end: _,
-            key: _,
-        } = self;
-        drop(docno);
-        drop(fractions);
-    }
 }
 
 impl Hit {

@@ -20,26 +20,12 @@ use std::marker::Model;
 ///
 /// A term's rank is its place in the vocabulary. The tokens of the documents are kept as numbers of terms, and
 /// `ranks` has the rank of each number; `postings` has the postings of each rank.
+#[derive(Drop)]
 pub struct Sealed {
     vocabulary: Terms,
     ranks: Vec<u32>,
     docs: Vec<Held>,
     postings: Vec<Places>,
-}
-
-impl Drop for Sealed {
-    fn drop(self) {
-        let Sealed {
-            vocabulary,
-            ranks,
-            docs,
-            postings,
-        } = self;
-        drop(vocabulary);
-        drop(ranks);
-        drop(docs);
-        drop(postings);
-    }
 }
 
 impl Model for Sealed {

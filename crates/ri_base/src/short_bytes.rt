@@ -25,16 +25,9 @@ enum Kept {
 }
 
 /// Bytes that are few in most cases, compared as their list: byte by byte, and a front before what it is a front of.
-#[derive(Debug)]
+#[derive(Debug, Drop)]
 pub struct ShortBytes {
     kept: Kept,
-}
-
-impl Drop for ShortBytes {
-    fn drop(self) {
-        let ShortBytes { kept } = self;
-        drop(kept);
-    }
 }
 
 impl Model for ShortBytes {

@@ -16,6 +16,7 @@ use std::alloc::Global;
 
 /// Keeps files in memory, as the files that it began with and the record of all calls that were to change one. So it tells
 /// what a stop at each moment leaves. It is meant for tests: to look a file up it goes over the whole record.
+#[derive(Drop)]
 pub struct MemStore {
     alloc: Global,
     first: Vec<(Vec<u8>, Vec<u8>)>,
@@ -23,22 +24,6 @@ pub struct MemStore {
     fails: Vec<StoreFail>,
     calls: u64,
     faults: u64,
-}
-
-impl Drop for MemStore {
-    fn drop(self) {
-        let MemStore {
-            first,
-            changes,
-            fails,
-            alloc: _,
-            calls: _,
-            faults: _,
-        } = self;
-        drop(first);
-        drop(changes);
-        drop(fails);
-    }
 }
 
 impl MemStore {

@@ -27,10 +27,17 @@ use store_ends::Store;
 pub const MAX_QUERIES: usize = 16;
 
 /// An open query: its name and its search, which keeps the snapshot of its opening.
-#[derive(Drop)]
 pub struct OpenQuery {
     pub name: Name,
     pub search: Search,
+}
+
+impl Drop for OpenQuery {
+    fn drop(self) {
+        let OpenQuery { name, search } = self;
+        drop(name);
+        drop(search);
+    }
 }
 
 impl OpenQuery {

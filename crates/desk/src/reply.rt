@@ -17,7 +17,7 @@ pub enum CheckKind {
 }
 
 /// Why an event isn't done.
-#[derive(Debug, Drop)]
+#[derive(Debug)]
 pub enum Refusal {
     /// An open query has the name.
     NameTaken(Name),
@@ -45,11 +45,26 @@ pub enum Refusal {
     Check(CheckKind),
 }
 
+impl Drop for Refusal {
+    fn drop(self) {
+        match self {
+            Refusal::NameTaken(name)
+            | Refusal::NoSuchName(name)
+            | Refusal::NotYet(name)
+            | Refusal::DeskFull(name)
+            | Refusal::NoSuchRank(name) => drop(name),
+            Refusal::Repeated(docno) | Refusal::CollectionFull(docno) | Refusal::NoSuchDoc(docno) =>
+                drop(docno),
+            Refusal::Check(kind) => drop(kind),
+            Refusal::NoMerge | Refusal::MergeOpen | Refusal::Query(_, _) => {}
+        }
+    }
+}
+
 /// Extents with the docnos of their documents.
 pub type Scanned = List<(Docno, Extent)>;
 
 /// What is replied to an event.
-#[derive(Drop)]
 pub enum Reply {
     /// A document with so many tokens was added.
     Added(Docno, u32),
@@ -75,4 +90,25 @@ pub enum Reply {
     /// So many documents are live, and nothing is open any more.
     Ended(u64),
     Refused(Refusal),
+}
+
+impl Drop for Reply {
+    fn drop(self) {
+        match self {
+            Reply::Added(docno, _) | Reply::Deleted(docno) => drop(docno),
+            Reply::Opened(name, _) | Reply::Stepped(name, _, _) | Reply::Closed(name) => drop(name),
+            Reply::Results(name, _, hits) => {
+                drop(name);
+                drop(hits);
+            }
+            Reply::Explained(explained) => drop(explained),
+            Reply::Extents(extents) => drop(extents),
+            Reply::Refused(refusal) => drop(refusal),
+            Reply::Flushed(_)
+            | Reply::Merging(_)
+            | Reply::Turned(_, _)
+            | Reply::Merged(_)
+            | Reply::Ended(_) => {}
+        }
+    }
 }

@@ -29,12 +29,12 @@ fn summary_line(alloc: Global, count: u32, live: u64, tokens: u64) -> Result<Vec
 
 /// The lines of the results that a reply shows. Another reply shows none.
 #[tactic(auto, using(desk::proofs::LineLemmas::without_labels))]
-fn reply_lines(alloc: Global, reply: Reply) -> Result<Vec<u8>, NoMemory>
-    requires { IsReply reply }
-    ensures { IfOk result (λ text. text.items ≡ reply_lines reply) }
+fn reply_lines(alloc: Global, reply: &Reply) -> Result<Vec<u8>, NoMemory>
+    requires { IsReply reply.now }
+    ensures { IfOk result (λ text. text.items ≡ reply_lines reply.now) }
 {
     match reply {
-        Reply::Results(_, scale, hits) => result_lines(alloc, &None, scale, &hits),
+        Reply::Results(_, scale, hits) => result_lines(alloc, &None, *scale, hits),
         Reply::Added(..)
         | Reply::Deleted(_)
         | Reply::Flushed(_)
@@ -57,7 +57,7 @@ pub(crate) fn gen_text(alloc: Global, count: u32, reply: Reply) -> Result<Vec<u8
     requires form { IsReply reply }
     ensures { IfOk result (λ text. text.items ≡ summary_text count (kept_documents count) ++ reply_lines reply) }
 {
-    let lines = reply_lines(alloc, reply)?;
+    let lines = reply_lines(alloc, &reply)?;
     let mut text = summary_line(alloc, count, live_count(count), live_tokens(count))?;
     text.extend_from_slice(&lines)?;
     Ok(text)

@@ -14,7 +14,7 @@ pub enum CollectionKind {
 
 /// Why something in the input of a command is refused, or the name that it is about. Want of memory and a source that failed are no
 /// refusals: they have no line.
-#[derive(Debug, Drop)]
+#[derive(Debug)]
 pub enum Refusal {
     /// A document that isn't read.
     Document(TokenRefusal),
@@ -39,4 +39,22 @@ pub enum Refusal {
     Fixed(Name),
     /// There is no room for one more prior.
     PriorsFull(Name),
+}
+
+impl Drop for Refusal {
+    fn drop(self) {
+        match self {
+            Refusal::Document(refusal) => drop(refusal),
+            Refusal::Input(refusal) => drop(refusal),
+            Refusal::Collection { kind: _, docno }
+            | Refusal::NoSuchDoc(docno)
+            | Refusal::RepeatedRow(docno) => drop(docno),
+            Refusal::Fixed(name) | Refusal::PriorsFull(name) => drop(name),
+            Refusal::BadEvent { place: _ }
+            | Refusal::LineTooLong { place: _ }
+            | Refusal::BadRow { place: _ }
+            | Refusal::RepeatedRest
+            | Refusal::TooManyRows { place: _ } => {}
+        }
+    }
 }

@@ -17,7 +17,6 @@ use smoothing::Rule;
 use std::alloc::Global;
 
 /// The beliefs of a checked query, with what the collection has of each leaf.
-#[derive(Drop)]
 pub struct Network {
     leaves: Vec<LeafKind>,
     firsts: Vec<usize>,
@@ -26,6 +25,23 @@ pub struct Network {
     tree: Tree,
     ghost kept: { IsNetwork (map leaf_tree leaves.items) stats.items (scaled_tree tree) },
     ghost each: { length firsts.items ≡ length leaves.items },
+}
+
+impl Drop for Network {
+    fn drop(self) {
+        let Network {
+            leaves,
+            firsts,
+            range,
+            stats,
+            tree,
+        } = self;
+        drop(leaves);
+        drop(firsts);
+        drop(range);
+        drop(stats);
+        drop(tree);
+    }
 }
 
 impl Network {

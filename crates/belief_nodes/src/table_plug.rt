@@ -13,12 +13,22 @@ use ri_base::{Docno, Fraction, NoMemory};
 use std::alloc::{AllocError, Global};
 
 /// A table: a fraction for each docno that has a row, and one for all other documents.
-#[derive(Drop)]
 pub struct TablePlug {
     rows: IndexMap<Docno, Fraction>,
     rest: Fraction,
     greatest: Option<Fraction>,
     ghost kept: { option_map ratio_of greatest ≡ greatest_row (told_of rows.entries) },
+}
+
+impl Drop for TablePlug {
+    fn drop(self) {
+        let TablePlug {
+            rows,
+            rest: _,
+            greatest: _,
+        } = self;
+        drop(rows);
+    }
 }
 
 impl TablePlug {

@@ -14,11 +14,22 @@ pub struct SumKey {
 }
 
 /// An expression with its context, and its sums.
-#[derive(Drop)]
 pub struct KeptSum {
     pub expr: ExtentExpr,
     pub context: Option<Name>,
     pub stats: LeafStats,
+}
+
+impl Drop for KeptSum {
+    fn drop(self) {
+        let KeptSum {
+            expr,
+            context,
+            stats: _,
+        } = self;
+        drop(expr);
+        drop(context);
+    }
 }
 
 impl KeptSum {

@@ -24,9 +24,15 @@ use store_ends::Store;
 
 /// Sums of expressions over the documents of snapshots, as many as it has slots, seen as the list of them. Of full slots the sums
 /// that weren't asked for for the longest time make room.
-#[derive(Drop)]
 pub struct Counts {
     sums: LruCache<SumKey, KeptSum>,
+}
+
+impl Drop for Counts {
+    fn drop(self) {
+        let Counts { sums } = self;
+        drop(sums);
+    }
 }
 
 impl Model for Counts {

@@ -50,10 +50,17 @@ impl Hash for BlockKey {
 /// Blocks that were read, as many as it has slots, seen as the list of them with their keys. Of a full cache the block that wasn't
 /// asked for for the longest time makes room. It notes the last damage
 /// that was met by reading through it.
-#[derive(Drop)]
 pub struct BlockCache {
     kept: LruCache<BlockKey, Block>,
     damage: Option<SegFault>,
+}
+
+impl Drop for BlockCache {
+    fn drop(self) {
+        let BlockCache { kept, damage } = self;
+        drop(kept);
+        drop(damage);
+    }
 }
 
 impl Model for BlockCache {

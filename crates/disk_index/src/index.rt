@@ -36,7 +36,6 @@ use store_ends::Store;
 
 /// A part of the collection that lies in a file: the number of the file, and its documents without their tokens and its dictionary,
 /// as they are kept. No places are kept; they are read block by block.
-#[derive(Drop)]
 pub struct DiskIndex {
     number: u64,
     documents: Documents,
@@ -47,6 +46,23 @@ pub struct DiskIndex {
     fronts: Vec<u64>,
     /// Where the blocks begin in the file.
     blocks_at: u64,
+}
+
+impl Drop for DiskIndex {
+    fn drop(self) {
+        let DiskIndex {
+            documents,
+            dictionary,
+            ranks,
+            fronts,
+            number: _,
+            blocks_at: _,
+        } = self;
+        drop(documents);
+        drop(dictionary);
+        drop(ranks);
+        drop(fronts);
+    }
 }
 
 impl Model for DiskIndex {

@@ -13,12 +13,24 @@ use std::marker::Model;
 
 /// A part with a mark for each of its documents that is dead, seen as where its documents are and which of them are dead. How
 /// many tokens all its documents have, and how many the live ones, is kept.
-#[derive(Drop)]
 pub struct MarkedPart {
     part: Part,
     marks: DelList,
     tokens: u64,
     live_tokens: u64,
+}
+
+impl Drop for MarkedPart {
+    fn drop(self) {
+        let MarkedPart {
+            part,
+            marks,
+            tokens: _,
+            live_tokens: _,
+        } = self;
+        drop(part);
+        drop(marks);
+    }
 }
 
 impl Model for MarkedPart {

@@ -29,12 +29,26 @@ use std::marker::Model;
 use std::rc::Rc;
 
 /// The closed parts, the part that is being filled, and the place of each live document by its docno.
-#[derive(Drop)]
 pub struct LiveParts {
     closed: Vec<MarkedPart>,
     filling: MemIndex,
     marks: DelList,
     places: IndexMap<Docno, Spot>,
+}
+
+impl Drop for LiveParts {
+    fn drop(self) {
+        let LiveParts {
+            closed,
+            filling,
+            marks,
+            places,
+        } = self;
+        drop(closed);
+        drop(filling);
+        drop(marks);
+        drop(places);
+    }
 }
 
 impl Model for LiveParts {

@@ -25,13 +25,27 @@ pub enum MemRefusal {
 ///
 /// Each distinct term and field name is kept once, and a token is the number of its term. The terms are kept in the
 /// order in which they came, so a term's number never changes.
-#[derive(Drop)]
 pub struct MemIndex {
     most: u32,
     held: u64,
     terms: IndexSet<Term>,
     names: IndexSet<Name>,
     docs: Vec<Held>,
+}
+
+impl Drop for MemIndex {
+    fn drop(self) {
+        let MemIndex {
+            terms,
+            names,
+            docs,
+            most: _,
+            held: _,
+        } = self;
+        drop(terms);
+        drop(names);
+        drop(docs);
+    }
 }
 
 impl Model for MemIndex {

@@ -18,12 +18,24 @@ use std::mem;
 
 /// Documents that were copied, cut into parts of which the last is being filled, seen as their list and the most documents of a
 /// part.
-#[derive(Drop)]
 pub(crate) struct Copied {
     most: u32,
     count: u64,
     parts: Vec<MergedPart>,
     filling: MemIndex,
+}
+
+impl Drop for Copied {
+    fn drop(self) {
+        let Copied {
+            parts,
+            filling,
+            most: _,
+            count: _,
+        } = self;
+        drop(parts);
+        drop(filling);
+    }
 }
 
 impl Model for Copied {

@@ -26,12 +26,24 @@ use store_ends::Store;
 
 /// A merge that is done in turns, seen as the snapshot that is copied, the most documents of a new part, and the documents that
 /// were copied so far.
-#[derive(Drop)]
 pub struct MergeJob {
     snapshot: Snapshot,
     size: u64,
     copied: Copied,
     place: Place,
+}
+
+impl Drop for MergeJob {
+    fn drop(self) {
+        let MergeJob {
+            snapshot,
+            copied,
+            size: _,
+            place: _,
+        } = self;
+        drop(snapshot);
+        drop(copied);
+    }
 }
 
 impl Model for MergeJob {

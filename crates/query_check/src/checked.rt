@@ -10,7 +10,6 @@ use ri_base::{Filter, NoMemory, Range};
 use std::alloc::Global;
 
 /// A query that was checked.
-#[derive(Drop)]
 pub struct Checked {
     /// From the outermost inwards.
     pub filters: Vec<Filter>,
@@ -21,6 +20,22 @@ pub struct Checked {
     /// The scale of the tree.
     pub scale: u64,
     pub ghost kept: { IsChecked (map filter_tree filters.items) range (map leaf_tree leaves.items) (scaled_tree tree) scale },
+}
+
+impl Drop for Checked {
+    fn drop(self) {
+        let Checked {
+            filters,
+            range,
+            leaves,
+            tree,
+            scale: _,
+        } = self;
+        drop(filters);
+        drop(range);
+        drop(leaves);
+        drop(tree);
+    }
 }
 
 fn clone_filters(alloc: Global, all: &[Filter]) -> Result<Vec<Filter>, NoMemory>

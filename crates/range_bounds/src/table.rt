@@ -8,11 +8,23 @@ use indexmap::IndexSet;
 use ri_base::{Name, Term};
 
 /// For each range of 64 ids of a part what is counted of its documents, marked ones included, or nothing where no leaf of the query can occur.
-#[derive(Drop)]
 pub struct RangeTable {
     pub(crate) terms: IndexSet<Term>,
     pub(crate) names: IndexSet<Name>,
     pub(crate) ranges: Vec<Option<RangeCounts>>,
+}
+
+impl Drop for RangeTable {
+    fn drop(self) {
+        let RangeTable {
+            terms,
+            names,
+            ranges,
+        } = self;
+        drop(terms);
+        drop(names);
+        drop(ranges);
+    }
 }
 
 impl RangeTable {

@@ -14,7 +14,6 @@ use ri_base::{Bytes, Extent, ExtentExpr, Extents, Fraction, Hit, LeafStats, List
 use std::alloc::Global;
 
 /// What is shown of a leaf.
-#[derive(Drop)]
 pub enum LeafShown {
     /// An expression, the field that is its context if it has one, what is counted of it in the hit and in the collection,
     /// its extents in the hit, and its belief.
@@ -33,13 +32,45 @@ pub enum LeafShown {
     },
 }
 
+impl Drop for LeafShown {
+    fn drop(self) {
+        match self {
+            LeafShown::Extents {
+                expr,
+                context,
+                count: _,
+                stats: _,
+                extents,
+                belief: _,
+            } => {
+                drop(expr);
+                drop(context);
+                drop(extents);
+            }
+            LeafShown::Prior { name, belief: _ } => drop(name),
+        }
+    }
+}
+
 /// A hit with its rank, the scale of its query, and the query's leaves in reading order.
-#[derive(Drop)]
 pub struct Explained {
     pub rank: u32,
     pub hit: Hit,
     pub scale: u64,
     pub leaves: List<LeafShown>,
+}
+
+impl Drop for Explained {
+    fn drop(self) {
+        let Explained {
+            hit,
+            leaves,
+            rank: _,
+            scale: _,
+        } = self;
+        drop(hit);
+        drop(leaves);
+    }
 }
 
 /// Appends a name and its number, with a space before each.

@@ -32,7 +32,6 @@ use store_ends::Store;
 /// A search for the first candidates of the documents of a snapshot. It advances by so many documents as it is asked for. Its credit
 /// is how many live documents it has passed, of so many that there are. It knows up to which credit those that come next have nothing
 /// to show. It keeps the blocks of the query's terms in the range that it opened last.
-#[derive(Drop)]
 pub struct Search {
     snapshot: Snapshot,
     checked: Checked,
@@ -55,6 +54,33 @@ pub struct Search {
     ghost open: { usable ≡ true → (told : Option Files) → is_open held ≡ nat_lt at.credit (length (live told snapshot)) },
     ghost entries: { usable ≡ true → HoldsEntries (network_tree network) held },
     ghost windows: { usable ≡ true → (told : Option Files) → ∥ HasWindows (live told snapshot) (length (network_tree network).leaves) most held ∥₁ },
+}
+
+impl Drop for Search {
+    fn drop(self) {
+        let Search {
+            snapshot,
+            checked,
+            network,
+            tables,
+            terms,
+            blocks,
+            held,
+            most: _,
+            live_count: _,
+            at: _,
+            bare_to: _,
+            spent: _,
+            usable: _,
+        } = self;
+        drop(snapshot);
+        drop(checked);
+        drop(network);
+        drop(tables);
+        drop(terms);
+        drop(blocks);
+        drop(held);
+    }
 }
 
 impl Search {

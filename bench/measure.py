@@ -9,7 +9,8 @@ The inputs are made in a temporary folder, the same ones each time, and so are t
     newswire      text in the usual newswire form, 24 MiB: a scan for a word, two windows and a word in a field; `add`; and
                   queries over the collection; the exponent of the cost from 8, 16 and 32 MiB, which is the slope of the
                   logarithm of the time over that of the size, by least squares
-    thin          documents of 300 words and no field, 32 and 64 MiB: a scan, `add`, and a query of a word that each has
+    thin          documents of 300 words and no field, 32 and 64 MiB: a scan, `add`, and a query of a word that each has, with
+                  how many times those of the half the whole takes
     hostile       one document of 8 MiB that is plain text, or one mark again and again: a scan and `add`
     pieces        one document that comes through a pipe, in pieces of 64 KiB at most: a scan and `add`
     large         one document of 16 MiB: with no word, with as many words as it may have, with more, and with words that
@@ -53,7 +54,8 @@ A row of text has the processor time, its ratio to that of `LC_ALL=C wc -w` on t
 bounds of these two. That of an `add` has MB of text and documents in a second of processor time too, and the size of the
 files, of which the segments and the manifest are counted, as a ratio to that of the text. A row of a query has the processor
 time of the whole run, which opens the folder each time, in milliseconds. A time is the best of the rounds, and times of which
-a ratio is printed are taken in the same rounds, one after the other. The peak is that of the whole process, so what it holds
+a ratio is printed are taken in the same rounds, one after the other. An exponent, and the ratio of a size to its half, is the
+median of those of the rounds. The peak is that of the whole process, so what it holds
 of the text is counted in it. Below some 5 MiB it can't be told, since the small process that starts the program has as much.
 The disk isn't measured: what a run waits for it is no processor time.
 
@@ -70,6 +72,7 @@ import os
 import random
 import re
 import shutil
+import statistics
 import subprocess
 import sys
 import tempfile
@@ -400,10 +403,13 @@ class Table:
 
     # Cells.
 
+    def runs(self, *jobs):
+        """The runs of these jobs, one behind the other, in each round."""
+        return [[job.run() for job in jobs] for _ in range(self.rounds)]
+
     def best(self, *jobs):
         """The least time of each of these jobs and its greatest peak."""
-        rounds = [[job.run() for job in jobs] for _ in range(self.rounds)]
-        return [(min(run.seconds for run in same), max(run.peak for run in same)) for same in zip(*rounds)]
+        return best_of(self.runs(*jobs))
 
     def at_most(self, shown, value, bound):
         """What is shown of a value, with its bound."""
@@ -448,11 +454,21 @@ class Table:
         return [1000 * taken for taken, _ in self.best(*jobs)]
 
 
-def exponent(sizes, times):
+def best_of(rounds):
+    """The least time and the greatest peak of each job of these rounds."""
+    return [(min(run.seconds for run in same), max(run.peak for run in same)) for same in zip(*rounds)]
+
+
+def slope_of(sizes, times):
     """The slope of log time over log size, by least squares."""
     xs, ys = [math.log(size) for size in sizes], [math.log(max(taken, 0.0001)) for taken in times]
     x, y = sum(xs) / len(xs), sum(ys) / len(ys)
     return sum((a - x) * (b - y) for a, b in zip(xs, ys)) / sum((a - x) ** 2 for a in xs)
+
+
+def exponent(sizes, rounds):
+    """The median of the slopes of these rounds, each of one job for each size."""
+    return statistics.median(slope_of(sizes, [run.seconds for run in runs]) for runs in rounds)
 
 
 # Groups.
@@ -464,7 +480,7 @@ def measure_newswire(table):
     path = paths.pop(24)
 
     def slope(jobs):
-        found = exponent(paths, [taken for taken, _ in table.best(*jobs)])
+        found = exponent(paths, table.runs(*jobs))
         return table.at_most(f"exponent {found:4.2f}", found, EXPONENT)
 
     for text in TEXTS:
@@ -486,12 +502,16 @@ def measure_thin(table):
     paths = [table.folder / f"thin{size}" for size in sizes]
     documents = [inputs.thin(path, table.sized(size * MIB)) for size, path in zip(sizes, paths)]
     folders = [table.collection(f"folder of {path.name}", path) for path in paths]
-    scans = [table.measure(table.scan("rain", path), THIN_SCAN) for path in paths]
-    adds = [table.measure_add(path, count, THIN_ADD) for path, count in zip(paths, documents)]
-    queries = [table.measure(table.query(folder, "rain"), THIN_QUERY, path) for folder, path in zip(folders, paths)]
-    for name, ((half, half_cells), (whole, cells)) in (("scan rain", scans), ("add", adds), ("query rain", queries)):
+    scans = [table.scan("rain", path) for path in paths]
+    queries = [table.query(folder, "rain") for folder in folders]
+    measured = (
+        ("scan rain", scans, [table.measure(job, THIN_SCAN) for job in scans]),
+        ("add", [table.add(path) for path in paths], [table.measure_add(*it, THIN_ADD) for it in zip(paths, documents)]),
+        ("query rain", queries, [table.measure(job, THIN_QUERY, path) for job, path in zip(queries, paths)]),
+    )
+    for name, jobs, ((_, half_cells), (_, cells)) in measured:
         table.row(f"{name}, thin 32 MiB", *half_cells)
-        grown = whole / half
+        grown = statistics.median(whole.seconds / half.seconds for half, whole in table.runs(*jobs))
         table.row(f"{name}, thin 64 MiB", *cells, table.at_most(f"{grown:4.2f} times 32 MiB", grown, THIN_TO_HALF))
 
 
@@ -674,8 +694,8 @@ def measure_turns(table):
         )
     counts = [table.sized(TURN_DOCUMENTS // part) for part in (4, 2, 1)]
     smaller = [short_collection(table, count) for count in counts]
-    times = [taken for taken, _ in table.best(*(turned(other, count, STEP_SIZE) for other, count in smaller))]
-    slope = exponent(counts, times)
+    rounds = table.runs(*(turned(other, count, STEP_SIZE) for other, count in smaller))
+    slope = exponent(counts, rounds)
     table.row("session, merges by turns of 64", table.at_most(f"exponent {slope:4.2f}", slope, TURNS_EXPONENT))
 
 
@@ -779,8 +799,8 @@ def session_lines(count):
 def measure_session(table):
     counts = [table.sized(count) for count in SESSION_LINES]
     jobs = [table.session(table.empty, f"lines{count}", session_lines(count), (0, 3)) for count in counts]
-    found = table.best(*jobs)
-    slope = exponent(counts, [taken for taken, _ in found])
+    rounds = table.runs(*jobs)
+    found, slope = best_of(rounds), exponent(counts, rounds)
     for count, (taken, peak) in zip(counts, found):
         each = 1000 * taken / count
         table.row(

@@ -54,7 +54,7 @@ impl<W: Ord + Drop> Contenders<Entry<W>> {
         let most = self.most();
         let entries = self.into_contenders(alloc)?;
         let count = entries.len();
-        let mut first = FirstFew::new(alloc, most, count)?;
+        let mut first = FirstFew::new(alloc, most);
         offer_settled(alloc, combination, entries, &mut first, squares)?;
         Ok((first.into_sorted(), count))
     }

@@ -16,8 +16,6 @@ use std::mem;
 pub struct Near<T: Leading> {
     pub items: Vec<T>,
     pub full: Vec<usize>,
-    /// The number of the full run that told last of an item that so many stand before it.
-    recent: usize,
     limit: usize,
 }
 
@@ -55,7 +53,6 @@ impl<T: Leading + Drop> Near<T> {
         Near {
             items: Vec::new(alloc),
             full: Vec::new(alloc),
-            recent: 0,
             limit: limit_of(0, most),
         }
     }
@@ -73,21 +70,14 @@ impl<T: Leading + Drop> Near<T> {
         }
     }
 
-    /// Whether it is known that so many stand before an item. The run that told so of an item last is asked first, since items with the
-    /// same beliefs often come one behind the other.
-    fn is_passed(&mut self, item: &T) -> bool
-        ensures items { self.new.items.items ≡ self.old.items.items }
-        ensures full { self.new.full.items ≡ self.old.full.items }
-        ensures passed { result ≡ true → (most : ℕ) → IsFull T.before most self.old.full.items self.old.items.items → most ≤ count_before T.before self.old.items.items item.now }
+    /// Whether it is known that so many stand before an item.
+    fn is_passed(&self, item: &T) -> bool
+        ensures { result ≡ true → (most : ℕ) → IsFull T.before most self.now.full.items self.now.items.items → most ≤ count_before T.before self.now.items.items item.now }
     {
-        if self.is_behind(self.recent, item) {
-            return true;
-        }
         let ends = self
             .full
             .partition_point(|place| is_ahead(&self.items, *place, item));
-        self.recent = ends.saturating_sub(1);
-        self.is_behind(self.recent, item)
+        self.is_behind(ends.saturating_sub(1), item)
     }
 
     /// Looks the items through: those that are above the threshold go, and so do those that aren't among the first of their run.

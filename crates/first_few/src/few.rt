@@ -1,5 +1,5 @@
 // A heap of the least items that were offered, with the greatest of these on top.
-ghost use Rattle.std.specs.Prelude.{◌≡◌, ◌<◌, ◌≤◌, true, false, List, [], ◌∷◌, ◌++◌, length, IfOk, OnOk, OnErr, slice_index_or};
+ghost use Rattle.std.specs.Prelude.{◌≡◌, ◌<◌, ◌≤◌, true, false, List, [], ◌∷◌, ◌++◌, length, OnOk, OnErr, slice_index_or};
 ghost use Rattle.std.specs.BinaryHeap.{IsHeap, IsUpperBound, heap_capacity, heap_items, heap_len};
 ghost use Rattle.std.specs.List.Sorted.{IsPermutation};
 ghost use Rattle.std.specs.Ordering.{is_lt};
@@ -28,16 +28,15 @@ impl<T: Ord> Model for FirstFew<T> {
 }
 
 impl<T: Ord + Drop> FirstFew<T> {
-    /// Nothing was offered yet; of what comes at most so many are kept. There is room for all of them where no more come than are
-    /// expected.
-    pub fn new(alloc: Global, most: usize, expected: usize) -> Result<FirstFew<T>, AllocError>
-        ensures most { IfOk result (λ few. few.most ≡ most) }
-        ensures first { IfOk result (λ few. AreFirst T.cmp most [] few.held) }
+    /// Nothing was offered yet; of what comes at most so many are kept.
+    pub fn new(alloc: Global, most: usize) -> FirstFew<T>
+        ensures most { result.most ≡ most }
+        ensures first { AreFirst T.cmp most [] result.held }
     {
-        Ok(FirstFew {
-            heap: BinaryHeap::with_capacity(alloc, most.min(expected))?,
+        FirstFew {
+            heap: BinaryHeap::new(alloc),
             most,
-        })
+        }
     }
 
     /// Takes an item in, where it is among the first of all that were offered. The one that is then too many is dropped.

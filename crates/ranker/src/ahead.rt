@@ -1,5 +1,5 @@
 // What the postings of a part tell of the documents that come next.
-ghost use Rattle.std.specs.Prelude.{◌≡◌, ◌<◌, ◌≤◌, ◌*◌, ◌%◌, ◌⊎◌, ℕ, None, false, length, map, Err, IfErr, IfOk, OnOk};
+ghost use Rattle.std.specs.Prelude.{◌≡◌, ◌<◌, ◌≤◌, ◌*◌, ◌%◌, ◌⊎◌, ℕ, None, true, false, is_some, length, map, Err, IfErr, IfOk, OnOk};
 ghost use Rattle.ri_base.specs.Collection.{document_at};
 ghost use Rattle.ri_base.specs.Faults.{IsOutside, TellsDamage};
 ghost use Rattle.ri_base.specs.Keeps.{Keeps, Rose};
@@ -91,6 +91,7 @@ pub fn masked<P: TermMasks>(
         → IfOk result (IsAhead (map filter_tree filters.now) (network_tree network.now).leaves (P.documents part.old) id) }
     ensures end { IfOk result (λ to. to.end ≡ ahead.end) }
     ensures bound { IfOk result (λ to. to.bound ≡ ahead.bound) }
+    ensures read { IfOk result (λ to. is_some to.mask ≡ true) }
     ensures honest { P.intact part.old → IfErr result IsOutside }
     ensures undamaged { OnOk result (P.damage part.new ≡ P.damage part.old) }
     ensures damaged { IfErr result (TellsDamage (P.damage part.old) (P.damage part.new)) }

@@ -33,9 +33,9 @@ returns-clause-front g c = λ all offered early.
     let k = c.args.self.most in
     let taken = c.in_ok-entries.entries.items in
     let held = c.offer_settled.new.first.held in
-    let begun : c.in_ok-first.first.most ≡ k = c.in_ok-first.ensures.most ∙ c.most-most.ensures in
+    let begun : c.new-first.result.most ≡ k = c.new-first.ensures.most ∙ c.most-most.ensures in
     let ended : c.offer_settled.new.first.most ≡ k = c.offer_settled.ensures.most ∙ begun in
-    let none = subst (λ n. AreFirst (by_key order) n [] c.in_ok-first.first.held) (sym c.in_ok-first.ensures.most) c.in_ok-first.ensures.first in
+    let none = subst (λ n. AreFirst (by_key order) n [] c.new-first.result.held) (sym c.new-first.ensures.most) c.new-first.ensures.first in
     let first = subst (λ n. AreFirst (by_key order) n (map (settled key) taken ++ []) held) begun (c.in_ok-offer_settled.ensures.first [] none) in
     let most = subst (λ n. (beliefs : List Ratio) (i s : ℕ) → key (digits_at (i + s) beliefs) + n ≤ (key (digits_at i beliefs) + n) * 2 ^ s) (sym c.requires.scale) (g.met.C.Combination.most combination) in
     let whole = first_settled key (g.C.Combination.leaves combination) c.args.self.scale (g.met.C.Combination.least combination) most order g.met.W.Ord.total k all taken held early (c.in_ok-entries.ensures.contenders all offered) first in
@@ -48,8 +48,8 @@ returns-clause-few g c =
     let key = g.C.Combination.key_of c.args.combination.now in
     let taken = c.in_ok-entries.entries.items in
     let held = c.offer_settled.new.first.held in
-    let ended : c.offer_settled.new.first.most ≡ c.args.self.most = c.offer_settled.ensures.most ∙ c.in_ok-first.ensures.most ∙ c.most-most.ensures in
-    let none = subst (λ n. AreFirst (by_key order) n [] c.in_ok-first.first.held) (sym c.in_ok-first.ensures.most) c.in_ok-first.ensures.first in
+    let ended : c.offer_settled.new.first.most ≡ c.args.self.most = c.offer_settled.ensures.most ∙ c.new-first.ensures.most ∙ c.most-most.ensures in
+    let none = subst (λ n. AreFirst (by_key order) n [] c.new-first.result.held) (sym c.new-first.ensures.most) c.new-first.ensures.first in
     let first = subst (λ n. AreFirst (by_key order) n (map (settled key) taken ++ []) held) (sym c.offer_settled.ensures.most) (c.in_ok-offer_settled.ensures.first [] none) in
     subst (λ n. length c.into_sorted.result.items ≤ n) ended
     (front_few (by_key order) c.offer_settled.new.first.most (map (settled key) taken ++ []) c.into_sorted.result.items (c.into_sorted.ensures (map (settled key) taken ++ []) first))
@@ -60,7 +60,7 @@ returns-clause-among g c =
     let key = g.C.Combination.key_of c.args.combination.now in
     let taken = c.in_ok-entries.entries.items in
     let held = c.offer_settled.new.first.held in
-    let none = subst (λ n. AreFirst (by_key order) n [] c.in_ok-first.first.held) (sym c.in_ok-first.ensures.most) c.in_ok-first.ensures.first in
+    let none = subst (λ n. AreFirst (by_key order) n [] c.new-first.result.held) (sym c.new-first.ensures.most) c.new-first.ensures.first in
     let first = subst (λ n. AreFirst (by_key order) n (map (settled key) taken ++ []) held) (sym c.offer_settled.ensures.most) (c.in_ok-offer_settled.ensures.first [] none) in
     let front = c.into_sorted.ensures (map (settled key) taken ++ []) first in
     among_mapped (settled key) c.into_sorted.result.items taken (c.args.self.held ++ c.args.self.near)
